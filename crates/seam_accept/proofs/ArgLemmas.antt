@@ -9,8 +9,8 @@ use Rattle.seam_value.specs.declared.values.Value.{Value}
 use Rattle.seam_value.specs.declared.values.Value.TheVariants.{Number}
 use Rattle.seam_defs.specs.Deeds.{TakesArgs}
 use Rattle.seam_defs.specs.declared.types.Method.{Method}
-use Rattle.seam_transcript.specs.Judging.{SpellsArgs}
-use Rattle.seam_transcript.specs.declared.verdict.Cause.TheVariants as cause
+use Rattle.seam_rule_lines.specs.Judging.{SpellsArgs}
+use Rattle.seam_rule_lines.specs.declared.verdict.Cause.TheVariants as cause
 use Rattle.seam_accept.specs.Commands.{texts_of}
 use Rattle.seam_accept.specs.Judging.{IsIllTyped}
 use Rattle.seam_accept.specs.declared.answers.Refusal.{Refusal}

@@ -15,11 +15,11 @@ use Rattle.seam_call.specs.Senders.{same_sender}
 use Rattle.seam_call.specs.declared.sender.Sender.{Sender}
 use Rattle.seam_call.specs.declared.call.Call.{Call}
 use Rattle.seam_call.specs.declared.create.Create.{Create}
-use Rattle.seam_transcript.specs.Book.{Book, entries, called, creates_of, calls_of, created_as, destroys, joins, makes, accepted}
-use Rattle.seam_transcript.specs.Book.{with_entry, divided, tree_of}
-use Rattle.seam_transcript.specs.declared.verdict.Entry.{Entry}
-use Rattle.seam_transcript.specs.declared.verdict.Entry.TheVariants as entry
-use Rattle.seam_transcript.proofs.BookEntries.{creates_with_entry, differ}
+use Rattle.seam_rule_lines.specs.Book.{Book, entries, called, creates_of, calls_of, created_as, destroys, joins, makes, accepted}
+use Rattle.seam_rule_lines.specs.Book.{with_entry, divided, tree_of}
+use Rattle.seam_rule_lines.specs.declared.verdict.Entry.{Entry}
+use Rattle.seam_rule_lines.specs.declared.verdict.Entry.TheVariants as entry
+use Rattle.seam_rule_lines.proofs.BookEntries.{creates_with_entry, differ}
 
 -- the tree goes on with an entry
 pub tree_with : (b : Book) (x : Entry) → tree_of (with_entry b x) ≡ divided (tree_of b) x

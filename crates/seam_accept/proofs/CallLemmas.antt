@@ -11,13 +11,13 @@ use Rattle.seam_call.specs.declared.sender.Sender.{Sender}
 use Rattle.seam_call.specs.declared.sender.Sender.TheVariants.{Base, Client}
 use Rattle.seam_call.specs.declared.create.Create.{Create}
 use Rattle.seam_toml.specs.declared.header.Header.{Header}
-use Rattle.seam_transcript.specs.Book.{Book, entries, creates_of, live_as, accepted}
-use Rattle.seam_transcript.specs.Judging.{NamesSender, NamesLive, NamesMethod, MayCall, MayMove, SpellsArgs, HoldsAgainst, IsDead, IsFirst}
-use Rattle.seam_transcript.specs.declared.verdict.Entry.TheVariants.{Called}
-use Rattle.seam_transcript.specs.declared.verdict.Cause.TheVariants as cause
-use Rattle.seam_transcript.proofs.BookEntries.{live_is_created}
-use Rattle.seam_transcript.proofs.InOrderLemmas.{found_entity}
-use Rattle.seam_transcript.proofs.Verdicts.{positive_is_one, live_is_one, method_is_one, sender_is_one}
+use Rattle.seam_rule_lines.specs.Book.{Book, entries, creates_of, live_as, accepted}
+use Rattle.seam_rule_lines.specs.Judging.{NamesSender, NamesLive, NamesMethod, MayCall, MayMove, SpellsArgs, HoldsAgainst, IsDead, IsFirst}
+use Rattle.seam_rule_lines.specs.declared.verdict.Entry.TheVariants.{Called}
+use Rattle.seam_rule_lines.specs.declared.verdict.Cause.TheVariants as cause
+use Rattle.seam_rule_lines.proofs.BookEntries.{live_is_created}
+use Rattle.seam_rule_lines.proofs.InOrderLemmas.{found_entity}
+use Rattle.seam_rule_lines.proofs.Verdicts.{positive_is_one, live_is_one, method_is_one, sender_is_one}
 use Rattle.seam_accept.specs.Commands.{texts_of, asked_of}
 use Rattle.seam_accept.specs.Judging.{Accepts, Refuses, Asks, MayAsk, NoDeed}
 use Rattle.seam_accept.specs.declared.answers.Refusal.{Refusal}

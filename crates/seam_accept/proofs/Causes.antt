@@ -2,12 +2,12 @@
 use Rattle.std.proofs.Common.{ℕ, List}
 use Rattle.seam_tree.specs.declared.tree.CutError.{CutError}
 use Rattle.seam_tree.specs.declared.tree.ShiftError.{ShiftError}
-use Rattle.seam_transcript.specs.Language.{Create, Call, Move, Client, Tick, Cut, Shift, Balance, Destroy}
+use Rattle.seam_rule_lines.specs.Language.{Create, Call, Move, Client, Tick, Cut, Shift, Balance, Destroy}
 use Rattle.seam_toml.specs.declared.header.Header.{Header}
-use Rattle.seam_transcript.specs.Book.{Book}
-use Rattle.seam_transcript.specs.Judging.{HoldsAgainst}
-use Rattle.seam_transcript.specs.declared.verdict.Cause.{Cause}
-use Rattle.seam_transcript.specs.declared.verdict.Cause.TheVariants as cause
+use Rattle.seam_rule_lines.specs.Book.{Book}
+use Rattle.seam_rule_lines.specs.Judging.{HoldsAgainst}
+use Rattle.seam_rule_lines.specs.declared.verdict.Cause.{Cause}
+use Rattle.seam_rule_lines.specs.declared.verdict.Cause.TheVariants as cause
 
 -- against a `create`
 pub against_create : (h : Header) (b : Book) (e n x z : List ℕ) (P : Cause → Type 0)

@@ -8,11 +8,11 @@ use Rattle.std.proofs.lemmas.List.Sums.{sum_by-append, sum_by-cons}
 use Rattle.std.proofs.lemmas.Bool.Decides.{eqb_tells}
 use Rattle.std.proofs.lemmas.Option.{none-some}
 use Rattle.seam_call.specs.declared.create.Create.{Create}
-use Rattle.seam_transcript.specs.Book.{Book, entries, creates_of, created_as, live_as, destroys, joins, has_client}
-use Rattle.seam_transcript.specs.Book.{count_of_clients, with_entry}
-use Rattle.seam_transcript.specs.declared.verdict.Entry.{Entry}
-use Rattle.seam_transcript.specs.declared.verdict.Entry.TheVariants as entry
-use Rattle.seam_transcript.proofs.BookEntries.{creates_with_entry, created_other, differ}
+use Rattle.seam_rule_lines.specs.Book.{Book, entries, creates_of, created_as, live_as, destroys, joins, has_client}
+use Rattle.seam_rule_lines.specs.Book.{count_of_clients, with_entry}
+use Rattle.seam_rule_lines.specs.declared.verdict.Entry.{Entry}
+use Rattle.seam_rule_lines.specs.declared.verdict.Entry.TheVariants as entry
+use Rattle.seam_rule_lines.proofs.BookEntries.{creates_with_entry, created_other, differ}
 use Rattle.seam_accept.specs.Entities.{IsUnknown, ClientsRefine, is_client}
 use Rattle.seam_accept.proofs.NamedEntities.{no_client_there}
 use Rattle.seam_accept.proofs.Books.{created_with, any_with, or_none, or_false}

@@ -6,15 +6,15 @@ use Rattle.std.proofs.lemmas.Option.{none-some}
 use Rattle.seam_value.specs.NumberWords.{SpellsPositive}
 use Rattle.seam_call.specs.declared.create.Create.{Create}
 use Rattle.seam_toml.specs.declared.header.Header.{Header}
-use Rattle.seam_transcript.specs.Language.{Client, Destroy}
-use Rattle.seam_transcript.specs.Book.{Book, entries, creates_of, live_as, has_client, count_of_clients}
-use Rattle.seam_transcript.specs.Judging.{NamesLive, HoldsAgainst, IsDead, IsFirst}
-use Rattle.seam_transcript.specs.declared.verdict.Entry.TheVariants.{Joined, Destroyed}
-use Rattle.seam_transcript.specs.declared.verdict.Cause.TheVariants as cause
-use Rattle.seam_transcript.specs.declared.limits.TheConstants.{MOST_CLIENTS}
-use Rattle.seam_transcript.proofs.BookEntries.{live_is_created}
-use Rattle.seam_transcript.proofs.InOrderLemmas.{found_entity}
-use Rattle.seam_transcript.proofs.Verdicts.{positive_is_one}
+use Rattle.seam_rule_lines.specs.Language.{Client, Destroy}
+use Rattle.seam_rule_lines.specs.Book.{Book, entries, creates_of, live_as, has_client, count_of_clients}
+use Rattle.seam_rule_lines.specs.Judging.{NamesLive, HoldsAgainst, IsDead, IsFirst}
+use Rattle.seam_rule_lines.specs.declared.verdict.Entry.TheVariants.{Joined, Destroyed}
+use Rattle.seam_rule_lines.specs.declared.verdict.Cause.TheVariants as cause
+use Rattle.seam_rule_lines.specs.declared.limits.TheConstants.{MOST_CLIENTS}
+use Rattle.seam_rule_lines.proofs.BookEntries.{live_is_created}
+use Rattle.seam_rule_lines.proofs.InOrderLemmas.{found_entity}
+use Rattle.seam_rule_lines.proofs.Verdicts.{positive_is_one}
 use Rattle.seam_accept.specs.Judging.{Accepts}
 use Rattle.seam_accept.proofs.Causes.{against_client, against_destroy}
 

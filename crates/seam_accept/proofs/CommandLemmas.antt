@@ -5,14 +5,14 @@ use Rattle.std.proofs.lemmas.Bool.{false≢true}
 use Rattle.std.proofs.lemmas.List.Elements.{Contains-append_right, Contains-append_cases}
 use Rattle.seam_io.specs.Lines.{Content}
 use Rattle.seam_words.specs.Texts.{HasWords}
-use Rattle.seam_transcript.specs.Language.{IsSkipped}
-use Rattle.seam_transcript.specs.Book.{Book}
-use Rattle.seam_transcript.specs.Judging.{Judges}
+use Rattle.seam_rule_lines.specs.Language.{IsSkipped}
+use Rattle.seam_rule_lines.specs.Book.{Book}
+use Rattle.seam_rule_lines.specs.Judging.{Judges}
 use Rattle.seam_toml.specs.declared.header.Header.{Header}
-use Rattle.seam_transcript.specs.declared.verdict.Cause.{Cause}
-use Rattle.seam_transcript.specs.declared.verdict.Cause.TheVariants as cause
-use Rattle.seam_transcript.specs.declared.verdict.Verdict.TheVariants.{Refused}
-use Rattle.seam_transcript.proofs.Refusals.{no_command_is_refused, wrong_count_is_refused}
+use Rattle.seam_rule_lines.specs.declared.verdict.Cause.{Cause}
+use Rattle.seam_rule_lines.specs.declared.verdict.Cause.TheVariants as cause
+use Rattle.seam_rule_lines.specs.declared.verdict.Verdict.TheVariants.{Refused}
+use Rattle.seam_rule_lines.proofs.Refusals.{no_command_is_refused, wrong_count_is_refused}
 use Rattle.seam_accept.specs.Commands.{IsFaultOfWords}
 
 -- each book refuses them for their fault

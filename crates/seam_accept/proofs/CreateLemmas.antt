@@ -4,14 +4,14 @@ use Rattle.std.specs.Prelude.{is_some}
 use Rattle.std.proofs.lemmas.Bool.{false≢true}
 use Rattle.seam_value.specs.NumberWords.{SpellsNumber, SpellsPositive}
 use Rattle.seam_value.proofs.NumberWords.{spells_one_number}
-use Rattle.seam_transcript.specs.Language.{Create}
+use Rattle.seam_rule_lines.specs.Language.{Create}
 use Rattle.seam_toml.specs.declared.header.Header.{Header}
-use Rattle.seam_transcript.specs.Book.{Book, entries, creates_of, created_as}
-use Rattle.seam_transcript.specs.Judging.{NamesType, HoldsAgainst, IsFirst}
-use Rattle.seam_transcript.specs.declared.verdict.Entry.TheVariants.{Created}
-use Rattle.seam_transcript.specs.declared.verdict.Cause.TheVariants as cause
-use Rattle.seam_transcript.specs.declared.limits.TheConstants.{MOST_ENTITIES}
-use Rattle.seam_transcript.proofs.Verdicts.{positive_is_one}
+use Rattle.seam_rule_lines.specs.Book.{Book, entries, creates_of, created_as}
+use Rattle.seam_rule_lines.specs.Judging.{NamesType, HoldsAgainst, IsFirst}
+use Rattle.seam_rule_lines.specs.declared.verdict.Entry.TheVariants.{Created}
+use Rattle.seam_rule_lines.specs.declared.verdict.Cause.TheVariants as cause
+use Rattle.seam_rule_lines.specs.declared.limits.TheConstants.{MOST_ENTITIES}
+use Rattle.seam_rule_lines.proofs.Verdicts.{positive_is_one}
 use Rattle.seam_accept.specs.Judging.{Accepts}
 use Rattle.seam_accept.proofs.Causes.{against_create}
 

@@ -17,14 +17,14 @@ use Rattle.seam_call.specs.declared.sender.Sender.{Sender}
 use Rattle.seam_call.specs.declared.call.Call.{Call}
 use Rattle.seam_call.specs.declared.create.Create.{Create}
 use Rattle.seam_toml.specs.declared.header.Header.{Header}
-use Rattle.seam_transcript.specs.Book.{Book, entries, created, creates_of, calls_of, created_as, live_as, destroys, joins, has_client}
-use Rattle.seam_transcript.specs.Book.{empty_book, one_cell, count_of_clients, accepted, with_entry, with_round_ended, with_tree, divided}
-use Rattle.seam_transcript.specs.Book.{is_balance}
-use Rattle.seam_transcript.specs.declared.verdict.Entry.{Entry}
-use Rattle.seam_transcript.specs.declared.verdict.Entry.TheVariants as entry
-use Rattle.seam_transcript.proofs.BookEntries.{same, differ, created_here, created_with_call, creates_with_entry}
-use Rattle.seam_transcript.proofs.InOrderLemmas.{entries_after_round}
-use Rattle.seam_transcript.proofs.OneSender.{same_sender_is}
+use Rattle.seam_rule_lines.specs.Book.{Book, entries, created, creates_of, calls_of, created_as, live_as, destroys, joins, has_client}
+use Rattle.seam_rule_lines.specs.Book.{empty_book, one_cell, count_of_clients, accepted, with_entry, with_round_ended, with_tree, divided}
+use Rattle.seam_rule_lines.specs.Book.{is_balance}
+use Rattle.seam_rule_lines.specs.declared.verdict.Entry.{Entry}
+use Rattle.seam_rule_lines.specs.declared.verdict.Entry.TheVariants as entry
+use Rattle.seam_rule_lines.proofs.BookEntries.{same, differ, created_here, created_with_call, creates_with_entry}
+use Rattle.seam_rule_lines.proofs.InOrderLemmas.{entries_after_round}
+use Rattle.seam_rule_lines.proofs.OneSender.{same_sender_is}
 use Rattle.seam_accept.specs.Last.{LastView, number_of}
 use Rattle.seam_accept.specs.Entities.{last_of, Remembers, EntitiesRefine, EntityRefines, IsUnknown, IsNextCall, ChangesOne, KeepsLast}
 use Rattle.seam_accept.specs.Entities.{Dies, LivesAlone, entity_at, ClientsRefine, is_client}

@@ -4,14 +4,14 @@ use Rattle.seam_io.specs.Lines.{Content}
 use Rattle.seam_defs.specs.declared.states.Deed.{Deed}
 use Rattle.seam_defs.specs.declared.types.TypeDef.{TypeDef}
 use Rattle.seam_call.specs.declared.call.Call.{Call}
-use Rattle.seam_transcript.specs.Language as language
+use Rattle.seam_rule_lines.specs.Language as language
 use Rattle.seam_toml.specs.declared.header.Header.{Header}
-use Rattle.seam_transcript.specs.Book.{Book, created_as}
-use Rattle.seam_transcript.specs.Judging.{NamesCall}
-use Rattle.seam_transcript.specs.declared.verdict.Entry.{Entry}
-use Rattle.seam_transcript.specs.declared.verdict.Entry.TheVariants as entry
-use Rattle.seam_transcript.proofs.BookEntries.{live_is_created}
-use Rattle.seam_transcript.proofs.Verdicts.{command_is_refused, command_is_accepted}
+use Rattle.seam_rule_lines.specs.Book.{Book, created_as}
+use Rattle.seam_rule_lines.specs.Judging.{NamesCall}
+use Rattle.seam_rule_lines.specs.declared.verdict.Entry.{Entry}
+use Rattle.seam_rule_lines.specs.declared.verdict.Entry.TheVariants as entry
+use Rattle.seam_rule_lines.proofs.BookEntries.{live_is_created}
+use Rattle.seam_rule_lines.proofs.Verdicts.{command_is_refused, command_is_accepted}
 use Rattle.seam_accept.specs.Commands.{call_of, asked_of}
 use Rattle.seam_accept.specs.Entities.{IsNextCall}
 use Rattle.seam_accept.specs.Judging.{Accepts, Refuses}

@@ -19,9 +19,9 @@ use Rattle.std.specs.List.{list_any}
 use Rattle.std.specs.Borrow.{Bor}
 use Rattle.std.proofs.lemmas.Bool.{false≢true}
 use Rattle.seam_call.specs.declared.create.Create.{Create}
-use Rattle.seam_transcript.specs.Book.{Book, entries, created_as, live_as, destroys, joins, has_client, with_entry}
-use Rattle.seam_transcript.specs.declared.verdict.Entry.TheVariants as entry
-use Rattle.seam_transcript.proofs.BookEntries.{same}
+use Rattle.seam_rule_lines.specs.Book.{Book, entries, created_as, live_as, destroys, joins, has_client, with_entry}
+use Rattle.seam_rule_lines.specs.declared.verdict.Entry.TheVariants as entry
+use Rattle.seam_rule_lines.proofs.BookEntries.{same}
 use Rattle.seam_accept.proofs.Books.{any_with, created_with, or_false, or_none}
 use Rattle.seam_accept.specs.Entities.{EntitiesRefine, EntityRefines, IsUnknown, IsLive, IsPlaceOf, LivesAlone, ChangesOne}
 use Rattle.seam_accept.specs.Entities.{entity_at}

@@ -11,9 +11,9 @@ use Rattle.seam_defs.specs.declared.types.TypeDef.{TypeDef}
 use Rattle.seam_defs.specs.declared.types.Method.{Method}
 use Rattle.seam_call.specs.BaseNodes.{IsBaseNodeOf}
 use Rattle.seam_call.specs.declared.sender.Sender.TheVariants.{Base}
-use Rattle.seam_transcript.specs.Language.{sender_text}
-use Rattle.seam_transcript.specs.Judging.{NamesType, NamesMethod}
-use Rattle.seam_transcript.proofs.Names.{place_of_type, place_of_method}
+use Rattle.seam_rule_lines.specs.Language.{sender_text}
+use Rattle.seam_rule_lines.specs.Judging.{NamesType, NamesMethod}
+use Rattle.seam_rule_lines.proofs.Names.{place_of_type, place_of_method}
 
 -- ---- senders
 

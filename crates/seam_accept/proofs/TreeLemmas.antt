@@ -13,12 +13,12 @@ use Rattle.seam_tree.specs.declared.tree.CutError.TheVariants.{NoCell, OutsideCe
 use Rattle.seam_tree.specs.declared.tree.ShiftError.{ShiftError}
 use Rattle.seam_tree.specs.declared.tree.ShiftError.TheVariants.{NoBoundary, WouldEmpty}
 use Rattle.seam_toml.specs.declared.header.Header.{Header}
-use Rattle.seam_transcript.specs.Language.{Cut, Shift, SpellsBoundary, axis_text}
-use Rattle.seam_transcript.specs.Book.{Book, tree_of}
-use Rattle.seam_transcript.specs.Judging.{RefusesCut, RefusesShift, HoldsAgainst, IsFirst}
-use Rattle.seam_transcript.specs.declared.verdict.Entry.TheVariants.{Divided}
-use Rattle.seam_transcript.specs.declared.verdict.Cause.TheVariants as cause
-use Rattle.seam_transcript.proofs.Verdicts.{boundary_is_one}
+use Rattle.seam_rule_lines.specs.Language.{Cut, Shift, SpellsBoundary, axis_text}
+use Rattle.seam_rule_lines.specs.Book.{Book, tree_of}
+use Rattle.seam_rule_lines.specs.Judging.{RefusesCut, RefusesShift, HoldsAgainst, IsFirst}
+use Rattle.seam_rule_lines.specs.declared.verdict.Entry.TheVariants.{Divided}
+use Rattle.seam_rule_lines.specs.declared.verdict.Cause.TheVariants as cause
+use Rattle.seam_rule_lines.proofs.Verdicts.{boundary_is_one}
 use Rattle.seam_accept.specs.Judging.{Accepts}
 use Rattle.seam_accept.proofs.Causes.{against_cut, against_shift}
 

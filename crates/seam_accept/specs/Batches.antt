@@ -11,9 +11,9 @@ use Rattle.seam_call.specs.declared.order.Order.{Order}
 use Rattle.seam_call.specs.declared.order.Order.TheVariants as order
 use Rattle.seam_call.specs.declared.order.Batch.{Batch}
 use Rattle.seam_toml.specs.declared.header.Header.{Header}
-use Rattle.seam_transcript.specs.Book.{Book, creates_of, tree_of, has_balance}
-use Rattle.seam_transcript.specs.declared.verdict.Entry.{Entry}
-use Rattle.seam_transcript.specs.declared.verdict.Entry.TheVariants as entry
+use Rattle.seam_rule_lines.specs.Book.{Book, creates_of, tree_of, has_balance}
+use Rattle.seam_rule_lines.specs.declared.verdict.Entry.{Entry}
+use Rattle.seam_rule_lines.specs.declared.verdict.Entry.TheVariants as entry
 
 -- the node of a sender: the nodes are the cells, and after them the base nodes; a client is on the base node of its entity
 abbrev pub node_of : Header → Sender → ℕ

@@ -1,10 +1,10 @@
 -- The commands that words in code spell.
 use Rattle.std.specs.Prelude.{◌≡◌, ℕ, List, map}
 use Rattle.std.specs.Borrow.{Bor}
-use Rattle.seam_transcript.specs.Language.{Word, Command, Create, Call, Move, Sync, Client, Tick, Cut, Shift, Balance, Destroy, words_of}
-use Rattle.seam_transcript.specs.Language.{NamesCommand}
-use Rattle.seam_transcript.specs.declared.verdict.Cause.{Cause}
-use Rattle.seam_transcript.specs.declared.verdict.Cause.TheVariants as cause
+use Rattle.seam_rule_lines.specs.Language.{Word, Command, Create, Call, Move, Sync, Client, Tick, Cut, Shift, Balance, Destroy, words_of}
+use Rattle.seam_rule_lines.specs.Language.{NamesCommand}
+use Rattle.seam_rule_lines.specs.declared.verdict.Cause.{Cause}
+use Rattle.seam_rule_lines.specs.declared.verdict.Cause.TheVariants as cause
 use Rattle.seam_accept.specs.declared.command.CallWords.{CallWords}
 use Rattle.seam_accept.specs.declared.command.CreateWords.{CreateWords}
 use Rattle.seam_accept.specs.declared.command.CutWords.{CutWords}

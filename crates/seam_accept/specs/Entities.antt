@@ -14,10 +14,10 @@ use Rattle.seam_call.specs.Calls.{same_part}
 use Rattle.seam_call.specs.declared.sender.Sender.{Sender}
 use Rattle.seam_call.specs.declared.call.Call.{Call}
 use Rattle.seam_call.specs.declared.create.Create.{Create}
-use Rattle.seam_transcript.specs.Book.{Book, entries, creates_of, created_as, live_as, destroys, joins, has_client, count_of_clients}
-use Rattle.seam_transcript.specs.Book.{accepted}
-use Rattle.seam_transcript.specs.declared.verdict.Entry.{Entry}
-use Rattle.seam_transcript.specs.declared.verdict.Entry.TheVariants as entry
+use Rattle.seam_rule_lines.specs.Book.{Book, entries, creates_of, created_as, live_as, destroys, joins, has_client, count_of_clients}
+use Rattle.seam_rule_lines.specs.Book.{accepted}
+use Rattle.seam_rule_lines.specs.declared.verdict.Entry.{Entry}
+use Rattle.seam_rule_lines.specs.declared.verdict.Entry.TheVariants as entry
 use Rattle.seam_accept.specs.Last.{LastView, number_of}
 use Rattle.seam_accept.specs.declared.entity.Entity.{Entity}
 

@@ -7,14 +7,14 @@ use Rattle.seam_defs.specs.declared.types.TypeDef.{TypeDef}
 use Rattle.seam_defs.specs.declared.states.Deed.{Deed}
 use Rattle.seam_defs.specs.declared.states.Deed.TheVariants as deed
 use Rattle.seam_call.specs.declared.sender.Sender.{Sender}
-use Rattle.seam_transcript.specs.Language.{Command, Sync}
+use Rattle.seam_rule_lines.specs.Language.{Command, Sync}
 use Rattle.seam_toml.specs.declared.header.Header.{Header}
-use Rattle.seam_transcript.specs.Book.{Book}
-use Rattle.seam_transcript.specs.Judging.{MayCall, MayMove}
-use Rattle.seam_transcript.specs.Judging.{SpellsPosition, NamesMethod, SpellsArgs, NamesDeed, NamesMove, Adds, HoldsAgainst, IsFirst}
-use Rattle.seam_transcript.specs.declared.verdict.Entry.{Entry}
-use Rattle.seam_transcript.specs.declared.verdict.Cause.{Cause}
-use Rattle.seam_transcript.specs.declared.verdict.Cause.TheVariants as cause
+use Rattle.seam_rule_lines.specs.Book.{Book}
+use Rattle.seam_rule_lines.specs.Judging.{MayCall, MayMove}
+use Rattle.seam_rule_lines.specs.Judging.{SpellsPosition, NamesMethod, SpellsArgs, NamesDeed, NamesMove, Adds, HoldsAgainst, IsFirst}
+use Rattle.seam_rule_lines.specs.declared.verdict.Entry.{Entry}
+use Rattle.seam_rule_lines.specs.declared.verdict.Cause.{Cause}
+use Rattle.seam_rule_lines.specs.declared.verdict.Cause.TheVariants as cause
 use Rattle.seam_accept.specs.Commands.{texts_of}
 use Rattle.seam_accept.specs.Entities.{IsNext}
 use Rattle.seam_accept.specs.declared.command.MethodWords.{MethodWords}

@@ -3,11 +3,11 @@ use Rattle.std.specs.Prelude.{◌≡◌, ⊤, length}
 use Rattle.std.specs.List.{filter_map}
 use Rattle.seam_io.specs.Lines.{Line}
 use Rattle.seam_toml.specs.declared.header.Header.{Header}
-use Rattle.seam_transcript.specs.Language.{Command, Sync}
-use Rattle.seam_transcript.specs.Book.{Book, creates_of, with_entry, tree_of, has_balance}
-use Rattle.seam_transcript.specs.Judging.{Judges}
-use Rattle.seam_transcript.specs.declared.verdict.Entry.{Entry}
-use Rattle.seam_transcript.specs.declared.verdict.Verdict.TheVariants as verdict
+use Rattle.seam_rule_lines.specs.Language.{Command, Sync}
+use Rattle.seam_rule_lines.specs.Book.{Book, creates_of, with_entry, tree_of, has_balance}
+use Rattle.seam_rule_lines.specs.Judging.{Judges}
+use Rattle.seam_rule_lines.specs.declared.verdict.Entry.{Entry}
+use Rattle.seam_rule_lines.specs.declared.verdict.Verdict.TheVariants as verdict
 use Rattle.seam_accept.specs.declared.answers.Accepted.{Accepted}
 use Rattle.seam_accept.specs.declared.answers.Accepted.TheVariants as answer
 use Rattle.seam_accept.specs.declared.answers.Refusal.{Refusal}

@@ -2,7 +2,7 @@
 ghost use Rattle.std.specs.Prelude.{◌≡◌};
 ghost use Rattle.seam_accept.specs.declared.answers.Refusal.TheVariants as refusal;
 
-use seam_transcript::Cause;
+use seam_rule_lines::Cause;
 use std::alloc::{AllocError, AllocFailed};
 
 /// What became of a line that was not refused.

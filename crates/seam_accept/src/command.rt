@@ -1,16 +1,16 @@
 // The command that a line spells.
 ghost use Rattle.std.specs.Prelude.{◌≡◌, ◌≢◌, ◌≤◌, ◌↔◌, ◌∷◌, [], IsTrue, IfErr, IfOk, length, codes, Contains, MatchOption};
 ghost use Rattle.seam_io.specs.Lines.{Content};
-ghost use Rattle.seam_transcript.specs.Language.{IsSkipped, words_of, command_names, NamesCommand};
-ghost use Rattle.seam_transcript.specs.Language.{SpellsCommand, Command as Commands};
-ghost use Rattle.seam_transcript.specs.Book.{Book};
-ghost use Rattle.seam_transcript.specs.Judging.{Judges};
+ghost use Rattle.seam_rule_lines.specs.Language.{IsSkipped, words_of, command_names, NamesCommand};
+ghost use Rattle.seam_rule_lines.specs.Language.{SpellsCommand, Command as Commands};
+ghost use Rattle.seam_rule_lines.specs.Book.{Book};
+ghost use Rattle.seam_rule_lines.specs.Judging.{Judges};
 ghost use Rattle.seam_toml.specs.declared.header.Header.{Header};
-ghost use Rattle.seam_transcript.specs.declared.verdict.Verdict.TheVariants.{Refused};
+ghost use Rattle.seam_rule_lines.specs.declared.verdict.Verdict.TheVariants.{Refused};
 ghost use Rattle.seam_accept.specs.Commands.{texts_of, command_of, IsFaultOfWords};
 
 use seam_io::LONGEST_LINE;
-use seam_transcript::Cause;
+use seam_rule_lines::Cause;
 use seam_words::{MOST_WORDS, words_of_line};
 use std::marker::Model;
 
@@ -92,7 +92,7 @@ pub struct Command<'a, 'b> {
 }
 
 impl<'a, 'b> Model for Command<'a, 'b> {
-    ghost use Rattle.seam_transcript.specs.Language.{Command};
+    ghost use Rattle.seam_rule_lines.specs.Language.{Command};
     ghost use Rattle.seam_accept.specs.Commands.{command_of};
 
     ghost Value = { Command };

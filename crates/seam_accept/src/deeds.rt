@@ -3,7 +3,7 @@ ghost use Rattle.std.specs.Prelude.{◌≡◌, ◌≢◌, ◌<◌, ℕ, List, If
 ghost use Rattle.seam_value.specs.Values.{Fits, text_of};
 ghost use Rattle.seam_value.specs.declared.values.Value.{Value as Values};
 ghost use Rattle.seam_defs.specs.Types.{IsType, method_of};
-ghost use Rattle.seam_transcript.specs.Judging.{SpellsArgs, NamesDeed, NamesMove, MayMove};
+ghost use Rattle.seam_rule_lines.specs.Judging.{SpellsArgs, NamesDeed, NamesMove, MayMove};
 ghost use Rattle.seam_accept.specs.Commands.{texts_of};
 ghost use Rattle.seam_accept.specs.Judging.{Asks, MayAsk, NoMethod, NoMove, NoDeed, IsIllTyped};
 
@@ -11,7 +11,7 @@ use crate::answers::Refusal;
 use crate::command::{DeedWords, MethodWords, PlaceWords};
 use crate::naming::{method_named, position_named};
 use seam_defs::{Args, Deed, Method, TypeDef};
-use seam_transcript::{Asked, Cause, Header, may_call, may_move};
+use seam_rule_lines::{Asked, Cause, Header, may_call, may_move};
 use seam_value::{Value, ValueError, ValueType};
 use std::alloc::Global;
 

@@ -2,7 +2,7 @@
 ghost use Rattle.std.specs.Prelude.{◌≡◌, ◌≢◌, ◌≤◌, ◌+◌, ◌++◌, ◌∷◌, [], ℕ, List, Some, length, IfOk, IfErr, OnOk, MatchBool, MatchOption};
 ghost use Rattle.seam_io.specs.Lines.{Line, Content};
 ghost use Rattle.seam_toml.specs.Header.{Reads, Refuses, number_of};
-ghost use Rattle.seam_transcript.specs.Header.{AreHeaderLines, BeginWithHeader, RefusesHeader, separator};
+ghost use Rattle.seam_rule_lines.specs.Header.{AreHeaderLines, BeginWithHeader, RefusesHeader, separator};
 
 use seam_io::LONGEST_LINE;
 use seam_toml::{Header, HeaderError, MOST_HEADER_BYTES, read_header};

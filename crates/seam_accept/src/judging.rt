@@ -1,9 +1,9 @@
 // The judging of commands: the first cause that holds against one, or what it adds.
 ghost use Rattle.std.specs.Prelude.{◌≡◌, Some, IfOk, IfErr, OnOk, OnErr};
 ghost use Rattle.seam_toml.specs.declared.header.Header.{Header as Headers};
-ghost use Rattle.seam_transcript.specs.Language.{Client, Destroy};
-ghost use Rattle.seam_transcript.specs.Book.{Book, tree_of};
-ghost use Rattle.seam_transcript.specs.Judging.{HoldsAgainst, IsFirst};
+ghost use Rattle.seam_rule_lines.specs.Language.{Client, Destroy};
+ghost use Rattle.seam_rule_lines.specs.Book.{Book, tree_of};
+ghost use Rattle.seam_rule_lines.specs.Judging.{HoldsAgainst, IsFirst};
 ghost use Rattle.seam_accept.specs.Commands.{create_of, call_of, cut_of, shift_of};
 ghost use Rattle.seam_accept.specs.Entities.{EntitiesRefine, ClientsRefine, IsPlaceOf};
 ghost use Rattle.seam_accept.specs.Judging.{Judged, Refuses};
@@ -16,7 +16,7 @@ use crate::naming::{axis_named, live_entity, sender_named, type_named};
 use indexmap::IndexMap;
 use seam_call::{Call, Create};
 use seam_geo::Pos;
-use seam_transcript::{Asked, Cause, Entry, Header, MOST_CLIENTS, MOST_ENTITIES};
+use seam_rule_lines::{Asked, Cause, Entry, Header, MOST_CLIENTS, MOST_ENTITIES};
 use seam_tree::Tree;
 use seam_value::{positive_number, whole_number};
 use std::alloc::Global;

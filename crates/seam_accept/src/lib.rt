@@ -1,5 +1,7 @@
+// SPDX-License-Identifier: MIT
+
 //! Reads the lines of a script, one after another: the book of what was accepted judges each by the definition *the book* of
-//! `seam_transcript`, and gives what a round brings as a batch for the core.
+//! `seam_rule_lines`, and gives what a round brings as a batch for the core.
 #![tactic(auto)]
 
 mod answers;

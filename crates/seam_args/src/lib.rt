@@ -1,3 +1,5 @@
+// SPDX-License-Identifier: MIT
+
 //! The words of the server's command line.
 //!
 //! The command is a simple command of `clap`, so which words are refused and what the others mean is defined there.

@@ -1,3 +1,5 @@
+// SPDX-License-Identifier: MIT
+
 //! New places for a tree's boundaries, by which each divides the positions on its two sides as evenly as it may
 //! (BigWorld Server Overview, load balancing).
 #![tactic(auto)]

@@ -3,4 +3,4 @@ pub mod PartLemmas
 pub mod ReadyUpdates
 pub mod RouteLemmas
 pub mod NodeLemmas
-pub mod Rounds
+pub mod RoundMarks

@@ -7,11 +7,11 @@ use Rattle.seam_table.proofs.Found.{found}
 use Rattle.seam_call.specs.declared.order.Order.{Order}
 use Rattle.seam_entity.specs.declared.message.Msg.{Msg}
 use Rattle.seam_call.specs.declared.shown.Update.{Update}
-use Rattle.seam_steps.specs.Maps.{Map, number_of}
-use Rattle.seam_steps.specs.Bases.{BaseView, PartView, ProxyView, RouteView, with_part}
-use Rattle.seam_steps.specs.BaseCases
-use Rattle.seam_steps.specs.BaseCases.{unless_stray, sends_none, stray_update, update, updated_proxy}
-use Rattle.seam_base.specs.declared.known.Known.{Known}
+use Rattle.seam_node_steps.specs.Maps.{Map, number_of}
+use Rattle.seam_node_steps.specs.Bases.{BaseView, PartView, ProxyView, RouteView, with_part}
+use Rattle.seam_node_steps.specs.BaseCases
+use Rattle.seam_node_steps.specs.BaseCases.{unless_stray, sends_none, stray_update, update, updated_proxy}
+use Rattle.seam_base.specs.declared.context.BaseContext.{BaseContext}
 use Rattle.seam_base.specs.Nodes.{node_of, has_call, has_update}
 use Rattle.seam_base.specs.Marks.{passes_in, least}
 use Rattle.seam_base.specs.Parts.{changed_at, with_ready_call, with_shown, with_update, parts_with_update, client_with_update}
@@ -50,7 +50,7 @@ module _ (b : BaseView) (u : Update) where
 
 -- ---- an order that stays
 
-module _ (K : Known) (rs : Map RouteView) (ps ps' : Map PartView) (old new os : List Order) (o so : Order) (old_is : old ≡ o ∷ os)
+module _ (K : BaseContext) (rs : Map RouteView) (ps ps' : Map PartView) (old new os : List Order) (o so : Order) (old_is : old ≡ o ∷ os)
     (new_is : new ≡ so ∷ os) (same : so ≡ o) (parts : ps' ≡ ps) where
   abbrev before : List Order → BaseView
   before l = node_of K l rs ps

@@ -3,7 +3,7 @@ use Rattle.std.proofs.Common.{◌≡◌, ℕ, ◌≤◌, ◌+◌, subst, Result,
 use Rattle.std.proofs.Common.{true, false, ◌&&◌, not, find, is_some, if◌then◌else◌, Option, None, Some, refl, sym, ap, ◌∙◌, arith}
 use Rattle.std.specs.Prelude.{option_map, cond, ◌||◌}
 use Rattle.std.specs.List.{list_any, filter}
-use Rattle.seam_steps.specs.Maps.{has_any}
+use Rattle.seam_node_steps.specs.Maps.{has_any}
 use Rattle.std.specs.declared.cmp.Ordering.{Ordering}
 use Rattle.std.specs.declared.cmp.Ordering.TheVariants.{Less, Equal, Greater}
 use Rattle.seam_defs.specs.Deeds.{after, client_of}
@@ -17,17 +17,17 @@ use Rattle.seam_defs.specs.declared.states.State.{State}
 use Rattle.seam_call.specs.declared.call.Call.{Call}
 use Rattle.seam_call.specs.declared.shown.ClientText.{ClientText}
 use Rattle.seam_entity.specs.Here.{Here, type_at, properties}
-use Rattle.seam_steps.specs.Bases.{PartView, ProxyView, line_if, base_text, shown_to_client}
+use Rattle.seam_node_steps.specs.Bases.{PartView, ProxyView, line_if, base_text, shown_to_client}
 use Rattle.seam_entity.specs.Calls.{order_is_ready, may_offer, ready_order, ready_call, call_in, after_order, after_ready}
 use Rattle.seam_order.specs.Held.{OrderView}
 use Rattle.seam_order.specs.Offers.{next_item}
-use Rattle.seam_steps.proofs.Tables.{entries_empty}
-use Rattle.seam_steps.specs.BaseCases
-use Rattle.seam_steps.specs.BaseCases.{proxy_is_ready, after_showing, with_deed, with_offer, executed, offered}
+use Rattle.seam_node_steps.proofs.Tables.{entries_empty}
+use Rattle.seam_node_steps.specs.BaseCases
+use Rattle.seam_node_steps.specs.BaseCases.{proxy_is_ready, after_showing, with_deed, with_offer, executed, offered}
 use Rattle.seam_base.specs.Parts.{told, with_state, with_orders, with_call, with_ready_call, with_shown}
 use Rattle.seam_base.specs.Nodes.{has_call, has_update, has_client}
 use Rattle.seam_base.specs.Marks.{passes}
-use Rattle.seam_steps.specs.Loads.{new_part, new_proxy, with_proxy}
+use Rattle.seam_node_steps.specs.Loads.{new_part, new_proxy, with_proxy}
 use Rattle.seam_defs.specs.Deeds.{properties_of}
 use Rattle.seam_defs.specs.declared.flags.Group.TheVariants as group
 

@@ -7,10 +7,10 @@ use Rattle.std.specs.FinMap as table
 use Rattle.std.proofs.lemmas.Bool.Decides.{nat_tests}
 use Rattle.seam_entity.specs.Here.{cell_count}
 use Rattle.seam_entity.specs.Numbers.{is_small}
-use Rattle.seam_steps.specs.Maps.{Map}
-use Rattle.seam_steps.specs.Bases.{BaseView, RouteView}
-use Rattle.seam_steps.specs.BaseCases.{current, newer_route, sends_none, stray_current, unless_stray}
-use Rattle.seam_steps.specs.Valid.{RoutesAreCells}
+use Rattle.seam_node_steps.specs.Maps.{Map}
+use Rattle.seam_node_steps.specs.Bases.{BaseView, RouteView}
+use Rattle.seam_node_steps.specs.BaseCases.{current, newer_route, sends_none, stray_current, unless_stray}
+use Rattle.seam_node_steps.specs.Valid.{RoutesAreCells}
 use Rattle.seam_base.specs.Routes.{gives_way}
 
 pub no_routes : RoutesAreCells table.empty

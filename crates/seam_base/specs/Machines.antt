@@ -4,12 +4,12 @@ use Rattle.seam_machine.specs.Sends.{AllBelow}
 use Rattle.seam_machine.specs.declared.machines.Input.{Input}
 use Rattle.seam_entity.specs.declared.message.Msg.{Msg}
 use Rattle.seam_entity.specs.Here.{peers_of}
-use Rattle.seam_steps.specs.Bases.{BaseView}
-use Rattle.seam_steps.specs.BaseCases.{base_steps}
-use Rattle.seam_steps.specs.Nodes.NodeView.{Base}
-use Rattle.seam_steps.specs.Valid.{IsBase}
-use Rattle.seam_steps.proofs.Targets.{node_targets}
-use Rattle.seam_steps.proofs.Peers.{peers_stay, node_stays_valid}
+use Rattle.seam_node_steps.specs.Bases.{BaseView}
+use Rattle.seam_node_steps.specs.BaseCases.{base_steps}
+use Rattle.seam_node_steps.specs.Nodes.NodeView.{Base}
+use Rattle.seam_node_steps.specs.Valid.{IsBase}
+use Rattle.seam_node_steps.proofs.Targets.{node_targets}
+use Rattle.seam_node_steps.proofs.Peers.{peers_stay, node_stays_valid}
 
 -- how many nodes there are
 abbrev pub base_peers : BaseView → ℕ

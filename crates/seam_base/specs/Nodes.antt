@@ -3,19 +3,19 @@ use Rattle.std.specs.Prelude.{◌≤◌, Bool, is_some, List}
 use Rattle.seam_call.specs.declared.order.Order.{Order}
 use Rattle.seam_entity.specs.Here.{Here}
 use Rattle.seam_entity.specs.Calls.{has_ready}
-use Rattle.seam_steps.specs.Maps.{Map}
-use Rattle.seam_steps.specs.Bases.{BaseView, PartView, RouteView}
-use Rattle.seam_steps.specs.BaseCases.{proxy_is_ready, may_show}
+use Rattle.seam_node_steps.specs.Maps.{Map}
+use Rattle.seam_node_steps.specs.Bases.{BaseView, PartView, RouteView}
+use Rattle.seam_node_steps.specs.BaseCases.{proxy_is_ready, may_show}
 use Rattle.seam_defs.specs.declared.limits.TheConstants.{MOST_BASE_NODES}
-use Rattle.seam_steps.specs.Valid.{IsBase}
-use Rattle.seam_base.specs.declared.known.Known.{Known}
+use Rattle.seam_node_steps.specs.Valid.{IsBase}
+use Rattle.seam_base.specs.declared.context.BaseContext.{BaseContext}
 
 -- what the node knows beside its entities
-abbrev pub here_in : Known → Here
+abbrev pub here_in : BaseContext → Here
 here_in k = record { me = k.me; defs = k.defs; settings = k.settings }
 
 -- the node with these orders, routes and parts
-abbrev pub node_of : Known → List Order → Map RouteView → Map PartView → BaseView
+abbrev pub node_of : BaseContext → List Order → Map RouteView → Map PartView → BaseView
 node_of k orders routes parts = record { here = here_in k; cells = k.cells; orders = orders; routes = routes; parts = parts }
 
 -- the part has a ready call

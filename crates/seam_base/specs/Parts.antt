@@ -11,9 +11,9 @@ use Rattle.seam_call.specs.declared.shown.Update.{Update}
 use Rattle.seam_entity.specs.Here.{Here}
 use Rattle.seam_entity.specs.Orders.{Orders, order_of}
 use Rattle.seam_entity.specs.Calls.{ready_order}
-use Rattle.seam_steps.specs.Maps.{Map, set_at}
-use Rattle.seam_steps.specs.Bases.{PartView, ProxyView, with_line}
-use Rattle.seam_steps.specs.BaseCases.{stray_update, offered, offered_update, after_ready, after_showing}
+use Rattle.seam_node_steps.specs.Maps.{Map, set_at}
+use Rattle.seam_node_steps.specs.Bases.{PartView, ProxyView, with_line}
+use Rattle.seam_node_steps.specs.BaseCases.{stray_update, offered, offered_update, after_ready, after_showing}
 use Rattle.std.specs.declared.boxed.Box.{Box}
 use Rattle.seam_base.specs.declared.part.Proxy.{Proxy}
 use Rattle.seam_base.specs.declared.part.Body.{Body}

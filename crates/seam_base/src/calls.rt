@@ -13,7 +13,7 @@ ghost use Rattle.seam_entity.specs.Calls.{may_offer, ready_call, after_ready};
 ghost use Rattle.seam_call.specs.declared.call.Call.{Call as AnyCall};
 ghost use Rattle.seam_base.specs.Nodes.{has_call};
 ghost use Rattle.seam_entity.specs.Preparing.{node_with};
-ghost use Rattle.seam_steps.specs.BaseCases.{may_show, may_execute, with_deed, with_offer, executed};
+ghost use Rattle.seam_node_steps.specs.BaseCases.{may_show, may_execute, with_deed, with_offer, executed};
 ghost use Rattle.seam_base.specs.Parts.{part_of, client_in, shows, told, with_state};
 ghost use Rattle.seam_base.specs.Parts.{with_orders, with_call, with_ready_call, HasLine, HasRoom};
 
@@ -21,8 +21,8 @@ use crate::part::{BasePart, Body, Proxy, reserve_line};
 use seam_call::{Call, ClientText, Sender};
 use seam_defs::{Defs, Group, State, TypeDef};
 use seam_entity::reserve_one;
-use seam_memory::NoMemoryFor;
 use seam_order::Offer;
+use seam_table::NoMemoryFor;
 use std::alloc::{AllocError, Global};
 
 // What a call leaves: the state after it, and the text that the client is shown, if it is shown one.

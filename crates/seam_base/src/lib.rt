@@ -1,4 +1,6 @@
-//! Base nodes: the code whose steps are those of `seam_steps`.
+// SPDX-License-Identifier: MIT
+
+//! Base nodes: the code whose steps are those of `seam_node_steps`.
 //!
 //! A base node (BigWorld's BaseApp) keeps the base parts of its entities, of which those with a client are proxies, and for every
 //! entity the route to its real; it passes on the calls of its senders (BigWorld Server Overview, "Base entities and proxies").
@@ -8,7 +10,7 @@
 #![tactic(auto)]
 
 mod calls;
-mod known;
+mod context;
 mod mark_set;
 mod node;
 mod orders;
@@ -19,4 +21,4 @@ mod updates;
 
 pub use node::Base;
 pub use part::BasePart;
-pub use seam_memory::NoMemoryFor;
+pub use seam_table::NoMemoryFor;

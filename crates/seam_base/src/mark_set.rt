@@ -2,7 +2,7 @@
 
 ghost use Rattle.std.specs.Prelude.{◌≡◌, ℕ, Some, find, option_map, slice_get, OnOk, OnErr};
 ghost use Rattle.std.specs.FinMap as table;
-ghost use Rattle.seam_steps.specs.Maps.{number_of};
+ghost use Rattle.seam_node_steps.specs.Maps.{number_of};
 ghost use Rattle.seam_base.specs.Marks.{any_mark};
 
 use std::alloc::{AllocError, Global};
@@ -20,7 +20,7 @@ impl Model for MarkSet {
     ghost use Rattle.std.specs.List.Sorted.{IsStrictlySortedBy};
     ghost use Rattle.std.specs.Coded.{codes};
     ghost use Rattle.std.specs.FinMap as table;
-    ghost use Rattle.seam_steps.specs.Maps.{Map};
+    ghost use Rattle.seam_node_steps.specs.Maps.{Map};
     ghost use Rattle.seam_base.specs.Marks.{marks_of};
 
     ghost Value = { Map (Unit {0}) };

@@ -6,19 +6,19 @@ ghost use Rattle.std.specs.FinMap as table;
 ghost use Rattle.seam_geo.specs.declared.pos.Pos.{Pos as AnyPos};
 ghost use Rattle.seam_call.specs.declared.call.Call.{Call as AnyCall};
 ghost use Rattle.seam_entity.specs.declared.message.Msg.TheVariants.{BaseCall};
-ghost use Rattle.seam_steps.specs.Maps.{has_any};
-ghost use Rattle.seam_steps.specs.Loads.{empty_base, part_if, with_route, attached, base_begins};
-ghost use Rattle.seam_steps.specs.Nodes.NodeView.{Base as BaseNodeView};
-ghost use Rattle.seam_steps.specs.Valid.{IsBase};
-ghost use Rattle.seam_steps.specs.BaseCases.{unless_stray, sends_none, stray_current};
-ghost use Rattle.seam_steps.specs.BaseCases.{current, stray_update, update as update_case, stray_base_call};
-ghost use Rattle.seam_steps.specs.BaseCases.{base_call, is_stray, case_of, ready_part};
-ghost use Rattle.seam_steps.specs.BaseCases.{task_without_orders, base_task, base_steps, base_has_work, is_base_node_of};
+ghost use Rattle.seam_node_steps.specs.Maps.{has_any};
+ghost use Rattle.seam_node_steps.specs.Loads.{empty_base, part_if, with_route, attached, base_begins};
+ghost use Rattle.seam_node_steps.specs.Nodes.NodeView.{Base as BaseNodeView};
+ghost use Rattle.seam_node_steps.specs.Valid.{IsBase};
+ghost use Rattle.seam_node_steps.specs.BaseCases.{unless_stray, sends_none, stray_current};
+ghost use Rattle.seam_node_steps.specs.BaseCases.{current, stray_update, update as update_case, stray_base_call};
+ghost use Rattle.seam_node_steps.specs.BaseCases.{base_call, is_stray, case_of, ready_part};
+ghost use Rattle.seam_node_steps.specs.BaseCases.{task_without_orders, base_task, base_steps, base_has_work, is_base_node_of};
 ghost use Rattle.seam_base.specs.Nodes.{has_call, has_update, has_client};
 ghost use Rattle.seam_base.specs.Marks.{least, passes};
 ghost use Rattle.seam_base.specs.Machines.{base_peers, base_targets, base_keeps_peers, base_stays_valid};
 
-use crate::known::Known;
+use crate::context::BaseContext;
 use crate::orders::execute;
 use crate::part::BasePart;
 use crate::parts::Parts;
@@ -27,8 +27,7 @@ use seam_call::{Call, Order, Update};
 use seam_defs::{Defs, MOST_BASE_NODES, Settings};
 use seam_entity::Msg;
 use seam_machine::{Input, Machine, Out};
-use seam_memory::NoMemoryFor;
-use seam_table::Table;
+use seam_table::{NoMemoryFor, Table};
 use std::alloc::{AllocError, Global};
 use std::collections::VecDeque;
 use std::marker::Model;
@@ -36,7 +35,7 @@ use std::marker::Model;
 /// A base node.
 #[derive(Drop)]
 pub struct Base {
-    known: Known,
+    known: BaseContext,
     orders: VecDeque<Order>,
     routes: Table<Route>,
     parts: Parts,
@@ -45,7 +44,7 @@ pub struct Base {
 impl Model for Base {
     ghost use Rattle.std.specs.Coded.{codes};
     ghost use Rattle.std.specs.FinMap as table;
-    ghost use Rattle.seam_steps.specs.Bases.{BaseView};
+    ghost use Rattle.seam_node_steps.specs.Bases.{BaseView};
     ghost use Rattle.seam_base.specs.Nodes.{node_of, IsKept};
 
     ghost Value = { BaseView };
@@ -65,7 +64,7 @@ impl Base {
         ensures { BaseNodeView result ≡ empty_base defs settings me }
     {
         Base {
-            known: Known {
+            known: BaseContext {
                 me,
                 cells: 1,
                 defs,

@@ -7,11 +7,11 @@ ghost use Rattle.seam_call.specs.declared.order.Order.{Order as AnyOrder};
 ghost use Rattle.seam_call.specs.declared.order.Order.TheVariants as order;
 ghost use Rattle.seam_entity.specs.declared.message.Msg.TheVariants as message;
 ghost use Rattle.seam_entity.specs.Here.{base_of};
-ghost use Rattle.seam_steps.specs.BaseCases.{on_route, tick_to, is_base_node_of, stray_base_call, stray_order, order_of_node};
+ghost use Rattle.seam_node_steps.specs.BaseCases.{on_route, tick_to, is_base_node_of, stray_base_call, stray_order, order_of_node};
 ghost use Rattle.seam_base.specs.Nodes.{here_in, node_of};
 ghost use Rattle.seam_base.specs.Parts.{changed_at, with_call};
 
-use crate::known::Known;
+use crate::context::BaseContext;
 use crate::parts::Parts;
 use crate::routes::Route;
 use seam_call::{Call, Order};
@@ -106,7 +106,12 @@ fn reap_order(
 }
 
 // Base order: where this is the entity's base node as a base call, else the call goes to that node.
-fn base_order(known: &Known, parts: &mut Parts, call: Call, out: &mut Out<Msg>) -> Result<(), Stays>
+fn base_order(
+    known: &BaseContext,
+    parts: &mut Parts,
+    call: Call,
+    out: &mut Out<Msg>,
+) -> Result<(), Stays>
     requires bases { 1 ≤ known.now.settings.bases }
     requires most { known.now.settings.bases ≤ MOST_BASE_NODES }
     ensures parts { let h = here_in known.now in OnOk result (parts.new
@@ -136,7 +141,7 @@ fn base_order(known: &Known, parts: &mut Parts, call: Call, out: &mut Out<Msg>) 
 }
 
 // A base order for a part of this node.
-fn own_order(known: &Known, parts: &mut Parts, call: Call) -> Result<(), Stays>
+fn own_order(known: &BaseContext, parts: &mut Parts, call: Call) -> Result<(), Stays>
     ensures parts { OnOk result (parts.new ≡ changed_at (with_call (here_in known.now) call) parts.old call.entity) }
     ensures done { OnOk result (stray_base_call (here_in known.now) call (table.get parts.old call.entity) ≡ false) }
     ensures err { OnErr result (parts.new ≡ parts.old) }
@@ -164,7 +169,7 @@ fn own_order(known: &Known, parts: &mut Parts, call: Call) -> Result<(), Stays>
 ///
 /// The clauses speak of the node without the order, with any list of the others.
 pub fn execute(
-    known: &Known,
+    known: &BaseContext,
     routes: &Table<Route>,
     parts: &mut Parts,
     order: Order,

@@ -3,23 +3,22 @@
 ghost use Rattle.std.specs.Prelude.{◌≡◌, ◌≤◌, if◌then◌else◌, ℕ, true};
 ghost use Rattle.std.specs.Prelude.{false, OnOk, OnErr, IfErr, Some, option_copied};
 ghost use Rattle.std.specs.FinMap as table;
-ghost use Rattle.seam_steps.specs.Maps.{Map, each_value};
-ghost use Rattle.seam_steps.specs.Bases.{PartView};
+ghost use Rattle.seam_node_steps.specs.Maps.{Map, each_value};
+ghost use Rattle.seam_node_steps.specs.Bases.{PartView};
 ghost use Rattle.seam_defs.specs.declared.settings.Settings.{Settings as AllSettings};
 ghost use Rattle.seam_entity.specs.Preparing.{node_with};
-ghost use Rattle.seam_steps.specs.Loads.{with_proxy, new_part, part_begins};
-ghost use Rattle.seam_steps.specs.BaseCases.{stray_base_call, stray_proxy_update, may_execute, is_base_node_of};
+ghost use Rattle.seam_node_steps.specs.Loads.{with_proxy, new_part, part_begins};
+ghost use Rattle.seam_node_steps.specs.BaseCases.{stray_base_call, stray_proxy_update, may_execute, is_base_node_of};
 ghost use Rattle.seam_base.specs.Nodes.{here_in, has_call, has_update, has_client, may_be_shown};
 ghost use Rattle.seam_base.specs.Parts.{changed_at, with_call, with_ready_call, with_update, parts_with_update, with_shown};
 ghost use Rattle.seam_base.specs.Marks.{AreMarked, PassAlike, passes, marked, least};
 
-use crate::known::Known;
+use crate::context::BaseContext;
 use crate::mark_set::MarkSet;
 use crate::part::BasePart;
 use seam_call::{Call, Update};
 use seam_defs::{Defs, MOST_BASE_NODES};
-use seam_memory::NoMemoryFor;
-use seam_table::Table;
+use seam_table::{NoMemoryFor, Table};
 use std::alloc::{AllocError, Global};
 use std::marker::Model;
 
@@ -36,8 +35,8 @@ pub struct Parts {
 impl Model for Parts {
     ghost use Rattle.std.specs.Coded.{codes};
     ghost use Rattle.std.specs.FinMap as table;
-    ghost use Rattle.seam_steps.specs.Maps.{Map};
-    ghost use Rattle.seam_steps.specs.Bases.{PartView};
+    ghost use Rattle.seam_node_steps.specs.Maps.{Map};
+    ghost use Rattle.seam_node_steps.specs.Bases.{PartView};
 
     ghost Value = { Map PartView };
 
@@ -111,7 +110,7 @@ fn update_in(
 fn call_in(
     items: &mut Table<BasePart>,
     calls: &mut MarkSet,
-    known: &Known,
+    known: &BaseContext,
     call: Call,
 ) -> Result<(), NoMemoryFor<Call>>
     requires fits { stray_base_call (here_in known.now) call (table.get items.old.items call.entity) ≡ false }
@@ -138,7 +137,7 @@ fn call_in(
 fn ready_in(
     items: &mut Table<BasePart>,
     calls: &mut MarkSet,
-    known: &Known,
+    known: &BaseContext,
     e: u32,
 ) -> Result<(), AllocError>
     requires may { passes may_execute (table.get items.old.items e) ≡ true }
@@ -252,7 +251,7 @@ impl Parts {
     }
 
     /// Whether the entity's part is not here, or may not be offered the call.
-    pub fn refuses(&self, known: &Known, call: &Call) -> bool
+    pub fn refuses(&self, known: &BaseContext, call: &Call) -> bool
         ensures { result ≡ stray_base_call (here_in known.now) call.now (table.get self.now call.now.entity) }
     {
         match self.get(call.entity) {
@@ -262,7 +261,7 @@ impl Parts {
     }
 
     /// Offers the call to the entity's part, which may be offered it.
-    pub fn offer(&mut self, known: &Known, call: Call) -> Result<(), NoMemoryFor<Call>>
+    pub fn offer(&mut self, known: &BaseContext, call: Call) -> Result<(), NoMemoryFor<Call>>
         requires { stray_base_call (here_in known.now) call (table.get self.old call.entity) ≡ false }
         ensures after { OnOk result (self.new ≡ changed_at (with_call (here_in known.now) call) self.old call.entity) }
 
@@ -274,7 +273,7 @@ impl Parts {
     }
 
     /// Executes the ready call of the least sender of the entity's part.
-    pub fn execute_ready(&mut self, known: &Known, e: u32) -> Result<(), AllocError>
+    pub fn execute_ready(&mut self, known: &BaseContext, e: u32) -> Result<(), AllocError>
         requires { passes may_execute (table.get self.old e) ≡ true }
         ensures after { OnOk result (self.new ≡ changed_at (with_ready_call (here_in known.now)) self.old e) }
         ensures err { OnErr result (self.new ≡ self.old) }
@@ -314,7 +313,13 @@ impl Parts {
     }
 
     /// Makes the entity's part, which has done nothing, where this is its base node.
-    pub fn add(&mut self, alloc: Global, known: &Known, e: u32, ty: u16) -> Result<(), AllocError>
+    pub fn add(
+        &mut self,
+        alloc: Global,
+        known: &BaseContext,
+        e: u32,
+        ty: u16,
+    ) -> Result<(), AllocError>
         requires bases { 1 ≤ known.now.settings.bases }
         requires most { known.now.settings.bases ≤ MOST_BASE_NODES }
         ensures after { let h = here_in known.now in

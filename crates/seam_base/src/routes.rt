@@ -17,7 +17,7 @@ pub struct Route {
 }
 
 impl Model for Route {
-    ghost use Rattle.seam_steps.specs.Bases.{RouteView};
+    ghost use Rattle.seam_node_steps.specs.Bases.{RouteView};
 
     ghost Value = { RouteView };
 

@@ -11,9 +11,9 @@ ghost use Rattle.seam_order.specs.Offers.{next_item};
 ghost use Rattle.seam_entity.specs.Calls.{may_offer, is_ready};
 ghost use Rattle.seam_entity.specs.Numbers.{may_rise};
 ghost use Rattle.seam_entity.specs.Preparing.{node_with};
-ghost use Rattle.seam_steps.specs.Maps.{has_any};
-ghost use Rattle.seam_steps.specs.Loads.{with_proxy, part_begins, new_proxy as empty_proxy};
-ghost use Rattle.seam_steps.specs.BaseCases.{offered_update, shows_next, stray_proxy_update, proxy_is_ready, may_show};
+ghost use Rattle.seam_node_steps.specs.Maps.{has_any};
+ghost use Rattle.seam_node_steps.specs.Loads.{with_proxy, part_begins, new_proxy as empty_proxy};
+ghost use Rattle.seam_node_steps.specs.BaseCases.{offered_update, shows_next, stray_proxy_update, proxy_is_ready, may_show};
 ghost use Rattle.seam_base.specs.Nodes.{has_update};
 ghost use Rattle.seam_base.specs.Parts.{proxy_of, client_with_update, with_update, with_shown};
 
@@ -22,8 +22,8 @@ use crate::part::{BasePart, Proxy, reserve_line};
 use seam_call::{ClientText, Shown, Update};
 use seam_defs::{Defs, Group, Property, TypeDef};
 use seam_entity::may_rise as number_may_rise;
-use seam_memory::NoMemoryFor;
 use seam_order::{InOrder, Offer};
+use seam_table::NoMemoryFor;
 use std::alloc::{AllocError, Global};
 
 // Whether the client may be offered the update, and its line has a number.

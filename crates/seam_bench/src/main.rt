@@ -1,3 +1,5 @@
+// SPDX-License-Identifier: MIT
+
 //! Prints what the calls cost that a cell makes most, one line a call.
 //!
 //! With the word `measure` a line has the nanoseconds that one call takes, with what the program does for it: the least of

@@ -5,7 +5,7 @@ ghost use Rattle.std.specs.List.Sorted.{IsStrictlySortedBy};
 use crate::cost::Cost;
 use crate::places::{SIDE, place};
 use seam_geo::Pos;
-use seam_range::{Place, RangeList};
+use seam_range::{Location, RangeList};
 use seam_view::{Seen, View};
 use std::alloc::{AllocError, Global};
 use std::io;
@@ -53,7 +53,7 @@ pub fn within(rt: &(impl Clock + Alloc<A = Global>), count: u32, calls: u32) -> 
     let mut list = RangeList::new(rt.alloc());
     for entity in 0..count {
         let pos = place(entity);
-        list.put(entity, Place { version: 0, pos })?;
+        list.put(entity, Location { version: 0, pos })?;
     }
     let mut sum = 0u64;
     let start = Instant::now(rt)?;

@@ -1,3 +1,5 @@
+// SPDX-License-Identifier: MIT
+
 //! Calls of entities: who sends them, what they do, and which entities they are for. The book of accepted commands, the core
 //! and the printed rounds all speak of these types. Senders are the base nodes of a world and the clients of its entities, as
 //! proxies are in BigWorld (BigWorld Server Overview, "Base entities and proxies"). With them are the orders that a round gives to

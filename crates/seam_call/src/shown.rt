@@ -3,7 +3,7 @@
 ghost use Rattle.std.specs.Prelude.{◌≡◌, IfOk};
 
 use seam_defs::{Props, State};
-use seam_memory::Shared;
+use seam_table::Shared;
 use std::alloc::AllocError;
 
 /// What a ghost holds of a real: its type, its public version, and its state at that version.

@@ -1,3 +1,5 @@
+// SPDX-License-Identifier: MIT
+
 //! The worked rows: what the program prints for small scripts, with sources and sinks over memory.
 #![tactic(auto)]
 

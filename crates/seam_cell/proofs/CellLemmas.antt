@@ -15,17 +15,17 @@ use Rattle.seam_entity.specs.Reals.{RealView}
 use Rattle.seam_entity.specs.declared.message.Msg.TheVariants.{GhostSet, GhostDrop, Call as CallTo}
 use Rattle.seam_entity.specs.Numbers.{is_small}
 use Rattle.seam_entity.specs.Here.{cell_count}
-use Rattle.seam_steps.specs.Maps.{Map, set_at, number_of}
-use Rattle.seam_steps.specs.Slots.{NextPlace, SlotStep, unless_stray}
-use Rattle.seam_steps.specs.CellCases.{ghost_set, ghost_drop, stray_ghost_set, stray_call, call, call_next_place, slot_steps}
-use Rattle.seam_steps.specs.Cells.{CellView, slot_of, stepped, cell_steps, real_is_ready, has_witness}
-use Rattle.seam_steps.proofs.Slots.{set_at-same}
+use Rattle.seam_node_steps.specs.Maps.{Map, set_at, number_of}
+use Rattle.seam_node_steps.specs.Slots.{NextPlace, SlotStep, unless_stray}
+use Rattle.seam_node_steps.specs.CellCases.{ghost_set, ghost_drop, stray_ghost_set, stray_call, call, call_next_place, slot_steps}
+use Rattle.seam_node_steps.specs.Cells.{CellView, slot_of, stepped, cell_steps, real_is_ready, has_witness}
+use Rattle.seam_node_steps.proofs.Slots.{set_at-same}
 use Rattle.seam_defs.specs.Settings.{AreLegal}
-use Rattle.seam_parts.specs.declared.known.Known.{Known}
-use Rattle.seam_parts.specs.declared.reals.Reals.{Reals}
-use Rattle.seam_parts.specs.declared.places.Places.{Places}
-use Rattle.seam_parts.specs.declared.lists.Lists.{Lists}
-use Rattle.seam_parts.specs.Kept.{marked, AreWhole}
+use Rattle.seam_cell_parts.specs.declared.context.CellContext.{CellContext}
+use Rattle.seam_cell_parts.specs.declared.reals.Reals.{Reals}
+use Rattle.seam_cell_parts.specs.declared.places.Places.{Places}
+use Rattle.seam_cell_parts.specs.declared.lists.Lists.{Lists}
+use Rattle.seam_cell_parts.specs.Kept.{marked, AreWhole}
 
 pub third_decides : (a b c : Bool) → a ≡ true → b ≡ true → not c ≡ not (a && (b && c))
 third_decides true true c e f = refl
@@ -116,7 +116,7 @@ nothing_there : {X : Type 0} (m : Map X) (e : ℕ) (x : X) → m ≡ table.empty
 nothing_there m e x is there = let f : None ≡ Some x = sym (table.get-empty nat_cmp e) ∙ sym (ap (λ n. table.get n e) is) ∙ there in cc
 
 -- a cell without entities is one
-pub empty_whole : (k : Known) (r : Reals) (p : Places) (l : Lists) → k.me < cell_count → AreLegal k.settings → IsTree k.tree →
+pub empty_whole : (k : CellContext) (r : Reals) (p : Places) (l : Lists) → k.me < cell_count → AreLegal k.settings → IsTree k.tree →
     k.tree.size ≡ k.settings.size → r.items.items ≡ table.empty → p.nexts.items ≡ table.empty → r.ready ≡ [] → r.witnesses ≡ [] →
     AreWhole k r p l
 empty_whole k r p l me legal tree size reals nexts ready witnesses = record {

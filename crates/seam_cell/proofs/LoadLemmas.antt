@@ -12,17 +12,17 @@ use Rattle.seam_entity.specs.Here.{Here}
 use Rattle.seam_entity.specs.Reals.{RealView}
 use Rattle.seam_entity.specs.Calls.{order_passes}
 use Rattle.seam_entity.specs.Executing.{created, fits_cell_part, real_begins}
-use Rattle.seam_entity.specs.Looks.{with_witness}
-use Rattle.seam_steps.specs.Maps.{Map, set_at, each_value}
-use Rattle.seam_steps.specs.Slots.{NextPlace}
-use Rattle.seam_steps.specs.Valid.{NextsAreCells}
-use Rattle.seam_steps.specs.Cells.{CellView}
-use Rattle.seam_steps.proofs.Slots.{get-set_at}
-use Rattle.seam_parts.specs.declared.known.Known.{Known}
-use Rattle.seam_parts.specs.declared.reals.Reals.{Reals}
-use Rattle.seam_parts.specs.declared.places.Places.{Places}
-use Rattle.seam_parts.specs.declared.lists.Lists.{Lists}
-use Rattle.seam_parts.specs.Kept.{here_in, cell_of, AreKept, IsThere, IsKept, AreWhole}
+use Rattle.seam_entity.specs.WitnessLooks.{with_witness}
+use Rattle.seam_node_steps.specs.Maps.{Map, set_at, each_value}
+use Rattle.seam_node_steps.specs.Slots.{NextPlace}
+use Rattle.seam_node_steps.specs.Valid.{NextsAreCells}
+use Rattle.seam_node_steps.specs.Cells.{CellView}
+use Rattle.seam_node_steps.proofs.Slots.{get-set_at}
+use Rattle.seam_cell_parts.specs.declared.context.CellContext.{CellContext}
+use Rattle.seam_cell_parts.specs.declared.reals.Reals.{Reals}
+use Rattle.seam_cell_parts.specs.declared.places.Places.{Places}
+use Rattle.seam_cell_parts.specs.declared.lists.Lists.{Lists}
+use Rattle.seam_cell_parts.specs.Kept.{here_in, cell_of, AreKept, IsThere, IsKept, AreWhole}
 use Rattle.seam_table.proofs.Changed.{got_changed}
 
 no_length : {A : Type 0} (xs : List A) → length xs ≡ 0 → xs ≡ []
@@ -73,21 +73,21 @@ kept_with c e o is new =
       there = λ q r at. (all q r at).1;
     }
 
-pub whole_with : (k : Known) (r s : Reals) (p : Places) (l : Lists) (e : ℕ) (o : Option RealView) → AreWhole k r p l → AreKept s →
+pub whole_with : (k : CellContext) (r s : Reals) (p : Places) (l : Lists) (e : ℕ) (o : Option RealView) → AreWhole k r p l → AreKept s →
     s.items.items ≡ set_at r.items.items e o → Fits (here_in k) k.tree e o → AreWhole k s p l
 whole_with k r s p l e o is kept items new = record {
   cell = subst (λ m. IsKept (record (cell_of k r p l) { reals = m })) (sym items) (kept_with (cell_of k r p l) e o is.cell new);
   marks = kept;
 }
 
-pub whole_still : (k : Known) (r s : Reals) (p : Places) (l : Lists) → AreWhole k r p l → AreKept s →
+pub whole_still : (k : CellContext) (r s : Reals) (p : Places) (l : Lists) → AreWhole k r p l → AreKept s →
     s.items.items ≡ r.items.items → AreWhole k s p l
 whole_still k r s p l is kept items = record {
   cell = subst (λ m. IsKept (record (cell_of k r p l) { reals = m })) (sym items) is.cell;
   marks = kept;
 }
 
-pub whole_or : {A E : Type 0} (k : Known) (r s : Reals) (p : Places) (l : Lists) (e : ℕ) (o : Option RealView) (res : Result A E) →
+pub whole_or : {A E : Type 0} (k : CellContext) (r s : Reals) (p : Places) (l : Lists) (e : ℕ) (o : Option RealView) (res : Result A E) →
     AreWhole k r p l → AreKept s → OnOk res (s.items.items ≡ set_at r.items.items e o) → OnErr res (s.items.items ≡ r.items.items) →
     Fits (here_in k) k.tree e o → AreWhole k s p l
 whole_or k r s p l e o (Ok a) is kept done failed new = whole_with k r s p l e o is kept done new
@@ -122,7 +122,7 @@ space_of_size t u p same is = record { x_inside = subst (λ n. p.x < n) same is.
 no_next : (m : Map NextPlace) → m ≡ table.empty → NextsAreCells m
 no_next m none e n at = let not : None ≡ Some n = sym (table.get-empty nat_cmp e) ∙ (sym (ap (λ w. table.get w e) none) ∙ at) in cc
 
-pub round_whole : (k : Known) (t : Division) (r s : Reals) (p q : Places) (l m : Lists) → AreWhole k r p l → AreKept s → IsTree t →
+pub round_whole : (k : CellContext) (t : Division) (r s : Reals) (p q : Places) (l m : Lists) → AreWhole k r p l → AreKept s → IsTree t →
     t.size ≡ k.settings.size → s.items.items ≡ each_value real_begins r.items.items → q.nexts.items ≡ table.empty →
     AreWhole (record k { tree = t }) s q m
 round_whole k t r s p q l m is kept tree size items none =

@@ -4,11 +4,11 @@ use Rattle.seam_machine.specs.Sends.{AllBelow}
 use Rattle.seam_machine.specs.declared.machines.Input.{Input}
 use Rattle.seam_entity.specs.declared.message.Msg.{Msg}
 use Rattle.seam_entity.specs.Here.{peers_of}
-use Rattle.seam_steps.specs.Cells.{CellView, cell_steps}
-use Rattle.seam_steps.specs.Nodes.NodeView.{Cell}
-use Rattle.seam_steps.specs.Valid.{IsCell}
-use Rattle.seam_steps.proofs.Targets.{node_targets}
-use Rattle.seam_steps.proofs.Peers.{peers_stay, node_stays_valid}
+use Rattle.seam_node_steps.specs.Cells.{CellView, cell_steps}
+use Rattle.seam_node_steps.specs.Nodes.NodeView.{Cell}
+use Rattle.seam_node_steps.specs.Valid.{IsCell}
+use Rattle.seam_node_steps.proofs.Targets.{node_targets}
+use Rattle.seam_node_steps.proofs.Peers.{peers_stay, node_stays_valid}
 
 -- how many nodes there are
 abbrev pub cell_peers : CellView → ℕ

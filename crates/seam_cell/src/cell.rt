@@ -8,14 +8,14 @@ ghost use Rattle.seam_machine.specs.declared.machines.Input.TheVariants.{Task, F
 ghost use Rattle.seam_entity.specs.declared.message.Msg.TheVariants as msg;
 ghost use Rattle.seam_defs.specs.Settings.{AreLegal};
 ghost use Rattle.seam_entity.specs.Here.{cell_count};
-ghost use Rattle.seam_steps.specs.CellCases.{stray_ghost_set};
-ghost use Rattle.seam_steps.specs.Cells.{cell_steps, ready_entity, cell_has_work};
-ghost use Rattle.seam_steps.specs.Valid.{IsCell};
+ghost use Rattle.seam_node_steps.specs.CellCases.{stray_ghost_set};
+ghost use Rattle.seam_node_steps.specs.Cells.{cell_steps, ready_entity, cell_has_work};
+ghost use Rattle.seam_node_steps.specs.Valid.{IsCell};
 ghost use Rattle.seam_cell.specs.Machines.{cell_peers, cell_targets, cell_keeps_peers, cell_stays_valid};
 ghost use Rattle.seam_tree.specs.Division.{IsInSpace};
-ghost use Rattle.seam_steps.specs.Loads.{empty_cell, real_if, attached, cell_begins};
-ghost use Rattle.seam_steps.specs.Maps.{set_at, has_any};
-ghost use Rattle.seam_steps.specs.Nodes.NodeView.{Cell as CellNode};
+ghost use Rattle.seam_node_steps.specs.Loads.{empty_cell, real_if, attached, cell_begins};
+ghost use Rattle.seam_node_steps.specs.Maps.{set_at, has_any};
+ghost use Rattle.seam_node_steps.specs.Nodes.NodeView.{Cell as CellNode};
 ghost use Rattle.seam_entity.specs.Preparing.{node_with};
 ghost use Rattle.seam_cell_cases.specs.Calling.{is_called, IsTurn, may_run};
 ghost use Rattle.seam_call.specs.declared.call.Call.{Call as AnyCall};
@@ -27,17 +27,16 @@ use seam_cell_cases::{
     Making, Turn, arrive, begin_round, execute_ready, execute_turn, give_witness, hold, make_real,
     may_call, may_execute, reap, survey_task,
 };
+use seam_cell_look::{ToldCopies, look_task};
+use seam_cell_parts::{
+    CellContext, CopyBook, EntityQueue, EntitySet, Lists, Places, RealTable, Reals, first_ready,
+    put_after, put_in, take_out,
+};
 use seam_defs::{Defs, Settings};
 use seam_entity::{Msg, Parcel, fits_copy, is_small};
 use seam_ghosts::GhostBook;
 use seam_machine::{Input, Machine, Out};
-use seam_memory::NoMemoryFor;
-use seam_parts::{
-    CopyBook, EntityQueue, EntitySet, Known, Lists, Places, RealTable, Reals, first_ready,
-    put_after, put_in, take_out,
-};
-use seam_sight::{ToldCopies, look_task};
-use seam_table::Table;
+use seam_table::{NoMemoryFor, Table};
 use seam_tree::{MOST_CELLS, Tree};
 use std::alloc::{AllocError, Global};
 use std::marker::Model;
@@ -45,7 +44,7 @@ use std::marker::Model;
 /// A cell: the reals and the ghosts of a part of the space, and where reals went.
 #[derive(Drop)]
 pub struct Cell {
-    known: Known,
+    known: CellContext,
     reals: Reals,
     places: Places,
     lists: Lists,
@@ -57,10 +56,10 @@ impl Model for Cell {
     ghost use Rattle.std.specs.Coded.{codes};
     ghost use Rattle.std.specs.FinMap as table;
     ghost use Rattle.std.specs.FinSet as set;
-    ghost use Rattle.seam_steps.specs.Cells.{CellView};
-    ghost use Rattle.seam_known.specs.Knowing.{known_at};
-    ghost use Rattle.seam_parts.specs.Kept.{cell_of, AreWhole};
-    ghost use Rattle.seam_sight.specs.Told.{AreTold};
+    ghost use Rattle.seam_node_steps.specs.Cells.{CellView};
+    ghost use Rattle.seam_node_steps.specs.Knowing.{known_at};
+    ghost use Rattle.seam_cell_parts.specs.Kept.{cell_of, AreWhole};
+    ghost use Rattle.seam_cell_look.specs.Told.{AreTold};
 
     ghost Value = { CellView };
 
@@ -94,7 +93,7 @@ impl Cell {
     {
         let tree = Tree::one(settings.size);
         Cell {
-            known: Known {
+            known: CellContext {
                 me,
                 defs,
                 settings,

@@ -19,12 +19,12 @@ use Rattle.seam_call.specs.declared.shown.GhostCopy.{GhostCopy}
 use Rattle.seam_entity.specs.Numbers.{may_rise}
 use Rattle.seam_entity.specs.Reals.{RealView}
 use Rattle.seam_entity.specs.declared.message.Msg.TheVariants.{Hand, Reap}
-use Rattle.seam_steps.specs.Maps.{Map, set_at}
-use Rattle.seam_steps.specs.Slots.{NextPlace, unless_stray}
-use Rattle.seam_steps.specs.CellCases.{is_cell_if, stray_reap, reap, may_come, stray_hand, hand_over_comes, currents, drops}
-use Rattle.seam_steps.specs.Cells.{CellView, slot_of, stepped, cell_steps, without}
-use Rattle.seam_steps.proofs.Slots.{set_at-same}
-use Rattle.seam_parts.proofs.NewsLemmas.{range_more}
+use Rattle.seam_node_steps.specs.Maps.{Map, set_at}
+use Rattle.seam_node_steps.specs.Slots.{NextPlace, unless_stray}
+use Rattle.seam_node_steps.specs.CellCases.{is_cell_if, stray_reap, reap, may_come, stray_hand, hand_over_comes, currents, drops}
+use Rattle.seam_node_steps.specs.Cells.{CellView, slot_of, stepped, cell_steps, without}
+use Rattle.seam_node_steps.proofs.Slots.{set_at-same}
+use Rattle.seam_cell_parts.proofs.NewsLemmas.{range_more}
 use Rattle.seam_cell_cases.specs.Arriving.{is_cell_in}
 
 -- ---- tests of all cells

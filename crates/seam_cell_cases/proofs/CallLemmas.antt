@@ -13,7 +13,7 @@ use Rattle.seam_entity.specs.Calls.{may_offer}
 use Rattle.seam_entity.specs.Executing.{fits_cell_part, may_settle, may_execute, may_call}
 use Rattle.seam_entity.specs.Executing.{public_after, with_deed, executed, shows}
 use Rattle.seam_entity.specs.Preparing.{with_after}
-use Rattle.seam_parts.specs.Stepping.{IsLater}
+use Rattle.seam_cell_parts.specs.Stepping.{IsLater}
 use Rattle.seam_entity.proofs.HeldLemmas.{both}
 
 not_true : (a : Bool) → not a ≡ true → a ≡ false

@@ -34,20 +34,20 @@ use Rattle.seam_entity.specs.Fitting.{is_inside, stays_inside, can_do}
 use Rattle.seam_entity.specs.Here.{Here, type_at, properties}
 use Rattle.seam_entity.specs.Calls.{all_held, order_is_ready, ready_order, may_offer}
 use Rattle.seam_entity.specs.Executing.{fits_cell_part, fits_real, may_execute, may_call, executed, executed_ready, with_offer, shows}
-use Rattle.seam_steps.specs.Slots.{Slot, NextPlace, SlotStep, unless_stray}
-use Rattle.seam_steps.specs.Settle.{home_after, settled_by, settled}
-use Rattle.seam_steps.specs.CellCases
-use Rattle.seam_steps.specs.CellCases.{about, slot_steps}
-use Rattle.seam_steps.specs.Looks
-use Rattle.seam_steps.specs.Looks.{Known, look_by, look_task}
-use Rattle.seam_steps.specs.Cells.{CellView, slot_of, after_slot, unlisted_by, stepped}
-use Rattle.seam_steps.specs.Cells.{cell_steps, cell_task, ready_next, look_next, cell_hears}
-use Rattle.seam_steps.specs.Cells.{known_to, ready_entity, surveys, calls_ready, looks_around}
-use Rattle.seam_steps.specs.Maps.{Map, set_at}
-use Rattle.seam_steps.proofs.Slots.{get-set_at}
-use Rattle.seam_steps.proofs.Peers.{cell_frame}
-use Rattle.seam_steps.proofs.ValidCells.{cell_stays_valid}
-use Rattle.seam_parts.specs.Kept.{IsThere, AreThere, IsKept}
+use Rattle.seam_node_steps.specs.Slots.{Slot, NextPlace, SlotStep, unless_stray}
+use Rattle.seam_node_steps.specs.Settle.{home_after, settled_by, settled}
+use Rattle.seam_node_steps.specs.CellCases
+use Rattle.seam_node_steps.specs.CellCases.{about, slot_steps}
+use Rattle.seam_node_steps.specs.CellLooks
+use Rattle.seam_node_steps.specs.CellLooks.{Known, look_by, look_task}
+use Rattle.seam_node_steps.specs.Cells.{CellView, slot_of, after_slot, unlisted_by, stepped}
+use Rattle.seam_node_steps.specs.Cells.{cell_steps, cell_task, ready_next, look_next, cell_hears}
+use Rattle.seam_node_steps.specs.Cells.{known_to, ready_entity, surveys, calls_ready, looks_around}
+use Rattle.seam_node_steps.specs.Maps.{Map, set_at}
+use Rattle.seam_node_steps.proofs.Slots.{get-set_at}
+use Rattle.seam_node_steps.proofs.Peers.{cell_frame}
+use Rattle.seam_node_steps.proofs.ValidCells.{cell_stays_valid}
+use Rattle.seam_cell_parts.specs.Kept.{IsThere, AreThere, IsKept}
 use Rattle.seam_entity.proofs.HeldLemmas.{both, item_passes_too, held_offered, held_taken, got_passes, same_value}
 
 not_false : (a : Bool) → not a ≡ false → a ≡ true

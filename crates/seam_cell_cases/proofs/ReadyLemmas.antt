@@ -10,10 +10,10 @@ use Rattle.seam_entity.specs.Reals.{RealView}
 use Rattle.seam_entity.specs.Calls.{order_is_ready, ready_order, has_ready}
 use Rattle.seam_entity.specs.Executing.{may_execute, executed_ready, shows}
 use Rattle.seam_entity.specs.Preparing.{HasReady}
-use Rattle.seam_steps.specs.Slots.{Slot}
-use Rattle.seam_steps.specs.Settle.{settled}
-use Rattle.seam_steps.specs.CellCases.{ready_call_task, ready_in, executes_ready}
-use Rattle.seam_parts.specs.Stepping.{IsLater}
+use Rattle.seam_node_steps.specs.Slots.{Slot}
+use Rattle.seam_node_steps.specs.Settle.{settled}
+use Rattle.seam_node_steps.specs.CellCases.{ready_call_task, ready_in, executes_ready}
+use Rattle.seam_cell_parts.specs.Stepping.{IsLater}
 use Rattle.seam_cell_cases.proofs.CallLemmas.{CanSettle, RisesLater, can_settle}
 
 -- the order and the call of the real's least sender that has a ready call

@@ -8,8 +8,8 @@ use Rattle.std.specs.declared.cmp.Ordering.TheVariants.{Less, Equal, Greater}
 use Rattle.std.specs.FinMap as table
 use Rattle.std.specs.FinMap.Entries.{is_sorted, below_all}
 use Rattle.seam_table.proofs.Changed.{entries_changed}
-use Rattle.seam_steps.specs.Maps.{Map, number_of, with_value, each_value}
-use Rattle.seam_parts.specs.Kept.{marked}
+use Rattle.seam_node_steps.specs.Maps.{Map, number_of, with_value, each_value}
+use Rattle.seam_cell_parts.specs.Kept.{marked}
 
 -- ---- each value of a map
 

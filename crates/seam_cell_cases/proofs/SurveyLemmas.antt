@@ -7,19 +7,19 @@ use Rattle.seam_entity.specs.Numbers.{may_rise}
 use Rattle.seam_entity.specs.Reals.{RealView}
 use Rattle.seam_entity.specs.Executing.{may_settle}
 use Rattle.seam_entity.specs.declared.message.Msg.{Msg}
-use Rattle.seam_steps.specs.Maps.{set_at}
-use Rattle.seam_steps.specs.Slots.{SlotStep, unless_stray}
-use Rattle.seam_steps.specs.Settle.{settled}
-use Rattle.seam_steps.specs.CellCases.{stray_survey, survey_task as survey_step}
-use Rattle.seam_steps.specs.Cells.{CellView, slot_of, stepped, cell_task}
-use Rattle.seam_parts.specs.declared.known.Known.{Known}
-use Rattle.seam_parts.specs.declared.reals.Reals.{Reals}
-use Rattle.seam_parts.specs.declared.places.Places.{Places}
-use Rattle.seam_parts.specs.declared.lists.Lists.{Lists}
-use Rattle.seam_parts.specs.Kept.{here_in, cell_of}
-use Rattle.seam_parts.specs.Stepping.{parts_of, slot_in, IsDone, list_after}
-use Rattle.seam_parts.proofs.MarkLemmas.{put_back}
-use Rattle.seam_parts.proofs.SettleLemmas.{rest_done}
+use Rattle.seam_node_steps.specs.Maps.{set_at}
+use Rattle.seam_node_steps.specs.Slots.{SlotStep, unless_stray}
+use Rattle.seam_node_steps.specs.Settle.{settled}
+use Rattle.seam_node_steps.specs.CellCases.{stray_survey, survey_task as survey_step}
+use Rattle.seam_node_steps.specs.Cells.{CellView, slot_of, stepped, cell_task}
+use Rattle.seam_cell_parts.specs.declared.context.CellContext.{CellContext}
+use Rattle.seam_cell_parts.specs.declared.reals.Reals.{Reals}
+use Rattle.seam_cell_parts.specs.declared.places.Places.{Places}
+use Rattle.seam_cell_parts.specs.declared.lists.Lists.{Lists}
+use Rattle.seam_cell_parts.specs.Kept.{here_in, cell_of}
+use Rattle.seam_cell_parts.specs.Stepping.{parts_of, slot_in, IsDone, list_after}
+use Rattle.seam_cell_parts.proofs.MarkLemmas.{put_back}
+use Rattle.seam_cell_parts.proofs.SettleLemmas.{rest_done}
 use Rattle.seam_entity.proofs.HeldLemmas.{both}
 use Rattle.seam_cell_cases.specs.Surveying.{IsMoot}
 use Rattle.seam_cell_cases.proofs.CallLemmas.{rises}
@@ -63,7 +63,7 @@ not_due c e es is stays =
     by true h = refl
     by false h = cc
 
-module _ (k : Known) (r s : Reals) (p q : Places) (l m : Lists) (o n : OutView Msg) (e : ℕ) (es : List ℕ) (x : RealView)
+module _ (k : CellContext) (r s : Reals) (p q : Places) (l m : Lists) (o n : OutView Msg) (e : ℕ) (es : List ℕ) (x : RealView)
     (left : Option RealView) (at : table.get r.items.items e ≡ Some x) (due : true ≡ not (stray_survey (table.get r.items.items e)))
     (entity : x.entity ≡ e) (is : l.survey ≡ e ∷ es) where
   abbrev before : CellView
@@ -99,7 +99,7 @@ module _ (k : Known) (r s : Reals) (p q : Places) (l m : Lists) (o n : OutView M
       survey_told = here.sent ∙ ap (λ t. o.items ++ t.sent) (sym survey_is)
 
 -- where there is nothing to do, the entry alone goes
-module _ (k : Known) (r : Reals) (p : Places) (l m : Lists) (o : OutView Msg) (e : ℕ) (es : List ℕ)
+module _ (k : CellContext) (r : Reals) (p : Places) (l m : Lists) (o : OutView Msg) (e : ℕ) (es : List ℕ)
     (moot : IsMoot (here_in k) k.tree (table.get r.items.items e))
     (keys : (x : RealView) → table.get r.items.items e ≡ Some x → x.entity ≡ e) (is : l.survey ≡ e ∷ es) (survey : m.survey ≡ es)
     (looks : m.looks ≡ l.looks) where
@@ -140,7 +140,7 @@ module _ (k : Known) (r : Reals) (p : Places) (l m : Lists) (o : OutView Msg) (e
   pub moot_done : Leaves
   moot_done = by_real (table.get r.items.items e) refl
 
-module _ (k : Known) (r s : Reals) (p q : Places) (l m : Lists) (o n : OutView Msg) (e : ℕ) (x : RealView) (left : Option RealView)
+module _ (k : CellContext) (r s : Reals) (p q : Places) (l m : Lists) (o n : OutView Msg) (e : ℕ) (x : RealView) (left : Option RealView)
     (at : table.get r.items.items e ≡ Some x) where
   -- where allocation failed, all is as it was
   pub survey_undone : left ≡ Some x → parts_of q n ≡ parts_of p o → s.items.items ≡ set_at (table.remove r.items.items e) e left →

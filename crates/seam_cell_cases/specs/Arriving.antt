@@ -5,7 +5,7 @@ use Rattle.seam_tree.specs.Cells.{Cells}
 use Rattle.seam_tree.specs.Division.{Division}
 use Rattle.seam_entity.specs.declared.message.Msg.{Msg}
 use Rattle.seam_entity.specs.declared.message.Msg.TheVariants.{Current}
-use Rattle.seam_steps.specs.CellCases.{is_cell_if}
+use Rattle.seam_node_steps.specs.CellCases.{is_cell_if}
 
 -- base node b is told that the entity's real is in cell me
 abbrev pub current_of : ℕ → ℕ → ℕ → ℕ → ℕ × Msg

@@ -7,7 +7,7 @@ use Rattle.seam_entity.specs.Orders.{order_of}
 use Rattle.seam_entity.specs.Reals.{RealView}
 use Rattle.seam_entity.specs.Calls.{has_ready}
 use Rattle.seam_entity.specs.Executing.{may_call, may_execute}
-use Rattle.seam_steps.specs.Cells.{CellView}
+use Rattle.seam_node_steps.specs.Cells.{CellView}
 
 abbrev pub called_by : Here → Call → Option RealView → Bool
 called_by h k None = false

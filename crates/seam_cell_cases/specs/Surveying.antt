@@ -4,7 +4,7 @@ use Rattle.seam_tree.specs.Division.{Division}
 use Rattle.seam_entity.specs.Here.{Here}
 use Rattle.seam_entity.specs.Reals.{RealView}
 use Rattle.seam_entity.specs.Executing.{may_settle}
-use Rattle.seam_parts.specs.Settling.{IsAtRest}
+use Rattle.seam_cell_parts.specs.Settling.{IsAtRest}
 
 -- the real, if it is here and may settle, is at rest
 abbrev pub IsMoot : Here → Division → Option RealView → Type 0

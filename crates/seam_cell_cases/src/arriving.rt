@@ -8,20 +8,19 @@ ghost use Rattle.seam_machine.specs.declared.machines.Input.TheVariants.{From};
 ghost use Rattle.seam_defs.specs.declared.limits.TheConstants.{MOST_BASE_NODES};
 ghost use Rattle.seam_entity.specs.Here.{cell_numbers};
 ghost use Rattle.seam_entity.specs.declared.message.Msg.TheVariants as msg;
-ghost use Rattle.seam_steps.specs.Maps.{set_at};
-ghost use Rattle.seam_steps.specs.CellCases.{may_come as real_may_come, is_in_tree as real_is_in_tree};
-ghost use Rattle.seam_steps.specs.CellCases.{has_small_numbers as numbers_are_small};
-ghost use Rattle.seam_steps.specs.CellCases.{currents};
-ghost use Rattle.seam_steps.specs.Cells.{cell_steps};
-ghost use Rattle.seam_parts.specs.Kept.{here_in, cell_of, AreKept, IsOpen};
+ghost use Rattle.seam_node_steps.specs.Maps.{set_at};
+ghost use Rattle.seam_node_steps.specs.CellCases.{may_come as real_may_come, is_in_tree as real_is_in_tree};
+ghost use Rattle.seam_node_steps.specs.CellCases.{has_small_numbers as numbers_are_small};
+ghost use Rattle.seam_node_steps.specs.CellCases.{currents};
+ghost use Rattle.seam_node_steps.specs.Cells.{cell_steps};
+ghost use Rattle.seam_cell_parts.specs.Kept.{here_in, cell_of, AreKept, IsOpen};
 ghost use Rattle.seam_cell_cases.specs.Arriving.{current_of, is_cell_in};
-ghost use Rattle.seam_parts.specs.declared.lists.Lists.{Lists as AnyLists};
+ghost use Rattle.seam_cell_parts.specs.declared.lists.Lists.{Lists as AnyLists};
 
+use seam_cell_parts::{CellContext, CopyBook, Next, Places, Reals, close, make_place, put_in};
 use seam_entity::{Msg, Parcel, Real, is_small};
 use seam_machine::Out;
-use seam_memory::NoMemoryFor;
-use seam_parts::{CopyBook, Known, Next, Places, Reals, close, make_place, put_in};
-use seam_table::Table;
+use seam_table::{NoMemoryFor, Table};
 use seam_tree::{CellSet, MOST_CELLS, Tree};
 use std::alloc::AllocError;
 
@@ -33,7 +32,7 @@ fn are_cells(tree: &Tree, haunts: CellSet) -> bool
 }
 
 // Whether this cell and the real's haunts are cells of the tree.
-fn is_in_tree(known: &Known, real: &Real) -> bool
+fn is_in_tree(known: &CellContext, real: &Real) -> bool
     ensures { result ≡ real_is_in_tree (here_in known.now) known.now.tree real.now.core }
 {
     known.me < known.tree.cells() && are_cells(&known.tree, real.haunts())
@@ -47,7 +46,7 @@ fn has_small_numbers(real: &Real) -> bool
 }
 
 // Whether the real fits, its haunts and this cell are in the tree, and its numbers are small.
-fn may_come(known: &Known, real: &Real) -> bool
+fn may_come(known: &CellContext, real: &Real) -> bool
     ensures { result ≡ real_may_come (here_in known.now) known.now.tree real.now.core }
 {
     real.fits(&known.defs, &known.settings) && (is_in_tree(known, real) && has_small_numbers(real))
@@ -55,7 +54,7 @@ fn may_come(known: &Known, real: &Real) -> bool
 
 // Makes room for the real, and for what is told of it, and drops the own book's copy. If allocation fails, nothing has changed.
 fn make_way(
-    known: &Known,
+    known: &CellContext,
     real: &Real,
     reals: &mut Reals,
     copies: &mut CopyBook,
@@ -83,7 +82,7 @@ fn make_way(
 }
 
 // Tells each base node, in rising number, that the entity's real is here, in room that was made before.
-fn tell_bases(known: &Known, e: u32, generation: u64, out: &mut Out<Msg>)
+fn tell_bases(known: &CellContext, e: u32, generation: u64, out: &mut Out<Msg>)
     requires most { known.now.settings.bases ≤ MOST_BASE_NODES }
     requires room { known.now.settings.bases ≤ out.old.spare }
     ensures { out.new.items ≡ out.old.items ++ map (current_of e known.now.me generation) (range_with_len 16 known.now.settings.bases) }
@@ -95,7 +94,7 @@ fn tell_bases(known: &Known, e: u32, generation: u64, out: &mut Out<Msg>)
 
 // Puts the real in its place: its next place goes, and the base nodes are told. It takes no memory.
 fn settle_in(
-    known: &Known,
+    known: &CellContext,
     real: Real,
     reals: &mut Reals,
     nexts: &mut Table<Next>,
@@ -118,7 +117,7 @@ fn settle_in(
 /// Hand-over comes: the real is put in its place, with the calls that it holds, its witness and its haunts; its next place goes, the
 /// own book drops the copy at the real's beat, and every base node is told.
 pub fn arrive(
-    known: &Known,
+    known: &CellContext,
     parcel: Parcel,
     reals: &mut Reals,
     places: &mut Places,

@@ -9,17 +9,17 @@ ghost use Rattle.seam_entity.specs.Calls.{may_offer as order_may_offer, has_read
 ghost use Rattle.seam_entity.specs.Executing.{may_settle as real_may_settle, may_execute as real_may_execute, may_call as real_may_call};
 ghost use Rattle.seam_entity.specs.Executing.{executed, shows, with_deed};
 ghost use Rattle.seam_entity.specs.Preparing.{HasRoom, offered};
-ghost use Rattle.seam_steps.specs.Settle.{settled};
-ghost use Rattle.seam_parts.specs.Kept.{here_in, IsThere};
-ghost use Rattle.seam_parts.specs.Settling.{HasRoomFor};
-ghost use Rattle.seam_parts.specs.Stepping.{HasBegun, IsDone, parts_of, slot_in, core_of};
+ghost use Rattle.seam_node_steps.specs.Settle.{settled};
+ghost use Rattle.seam_cell_parts.specs.Kept.{here_in, IsThere};
+ghost use Rattle.seam_cell_parts.specs.Settling.{HasRoomFor};
+ghost use Rattle.seam_cell_parts.specs.Stepping.{HasBegun, IsDone, parts_of, slot_in, core_of};
 
 use seam_call::Call;
+use seam_cell_parts::{Begun, CellContext, Places, Subject, begin, settle_real};
 use seam_defs::Later;
 use seam_entity::{Msg, Real, fits_cell_part, may_rise};
 use seam_machine::Out;
-use seam_memory::NoMemoryFor;
-use seam_parts::{Begun, Known, Places, Subject, begin, settle_real};
+use seam_table::NoMemoryFor;
 use std::alloc::AllocError;
 
 /// A real, and a call whose turn it is.
@@ -65,7 +65,7 @@ fn may_offer(real: &Real, call: &Call) -> bool
 }
 
 /// Whether the real may be offered the call.
-pub fn may_call(known: &Known, real: &Real, call: &Call) -> bool
+pub fn may_call(known: &CellContext, real: &Real, call: &Call) -> bool
     ensures { result ≡ real_may_call (here_in known.now) real.now.core call.now }
 {
     fits_cell_part(&known.defs, &known.settings, real.entity(), real.ty(), call)
@@ -74,7 +74,7 @@ pub fn may_call(known: &Known, real: &Real, call: &Call) -> bool
 
 // Begins what a call takes whose turn it is. If allocation fails, nothing has changed.
 fn begin_call(
-    known: &Known,
+    known: &CellContext,
     real: &mut Real,
     call: &Call,
     places: &mut Places,
@@ -118,7 +118,12 @@ fn refused(real: Real, call: Call) -> Called
 }
 
 /// Call, real here, whose turn it is: the real executes it and settles.
-pub fn execute_turn(known: &Known, turn: Turn, places: &mut Places, out: &mut Out<Msg>) -> Called
+pub fn execute_turn(
+    known: &CellContext,
+    turn: Turn,
+    places: &mut Places,
+    out: &mut Out<Msg>,
+) -> Called
     requires me { known.now.me < cell_count }
     requires legal { AreLegal known.now.settings }
     requires size { known.now.tree.size ≡ known.now.settings.size }
@@ -156,7 +161,7 @@ pub struct Held {
 }
 
 /// Call, real here, whose turn it is not: the real holds it where it is early, and nothing changes where it is late.
-pub fn hold(known: &Known, turn: Turn) -> Held
+pub fn hold(known: &CellContext, turn: Turn) -> Held
     requires may { real_may_call (here_in known.now) turn.real.core turn.call ≡ true }
     ensures after { OnOk result.result (result.real.core ≡ offered (here_in known.now) turn.real.core turn.call) }
     ensures err { OnErr result.result (result.real.core ≡ turn.real.core) }

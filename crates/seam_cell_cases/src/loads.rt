@@ -3,14 +3,16 @@
 ghost use Rattle.std.specs.Prelude.{◌≡◌, [], OnOk, OnErr, IfOk, None};
 ghost use Rattle.std.specs.FinMap as table;
 ghost use Rattle.seam_entity.specs.Executing.{created, real_begins};
-ghost use Rattle.seam_entity.specs.Looks.{with_witness};
-ghost use Rattle.seam_steps.specs.Maps.{each_value};
-ghost use Rattle.seam_parts.specs.Kept.{here_in, AreKept};
+ghost use Rattle.seam_entity.specs.WitnessLooks.{with_witness};
+ghost use Rattle.seam_node_steps.specs.Maps.{each_value};
+ghost use Rattle.seam_cell_parts.specs.Kept.{here_in, AreKept};
 ghost use Rattle.seam_cell_cases.specs.Beginning.{changed_at};
 
+use seam_cell_parts::{
+    CellContext, EntityQueue, EntityRow, RealTable, Reals, make_place, put_in, take_out,
+};
 use seam_entity::{Real, Witness};
 use seam_geo::Pos;
-use seam_parts::{EntityQueue, EntityRow, Known, RealTable, Reals, make_place, put_in, take_out};
 use std::alloc::{AllocError, Global};
 
 /// A real that is to be made.
@@ -24,7 +26,7 @@ pub struct Making {
 /// Makes the real of an entity of which none is here.
 pub fn make_real(
     alloc: Global,
-    known: &Known,
+    known: &CellContext,
     making: Making,
     reals: &mut Reals,
 ) -> Result<(), AllocError>
@@ -45,7 +47,7 @@ pub fn make_real(
 /// Gives the entity's real, if it is here, a witness that has told nothing.
 pub fn give_witness(
     alloc: Global,
-    known: &Known,
+    known: &CellContext,
     e: u32,
     reals: &mut Reals,
 ) -> Result<(), AllocError>

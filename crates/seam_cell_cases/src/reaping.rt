@@ -4,15 +4,15 @@ ghost use Rattle.std.specs.Prelude.{◌≡◌, ℕ, ◌<◌, ◌≤◌, ◌^◌,
 ghost use Rattle.std.specs.FinMap as table;
 ghost use Rattle.seam_machine.specs.declared.machines.Input.TheVariants.{From};
 ghost use Rattle.seam_entity.specs.declared.message.Msg.TheVariants as msg;
-ghost use Rattle.seam_steps.specs.CellCases.{drop_at, drops, stray_reap};
-ghost use Rattle.seam_steps.specs.Cells.{cell_steps};
-ghost use Rattle.seam_parts.specs.News.{listed};
-ghost use Rattle.seam_parts.specs.Kept.{cell_of, AreKept};
-ghost use Rattle.seam_parts.specs.declared.known.Known.{Known as AnyKnown};
+ghost use Rattle.seam_node_steps.specs.CellCases.{drop_at, drops, stray_reap};
+ghost use Rattle.seam_node_steps.specs.Cells.{cell_steps};
+ghost use Rattle.seam_cell_parts.specs.News.{listed};
+ghost use Rattle.seam_cell_parts.specs.Kept.{cell_of, AreKept};
+ghost use Rattle.seam_cell_parts.specs.declared.context.CellContext.{CellContext as AnyCellContext};
 
+use seam_cell_parts::{Lists, Places, Reals, close, put_in, take_out, unlist};
 use seam_entity::{Msg, Real, may_rise};
 use seam_machine::Out;
-use seam_parts::{Lists, Places, Reals, close, put_in, take_out, unlist};
 use seam_tree::MOST_CELLS;
 use std::alloc::AllocError;
 
@@ -58,11 +58,11 @@ pub fn reap(
     out: &mut Out<Msg>,
 ) -> Result<(), AllocError>
     requires marks { AreKept reals.old }
-    ensures state { (k : AnyKnown) (from : ℕ) → OnOk result (cell_of k reals.new places.new lists.new
+    ensures state { (k : AnyCellContext) (from : ℕ) → OnOk result (cell_of k reals.new places.new lists.new
         ≡ (cell_steps (cell_of k reals.old places.old lists.old) (From from (msg.Reap e))).state) }
-    ensures sent { (k : AnyKnown) (from : ℕ) → OnOk result (out.new.items ≡ out.old.items
+    ensures sent { (k : AnyCellContext) (from : ℕ) → OnOk result (out.new.items ≡ out.old.items
         ++ (cell_steps (cell_of k reals.old places.old lists.old) (From from (msg.Reap e))).sent) }
-    ensures err { (k : AnyKnown) → OnErr result (cell_of k reals.new places.new lists.new ≡ cell_of k reals.old places.old lists.old) }
+    ensures err { (k : AnyCellContext) → OnErr result (cell_of k reals.new places.new lists.new ≡ cell_of k reals.old places.old lists.old) }
     ensures err_out { OnErr result (out.new.items ≡ out.old.items) }
     ensures marks { AreKept reals.new }
 {

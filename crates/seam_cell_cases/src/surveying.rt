@@ -6,25 +6,25 @@ ghost use Rattle.seam_defs.specs.Settings.{AreLegal};
 ghost use Rattle.seam_entity.specs.Here.{cell_count};
 ghost use Rattle.seam_entity.specs.Reals.{RealView};
 ghost use Rattle.seam_entity.specs.Executing.{may_settle as real_may_settle};
-ghost use Rattle.seam_steps.specs.Settle.{settled};
-ghost use Rattle.seam_steps.specs.CellCases.{stray_survey};
-ghost use Rattle.seam_steps.specs.Cells.{cell_task};
-ghost use Rattle.seam_steps.specs.Maps.{has_any};
-ghost use Rattle.seam_parts.specs.Kept.{here_in, cell_of, AreKept, AreWhole, IsThere};
-ghost use Rattle.seam_parts.specs.Stepping.{IsDone, parts_of, slot_in, core_of};
+ghost use Rattle.seam_node_steps.specs.Settle.{settled};
+ghost use Rattle.seam_node_steps.specs.CellCases.{stray_survey};
+ghost use Rattle.seam_node_steps.specs.Cells.{cell_task};
+ghost use Rattle.seam_node_steps.specs.Maps.{has_any};
+ghost use Rattle.seam_cell_parts.specs.Kept.{here_in, cell_of, AreKept, AreWhole, IsThere};
+ghost use Rattle.seam_cell_parts.specs.Stepping.{IsDone, parts_of, slot_in, core_of};
 ghost use Rattle.seam_cell_cases.specs.Surveying.{IsMoot};
 
 use crate::calls::may_settle;
 use crate::tasks::Tasked;
+use seam_cell_parts::{
+    CellContext, Lists, Places, Reals, Subject, begin, is_at_rest, put_after, settle_real, take_out,
+};
 use seam_entity::{Msg, Real};
 use seam_machine::Out;
-use seam_parts::{
-    Known, Lists, Places, Reals, Subject, begin, is_at_rest, put_after, settle_real, take_out,
-};
 use std::alloc::AllocError;
 
 // Whether there is nothing to do for the entity: its real is not here, may not settle, or is at rest, as most are.
-fn is_moot(known: &Known, reals: &Reals, e: u32) -> bool
+fn is_moot(known: &CellContext, reals: &Reals, e: u32) -> bool
     requires me { known.now.me < cell_count }
     requires legal { AreLegal known.now.settings }
     requires there { (r : RealView) → table.get reals.now.items.items e ≡ Some r → IsThere (here_in known.now) known.now.tree r }
@@ -38,7 +38,12 @@ fn is_moot(known: &Known, reals: &Reals, e: u32) -> bool
 }
 
 /// The real settles as it is.
-pub fn settle_again(known: &Known, real: Real, places: &mut Places, out: &mut Out<Msg>) -> Tasked
+pub fn settle_again(
+    known: &CellContext,
+    real: Real,
+    places: &mut Places,
+    out: &mut Out<Msg>,
+) -> Tasked
     requires me { known.now.me < cell_count }
     requires legal { AreLegal known.now.settings }
     requires there { IsThere (here_in known.now) known.now.tree real.core }
@@ -74,7 +79,7 @@ pub fn settle_again(known: &Known, real: Real, places: &mut Places, out: &mut Ou
 
 /// Survey task: the first entity of the survey list is taken off it, and its real settles.
 pub fn survey_task(
-    known: &Known,
+    known: &CellContext,
     reals: &mut Reals,
     places: &mut Places,
     lists: &mut Lists,

@@ -9,15 +9,15 @@ ghost use Rattle.seam_entity.specs.Here.{cell_count};
 ghost use Rattle.seam_entity.specs.Calls.{has_ready};
 ghost use Rattle.seam_entity.specs.Executing.{may_settle, may_execute, executed_ready, shows, with_deed};
 ghost use Rattle.seam_entity.specs.Preparing.{HasSpare, HasReady};
-ghost use Rattle.seam_steps.specs.CellCases.{survey_task, ready_call_task};
-ghost use Rattle.seam_parts.specs.Kept.{here_in, IsThere};
-ghost use Rattle.seam_parts.specs.Settling.{HasRoomFor};
-ghost use Rattle.seam_parts.specs.Stepping.{HasBegun, IsDone, parts_of, slot_in, core_of};
+ghost use Rattle.seam_node_steps.specs.CellCases.{survey_task, ready_call_task};
+ghost use Rattle.seam_cell_parts.specs.Kept.{here_in, IsThere};
+ghost use Rattle.seam_cell_parts.specs.Settling.{HasRoomFor};
+ghost use Rattle.seam_cell_parts.specs.Stepping.{HasBegun, IsDone, parts_of, slot_in, core_of};
 
 use crate::calls::Made;
+use seam_cell_parts::{CellContext, Places, Subject, begin, settle_real};
 use seam_entity::{Msg, Real};
 use seam_machine::Out;
-use seam_parts::{Known, Places, Subject, begin, settle_real};
 use std::alloc::AllocError;
 
 /// The real after a task, where it is still here, and whether there was memory for the task.
@@ -29,7 +29,7 @@ pub struct Tasked {
 
 // Begins what the ready call takes of the real's least sender that has one. If allocation fails, nothing has changed.
 fn begin_ready(
-    known: &Known,
+    known: &CellContext,
     real: &mut Real,
     places: &mut Places,
     out: &mut Out<Msg>,
@@ -67,7 +67,7 @@ fn begin_ready(
 
 /// Ready-call task: the real executes the ready call of its least sender that has one, and settles.
 pub fn execute_ready(
-    known: &Known,
+    known: &CellContext,
     mut real: Real,
     places: &mut Places,
     out: &mut Out<Msg>,

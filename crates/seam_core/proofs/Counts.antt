@@ -6,7 +6,7 @@ use Rattle.std.proofs.lemmas.List.{take_more, length-take-le}
 use Rattle.std.proofs.lemmas.Option.{get_or_from_slice_get, slice_get_within}
 use Rattle.seam_machine.specs.Totals.{total}
 use Rattle.seam_machine.proofs.Totals.{total-take}
-use Rattle.seam_runs.specs.Weights.{totals}
+use Rattle.seam_net_runs.specs.Weights.{totals}
 
 abbrev pub most : ℕ
 most = 2 ^ 32 - 1

@@ -13,25 +13,25 @@ use Rattle.seam_base.specs.Nodes.{has_client}
 use Rattle.seam_base.specs.Marks.{passes}
 use Rattle.seam_entity.specs.Reals.{RealView, WitnessView}
 use Rattle.seam_entity.specs.Fitting.{is_inside}
-use Rattle.seam_flows.specs.Flows.{slot_at}
-use Rattle.seam_steps.specs.Bases.{PartView, ProxyView}
-use Rattle.seam_steps.specs.Nodes.{NodeView, World}
-use Rattle.seam_steps.specs.Holders.{holders}
-use Rattle.seam_steps.specs.Loads.{loaded}
-use Rattle.seam_ones.specs.Frames.{Frame}
-use Rattle.seam_ones.specs.Sights.{has_of, has_none, entity_flow}
-use Rattle.seam_ones.specs.Ones.{real_in, real_of}
-use Rattle.seam_ones.proofs.Counting.{none_counts}
-use Rattle.seam_base_calls.specs.BaseTurns.{home_of}
-use Rattle.seam_rounds.specs.Between.{IsBetweenRounds, IsFitting, MayBeMade, HasNoWitness}
-use Rattle.seam_rounds.proofs.Loaded.{no_mail, real_was}
-use Rattle.seam_rounds.proofs.Making.{Creation, nowhere, once, creation_of, middle}
-use Rattle.seam_rounds.proofs.Shape.{Somewhere, search_real}
-use Rattle.seam_base_rounds.specs.Parts.{HasPartsBetweenRounds, AreFor}
+use Rattle.seam_law_flow.specs.Flows.{slot_at}
+use Rattle.seam_node_steps.specs.Bases.{PartView, ProxyView}
+use Rattle.seam_node_steps.specs.Nodes.{NodeView, World}
+use Rattle.seam_node_steps.specs.Holders.{holders}
+use Rattle.seam_node_steps.specs.Loads.{loaded}
+use Rattle.seam_law_calls.specs.Frames.{Frame}
+use Rattle.seam_law_calls.specs.Sights.{has_of, has_none, entity_flow}
+use Rattle.seam_law_calls.specs.Ones.{real_in, real_of}
+use Rattle.seam_law_calls.proofs.Counting.{none_counts}
+use Rattle.seam_law_calls.specs.BaseTurns.{home_of}
+use Rattle.seam_law_rounds.specs.Between.{IsBetweenRounds, IsFitting, MayBeMade, HasNoWitness}
+use Rattle.seam_law_rounds.proofs.Loaded.{no_mail, real_was}
+use Rattle.seam_law_rounds.proofs.Making.{Creation, nowhere, once, creation_of, middle}
+use Rattle.seam_law_rounds.proofs.Shape.{Somewhere, search_real}
+use Rattle.seam_law_rounds.specs.Parts.{HasPartsBetweenRounds, AreFor}
 use Rattle.seam_core.specs.Loads.{CanBegin, MayLoad}
 use Rattle.seam_core.proofs.Loading.{here_is}
 use Rattle.seam_core.proofs.Nodes.{IsUnseen}
-use Rattle.seam_flows.specs.Flows.{letters_of}
+use Rattle.seam_law_flow.specs.Flows.{letters_of}
 
 -- a position inside a space of that size
 in_space : (size : ℕ) (t : Division) (p : Pos) → t.size ≡ size → is_inside size p ≡ true → IsInSpace t p

@@ -15,18 +15,18 @@ use Rattle.seam_call.specs.declared.order.Order.{Order}
 use Rattle.seam_call.specs.declared.order.Order.TheVariants as order
 use Rattle.seam_call.specs.declared.order.Batch.{Batch}
 use Rattle.seam_entity.specs.Here.{Here, cell_count, base_of}
-use Rattle.seam_steps.specs.Bases.{BaseView}
-use Rattle.seam_steps.specs.Nodes.{NodeView, World}
-use Rattle.seam_steps.specs.Nodes.NodeView.{Cell, Base}
-use Rattle.seam_steps.specs.Valid.{IsNode}
-use Rattle.seam_steps.specs.Loads.{with_nodes, order_if, ordered_at, reap_ordered_at, with_order, with_orders, with_reap, reaps_loaded}
-use Rattle.seam_steps.specs.Loads.{loaded, look_loaded}
-use Rattle.seam_ones.specs.Frames.{Frame, here_at, IsAt, IsInFrame}
-use Rattle.seam_rounds.specs.Between.{framed}
-use Rattle.seam_rounds.specs.Loaded.{each, node_loaded}
-use Rattle.seam_rounds.proofs.Loading.{nodes_after, loaded_is, node_there}
-use Rattle.seam_rounds.proofs.Framing.{node_begun, node_goes, frame_turns}
-use Rattle.seam_rounds.proofs.Giving.{reaps_framed, look_framed}
+use Rattle.seam_node_steps.specs.Bases.{BaseView}
+use Rattle.seam_node_steps.specs.Nodes.{NodeView, World}
+use Rattle.seam_node_steps.specs.Nodes.NodeView.{Cell, Base}
+use Rattle.seam_node_steps.specs.Valid.{IsNode}
+use Rattle.seam_node_steps.specs.Loads.{with_nodes, order_if, ordered_at, reap_ordered_at, with_order, with_orders, with_reap, reaps_loaded}
+use Rattle.seam_node_steps.specs.Loads.{loaded, look_loaded}
+use Rattle.seam_law_calls.specs.Frames.{Frame, here_at, IsAt, IsInFrame}
+use Rattle.seam_law_rounds.specs.Between.{framed}
+use Rattle.seam_law_rounds.specs.Loaded.{each, node_loaded}
+use Rattle.seam_law_rounds.proofs.Loading.{nodes_after, loaded_is, node_there}
+use Rattle.seam_law_rounds.proofs.Framing.{node_begun, node_goes, frame_turns}
+use Rattle.seam_law_rounds.proofs.Giving.{reaps_framed, look_framed}
 use Rattle.seam_core.specs.Nodes.{here_in}
 use Rattle.seam_core.specs.Loads.{MayLoad, IsNumbered, HasBases, HasSize}
 use Rattle.seam_core.specs.Begun.{begun, HasSpace, MayBegin}

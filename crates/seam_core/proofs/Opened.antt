@@ -3,7 +3,7 @@ use Rattle.std.proofs.Common.{◌≡◌, ℕ, ◌+◌, List, [], ◌∷◌, ◌+
 use Rattle.std.specs.List.{range_with_len}
 use Rattle.std.proofs.lemmas.List.{append_assoc}
 use Rattle.std.proofs.lemmas.List.FromFn.{map-range_with_len_more}
-use Rattle.seam_steps.specs.Nodes.{NodeView}
+use Rattle.seam_node_steps.specs.Nodes.{NodeView}
 
 pub one_opened : (make : ℕ → NodeView) (a k j : ℕ) (items new : List NodeView) (s : NodeView) → new ≡ items ++ s ∷ [] →
     items ≡ map make (range_with_len a k) → s ≡ make j → a + k ≡ j → new ≡ map make (range_with_len a (k + 1))

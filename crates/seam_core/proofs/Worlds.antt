@@ -9,16 +9,16 @@ use Rattle.seam_defs.specs.Settings.{AreLegal}
 use Rattle.seam_machine.specs.Nets.{enabled, happens}
 use Rattle.seam_machine.specs.declared.machines.Event.{Event}
 use Rattle.seam_machine.proofs.Occurring.{occurs, length-happens}
-use Rattle.seam_runs.proofs.Runs.{leads_extend}
+use Rattle.seam_net_runs.proofs.Runs.{leads_extend}
 use Rattle.seam_entity.specs.Here.{cell_count}
-use Rattle.seam_steps.specs.Holders.{holders}
-use Rattle.seam_steps.specs.Nodes.{NodeView, World, node_steps, node_has_work}
-use Rattle.seam_steps.specs.Loads.{one_cell, opened}
-use Rattle.seam_ones.proofs.Classify.{frame_happens}
-use Rattle.seam_ones.specs.Ones.{IsFrame}
-use Rattle.seam_rounds.specs.Between.{IsBetweenRounds}
-use Rattle.seam_rounds.specs.Rounds.{first_frame}
-use Rattle.seam_rounds.proofs.Opened.{opened_between}
+use Rattle.seam_node_steps.specs.Holders.{holders}
+use Rattle.seam_node_steps.specs.Nodes.{NodeView, World, node_steps, node_has_work}
+use Rattle.seam_node_steps.specs.Loads.{one_cell, opened}
+use Rattle.seam_law_calls.proofs.Classify.{frame_happens}
+use Rattle.seam_law_calls.specs.Ones.{IsFrame}
+use Rattle.seam_law_rounds.specs.Between.{IsBetweenRounds}
+use Rattle.seam_law_rounds.specs.LastPhases.{first_frame}
+use Rattle.seam_law_rounds.proofs.Opened.{opened_between}
 use Rattle.seam_core.specs.Worlds.{IsWorld, Leads, KeepsLaws, Lives, in_calls, in_reaps, in_looks}
 
 abbrev pub still_world : (w : World) (e : Event) → IsWorld w → enabled node_has_work w e ≡ true → IsWorld (happens node_steps w e)

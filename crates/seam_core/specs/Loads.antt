@@ -6,10 +6,10 @@ use Rattle.seam_machine.specs.Events.{EachNode}
 use Rattle.seam_call.specs.declared.order.Batch.{Batch}
 use Rattle.seam_base.specs.Nodes.{has_client}
 use Rattle.seam_base.specs.Marks.{passes}
-use Rattle.seam_steps.specs.Nodes.{NodeView, World}
-use Rattle.seam_ones.specs.Sights.{has_of}
-use Rattle.seam_ones.specs.Ones.{real_in}
-use Rattle.seam_rounds.specs.Between.{created_entity}
+use Rattle.seam_node_steps.specs.Nodes.{NodeView, World}
+use Rattle.seam_law_calls.specs.Sights.{has_of}
+use Rattle.seam_law_calls.specs.Ones.{real_in}
+use Rattle.seam_law_rounds.specs.Between.{created_entity}
 use Rattle.seam_core.specs.Nodes.{here_in}
 
 -- ---- what nodes know of their world

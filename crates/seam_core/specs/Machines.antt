@@ -3,10 +3,10 @@ use Rattle.std.specs.Prelude.{◌≡◌}
 use Rattle.seam_machine.specs.Sends.{AllBelow}
 use Rattle.seam_machine.specs.declared.machines.Input.{Input}
 use Rattle.seam_entity.specs.declared.message.Msg.{Msg}
-use Rattle.seam_steps.specs.Nodes.{NodeView, node_steps, node_peers}
-use Rattle.seam_steps.specs.Valid.{IsNode}
-use Rattle.seam_steps.proofs.Targets.{node_targets}
-use Rattle.seam_steps.proofs.Peers.{peers_stay, node_stays_valid}
+use Rattle.seam_node_steps.specs.Nodes.{NodeView, node_steps, node_peers}
+use Rattle.seam_node_steps.specs.Valid.{IsNode}
+use Rattle.seam_node_steps.proofs.Targets.{node_targets}
+use Rattle.seam_node_steps.proofs.Peers.{peers_stay, node_stays_valid}
 
 pub targets : (s : NodeView) (i : Input Msg) → IsNode s → AllBelow (node_peers s) (node_steps s i).sent
 targets = node_targets

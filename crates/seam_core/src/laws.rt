@@ -2,10 +2,10 @@
 
 ghost use Rattle.std.specs.Prelude.{ℕ};
 ghost use Rattle.seam_call.specs.declared.order.Batch.{Batch};
-ghost use Rattle.seam_steps.specs.Nodes.{World};
-ghost use Rattle.seam_ones.specs.Frames.{Frame};
-ghost use Rattle.seam_replica.specs.Clients.{ClientReplica};
-ghost use Rattle.seam_laws.specs.Records.{KeepsRecords, MayBeGiven};
+ghost use Rattle.seam_node_steps.specs.Nodes.{World};
+ghost use Rattle.seam_law_calls.specs.Frames.{Frame};
+ghost use Rattle.seam_rule_clients.specs.Clients.{ClientReplica};
+ghost use Rattle.seam_law_all.specs.Records.{KeepsRecords, MayBeGiven};
 ghost use Rattle.seam_core.specs.Worlds.{KeepsLaws};
 ghost use Rattle.seam_core.specs.Loads.{MayLoad};
 
@@ -13,11 +13,11 @@ ghost use Rattle.seam_core.specs.Loads.{MayLoad};
 pub fn every_world_obeys_the_laws()
     ensures { (v : World) → KeepsLaws v }
 {
-    seam_laws::calls_obey_the_laws();
-    seam_laws::reaps_obey_the_laws();
-    seam_laws::looks_obey_the_laws();
-    seam_copies::ghosts_of_a_round_are_true();
-    seam_rounds::reaps_end_reals();
+    seam_law_all::calls_obey_the_laws();
+    seam_law_all::reaps_obey_the_laws();
+    seam_law_all::looks_obey_the_laws();
+    seam_law_ghosts::ghosts_of_a_round_are_true();
+    seam_law_rounds::reaps_end_reals();
 }
 
 /// What the rules ask of a batch lets a world load it: one that keeps the records between rounds may be given each that fits it.

@@ -1,8 +1,10 @@
+// SPDX-License-Identifier: MIT
+
 //! A world: cells and base nodes, with a link for each ordered pair of them.
 //!
 //! A world is opened, and loaded for each phase of a round: a batch, reaps, a look (`specs/Loads` has what a load asks). `step` makes
 //! one event. `specs/Worlds` has what holds of it: it is always a world of its header and tree (*IsWorld*), and wherever it comes from it
-//! obeys the laws of its phase (*KeepsLaws*, over `seam_laws`).
+//! obeys the laws of its phase (*KeepsLaws*, over `seam_law_all`).
 //!
 //! Crates above cite these modules of `proofs`: `Worlds` (an event leaves a world), `Loading` (so does a load; what nodes know of their
 //! world) and `Nodes` (which entities have no client).

@@ -2,10 +2,10 @@
 
 ghost use Rattle.std.specs.Prelude.{◌≡◌, ◌++◌, true, OnOk, OnErr, option_copied, if◌then◌else◌};
 ghost use Rattle.seam_machine.specs.declared.machines.Input.{Input as AnyInput};
-ghost use Rattle.seam_steps.specs.Nodes.{NodeView, node_steps, node_has_work, node_peers};
-ghost use Rattle.seam_steps.specs.Nodes.NodeView.{Cell as CellNode, Base as BaseNode};
-ghost use Rattle.seam_steps.specs.Valid.{IsNode};
-ghost use Rattle.seam_steps.specs.Holders.{held_at};
+ghost use Rattle.seam_node_steps.specs.Nodes.{NodeView, node_steps, node_has_work, node_peers};
+ghost use Rattle.seam_node_steps.specs.Nodes.NodeView.{Cell as CellNode, Base as BaseNode};
+ghost use Rattle.seam_node_steps.specs.Valid.{IsNode};
+ghost use Rattle.seam_node_steps.specs.Holders.{held_at};
 ghost use Rattle.seam_core.specs.Machines.{targets, keeps_peers, stays_valid};
 ghost use Rattle.seam_core.specs.Nodes.{cell_in, base_in};
 
@@ -33,7 +33,7 @@ impl Model for Node {
     ghost use Rattle.std.specs.Coded.{codes};
     ghost use Rattle.std.specs.FinMap as table;
     ghost use Rattle.std.specs.FinSet as set;
-    ghost use Rattle.seam_steps.specs.Nodes.{NodeView};
+    ghost use Rattle.seam_node_steps.specs.Nodes.{NodeView};
     ghost use Rattle.seam_core.specs.Nodes.{node_of};
 
     ghost Value = { NodeView };

@@ -4,12 +4,12 @@ ghost use Rattle.std.specs.Prelude.{◌≡◌, ◌++◌, ◌∷◌, ◌-◌, ◌
 ghost use Rattle.seam_defs.specs.Settings.{AreLegal};
 ghost use Rattle.seam_machine.specs.Nets.{enabled, happens};
 ghost use Rattle.seam_machine.specs.declared.machines.Event.{Event as AnyEvent};
-ghost use Rattle.seam_steps.specs.Nodes.{World as AnyWorld, node_steps, node_has_work};
-ghost use Rattle.seam_steps.specs.Loads.{opened, loaded, reaps_loaded, look_loaded};
-ghost use Rattle.seam_steps.specs.Holders.{holders};
-ghost use Rattle.seam_rounds.specs.Rounds.{first_frame};
-ghost use Rattle.seam_replica.specs.Clients.{ClientReplica};
-ghost use Rattle.seam_laws.specs.Records.{KeepsRecords};
+ghost use Rattle.seam_node_steps.specs.Nodes.{World as AnyWorld, node_steps, node_has_work};
+ghost use Rattle.seam_node_steps.specs.Loads.{opened, loaded, reaps_loaded, look_loaded};
+ghost use Rattle.seam_node_steps.specs.Holders.{holders};
+ghost use Rattle.seam_law_rounds.specs.LastPhases.{first_frame};
+ghost use Rattle.seam_rule_clients.specs.Clients.{ClientReplica};
+ghost use Rattle.seam_law_all.specs.Records.{KeepsRecords};
 ghost use Rattle.seam_core.specs.Worlds.{IsWorld, Leads, Lives, KeepsLaws};
 ghost use Rattle.seam_core.specs.Loads.{MayLoad};
 
@@ -37,7 +37,7 @@ impl Model for World {
     ghost use Rattle.std.specs.FinSet as set;
     ghost use Rattle.seam_machine.specs.Views.{NetView};
     ghost use Rattle.seam_entity.specs.declared.message.Msg.{Msg};
-    ghost use Rattle.seam_steps.specs.Nodes.{NodeView};
+    ghost use Rattle.seam_node_steps.specs.Nodes.{NodeView};
     ghost use Rattle.seam_core.specs.Worlds.{IsWorld};
 
     ghost Value = { NetView NodeView Msg };
@@ -58,7 +58,7 @@ impl World {
         // It keeps the records between rounds.
         ensures records { IfOk result (λ w. (clients : ℕ → ClientReplica) → KeepsRecords (first_frame defs.now settings) clients w) }
     {
-        seam_laws::an_opened_world_keeps_the_records();
+        seam_law_all::an_opened_world_keeps_the_records();
         defs.known();
         let nodes = open_nodes(alloc, defs, settings)?;
         let net = Net::new(alloc, nodes)?;

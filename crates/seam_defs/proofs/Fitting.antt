@@ -10,7 +10,7 @@ use Rattle.seam_defs.specs.declared.types.Property.{Property}
 use Rattle.seam_defs.specs.Groups.{in_group}
 use Rattle.seam_defs.specs.Deeds.{properties_of, IsOfGroup, TakesArgs}
 use Rattle.seam_defs.specs.Fitting.{FitsAt, FitBelow, ArgsFitBelow}
-use Rattle.seam_defs.proofs.Places.{place-in, place-out}
+use Rattle.seam_defs.proofs.PropertyPlaces.{place-in, place-out}
 
 pub takes-to : (types : List ValueType) (values : List Value) → length types ≡ length values → ArgsFitBelow types values (length types) →
     TakesArgs types values

@@ -13,7 +13,7 @@ use Rattle.seam_defs.specs.declared.types.Property.{Property}
 use Rattle.seam_defs.specs.Groups.{in_group, IsWithin, held_by, shown_by}
 use Rattle.seam_defs.specs.Deeds.{projected, ghost_of, other_of, values_text, text_of_projected, SameShown, IsOfGroup}
 use Rattle.seam_defs.proofs.Running.{shown-within}
-use Rattle.seam_defs.proofs.Places.{projected-out, projected-shown, projected-hidden, projected-nil}
+use Rattle.seam_defs.proofs.PropertyPlaces.{projected-out, projected-shown, projected-hidden, projected-nil}
 
 -- what is not in a group is not in one within it
 outside : (f : Flag) (inner outer : Group) → IsWithin inner outer → in_group f outer ≡ false → in_group f inner ≡ false

@@ -26,7 +26,7 @@ use Rattle.seam_defs.specs.Deeds.{nearest, place_of, type_at, value_at, number_o
 use Rattle.seam_defs.specs.Deeds.{after_operation, after_body, IsOfGroup, TakesArgs}
 use Rattle.seam_defs.specs.Fitting.{is_in, FitsAt, FitBelow}
 use Rattle.seam_defs.proofs.Fitting.{of-to, of-from, takes-from}
-use Rattle.seam_defs.proofs.Places.{one-place}
+use Rattle.seam_defs.proofs.PropertyPlaces.{one-place}
 
 between : (l h z : ℤ) → l ≤ℤ h → (l ≤ℤ int_max (int_min z h) l) × (int_max (int_min z h) l ≤ℤ h)
 between l h z proper = (omega (arith, ints, clamps), omega (arith, ints, clamps))

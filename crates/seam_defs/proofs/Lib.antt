@@ -2,7 +2,7 @@ pub mod ByteOrder
 pub mod NameSearch
 pub mod Numbers
 pub mod Saturation
-pub mod Places
+pub mod PropertyPlaces
 pub mod Running
 pub mod Marks
 pub mod Fitting

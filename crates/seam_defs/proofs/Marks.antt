@@ -13,7 +13,7 @@ use Rattle.seam_defs.specs.declared.flags.Group.{Group}
 use Rattle.seam_defs.specs.declared.types.Property.{Property}
 use Rattle.seam_defs.specs.Marks.{kept}
 use Rattle.seam_defs.specs.Remaining.{shown_of}
-use Rattle.seam_defs.proofs.Places.{zip-nil}
+use Rattle.seam_defs.proofs.PropertyPlaces.{zip-nil}
 
 -- the lowest digit of a number is 1 exactly where 2 does not divide it
 pub even : (n : ℕ) → n % 2 ≡ 0 → (n % 2 == 1) ≡ false

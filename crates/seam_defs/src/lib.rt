@@ -1,3 +1,5 @@
+// SPDX-License-Identifier: MIT
+
 //! Definitions of entities: types, properties with their distribution flags, methods whose bodies are lists of simple
 //! operations, and what one deed does to a state.
 //!

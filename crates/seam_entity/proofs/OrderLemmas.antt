@@ -21,7 +21,7 @@ use Rattle.seam_call.specs.declared.sender.Sender.{Sender}
 use Rattle.seam_call.specs.declared.call.Call.{Call}
 use Rattle.seam_call.specs.Senders.{rank_of}
 use Rattle.seam_entity.specs.Orders.{Orders, new_order, order_or, order_of, is_new, shown, view_of}
-use Rattle.seam_entity.specs.Places.{Entries, ranks, AreOrdered, IsAt, IsGap}
+use Rattle.seam_entity.specs.SenderPlaces.{Entries, ranks, AreOrdered, IsAt, IsGap}
 
 abbrev pub Entry : Type 0
 Entry = Sender × OrderView Call

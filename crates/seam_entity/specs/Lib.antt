@@ -5,7 +5,7 @@ pub mod Fitting
 pub mod Here
 pub mod Calls
 pub mod Executing
-pub mod Places
+pub mod SenderPlaces
 pub mod Preparing
-pub mod Looks
+pub mod WitnessLooks
 pub mod Witnesses

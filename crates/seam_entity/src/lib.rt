@@ -1,3 +1,5 @@
+// SPDX-License-Identifier: MIT
+
 //! What nodes hold of an entity and send each other: its real, which is moved and never cloned, and the messages.
 //!
 //! The real is the one copy of an entity that executes calls; ghosts in other cells follow it (BigWorld Server Overview,
@@ -26,5 +28,5 @@ pub use observed::Observed;
 pub use orders::Orders;
 pub use real::{Did, Real, ghost_copy};
 pub use room::reserve_one;
-pub use seam_memory::NoMemoryFor;
+pub use seam_table::NoMemoryFor;
 pub use witness::Witness;

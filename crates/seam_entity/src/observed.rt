@@ -3,7 +3,7 @@
 ghost use Rattle.std.specs.Prelude.{◌≡◌, ◌↔◌, ℕ, IsTrue, IfOk};
 ghost use Rattle.seam_defs.specs.declared.settings.Settings.{Settings as AllSettings};
 ghost use Rattle.seam_defs.specs.declared.flags.Group.TheVariants as group;
-ghost use Rattle.seam_entity.specs.Looks.{shown_to_others};
+ghost use Rattle.seam_entity.specs.WitnessLooks.{shown_to_others};
 ghost use Rattle.seam_entity.specs.Preparing.{node_with};
 
 use seam_call::GhostCopy;

@@ -14,14 +14,14 @@ ghost use Rattle.seam_entity.specs.Orders.{order_of, view_of};
 ghost use Rattle.seam_entity.specs.Executing.{fits_cell_part as call_fits};
 ghost use Rattle.seam_entity.specs.Preparing.{node_with};
 ghost use Rattle.seam_entity.specs.Calls.{has_ready, ready_call, after_ready, all_held};
-ghost use Rattle.seam_entity.specs.Places.{AreOrdered, IsAt, IsGap, NoneReady, IsFirstReady};
+ghost use Rattle.seam_entity.specs.SenderPlaces.{AreOrdered, IsAt, IsGap, NoneReady, IsFirstReady};
 
 use crate::fitting::holds_fitting;
 use crate::room::insert;
 use seam_call::{Call, Sender};
 use seam_defs::{Defs, Settings};
-use seam_memory::NoMemoryFor;
 use seam_order::{InOrder, Offer};
+use seam_table::NoMemoryFor;
 use std::alloc::{AllocError, Global};
 use std::marker::Model;
 

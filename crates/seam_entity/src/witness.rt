@@ -4,7 +4,7 @@ ghost use Rattle.std.specs.Prelude.{◌≡◌, ◌+◌, ◌<◌, ◌^◌, IfOk, 
 ghost use Rattle.std.specs.List.Sorted.{IsStrictlySortedBy};
 ghost use Rattle.std.specs.Ordering.{nat_cmp};
 ghost use Rattle.seam_view.specs.Replica.{HasRoom as HasRoomFor, after_looks};
-ghost use Rattle.seam_entity.specs.Looks.{new_witness, own_due, told_after};
+ghost use Rattle.seam_entity.specs.WitnessLooks.{new_witness, own_due, told_after};
 ghost use Rattle.seam_entity.specs.Witnesses.{witness_in};
 
 use seam_defs::Settings;

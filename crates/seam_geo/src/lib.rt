@@ -1,3 +1,5 @@
+// SPDX-License-Identifier: MIT
+
 //! Positions of a space, rectangular areas of it, and how far they lie apart.
 #![tactic(auto)]
 

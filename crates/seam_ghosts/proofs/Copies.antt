@@ -8,7 +8,7 @@ use Rattle.std.proofs.lemmas.Bool.Decides.{nat_tests}
 use Rattle.seam_table.specs.Tables.{TableView}
 use Rattle.seam_ghosts.specs.declared.Ghost.{Ghost}
 use Rattle.seam_ghosts.specs.Book.{copy_in, with_copy, copied}
-use Rattle.seam_ghosts.specs.declared.Known.{Known}
+use Rattle.seam_ghosts.specs.declared.Heard.{Heard}
 use Rattle.seam_ghosts.specs.Joined.{joined, IsBook}
 use Rattle.seam_ghosts.proofs.Joins.{copy_joined}
 
@@ -84,7 +84,7 @@ module _ {P : Type 0} where
       ∙ has q) in
       sym (map.entries-from_sorted nat_cmp (copied gs) sorted) ∙ ap map.entries same
 
-  pub copies_joined : (beats : TableView Known) (copies : TableView P) → IsBook beats copies →
+  pub copies_joined : (beats : TableView Heard) (copies : TableView P) → IsBook beats copies →
       copied (map.entries (joined beats.items copies.items)) ≡ map.entries copies.items
   copies_joined beats copies book =
       entries_copied (joined beats.items copies.items) copies.items (λ q. copy_joined beats copies q book)

@@ -10,34 +10,34 @@ use Rattle.std.specs.FinSet as set
 use Rattle.seam_table.specs.Tables.{TableView, with_item}
 use Rattle.seam_ghosts.specs.declared.Ghost.{Ghost}
 use Rattle.seam_ghosts.specs.Book.{beat_in, copy_in, with_ghost}
-use Rattle.seam_ghosts.specs.declared.Known.{Known}
+use Rattle.seam_ghosts.specs.declared.Heard.{Heard}
 use Rattle.seam_ghosts.specs.Joined.{noted, ghost_at, joined, book_of, has_copy_in, IsBook}
 use Rattle.seam_ghosts.proofs.Messages.{key_is}
 
 -- the ghost of an entity that is known, if it is
-abbrev pub ghost_with : {P : Type 0} → Option Known → Option P → Option (Ghost P)
+abbrev pub ghost_with : {P : Type 0} → Option Heard → Option P → Option (Ghost P)
 ghost_with None c = None
 ghost_with (Some k) c = Some (record { beat = k.beat; copy = c })
 
 -- the beat that is known, or 0
-abbrev pub beat_known : Option Known → ℕ
+abbrev pub beat_known : Option Heard → ℕ
 beat_known None = 0
 beat_known (Some k) = k.beat
 
-found_step : {P : Type 0} (copies : map.FinMap nat_cmp P) (q n : ℕ) (k : Known) (t : Bool) (rest : Option Known) (gs : Option (Ghost P)) →
+found_step : {P : Type 0} (copies : map.FinMap nat_cmp P) (q n : ℕ) (k : Heard) (t : Bool) (rest : Option Heard) (gs : Option (Ghost P)) →
     eq_by_cmp nat_cmp q n ≡ t → gs ≡ ghost_with rest (map.get copies q) →
     cond t (Some (record { beat = k.beat; copy = map.get copies n })) gs ≡ ghost_with (cond t (Some k) rest) (map.get copies q)
 found_step copies q n k true rest gs is h = ap (λ e. Some (record { beat = k.beat; copy = map.get copies e })) (key_is q n is)
 found_step copies q n k false rest gs is h = h
 
-find_joined : {P : Type 0} (copies : map.FinMap nat_cmp P) (q : ℕ) (es : List (ℕ × Known)) →
+find_joined : {P : Type 0} (copies : map.FinMap nat_cmp P) (q : ℕ) (es : List (ℕ × Heard)) →
     map.find nat_cmp q (each (ghost_at copies) es) ≡ ghost_with (map.find nat_cmp q es) (map.get copies q)
 find_joined copies q [] = refl
 find_joined copies q (x ∷ es) =
     found_step copies q x.0 x.1 (eq_by_cmp nat_cmp q x.0) (map.find nat_cmp q es) (map.find nat_cmp q (each (ghost_at copies) es)) refl
     (find_joined copies q es)
 
-get_joined : {P : Type 0} (beats : map.FinMap nat_cmp Known) (copies : map.FinMap nat_cmp P) (q : ℕ) →
+get_joined : {P : Type 0} (beats : map.FinMap nat_cmp Heard) (copies : map.FinMap nat_cmp P) (q : ℕ) →
     map.get (joined beats copies) q ≡ ghost_with (map.get beats q) (map.get copies q)
 get_joined beats copies q =
     map.get-from_entries nat_cmp_total (each (ghost_at copies) (map.entries beats)) q
@@ -46,33 +46,33 @@ get_joined beats copies q =
 
 -- ---- what they answer
 
-beat_with : {P : Type 0} (k : Option Known) (c : Option P) → beat_in (ghost_with k c) ≡ beat_known k
+beat_with : {P : Type 0} (k : Option Heard) (c : Option P) → beat_in (ghost_with k c) ≡ beat_known k
 beat_with None c = refl
 beat_with (Some k) c = refl
 
-pub beat_joined : {P : Type 0} (beats : map.FinMap nat_cmp Known) (copies : map.FinMap nat_cmp P) (q : ℕ) →
+pub beat_joined : {P : Type 0} (beats : map.FinMap nat_cmp Heard) (copies : map.FinMap nat_cmp P) (q : ℕ) →
     beat_in (map.get (joined beats copies) q) ≡ beat_known (map.get beats q)
 beat_joined beats copies q = ap beat_in (get_joined beats copies q) ∙ beat_with (map.get beats q) (map.get copies q)
 
-copy_with : {P : Type 0} (k : Option Known) (c : Option P) → is_some c ≡ has_copy_in k → copy_in (ghost_with k c) ≡ c
+copy_with : {P : Type 0} (k : Option Heard) (c : Option P) → is_some c ≡ has_copy_in k → copy_in (ghost_with k c) ≡ c
 copy_with None None h = refl
 copy_with None (Some p) h = absurd (false≢true (sym h))
 copy_with (Some k) c h = refl
 
-pub copy_joined : {P : Type 0} (beats : TableView Known) (copies : TableView P) (q : ℕ) → IsBook beats copies →
+pub copy_joined : {P : Type 0} (beats : TableView Heard) (copies : TableView P) (q : ℕ) → IsBook beats copies →
     copy_in (map.get (joined beats.items copies.items) q) ≡ map.get copies.items q
 copy_joined beats copies q book =
     ap copy_in (get_joined beats.items copies.items q) ∙ copy_with (map.get beats.items q) (map.get copies.items q) (book.copy q)
 
 -- ---- what is written
 
-both_written : {P : Type 0} (t : Bool) (k : Known) (p : Option P) (r : Option Known) (c : Option P) →
+both_written : {P : Type 0} (t : Bool) (k : Heard) (p : Option P) (r : Option Heard) (c : Option P) →
     ghost_with (cond t (Some k) r) (cond t p c) ≡ cond t (Some (record { beat = k.beat; copy = p })) (ghost_with r c)
 both_written true k p r c = refl
 both_written false k p r c = refl
 
 -- both tables were written at a number, the copies with a copy or with none
-joined_after : {P : Type 0} (beats : map.FinMap nat_cmp Known) (copies after : map.FinMap nat_cmp P) (e : ℕ) (k : Known) (p : Option P) →
+joined_after : {P : Type 0} (beats : map.FinMap nat_cmp Heard) (copies after : map.FinMap nat_cmp P) (e : ℕ) (k : Heard) (p : Option P) →
     ((q : ℕ) → map.get after q ≡ cond (eq_by_cmp nat_cmp q e) p (map.get copies q)) →
     joined (map.insert beats e k) after ≡ map.insert (joined beats copies) e (record { beat = k.beat; copy = p })
 joined_after beats copies after e k p written =
@@ -84,7 +84,7 @@ joined_after beats copies after e k p written =
     ∙ ap (cond (eq_by_cmp nat_cmp q e) (Some (record { beat = k.beat; copy = p }))) (sym (get_joined beats copies q))
     ∙ sym (map.get-insert nat_cmp_total (joined beats copies) e (record { beat = k.beat; copy = p }) q))
 
-pub book_with_copy : {P : Type 0} (beats beats' : TableView Known) (copies : TableView P) (e b : ℕ) (p : P) → beats'.items ≡ beats.items →
+pub book_with_copy : {P : Type 0} (beats beats' : TableView Heard) (copies : TableView P) (e b : ℕ) (p : P) → beats'.items ≡ beats.items →
     book_of (with_item beats' e (noted b true)) (with_item copies e p)
     ≡ with_ghost (book_of beats copies) e (record { beat = b; copy = Some p })
 book_with_copy beats beats' copies e b p same =
@@ -134,7 +134,7 @@ module _ {P : Type 0} where
 
 -- ---- what is kept
 
-marked_after : {P : Type 0} (beats : map.FinMap nat_cmp Known) (copies after : map.FinMap nat_cmp P) (e : ℕ) (k : Known) (p : Option P) →
+marked_after : {P : Type 0} (beats : map.FinMap nat_cmp Heard) (copies after : map.FinMap nat_cmp P) (e : ℕ) (k : Heard) (p : Option P) →
     is_some p ≡ k.has_copy → ((q : ℕ) → map.contains_key copies q ≡ has_copy_in (map.get beats q)) →
     ((q : ℕ) → map.get after q ≡ cond (eq_by_cmp nat_cmp q e) p (map.get copies q)) →
     (q : ℕ) → map.contains_key after q ≡ has_copy_in (map.get (map.insert beats e k) q)
@@ -145,7 +145,7 @@ marked_after beats copies after e k p marked had written q =
     by true = marked
     by false = had q
 
-pub book_put : {P : Type 0} (beats : TableView Known) (copies : TableView P) (e b : ℕ) (p : P) → IsBook beats copies →
+pub book_put : {P : Type 0} (beats : TableView Heard) (copies : TableView P) (e b : ℕ) (p : P) → IsBook beats copies →
     IsBook (with_item beats e (noted b true)) (with_item copies e p)
 book_put beats copies e b p book = record {
   copy =
@@ -154,7 +154,7 @@ book_put beats copies e b p book = record {
 }
 
 -- room was made for a beat
-pub book_begun : {P : Type 0} (beats beats' : TableView Known) (copies copies' : TableView P) → IsBook beats copies →
+pub book_begun : {P : Type 0} (beats beats' : TableView Heard) (copies copies' : TableView P) → IsBook beats copies →
     beats'.items ≡ beats.items → copies' ≡ copies → IsBook beats' copies'
 book_begun beats beats' copies copies' book items same = record {
   copy = λ q.
@@ -163,7 +163,7 @@ book_begun beats beats' copies copies' book items same = record {
 
 -- ---- what is written over a beat that is known
 
-module _ {P : Type 0} (beats : TableView Known) (copies : TableView P) (e : ℕ) (known : Known) (at : Some known ≡ map.get beats.items e)
+module _ {P : Type 0} (beats : TableView Heard) (copies : TableView P) (e : ℕ) (known : Heard) (at : Some known ≡ map.get beats.items e)
   where
     -- the beat that is known
     pub known_beat : beat_in (map.get (joined beats.items copies.items) e) ≡ known.beat
@@ -187,7 +187,7 @@ module _ {P : Type 0} (beats : TableView Known) (copies : TableView P) (e : ℕ)
       copy = λ q. book.copy q ∙ ap (λ m. has_copy_in (map.get m q)) (sym same_beats);
     }
 
-    abbrev over : Bool → Known → Known
+    abbrev over : Bool → Heard → Heard
     over t k = if t then k else known
 
     abbrev copied_over : Bool → P → TableView P
@@ -226,7 +226,7 @@ module _ {P : Type 0} (beats : TableView Known) (copies : TableView P) (e : ℕ)
 
 -- ---- a beat without a copy, written where none is known
 
-module _ {P : Type 0} (beats : TableView Known) (copies : TableView P) (e : ℕ) (first : map.get beats.items e ≡ None)
+module _ {P : Type 0} (beats : TableView Heard) (copies : TableView P) (e : ℕ) (first : map.get beats.items e ≡ None)
     (book : IsBook beats copies) where
   pub no_beat : beat_in (map.get (joined beats.items copies.items) e) ≡ 0
   no_beat = beat_joined beats.items copies.items e ∙ ap beat_known first

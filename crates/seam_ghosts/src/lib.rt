@@ -1,3 +1,5 @@
+// SPDX-License-Identifier: MIT
+
 //! Copies of entities of other cells, each under the greatest beat that came for it.
 //!
 //! Every message about an entity's ghost carries a beat, a number that rises from message to message. A message that
@@ -14,7 +16,7 @@ ghost use Rattle.seam_ghosts.specs.declared.Ghost.{Ghost};
 ghost use Rattle.seam_ghosts.specs.Joined.{book_of, noted, IsBook};
 ghost use Rattle.seam_ghosts.specs.Book.{BookView, beat_of, copy_of, copies, answer, after_message, ghost_after};
 
-pub use seam_memory::NoMemoryFor;
+pub use seam_table::NoMemoryFor;
 use seam_table::Table;
 use std::alloc::{AllocError, Global};
 use std::marker::Model;
@@ -37,7 +39,7 @@ pub struct Ghost<P> {
 
 /// What is known of an entity beside its copy: the greatest beat that came for it, and whether there is a copy.
 #[derive(Clone, Copy, Debug, PartialEq, Eq)]
-pub struct Known {
+pub struct Heard {
     beat: u64,
     has_copy: bool,
 }
@@ -48,7 +50,7 @@ pub struct Known {
 #[derive(Drop)]
 pub struct GhostBook<P> {
     // What is known of each entity that a message came for. A copy is sought only where there is one.
-    beats: Table<Known>,
+    beats: Table<Heard>,
     // The copies that are there, in a table of their own, so that a list of them does not pass entities that have only a beat.
     copies: Table<P>,
 }
@@ -128,7 +130,7 @@ impl<P: Drop> GhostBook<P> {
 
 // Writes the copy and its beat over the beat that is known, where that is lower.
 fn write_over<P: Drop>(
-    known: &mut Known,
+    known: &mut Heard,
     copies: &mut Table<P>,
     e: u32,
     beat: u64,
@@ -144,7 +146,7 @@ fn write_over<P: Drop>(
         return Ok(Kept::Ignored);
     }
     copies.put(e, copy)?;
-    *known = Known {
+    *known = Heard {
         beat,
         has_copy: true,
     };
@@ -153,7 +155,7 @@ fn write_over<P: Drop>(
 
 // Writes the copy and its beat where no beat is known.
 fn write_first<P: Drop>(
-    beats: &mut Table<Known>,
+    beats: &mut Table<Heard>,
     copies: &mut Table<P>,
     e: u32,
     beat: u64,
@@ -175,7 +177,7 @@ fn write_first<P: Drop>(
         return Err(NoMemoryFor { item: copy });
     };
     copies.put(e, copy)?;
-    let known = Known {
+    let known = Heard {
         beat,
         has_copy: true,
     };
@@ -185,7 +187,7 @@ fn write_first<P: Drop>(
 
 // Writes the copy and its beat, where a lower beat is known or none. A beat that is known is found and written by one search.
 fn set_copy<P: Drop>(
-    beats: &mut Table<Known>,
+    beats: &mut Table<Heard>,
     copies: &mut Table<P>,
     e: u32,
     beat: u64,
@@ -206,7 +208,7 @@ fn set_copy<P: Drop>(
 }
 
 // Drops the copy and writes its beat over the beat that is known, where that is lower.
-fn drop_over<P: Drop>(known: &mut Known, copies: &mut Table<P>, e: u32, beat: u64) -> Kept
+fn drop_over<P: Drop>(known: &mut Heard, copies: &mut Table<P>, e: u32, beat: u64) -> Kept
     requires { map.contains_key copies.old.items e ≡ known.old.has_copy }
     ensures answer { result ≡ answer known.old.beat beat }
     ensures known { known.new ≡ (if nat_lt known.old.beat beat then noted beat false else known.old) }
@@ -218,7 +220,7 @@ fn drop_over<P: Drop>(known: &mut Known, copies: &mut Table<P>, e: u32, beat: u6
     if known.has_copy {
         let _ = copies.remove(e);
     }
-    *known = Known {
+    *known = Heard {
         beat,
         has_copy: false,
     };
@@ -226,7 +228,7 @@ fn drop_over<P: Drop>(known: &mut Known, copies: &mut Table<P>, e: u32, beat: u6
 }
 
 // Notes the beat where none is known, so that there is no copy.
-fn note_first(beats: &mut Table<Known>, e: u32, beat: u64) -> Result<Kept, AllocError>
+fn note_first(beats: &mut Table<Heard>, e: u32, beat: u64) -> Result<Kept, AllocError>
     ensures answer { IfOk result (λ k. k ≡ answer 0 beat) }
     ensures after { OnOk result (beats.new ≡ (if nat_lt 0 beat then with_item beats.old e (noted beat false) else beats.old)) }
     ensures err { OnErr result (beats.new ≡ beats.old) }
@@ -234,7 +236,7 @@ fn note_first(beats: &mut Table<Known>, e: u32, beat: u64) -> Result<Kept, Alloc
     if beat == 0 {
         return Ok(Kept::Ignored);
     }
-    let known = Known {
+    let known = Heard {
         beat,
         has_copy: false,
     };
@@ -246,7 +248,7 @@ fn note_first(beats: &mut Table<Known>, e: u32, beat: u64) -> Result<Kept, Alloc
 
 // Drops the copy at its beat, where a lower beat is known or none. A beat that is known is found and written by one search.
 fn drop_at<P: Drop>(
-    beats: &mut Table<Known>,
+    beats: &mut Table<Heard>,
     copies: &mut Table<P>,
     e: u32,
     beat: u64,

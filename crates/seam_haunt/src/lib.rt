@@ -1,3 +1,5 @@
+// SPDX-License-Identifier: MIT
+
 //! Which cells have a ghost of a real: those near enough, and those that had one and are not yet far (BigWorld Server
 //! Overview, ghost entities). And the place of an entity: its home, and the cells with a ghost of it; and what
 //! each cell is told of a real that settles.

@@ -1,3 +1,5 @@
+// SPDX-License-Identifier: MIT
+
 //! Sources and sinks of bytes that count their faults, the lines of a source, and whole writes to a sink.
 //!
 //! Of `proofs/`, `LineLemmas` (the lines of bytes to which more are appended) is for callers.

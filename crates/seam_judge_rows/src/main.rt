@@ -1,3 +1,5 @@
+// SPDX-License-Identifier: MIT
+
 //! Judges rounds that it reads from standard input, and prints what comes of each: `legal`, or the first point that does not hold.
 //!
 //! The input is blocks of lines with an empty line between. `row` begins with a fresh world; the lines after `accepted` are commands of the

@@ -1,10 +1,10 @@
 // The plain round beside that of a row.
 ghost use Rattle.seam_defs.specs.Settings.{AreInRange};
 
-use seam_plain::plain_round;
+use seam_judge_data::{Round, Standing};
+use seam_judge_plain::plain_round;
 use seam_report::write_round;
-use seam_round::{Round, Standing};
-use seam_transcript::Header;
+use seam_rule_lines::Header;
 use std::alloc::{AllocError, Global};
 
 fn is_written(

@@ -1,7 +1,7 @@
 // How rows are played.
 use crate::plain::compared;
 use crate::verdict::verdict_on;
-use seam_reader::{BadScript, Read, ScriptReader, read_lines, read_round};
+use seam_judge_reader::{BadScript, Read, ScriptReader, read_lines, read_round};
 use std::alloc::{AllocError, Global};
 
 // The text with other lines in place of one of its lines.

@@ -1,9 +1,9 @@
 // What comes of a round that was read.
 ghost use Rattle.seam_defs.specs.Settings.{AreInRange};
 
-use seam_judge::{Point, have_homes, judge};
-use seam_round::{Round, Standing};
-use seam_transcript::Header;
+use seam_judge_data::{Round, Standing};
+use seam_judge_rounds::{Point, have_homes, judge};
+use seam_rule_lines::Header;
 use std::alloc::{AllocError, Global};
 
 pub(crate) fn verdict_on(

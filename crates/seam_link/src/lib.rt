@@ -1,3 +1,5 @@
+// SPDX-License-Identifier: MIT
+
 //! Links with two ends: one puts items, the other one takes them, in two threads or in one. No item is lost, and all come in
 //! the order in which they were put.
 //!
@@ -10,7 +12,7 @@ ghost use Rattle.rtrb.specs.Ring.{ProducerLooked, known_free};
 ghost use Rattle.seam_link.specs.Ends.{IsFlushed};
 
 use rtrb::{Consumer, Producer, RingBuffer};
-use seam_memory::NoMemoryFor;
+use seam_table::NoMemoryFor;
 use std::alloc::{AllocError, Global};
 use std::collections::VecDeque;
 use std::marker::Model;

@@ -2,7 +2,7 @@ pub mod Ahead
 pub mod Digits
 pub mod Counting
 pub mod Flats
-pub mod Known
+pub mod TaskMarks
 pub mod LinkLemmas
 pub mod Occurring
 pub mod Parts

@@ -1,3 +1,5 @@
+// SPDX-License-Identifier: MIT
+
 //! Machines that send each other items, and nets of them.
 //!
 //! A machine makes one step at a time: it is fed its own task or one message, and sends messages to its peers.
@@ -24,5 +26,5 @@ pub use laws::{
 };
 pub use machines::{Event, Input, Machine};
 pub use nets::{Net, NetParts};
-pub use seam_memory::NoMemoryFor;
+pub use seam_table::NoMemoryFor;
 pub use sends::Out;

@@ -1,3 +1,5 @@
+// SPDX-License-Identifier: MIT
+
 //! Numbered items, given out in the order of their numbers.
 //!
 //! A sender numbers its items 1, 2, 3 and so on. They may come over several ways, so a later one can come first;
@@ -11,7 +13,7 @@ ghost use Rattle.std.specs.Prelude.{option_copied, ℕ, ◌==◌, Some, None, if
 ghost use Rattle.seam_order.specs.Held.{OrderView, item_at, IsInOrder};
 ghost use Rattle.seam_order.specs.Offers.{offer_answer, after_offer, next_item, after_taking};
 
-pub use seam_memory::NoMemoryFor;
+pub use seam_table::NoMemoryFor;
 use std::alloc::Global;
 use std::collections::BTreeMap;
 use std::collections::btree_map::Iter;

@@ -1,5 +1,5 @@
 // Why no picture was drawn.
-use seam_reader::BadScript;
+use seam_judge_reader::BadScript;
 use std::alloc::AllocError;
 use std::io;
 use thiserror::Error;

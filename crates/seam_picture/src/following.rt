@@ -3,10 +3,10 @@ use crate::fault::Fault;
 use crate::input::Input;
 use crate::scene::{Scene, View};
 use seam_defs::Settings;
-use seam_expected::tree_in;
-use seam_plain_looks::Replica;
-use seam_reader::{Read, ScriptReader, read_round};
-use seam_round::{Round, Standing};
+use seam_judge_data::{Round, Standing};
+use seam_judge_expected::tree_in;
+use seam_judge_looks::Replica;
+use seam_judge_reader::{Read, ScriptReader, read_round};
 use seam_tree::Tree;
 use std::alloc::{AllocError, Global};
 

@@ -1,7 +1,7 @@
 // A script, and what was printed for it.
 ghost use Rattle.std.specs.Prelude.{◌≢◌, ◌<◌, ◌≤◌, [], length};
 
-use seam_reader::first_piece;
+use seam_judge_reader::first_piece;
 use std::alloc::{AllocError, Global};
 
 /// The line that ends a header.

@@ -1,3 +1,5 @@
+// SPDX-License-Identifier: MIT
+
 //! Draws one round of a script as a picture: `seam_picture [ROUND]` reads a script and after it all that was printed for it on standard
 //! input, and writes an SVG of that round, or of the last one, to standard output.
 //!

@@ -5,7 +5,7 @@ use crate::legend::draw_legend;
 use crate::map::{BOTTOM, Frame, LEFT, Map, RIGHT, TOP};
 use crate::style::Style;
 use seam_geo::{Pos, Rect};
-use seam_round::{GhostLine, HomeLine, Round};
+use seam_judge_data::{GhostLine, HomeLine, Round};
 use seam_tree::Tree;
 use std::alloc::{AllocError, Global};
 

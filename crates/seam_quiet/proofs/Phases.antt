@@ -5,28 +5,28 @@ use Rattle.std.proofs.lemmas.Bool.Decides.{nat_tests}
 use Rattle.seam_machine.specs.Nets.{IsQuiet}
 use Rattle.seam_machine.specs.Totals.{total}
 use Rattle.seam_machine.specs.declared.machines.Event.{Event}
-use Rattle.seam_finish.specs.Finishing.{EndsWithin}
+use Rattle.seam_net_runs.specs.Finishing.{EndsWithin}
 use Rattle.seam_call.specs.declared.order.Order.{Order}
 use Rattle.seam_call.specs.declared.order.Batch.{Batch}
 use Rattle.seam_entity.specs.Numbers.{limit, may_rise}
 use Rattle.seam_entity.specs.Reals.{RealView}
-use Rattle.seam_steps.specs.Holders.{holders}
-use Rattle.seam_steps.specs.Nodes.{NodeView, World, node_steps, node_has_work}
-use Rattle.seam_steps.specs.Nodes.NodeView.{Cell, Base}
-use Rattle.seam_steps.specs.Loads.{loaded, reaps_loaded, look_loaded, ordered_at}
-use Rattle.seam_ones.specs.Frames.{Frame}
-use Rattle.seam_rounds.specs.Between.{numbers_of}
-use Rattle.seam_rounds.specs.Rounds.{AreReapable}
-use Rattle.seam_copies.specs.Places.{GoesThroughRound}
-use Rattle.seam_base_rounds.specs.Parts.{MayBeLoaded}
-use Rattle.seam_replica.specs.Clients.{ClientReplica}
-use Rattle.seam_laws.specs.Records.{KeepsRecordsWithin}
-use Rattle.seam_laws.specs.Calls.{ObeysLaws}
-use Rattle.seam_measure.specs.Phases.{witnesses_at, all_witnesses, entities, cell_orders, base_orders, tick_orders}
-use Rattle.seam_measure.specs.Phases.{events_of_round, events_of_looks}
+use Rattle.seam_node_steps.specs.Holders.{holders}
+use Rattle.seam_node_steps.specs.Nodes.{NodeView, World, node_steps, node_has_work}
+use Rattle.seam_node_steps.specs.Nodes.NodeView.{Cell, Base}
+use Rattle.seam_node_steps.specs.Loads.{loaded, reaps_loaded, look_loaded, ordered_at}
+use Rattle.seam_law_calls.specs.Frames.{Frame}
+use Rattle.seam_law_rounds.specs.Between.{numbers_of}
+use Rattle.seam_law_rounds.specs.LastPhases.{AreReapable}
+use Rattle.seam_law_ghosts.specs.RealPlaces.{GoesThroughRound}
+use Rattle.seam_law_rounds.specs.Parts.{MayBeLoaded}
+use Rattle.seam_rule_clients.specs.Clients.{ClientReplica}
+use Rattle.seam_law_all.specs.Records.{KeepsRecordsWithin}
+use Rattle.seam_law_all.specs.Calls.{ObeysLaws}
+use Rattle.seam_law_bounds.specs.Phases.{witnesses_at, all_witnesses, entities, cell_orders, base_orders, tick_orders}
+use Rattle.seam_law_bounds.specs.Phases.{events_of_round, events_of_looks}
 use Rattle.seam_core.specs.Worlds.{Leads}
-use Rattle.seam_quiet.specs.Rounds.{MayRun, BeginsPhase, bases_of, most_of_calls}
-use Rattle.seam_quiet.specs.Rounds.BeginsPhase.{calls_begin, reaps_begin, looks_begin}
+use Rattle.seam_quiet.specs.RoundRuns.{MayRun, BeginsPhase, bases_of, most_of_calls}
+use Rattle.seam_quiet.specs.RoundRuns.BeginsPhase.{calls_begin, reaps_begin, looks_begin}
 
 -- ---- reaps may begin
 

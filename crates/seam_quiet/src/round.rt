@@ -3,27 +3,27 @@
 ghost use Rattle.std.specs.Prelude.{◌≡◌, ℕ, [], IfOk, OnErr};
 ghost use Rattle.seam_machine.specs.Nets.{IsQuiet, ArePeers, LeadsTo};
 ghost use Rattle.seam_machine.specs.declared.machines.Event.{Event as AnyEvent};
-ghost use Rattle.seam_finish.specs.Finishing.{EndsWithin};
-ghost use Rattle.seam_steps.specs.Nodes.{World as AnyWorld, node_steps, node_has_work, node_peers};
-ghost use Rattle.seam_steps.specs.Loads.{loaded};
-ghost use Rattle.seam_ones.specs.Frames.{Frame};
-ghost use Rattle.seam_rounds.specs.Between.{framed};
-ghost use Rattle.seam_rounds.specs.Rounds.{AreReapable};
-ghost use Rattle.seam_replica.specs.Clients.{ClientReplica};
-ghost use Rattle.seam_shown.specs.Clients.{clients_loaded, clients_shown};
-ghost use Rattle.seam_laws.specs.Records.{KeepsRecords};
-ghost use Rattle.seam_phases.specs.Records.{IsBounded};
+ghost use Rattle.seam_net_runs.specs.Finishing.{EndsWithin};
+ghost use Rattle.seam_node_steps.specs.Nodes.{World as AnyWorld, node_steps, node_has_work, node_peers};
+ghost use Rattle.seam_node_steps.specs.Loads.{loaded};
+ghost use Rattle.seam_law_calls.specs.Frames.{Frame};
+ghost use Rattle.seam_law_rounds.specs.Between.{framed};
+ghost use Rattle.seam_law_rounds.specs.LastPhases.{AreReapable};
+ghost use Rattle.seam_rule_clients.specs.Clients.{ClientReplica};
+ghost use Rattle.seam_law_clients.specs.Clients.{clients_loaded, clients_shown};
+ghost use Rattle.seam_law_all.specs.Records.{KeepsRecords};
+ghost use Rattle.seam_law_bounds.specs.Records.{IsBounded};
 ghost use Rattle.seam_core.specs.Worlds.{Leads};
 ghost use Rattle.seam_core.specs.Loads.{MayLoad};
-ghost use Rattle.seam_quiet.specs.Rounds.{MayRun, StandsFor, BeginsPhase, IsWithinTable};
+ghost use Rattle.seam_quiet.specs.RoundRuns.{MayRun, StandsFor, BeginsPhase, IsWithinTable};
 ghost use Rattle.seam_quiet.specs.Calls.{Beginning, HasCalled};
 
 use crate::workers::Workers;
 use seam_call::Batch;
 use seam_core::{Node, World};
 use seam_defs::Listed;
-use seam_finish::begin;
 use seam_machine::{Event, Net};
+use seam_net_runs::begin;
 use seam_watch::Journal;
 use seam_workers::Gate;
 use std::alloc::{AllocError, Global};
@@ -174,7 +174,7 @@ pub fn run_calls<G: Gate + Sync, R: Threads + Wait + Sync>(
     ensures { IfOk result (HasCalled world batch) }
 {
     seam_core::a_fitting_batch_may_be_loaded();
-    seam_phases::each_phase_of_a_round_ends();
+    seam_law_bounds::each_phase_of_a_round_ends();
     end_calls(rt, alloc, world, batch, workers)
 }
 
@@ -230,11 +230,11 @@ pub fn run_ends<G: Gate + Sync, R: Threads + Wait + Sync>(
         KeepsRecords (framed f from.batch) (clients_shown (framed f from.batch) (clients_loaded f from.batch clients) r.world) r.world
         × IsBounded r.world) }
 {
-    seam_laws::calls_obey_the_laws();
-    seam_measure::nothing_held_goes_from_record_to_record();
-    seam_measure::reaps_end();
-    seam_phases::each_phase_of_a_round_ends();
-    seam_phases::a_round_keeps_the_records();
+    seam_law_all::calls_obey_the_laws();
+    seam_law_bounds::nothing_held_goes_from_record_to_record();
+    seam_law_bounds::reaps_end();
+    seam_law_bounds::each_phase_of_a_round_ends();
+    seam_law_bounds::a_round_keeps_the_records();
     end_phases(rt, alloc, called, workers)
 }
 

@@ -18,7 +18,7 @@ use Rattle.std.proofs.lemmas.Map.Keys.{IsDistinct-from_sorted, IsDistinct-cons, 
 use Rattle.std.proofs.lemmas.Map.Keys.{IsStrictlyIncreasing-from_distinct}
 use Rattle.std.proofs.lemmas.Map.Keys.{sorted_from_strictly_increasing}
 use Rattle.std.proofs.lemmas.Map.Made.{is_some-lookup}
-use Rattle.seam_range.specs.declared.Place.{Place}
+use Rattle.seam_range.specs.declared.Location.{Location}
 use Rattle.seam_range.specs.Found.{count_of, AreInPlace, one_if}
 use Rattle.seam_range.proofs.Moves.{place_of_entry}
 use Rattle.seam_range.proofs.Strips.{same_again}
@@ -64,7 +64,7 @@ any_when_counted q (x ∷ xs) =
     ∙ (any_by (number_count q xs) (eqb x q) _ (any_when_counted q xs) ∙ ap (ltb 0) (sym (count_cons q x xs)))
 
 -- of the entities of a list
-keys_counted : (q : ℕ) (xs : List (ℕ × Place)) → number_count q (keys_of xs) ≡ count_of q xs
+keys_counted : (q : ℕ) (xs : List (ℕ × Location)) → number_count q (keys_of xs) ≡ count_of q xs
 keys_counted q [] = refl
 keys_counted q (x ∷ xs) =
     count_cons q x.0 (keys_of xs)
@@ -72,28 +72,28 @@ keys_counted q (x ∷ xs) =
 
 -- ---- entities in rising number
 
-key_at : (xs : List (ℕ × Place)) (i d : ℕ) (v : Place) → get_or (keys_of xs) i d ≡ (get_or xs i (d, v)).0
+key_at : (xs : List (ℕ × Location)) (i d : ℕ) (v : Location) → get_or (keys_of xs) i d ≡ (get_or xs i (d, v)).0
 key_at [] i d v = refl
 key_at (x ∷ xs) zero d v = refl
 key_at (x ∷ xs) (suc i) d v = key_at xs i d v
 
-as_many : (xs : List (ℕ × Place)) → length (keys_of xs) ≡ length xs
+as_many : (xs : List (ℕ × Location)) → length (keys_of xs) ≡ length xs
 as_many [] = refl
 as_many (x ∷ xs) = ap suc (as_many xs)
 
-keys_rise : (xs : List (ℕ × Place)) → IsNonDecreasingBy (λ x. x.0) xs → IsNonDecreasing (keys_of xs)
+keys_rise : (xs : List (ℕ × Location)) → IsNonDecreasingBy (λ x. x.0) xs → IsNonDecreasing (keys_of xs)
 keys_rise xs up i j d le lt =
-    let v : Place = record { version = 0; pos = record { x = 0; z = 0 } } in
+    let v : Location = record { version = 0; pos = record { x = 0; z = 0 } } in
     subst (λ n. n ≤ get_or (keys_of xs) j d) (sym (key_at xs i d v))
     (subst (λ n. (get_or xs i (d, v)).0 ≤ n) (sym (key_at xs j d v))
     (up i j (d, v) le (subst (λ n. j < n) (as_many xs) lt)))
 
 -- ---- and in their places
 
-abbrev InPlaces : (ℕ → Option Place) → List (ℕ × Place) → Type 0
+abbrev InPlaces : (ℕ → Option Location) → List (ℕ × Location) → Type 0
 InPlaces f xs = AllByRecursion (λ x. f x.0 ≡ Some x.1) xs
 
-same_by_keys : (f : ℕ → Option Place) (xs ys : List (ℕ × Place)) → keys_of xs ≡ keys_of ys → InPlaces f xs → InPlaces f ys → xs ≡ ys
+same_by_keys : (f : ℕ → Option Location) (xs ys : List (ℕ × Location)) → keys_of xs ≡ keys_of ys → InPlaces f xs → InPlaces f ys → xs ≡ ys
 same_by_keys f [] [] e h k = refl
 same_by_keys f [] (y ∷ ys) e h k = cc
 same_by_keys f (x ∷ xs) [] e h k = cc
@@ -104,7 +104,7 @@ same_by_keys f (x ∷ xs) (y ∷ ys) e h k =
     let rest = same_by_keys f xs ys keys h.1 k.1 in
     λ i. (key i, value i) ∷ rest i
 
-in_filter : (f : ℕ → Option Place) (t : ℕ × Place → Bool) (xs : List (ℕ × Place)) → InPlaces f xs → InPlaces f (filter t xs)
+in_filter : (f : ℕ → Option Location) (t : ℕ × Location → Bool) (xs : List (ℕ × Location)) → InPlaces f xs → InPlaces f (filter t xs)
 in_filter f t [] h = tt
 in_filter f t (x ∷ xs) h =
     elim (t x) as (λ b. InPlaces f (cond b (x ∷ filter t xs) (filter t xs)))
@@ -113,14 +113,14 @@ in_filter f t (x ∷ xs) h =
 apart : (x y : ℕ) → is_eq (nat_cmp x y) ≡ false → is_eq (nat_cmp y x) ≡ false
 apart x y h = grind (arith, nat_tests)
 
-found_past : (x : ℕ × Place) (es xs : List (ℕ × Place)) → AllByRecursion (λ y. is_eq (nat_cmp x.0 y) ≡ false) (keys_of xs) →
+found_past : (x : ℕ × Location) (es xs : List (ℕ × Location)) → AllByRecursion (λ y. is_eq (nat_cmp x.0 y) ≡ false) (keys_of xs) →
     InPlaces (λ q. lookup (is_at (nat_cmp q)) es) xs → InPlaces (λ q. lookup (is_at (nat_cmp q)) (x ∷ es)) xs
 found_past x es [] h k = tt
 found_past x es (y ∷ xs) h k =
     (ap (λ b. cond b (Some x.1) (lookup (is_at (nat_cmp y.0)) es)) (apart x.0 y.0 h.0) ∙ k.0, found_past x es xs h.1 k.1)
 
 -- entries are in the places that they give
-each_found : (es : List (ℕ × Place)) → IsDistinct (eq_by_cmp nat_cmp) (keys_of es) → InPlaces (λ q. lookup (is_at (nat_cmp q)) es) es
+each_found : (es : List (ℕ × Location)) → IsDistinct (eq_by_cmp nat_cmp) (keys_of es) → InPlaces (λ q. lookup (is_at (nat_cmp q)) es) es
 each_found [] u = tt
 each_found (x ∷ es) u = (
   ap (λ b. cond b (Some x.1) (lookup (is_at (nat_cmp x.0)) es)) (same_number x.0),
@@ -128,23 +128,23 @@ each_found (x ∷ es) u = (
       (each_found es (IsDistinct-tail (eq_by_cmp nat_cmp) x.0 (keys_of es) u)),
 )
 
-by_entry : (m : tree.BTreeMap ℕ Place) (xs : List (ℕ × Place)) →
+by_entry : (m : tree.BTreeMap ℕ Location) (xs : List (ℕ × Location)) →
     AllByRecursion (λ x. map.get (map.from_entries {R = nat_cmp} m.entries) x.0 ≡ Some x.1) xs → InPlaces (tree.get nat_cmp m) xs
 by_entry m [] h = tt
 by_entry m (x ∷ xs) h = (sym (place_of_entry m x.0) ∙ h.0, by_entry m xs h.1)
 
 -- ---- those near
 
-module _ (test : Place → Bool) where
-  at_most_one : (o : Option Place) → one_if test o ≤ 1
+module _ (test : Location → Bool) where
+  at_most_one : (o : Option Location) → one_if test o ≤ 1
   at_most_one None = omega arith
   at_most_one (Some p) = elim (test p) as (λ b. cond b 1 0 ≤ 1) [ true ↦ omega arith | false ↦ omega arith ]
 
-  passes : (o : Option Place) → ltb 0 (one_if test o) ≡ is_some (option_filter test o)
+  passes : (o : Option Location) → ltb 0 (one_if test o) ≡ is_some (option_filter test o)
   passes None = refl
   passes (Some p) = elim (test p) as (λ b. ltb 0 (cond b 1 0) ≡ is_some (cond b (Some p) None)) [ true ↦ refl | false ↦ refl ]
 
-  keys_when_counted : (m : tree.BTreeMap ℕ Place) (rising : List ℕ) → tree.IsOrdered nat_cmp m →
+  keys_when_counted : (m : tree.BTreeMap ℕ Location) (rising : List ℕ) → tree.IsOrdered nat_cmp m →
       ((q : ℕ) → number_count q rising ≡ one_if test (tree.get nat_cmp m q)) → IsNonDecreasing rising →
       rising ≡ keys_of (filter (λ e. test e.1) m.entries)
   keys_when_counted m rising o counted up =
@@ -162,7 +162,7 @@ module _ (test : Place → Bool) where
       (IsDistinct-from_sorted nat_cmp (keys_of m.entries) o)))
       ∙ is_some-lookup (is_at (nat_cmp q)) (filter (λ e. test e.1) m.entries)))))
 
-  pub sorted_when_counted : (m : tree.BTreeMap ℕ Place) (found rising : List (ℕ × Place)) → tree.IsOrdered nat_cmp m →
+  pub sorted_when_counted : (m : tree.BTreeMap ℕ Location) (found rising : List (ℕ × Location)) → tree.IsOrdered nat_cmp m →
       ((q : ℕ) → count_of q found ≡ one_if test (map.get (map.from_entries {R = nat_cmp} m.entries) q)) →
       AreInPlace (map.from_entries {R = nat_cmp} m.entries) found → IsPermutation found rising → IsNonDecreasingBy (λ x. x.0) rising →
       rising ≡ filter (λ e. test e.1) (map.entries (map.from_entries {R = nat_cmp} m.entries))

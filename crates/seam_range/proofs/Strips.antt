@@ -18,8 +18,8 @@ use Rattle.std.proofs.Math.Nat.{div-mul-le_self}
 use Rattle.std.proofs.lemmas.Map.Keys.{IsDistinct-from_sorted, IsDistinct-head, IsDistinct-tail}
 use Rattle.seam_geo.specs.declared.pos.Pos.{Pos}
 use Rattle.seam_geo.specs.Pos.{distance}
-use Rattle.seam_range.specs.declared.Place.{Place}
-use Rattle.seam_range.specs.Places.{Places, is_within}
+use Rattle.seam_range.specs.declared.Location.{Location}
+use Rattle.seam_range.specs.Locations.{Places, is_within}
 use Rattle.seam_range.specs.Indexed.{spot_of, same_spot, by_spot, at_spot, IsIndexed}
 use Rattle.seam_range.specs.Found.{count_of, one_if, is_in_strip, first_strip, end_strip}
 use Rattle.seam_range.specs.declared.TheConstants.{STRIP_WIDTH, ROW_WIDTH}
@@ -89,12 +89,12 @@ key_other k l h = elim (is_eq (by_spot l k)) as (λ b. is_eq (by_spot l k) ≡ b
   | false ↦ λ t. refl
 ] refl
 
-absent_keys : (k : Key) (es : List (Key × Place)) → AllByRecursion (λ y. is_eq (by_spot k y) ≡ false) (keys_of es) →
+absent_keys : (k : Key) (es : List (Key × Location)) → AllByRecursion (λ y. is_eq (by_spot k y) ≡ false) (keys_of es) →
     AllByRecursion (λ r. is_at (by_spot k) r.0 ≡ false) es
 absent_keys k [] h = tt
 absent_keys k (r ∷ es) h = (h.0, absent_keys k es h.1)
 
-count_step : (k : Key) (r : Key × Place) (es : List (Key × Place)) (b : Bool) → is_eq (by_spot k r.0) ≡ b →
+count_step : (k : Key) (r : Key × Location) (es : List (Key × Location)) (b : Bool) → is_eq (by_spot k r.0) ≡ b →
     AllByRecursion (λ y. eq_by_cmp by_spot r.0 y ≡ false) (keys_of es) →
     count_by (λ r. is_at (by_spot k) r.0) es ≡ cond (is_some (lookup (is_at (by_spot k)) es)) 1 0 →
     cond b 1 0 + count_by (λ r. is_at (by_spot k) r.0) es ≡ cond (is_some (cond b (Some r.1) (lookup (is_at (by_spot k)) es))) 1 0
@@ -104,7 +104,7 @@ count_step k r es true e h rest =
 count_step k r es false e h rest = no_more _ ∙ rest
 
 -- of entries whose keys differ at most one has the key
-count_of_key : (k : Key) (es : List (Key × Place)) → IsDistinct (eq_by_cmp by_spot) (keys_of es) →
+count_of_key : (k : Key) (es : List (Key × Location)) → IsDistinct (eq_by_cmp by_spot) (keys_of es) →
     count_by (λ r. is_at (by_spot k) r.0) es ≡ cond (is_some (lookup (is_at (by_spot k)) es)) 1 0
 count_of_key k [] u = refl
 count_of_key k (r ∷ es) u =
@@ -115,19 +115,19 @@ count_of_key k (r ∷ es) u =
 -- ---- entries of the map by spot
 
 -- an entry has the place of its entity, and is at its spot
-abbrev IsLocated : tree.BTreeMap ℕ Place → Key × Place → Type 0
+abbrev IsLocated : tree.BTreeMap ℕ Location → Key × Location → Type 0
 IsLocated m r = (tree.get nat_cmp m r.0.1 ≡ Some r.1) × (r.0.0 ≡ spot_of r.1)
 
-abbrev Found : List (Key × Place) → List (Key × Place) → Type 0
+abbrev Found : List (Key × Location) → List (Key × Location) → Type 0
 Found es rs = AllByRecursion (λ r. lookup (is_at (by_spot r.0)) es ≡ Some r.1) rs
 
-found_past : (p : Key × Place) (es rs : List (Key × Place)) → AllByRecursion (λ y. is_eq (by_spot p.0 y) ≡ false) (keys_of rs) →
+found_past : (p : Key × Location) (es rs : List (Key × Location)) → AllByRecursion (λ y. is_eq (by_spot p.0 y) ≡ false) (keys_of rs) →
     Found es rs → Found (p ∷ es) rs
 found_past p es [] h k = tt
 found_past p es (r ∷ rs) h k =
     (ap (λ b. cond b (Some p.1) (lookup (is_at (by_spot r.0)) es)) (key_other p.0 r.0 h.0) ∙ k.0, found_past p es rs h.1 k.1)
 
-found_each : (es : List (Key × Place)) → IsDistinct (eq_by_cmp by_spot) (keys_of es) → Found es es
+found_each : (es : List (Key × Location)) → IsDistinct (eq_by_cmp by_spot) (keys_of es) → Found es es
 found_each [] u = tt
 found_each (p ∷ es) u = (
   ap (λ b. cond b (Some p.1) (lookup (is_at (by_spot p.0)) es)) (key_itself p.0),
@@ -138,22 +138,22 @@ found_each (p ∷ es) u = (
 none_some : {A : Type 0} (x : A) → None ≡ Some x → ⊥
 none_some x e = let f : false ≡ true = ap is_some e in cc
 
-position_is : (o p v : Place) (b : Bool) → same_spot (spot_of p) (spot_of o) ≡ b → cond b (Some p) None ≡ Some v → p ≡ v
+position_is : (o p v : Location) (b : Bool) → same_spot (spot_of p) (spot_of o) ≡ b → cond b (Some p) None ≡ Some v → p ≡ v
 position_is o p v true e h = ap (λ s. unwrap_or s p) h
 position_is o p v false e h = absurd (none_some v h)
 
-located_by : (s : ℕ × ℕ) (p v : Place) (b : Bool) → same_spot (spot_of p) s ≡ b → cond b (Some p) None ≡ Some v →
+located_by : (s : ℕ × ℕ) (p v : Location) (b : Bool) → same_spot (spot_of p) s ≡ b → cond b (Some p) None ≡ Some v →
     (Some p ≡ Some v) × (s ≡ spot_of v)
 located_by s p v true e h =
     let same : p ≡ v = ap (λ o. unwrap_or o p) h in
     (h, sym (spot_is (spot_of p) s e) ∙ ap spot_of same)
 located_by s p v false e h = absurd (none_some v h)
 
-located_at : (s : ℕ × ℕ) (o : Option Place) (v : Place) → at_spot s o ≡ Some v → (o ≡ Some v) × (s ≡ spot_of v)
+located_at : (s : ℕ × ℕ) (o : Option Location) (v : Location) → at_spot s o ≡ Some v → (o ≡ Some v) × (s ≡ spot_of v)
 located_at s None v e = absurd (none_some v e)
 located_at s (Some p) v e = located_by s p v (same_spot (spot_of p) s) refl e
 
-located_each : (m : tree.BTreeMap ℕ Place) (s : tree.BTreeMap Key Place) (rs : List (Key × Place)) → IsIndexed m s → Found s.entries rs →
+located_each : (m : tree.BTreeMap ℕ Location) (s : tree.BTreeMap Key Location) (rs : List (Key × Location)) → IsIndexed m s → Found s.entries rs →
     AllByRecursion (IsLocated m) rs
 located_each m s [] i h = tt
 located_each m s (r ∷ rs) i h = (located_at r.0.0 (tree.get nat_cmp m r.0.1) r.1 (sym (i.listed r.0) ∙ h.0), located_each m s rs i h.1)
@@ -170,8 +170,8 @@ all_or_none : {X : Type 0} (b : Bool) (u : X → Bool) (xs : List X) → count_b
 all_or_none true u xs = refl
 all_or_none false u xs = count_nothing (λ _. false) xs (none_of_all xs)
 
-module _ (m : tree.BTreeMap ℕ Place) (q : ℕ) (t : Key × Place → Bool) where
-  hit_by : (r : Key × Place) (o : Place) (b : Bool) → eqb r.0.1 q ≡ b → tree.get nat_cmp m q ≡ Some o → IsLocated m r →
+module _ (m : tree.BTreeMap ℕ Location) (q : ℕ) (t : Key × Location → Bool) where
+  hit_by : (r : Key × Location) (o : Location) (b : Bool) → eqb r.0.1 q ≡ b → tree.get nat_cmp m q ≡ Some o → IsLocated m r →
       (t r && b) ≡ (t ((spot_of o, q), o) && is_eq (by_spot (spot_of o, q) r.0))
   hit_by r o true e at l =
       let entity = number_is r.0.1 q e in
@@ -189,21 +189,21 @@ module _ (m : tree.BTreeMap ℕ Place) (q : ℕ) (t : Key × Place → Bool) whe
       ] refl in
       and_no (t r) ∙ (sym (and_no (t ((spot_of o, q), o))) ∙ ap (λ b. t ((spot_of o, q), o) && b) (sym other))
 
-  hits : (rs : List (Key × Place)) (o : Place) → tree.get nat_cmp m q ≡ Some o → AllByRecursion (IsLocated m) rs →
+  hits : (rs : List (Key × Location)) (o : Location) → tree.get nat_cmp m q ≡ Some o → AllByRecursion (IsLocated m) rs →
       AllByRecursion (λ r. (t r && eqb r.0.1 q) ≡ (t ((spot_of o, q), o) && is_at (by_spot (spot_of o, q)) r.0)) rs
   hits [] o at l = tt
   hits (r ∷ rs) o at l = (hit_by r o (eqb r.0.1 q) refl at l.0, hits rs o at l.1)
 
-  miss_by : (r : Key × Place) (b : Bool) → eqb r.0.1 q ≡ b → tree.get nat_cmp m q ≡ None → IsLocated m r → (t r && b) ≡ false
+  miss_by : (r : Key × Location) (b : Bool) → eqb r.0.1 q ≡ b → tree.get nat_cmp m q ≡ None → IsLocated m r → (t r && b) ≡ false
   miss_by r true e at l = absurd (none_some r.1 (sym at ∙ (ap (tree.get nat_cmp m) (sym (number_is r.0.1 q e)) ∙ l.0)))
   miss_by r false e at l = and_no (t r)
 
-  misses : (rs : List (Key × Place)) → tree.get nat_cmp m q ≡ None → AllByRecursion (IsLocated m) rs →
+  misses : (rs : List (Key × Location)) → tree.get nat_cmp m q ≡ None → AllByRecursion (IsLocated m) rs →
       AllByRecursion (λ r. (t r && eqb r.0.1 q) ≡ false) rs
   misses [] at l = tt
   misses (r ∷ rs) at l = (miss_by r (eqb r.0.1 q) refl at l.0, misses rs at l.1)
 
-  counted_by : (s : tree.BTreeMap Key Place) (o : Option Place) → IsIndexed m s → tree.IsOrdered by_spot s → tree.get nat_cmp m q ≡ o →
+  counted_by : (s : tree.BTreeMap Key Location) (o : Option Location) → IsIndexed m s → tree.IsOrdered by_spot s → tree.get nat_cmp m q ≡ o →
       count_by (λ r. t r && eqb r.0.1 q) s.entries ≡ one_if (λ p. t ((spot_of p, q), p)) o
   counted_by s None i d at =
       count_nothing _ s.entries
@@ -217,7 +217,7 @@ module _ (m : tree.BTreeMap ℕ Place) (q : ℕ) (t : Key × Place → Bool) whe
       ∙ ap (λ n. cond (t ((spot_of o, q), o)) n 0) (count_of_key (spot_of o, q) s.entries apart ∙ ap (λ b. cond b 1 0) there))
 
   -- of the entries that pass a test one or none is of the entity
-  pub counted : (s : tree.BTreeMap Key Place) → IsIndexed m s → tree.IsOrdered by_spot s →
+  pub counted : (s : tree.BTreeMap Key Location) → IsIndexed m s → tree.IsOrdered by_spot s →
       count_by (λ r. t r && eqb r.0.1 q) s.entries ≡ one_if (λ p. t ((spot_of p, q), p)) (tree.get nat_cmp m q)
   counted s i d = counted_by s (tree.get nat_cmp m q) i d refl
 
@@ -259,10 +259,10 @@ part_rises a b w some le =
     let part = div-mul-le_self a w in
     le-div (a / w) b w some (omega (arith, part, le))
 
-z_within : (p : Pos) (o : Place) (d : ℕ) → is_within p d o ≡ true → (p.z - d ≤ o.pos.z) × (o.pos.z ≤ p.z + d)
+z_within : (p : Pos) (o : Location) (d : ℕ) → is_within p d o ≡ true → (p.z - d ≤ o.pos.z) × (o.pos.z ≤ p.z + d)
 z_within p o d t = let h = le_of (distance p o.pos) d t in (omega (arith, h), omega (arith, h))
 
-row_within : (p : Pos) (o : Place) (d : ℕ) → is_within p d o ≡ true →
+row_within : (p : Pos) (o : Location) (d : ℕ) → is_within p d o ≡ true →
     ((p.z - d) / ROW_WIDTH ≤ o.pos.z / ROW_WIDTH) × (o.pos.z / ROW_WIDTH < (p.z + d) / ROW_WIDTH + 1)
 row_within p o d t =
     let z = z_within p o d t in
@@ -270,7 +270,7 @@ row_within p o d t =
     let high = part_rises o.pos.z (p.z + d) ROW_WIDTH (omega arith) z.1 in
     (low, omega (arith, high))
 
-strip_by : (strip : ℕ) (p : Pos) (o : Place) (d q : ℕ) (w : Bool) → is_within p d o ≡ w →
+strip_by : (strip : ℕ) (p : Pos) (o : Location) (d q : ℕ) (w : Bool) → is_within p d o ≡ w →
     (in_run strip p d (spot_of o, q) && w) ≡ (eqb (o.pos.x / STRIP_WIDTH) strip && w)
 strip_by strip p o d q true e =
     let row = row_within p o d e in
@@ -279,7 +279,7 @@ strip_by strip p o d q true e =
     (nat_cmp strip (o.pos.x / STRIP_WIDTH)) refl row.0 row.1)
 strip_by strip p o d q false e = and_no (in_run strip p d (spot_of o, q)) ∙ sym (and_no (eqb (o.pos.x / STRIP_WIDTH) strip))
 
-strip_of : (strip : ℕ) (p : Pos) (d q : ℕ) (o : Option Place) →
+strip_of : (strip : ℕ) (p : Pos) (d q : ℕ) (o : Option Location) →
     one_if (λ v. in_run strip p d (spot_of v, q) && is_within p d v) o ≡ one_if (is_in_strip strip p d) o
 strip_of strip p d q None = refl
 strip_of strip p d q (Some o) = ap (λ b. cond b 1 0) (strip_by strip p o d q (is_within p d o) refl)
@@ -289,13 +289,13 @@ and_of_and true b c = refl
 and_of_and false b c = refl
 
 -- how often the entity is among the entries that are near
-abbrev pub count_near : Pos → ℕ → ℕ → List (Key × Place) → ℕ
+abbrev pub count_near : Pos → ℕ → ℕ → List (Key × Location) → ℕ
 count_near p d q rs = count_by (λ r. is_within p d r.1 && eqb r.0.1 q) rs
 
-abbrev pub run_of : ℕ → Pos → ℕ → List (Key × Place) → List (Key × Place)
+abbrev pub run_of : ℕ → Pos → ℕ → List (Key × Location) → List (Key × Location)
 run_of strip p d es = filter (λ r. in_run strip p d r.0) es
 
-pub count_in_run : (m : tree.BTreeMap ℕ Place) (s : tree.BTreeMap Key Place) (strip : ℕ) (p : Pos) (d q : ℕ) → IsIndexed m s →
+pub count_in_run : (m : tree.BTreeMap ℕ Location) (s : tree.BTreeMap Key Location) (strip : ℕ) (p : Pos) (d q : ℕ) → IsIndexed m s →
     tree.IsOrdered by_spot s →
     count_near p d q (run_of strip p d s.entries) ≡ one_if (is_in_strip strip p d) (tree.get nat_cmp m q)
 count_in_run m s strip p d q i o =
@@ -305,22 +305,22 @@ count_in_run m s strip p d q i o =
     ∙ strip_of strip p d q (tree.get nat_cmp m q)
 
 -- each of the entries has the place of its entity
-abbrev pub AreListed : Places → List (Key × Place) → Type 0
+abbrev pub AreListed : Places → List (Key × Location) → Type 0
 AreListed places rs = AllByRecursion (λ r. map.get places r.0.1 ≡ Some r.1) rs
 
-listed_each : (m : tree.BTreeMap ℕ Place) (rs : List (Key × Place)) → AllByRecursion (IsLocated m) rs →
+listed_each : (m : tree.BTreeMap ℕ Location) (rs : List (Key × Location)) → AllByRecursion (IsLocated m) rs →
     AreListed (map.from_entries {R = nat_cmp} m.entries) rs
 listed_each m [] h = tt
 listed_each m (r ∷ rs) h = (place_of_entry m r.0.1 ∙ h.0.0, listed_each m rs h.1)
 
-listed_by_filter : (places : Places) (t : Key × Place → Bool) (rs : List (Key × Place)) → AreListed places rs →
+listed_by_filter : (places : Places) (t : Key × Location → Bool) (rs : List (Key × Location)) → AreListed places rs →
     AreListed places (filter t rs)
 listed_by_filter places t [] h = tt
 listed_by_filter places t (r ∷ rs) h =
     elim (t r) as (λ b. AreListed places (cond b (r ∷ filter t rs) (filter t rs)))
     [ true ↦ (h.0, listed_by_filter places t rs h.1) | false ↦ listed_by_filter places t rs h.1 ]
 
-pub run_listed : (m : tree.BTreeMap ℕ Place) (s : tree.BTreeMap Key Place) (strip : ℕ) (p : Pos) (d : ℕ) → IsIndexed m s →
+pub run_listed : (m : tree.BTreeMap ℕ Location) (s : tree.BTreeMap Key Location) (strip : ℕ) (p : Pos) (d : ℕ) → IsIndexed m s →
     tree.IsOrdered by_spot s → AreListed (map.from_entries {R = nat_cmp} m.entries) (run_of strip p d s.entries)
 run_listed m s strip p d i o =
     listed_by_filter (map.from_entries {R = nat_cmp} m.entries) (λ r. in_run strip p d r.0) s.entries
@@ -328,7 +328,7 @@ run_listed m s strip p d i o =
     (located_each m s s.entries i (found_each s.entries (IsDistinct-from_sorted by_spot (keys_of s.entries) o))))
 
 -- an entry passed, of an entity that is near or not
-pub count_when_found : (p : Pos) (d q : ℕ) (items : List (ℕ × Place)) (r : Key × Place) (rest : List (Key × Place)) →
+pub count_when_found : (p : Pos) (d q : ℕ) (items : List (ℕ × Location)) (r : Key × Location) (rest : List (Key × Location)) →
     is_within p d r.1 ≡ true →
     count_of q (items ++ (r.0.1, r.1) ∷ []) + count_near p d q rest ≡ count_of q items + count_near p d q (r ∷ rest)
 count_when_found p d q items r rest w =
@@ -336,7 +336,7 @@ count_when_found p d q items r rest w =
     let b = count_cons (λ r. is_within p d r.1 && eqb r.0.1 q) r rest ∙ ap (λ t. cond (t && eqb r.0.1 q) 1 0 + count_near p d q rest) w in
     omega (arith, a, b)
 
-pub count_when_far : (p : Pos) (d q n : ℕ) (r : Key × Place) (rest : List (Key × Place)) → is_within p d r.1 ≡ false →
+pub count_when_far : (p : Pos) (d q n : ℕ) (r : Key × Location) (rest : List (Key × Location)) → is_within p d r.1 ≡ false →
     n + count_near p d q rest ≡ n + count_near p d q (r ∷ rest)
 count_when_far p d q n r rest w =
     let b = count_cons (λ r. is_within p d r.1 && eqb r.0.1 q) r rest ∙ ap (λ t. cond (t && eqb r.0.1 q) 1 0 + count_near p d q rest) w in
@@ -345,7 +345,7 @@ count_when_far p d q n r rest w =
 -- ---- all strips
 
 -- a place in a strip below this one, at distance at most d from p
-abbrev pub is_below_strip : ℕ → Pos → ℕ → Place → Bool
+abbrev pub is_below_strip : ℕ → Pos → ℕ → Location → Bool
 is_below_strip strip p d o = nat_lt (o.pos.x / STRIP_WIDTH) strip && is_within p d o
 
 one_more : (x strip : ℕ) (w : Bool) → cond (ltb x strip && w) 1 0 + cond (eqb x strip && w) 1 0 ≡ cond (ltb x (strip + 1) && w) 1 0
@@ -353,32 +353,32 @@ one_more x strip true = grind (arith, nat_tests)
 one_more x strip false =
     (λ i. cond (and_no (ltb x strip) i) 1 0 + cond (and_no (eqb x strip) i) 1 0) ∙ ap (λ b. cond b 1 0) (sym (and_no (ltb x (strip + 1))))
 
-pub one_strip_more : (strip : ℕ) (p : Pos) (d : ℕ) (o : Option Place) →
+pub one_strip_more : (strip : ℕ) (p : Pos) (d : ℕ) (o : Option Location) →
     one_if (is_below_strip strip p d) o + one_if (is_in_strip strip p d) o ≡ one_if (is_below_strip (strip + 1) p d) o
 one_strip_more strip p d None = refl
 one_strip_more strip p d (Some o) = one_more (o.pos.x / STRIP_WIDTH) strip (is_within p d o)
 
-x_within : (p : Pos) (o : Place) (d : ℕ) → is_within p d o ≡ true → (p.x - d ≤ o.pos.x) × (o.pos.x ≤ p.x + d)
+x_within : (p : Pos) (o : Location) (d : ℕ) → is_within p d o ≡ true → (p.x - d ≤ o.pos.x) × (o.pos.x ≤ p.x + d)
 x_within p o d t = let h = le_of (distance p o.pos) d t in (omega (arith, h), omega (arith, h))
 
-first_by : (p : Pos) (o : Place) (d : ℕ) (w : Bool) → is_within p d o ≡ w → (nat_lt (o.pos.x / STRIP_WIDTH) (first_strip p d) && w) ≡ false
+first_by : (p : Pos) (o : Location) (d : ℕ) (w : Bool) → is_within p d o ≡ w → (nat_lt (o.pos.x / STRIP_WIDTH) (first_strip p d) && w) ≡ false
 first_by p o d true e =
     let le = part_rises (p.x - d) o.pos.x STRIP_WIDTH (omega arith) (x_within p o d e).0 in
     let no : ltb (o.pos.x / STRIP_WIDTH) (first_strip p d) ≡ false = grind (arith, nat_tests) in
     ap (λ b. b && true) no
 first_by p o d false e = and_no _
 
-pub none_below_first : (p : Pos) (d : ℕ) (o : Option Place) → one_if (is_below_strip (first_strip p d) p d) o ≡ 0
+pub none_below_first : (p : Pos) (d : ℕ) (o : Option Location) → one_if (is_below_strip (first_strip p d) p d) o ≡ 0
 none_below_first p d None = refl
 none_below_first p d (Some o) = ap (λ b. cond b 1 0) (first_by p o d (is_within p d o) refl)
 
-end_by : (p : Pos) (o : Place) (d : ℕ) (w : Bool) → is_within p d o ≡ w → (nat_lt (o.pos.x / STRIP_WIDTH) (end_strip p d) && w) ≡ w
+end_by : (p : Pos) (o : Location) (d : ℕ) (w : Bool) → is_within p d o ≡ w → (nat_lt (o.pos.x / STRIP_WIDTH) (end_strip p d) && w) ≡ w
 end_by p o d true e =
     let le = part_rises o.pos.x (p.x + d) STRIP_WIDTH (omega arith) (x_within p o d e).1 in
     let yes : ltb (o.pos.x / STRIP_WIDTH) (end_strip p d) ≡ true = grind (arith, nat_tests) in
     ap (λ b. b && true) yes
 end_by p o d false e = and_no _
 
-pub all_below_end : (p : Pos) (d : ℕ) (o : Option Place) → one_if (is_below_strip (end_strip p d) p d) o ≡ one_if (is_within p d) o
+pub all_below_end : (p : Pos) (d : ℕ) (o : Option Location) → one_if (is_below_strip (end_strip p d) p d) o ≡ one_if (is_within p d) o
 all_below_end p d None = refl
 all_below_end p d (Some o) = ap (λ b. cond b 1 0) (end_by p o d (is_within p d o) refl)

@@ -1,3 +1,3 @@
-pub mod Places
+pub mod Locations
 pub mod Indexed
 pub mod Found

@@ -1,3 +1,5 @@
+// SPDX-License-Identifier: MIT
+
 //! Entities by their positions, for queries of those that are near. Each has its version beside the position, which a query gives too.
 #![tactic(auto)]
 
@@ -5,8 +7,8 @@ ghost use Rattle.std.specs.Prelude.{◌≡◌, ◌≤◌, ℕ, ◌+◌, true, is
 ghost use Rattle.std.specs.BTreeMap.{BTreeMap as AnyMap, get, IsOrdered, Updates};
 ghost use Rattle.std.specs.FinMap as map;
 ghost use Rattle.std.specs.Ordering.{nat_cmp};
-ghost use Rattle.seam_range.specs.declared.Place.{Place as AnyPlace};
-ghost use Rattle.seam_range.specs.Places.{Places, is_within, within};
+ghost use Rattle.seam_range.specs.declared.Location.{Location as AnyLocation};
+ghost use Rattle.seam_range.specs.Locations.{Places, is_within, within};
 ghost use Rattle.seam_range.specs.Indexed.{spot_of, same_spot, IsIndexed};
 ghost use Rattle.seam_range.specs.Found.{count_of, AreInPlace, one_if, is_in_strip, first_strip, end_strip};
 
@@ -26,7 +28,7 @@ const MANY: usize = 4;
 
 /// Where an entity is, and its version there.
 #[derive(Clone, Copy, Debug, PartialEq, Eq)]
-pub struct Place {
+pub struct Location {
     pub version: u64,
     pub pos: Pos,
 }
@@ -35,15 +37,15 @@ pub struct Place {
 #[derive(Drop)]
 pub struct RangeList {
     alloc: Global,
-    places: BTreeMap<u32, Place>,
+    places: BTreeMap<u32, Location>,
     // The places again, by strip, row and entity, so that a query reads a short run of each strip that it meets.
-    by_spot: BTreeMap<((u64, u64), u32), Place>,
+    by_spot: BTreeMap<((u64, u64), u32), Location>,
 }
 
 impl Model for RangeList {
     ghost use Rattle.std.specs.Coded.{coded_ℕ};
     ghost use Rattle.std.specs.FinMap as map;
-    ghost use Rattle.seam_range.specs.Places.{Places, place_code};
+    ghost use Rattle.seam_range.specs.Locations.{Places, place_code};
 
     ghost Value = { Places };
 
@@ -69,14 +71,14 @@ impl RangeList {
     }
 
     /// Where the entity is, if it was put.
-    pub fn get(&self, e: u32) -> Option<Place>
+    pub fn get(&self, e: u32) -> Option<Location>
         ensures { result ≡ map.get self.now e }
     {
         self.places.get(&e).copied()
     }
 
     /// Puts the entity at the place, or moves it there.
-    pub fn put(&mut self, e: u32, p: Place) -> Result<(), AllocError>
+    pub fn put(&mut self, e: u32, p: Location) -> Result<(), AllocError>
         ensures after { OnOk result (self.new ≡ map.insert self.old e p) }
         ensures err { OnErr result (self.new ≡ self.old) }
     {
@@ -92,7 +94,7 @@ impl RangeList {
     }
 
     // Puts the entity, which is not there, at the place.
-    fn put_new(&mut self, e: u32, p: Place) -> Result<(), AllocError>
+    fn put_new(&mut self, e: u32, p: Location) -> Result<(), AllocError>
         requires { map.get self.old e ≡ None }
         ensures after { OnOk result (self.new ≡ map.insert self.old e p) }
         ensures err { OnErr result (self.new ≡ self.old) }
@@ -125,7 +127,12 @@ impl RangeList {
 
     /// The entities at distance at most d from the position, in rising number, each with its place. How many are expected decides
     /// only how they are looked for.
-    pub fn within(&self, p: Pos, d: u32, expected: usize) -> Result<Vec<(u32, Place)>, AllocError>
+    pub fn within(
+        &self,
+        p: Pos,
+        d: u32,
+        expected: usize,
+    ) -> Result<Vec<(u32, Location)>, AllocError>
         ensures { IfOk result (λ v. v.items ≡ within self.now p d) }
     {
         let strips = strip_after(p, d) - strip_from(p, d);
@@ -141,15 +148,15 @@ impl RangeList {
     }
 
     // The near entities, in rising number: all are looked at.
-    fn near_by_entity(&self, p: Pos, d: u32) -> Result<Vec<(u32, Place)>, AllocError>
+    fn near_by_entity(&self, p: Pos, d: u32) -> Result<Vec<(u32, Location)>, AllocError>
         ensures { IfOk result (λ v. v.items ≡ within self.now p d) }
     {
         let mut found = Vec::with_capacity(self.alloc, self.places.len())?;
         for (e, place) in &self.places {
             if is_near(*place, p, d) {
                 // Taken apart, a place goes through registers; as a whole it would be copied piece by piece through memory.
-                let Place { version, pos } = *place;
-                found.push((*e, Place { version, pos }))?;
+                let Location { version, pos } = *place;
+                found.push((*e, Location { version, pos }))?;
             }
         }
         Ok(found)
@@ -161,7 +168,7 @@ impl RangeList {
         p: Pos,
         d: u32,
         most: usize,
-    ) -> Result<Option<Vec<(u32, Place)>>, AllocError>
+    ) -> Result<Option<Vec<(u32, Location)>>, AllocError>
         ensures near { IfOk result (λ o. IfSome o (λ v. (q : ℕ) →
             count_of q v.items ≡ one_if (is_within p d) (map.get self.now q))) }
         ensures places { IfOk result (λ o. IfSome o (λ v. AreInPlace self.now v.items)) }
@@ -182,7 +189,7 @@ impl RangeList {
         p: Pos,
         d: u32,
         most: usize,
-        found: &mut Vec<(u32, Place)>,
+        found: &mut Vec<(u32, Location)>,
     ) -> Result<bool, AllocError>
         requires { AreInPlace self.now found.old.items }
         ensures near { IfOk result (λ whole. whole ≡ true → (q : ℕ) → count_of q found.new.items
@@ -204,7 +211,7 @@ impl RangeList {
 }
 
 // The key of an entity at a place.
-fn key(e: u32, p: Place) -> ((u64, u64), u32)
+fn key(e: u32, p: Location) -> ((u64, u64), u32)
     ensures { result ≡ (spot_of p, e) }
 {
     let strip = u64::from(p.pos.x) / STRIP_WIDTH;
@@ -214,12 +221,12 @@ fn key(e: u32, p: Place) -> ((u64, u64), u32)
 
 // Moves the entity from its old place. Where it stays at its spot, the place is written over.
 fn move_spot(
-    by_spot: &mut BTreeMap<((u64, u64), u32), Place>,
+    by_spot: &mut BTreeMap<((u64, u64), u32), Location>,
     e: u32,
-    old: Place,
-    p: Place,
+    old: Location,
+    p: Location,
 ) -> Result<(), AllocError>
-    ensures ok { OnOk result ((places moved : AnyMap ℕ AnyPlace) → IsIndexed places by_spot.old → get nat_cmp places e ≡ Some old
+    ensures ok { OnOk result ((places moved : AnyMap ℕ AnyLocation) → IsIndexed places by_spot.old → get nat_cmp places e ≡ Some old
         → IsOrdered nat_cmp moved → Updates nat_cmp places moved e (Some p) → IsIndexed moved by_spot.new) }
     ensures err { OnErr result (by_spot.new.entries ≡ by_spot.old.entries) }
 {
@@ -233,7 +240,7 @@ fn move_spot(
 }
 
 // Whether the places lie in one row of one strip.
-fn are_at_one_spot(a: Place, b: Place) -> bool
+fn are_at_one_spot(a: Location, b: Location) -> bool
     ensures { result ≡ same_spot (spot_of a) (spot_of b) }
 {
     u64::from(a.pos.x) / STRIP_WIDTH == u64::from(b.pos.x) / STRIP_WIDTH
@@ -256,7 +263,7 @@ fn strip_after(p: Pos, d: u32) -> u64
 }
 
 // Whether the place is at distance at most d from p.
-fn is_near(place: Place, p: Pos, d: u32) -> bool
+fn is_near(place: Location, p: Pos, d: u32) -> bool
     ensures { result ≡ is_within p d place }
 {
     dist(p, place.pos) <= d

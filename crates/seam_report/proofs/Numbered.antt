@@ -9,7 +9,7 @@ use Rattle.std.proofs.lemmas.Grind.{flat_map-append}
 use Rattle.seam_tree.specs.declared.boundary.Boundary.{Boundary}
 use Rattle.seam_tree.specs.declared.cut.Cut.{Cut}
 use Rattle.seam_tree.specs.Division.{Division, cut_number, boundary_of}
-use Rattle.seam_rules.specs.Texts.{bound_text}
+use Rattle.seam_rule_rounds.specs.Texts.{bound_text}
 
 module _ {X : Type 0} where
   beside_none : (ks : List ℕ) → zip ks (let xs : List X = [] in xs) ≡ []

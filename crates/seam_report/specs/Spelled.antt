@@ -8,8 +8,8 @@ use Rattle.seam_call.specs.declared.shown.GhostCopy.{GhostCopy}
 use Rattle.seam_call.specs.declared.shown.Shown.TheVariants.{Own, Enter, Set, Leave}
 use Rattle.seam_call.specs.declared.shown.ClientText.{ClientText}
 use Rattle.seam_call.specs.declared.shown.ClientText.TheVariants as text
-use Rattle.seam_transcript.specs.Texts.{field}
-use Rattle.seam_rules.specs.Texts.{state_text}
+use Rattle.seam_rule_lines.specs.Texts.{field}
+use Rattle.seam_rule_rounds.specs.Texts.{state_text}
 use Rattle.seam_report.specs.declared.spellings.Spelling.{Spelling}
 
 -- the version of a copy, and its state

@@ -1,4 +1,6 @@
-//! Writes the lines of refused lines and of rounds, rounds, and their steps, as `Texts` of `seam_transcript` and of `seam_rules` say. If
+// SPDX-License-Identifier: MIT
+
+//! Writes the lines of refused lines and of rounds, rounds, and their steps, as `Texts` of `seam_rule_lines` and of `seam_rule_rounds` say. If
 //! allocation fails, a text has no use.
 #![tactic(auto)]
 

@@ -1,8 +1,8 @@
 // The lines of refused lines.
 ghost use Rattle.std.specs.Prelude.{◌≡◌, ◌++◌, ◌∷◌, [], codes, OnOk};
-ghost use Rattle.seam_transcript.specs.Texts.{field, refusal, cause_text, number_of_cut_error, number_of_shift_error};
+ghost use Rattle.seam_rule_lines.specs.Texts.{field, refusal, cause_text, number_of_cut_error, number_of_shift_error};
 
-use seam_transcript::Cause;
+use seam_rule_lines::Cause;
 use seam_tree::{CutError, ShiftError};
 use seam_value::push_number;
 use std::alloc::AllocError;

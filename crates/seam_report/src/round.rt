@@ -1,9 +1,9 @@
 // The text of a round.
 ghost use Rattle.std.specs.Prelude.{◌≡◌, ◌++◌, OnOk, codes};
 ghost use Rattle.std.specs.List.{flat_map};
-ghost use Rattle.seam_transcript.specs.Texts.{number_text, done_text, home_text, base_text};
-ghost use Rattle.seam_rules.specs.Texts.{ghost_text, client_text, bounds_text, round_text, traced_text, journal_text};
-ghost use Rattle.seam_report.specs.Rounds.{lines_text};
+ghost use Rattle.seam_rule_lines.specs.Texts.{number_text, done_text, home_text, base_text};
+ghost use Rattle.seam_rule_rounds.specs.Texts.{ghost_text, client_text, bounds_text, round_text, traced_text, journal_text};
+ghost use Rattle.seam_report.specs.RoundParts.{lines_text};
 
 use crate::bounds::push_bounds;
 use crate::journal::push_journal;
@@ -12,7 +12,7 @@ use crate::lines::{
 };
 use crate::told::push_line;
 use seam_defs::Defs;
-use seam_round::{ClientLine, GhostLine, Round};
+use seam_judge_data::{ClientLine, GhostLine, Round};
 use seam_tree::Tree;
 use seam_watch::Journal;
 use std::alloc::AllocError;
@@ -63,7 +63,7 @@ fn push_all_done(
     out: &mut Vec<u8>,
     word: &[u8],
     defs: &Defs,
-    lines: &[seam_round::DoneLine],
+    lines: &[seam_judge_data::DoneLine],
 ) -> Result<(), AllocError>
     ensures { OnOk result (out.new.items ≡ out.old.items ++ flat_map (done_text word.now defs.now) lines.now) }
 {
@@ -77,7 +77,7 @@ fn push_all_done(
 fn push_homes(
     out: &mut Vec<u8>,
     defs: &Defs,
-    lines: &[seam_round::HomeLine],
+    lines: &[seam_judge_data::HomeLine],
 ) -> Result<(), AllocError>
     ensures { OnOk result (out.new.items ≡ out.old.items ++ flat_map (home_text defs.now) lines.now) }
 {
@@ -97,7 +97,7 @@ fn push_homes(
 fn push_bases(
     out: &mut Vec<u8>,
     defs: &Defs,
-    lines: &[seam_round::BaseLine],
+    lines: &[seam_judge_data::BaseLine],
 ) -> Result<(), AllocError>
     ensures { OnOk result (out.new.items ≡ out.old.items ++ flat_map (base_text defs.now) lines.now) }
 {

@@ -3,8 +3,8 @@ ghost use Rattle.std.specs.Prelude.{◌≡◌, ◌≤◌, ◌+◌, ◌++◌, ◌
 ghost use Rattle.std.specs.List.{flat_map};
 ghost use Rattle.seam_value.specs.Values.{text_of};
 ghost use Rattle.seam_defs.specs.Types.{method_of};
-ghost use Rattle.seam_transcript.specs.Language.{sender_text};
-ghost use Rattle.seam_transcript.specs.Texts.{field, deed_text};
+ghost use Rattle.seam_rule_lines.specs.Language.{sender_text};
+ghost use Rattle.seam_rule_lines.specs.Texts.{field, deed_text};
 
 use itoa::write_digits;
 use seam_call::Sender;

@@ -1,1 +1,4 @@
 pub mod Orders
+pub mod Moves
+mod Runs
+pub mod Whole

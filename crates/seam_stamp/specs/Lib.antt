@@ -1,2 +1,5 @@
 pub mod Logs
 pub mod Heads
+pub mod Acts
+pub mod Moves
+pub mod Joined

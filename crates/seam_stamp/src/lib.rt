@@ -1,3 +1,5 @@
+// SPDX-License-Identifier: MIT
+
 //! Stamped logs, and their merge into one list.
 //!
 //! Each node of a net has a log of its events with stamps that rise strictly, by the clocks of Lamport, "Time, Clocks, and the
@@ -5,13 +7,25 @@
 //! are ordered by stamp and, where stamps are equal, by node.
 //!
 //! Of `proofs/`, `Orders` is for callers.
+//!
+//! The law of stamped logs: the logs of all nodes of a net, merged by stamp, are a run of the net.
+//!
+//! Each node did its steps one after the other, with stamps that rise strictly and are above that of the letter that was
+//! received (Lamport, "Time, Clocks, and the Ordering of Events in a Distributed System", 1978). On each link the letters were
+//! received in the order in which they were sent. Then no event of the merge comes before one that it depends on.
+//!
+//! The laws are over definitions alone, each on a function that does nothing. Of `proofs/`, `Moves` and `Whole`
+//! are for callers.
 #![tactic(auto)]
+
+mod merged_runs;
 
 ghost use Rattle.std.specs.Prelude.{◌≡◌, ℕ, ◌<◌, ◌≤◌, [], ◌∷◌, IfOk, IfSome, IfNone, map};
 ghost use Rattle.seam_stamp.specs.declared.Stamped.{Stamped};
 ghost use Rattle.seam_stamp.specs.Logs.{AreLogs, IsMerge};
 ghost use Rattle.seam_stamp.specs.Heads.{IsFirst, AllEmpty};
 
+pub use merged_runs::{logs_are_run, moves_are_run};
 use std::alloc::{AllocError, Global};
 use std::collections::VecDeque;
 

@@ -1,5 +1,5 @@
 ghost use Rattle.std.specs.Prelude.{◌≡◌, ◌≤◌};
-ghost use Rattle.seam_steps.specs.Loads.{one_cell};
+ghost use Rattle.seam_node_steps.specs.Loads.{one_cell};
 
 use crate::messages::{AVATAR, Kind, Maker, builtin, place};
 use crate::steps::{Case, Sizes, each, fill, run};

@@ -1,3 +1,5 @@
+// SPDX-License-Identifier: MIT
+
 //! Prints what the steps of cells and base nodes cost, one line a case.
 //!
 //! With the word `measure` a line has the nanoseconds of one step, over 65,536 avatars. Without it there are few, and the line has a

@@ -1,3 +1,5 @@
+// SPDX-License-Identifier: MIT
+
 //! A table by number: an item for some of the numbers.
 //!
 //! Contracts see a table as a finite map, and beside it the numbers for which there is room. A call that is to change several tables, or
@@ -7,7 +9,12 @@
 //! numbers of all, for a walk over the items in rising number. [`Table::change_each`] changes all items where they lie.
 //!
 //! Of `proofs/`, `Found` (what a search of a table's entries finds) and `Changed` (what a table has after `change_each`) are for callers.
+//!
+//! Memory: a value that many may keep, and what a call that keeps an item answers if allocation fails.
 #![tactic(auto)]
+
+mod memory;
+mod shared;
 
 ghost use Rattle.std.specs.Prelude.{◌≡◌, ℕ, Bool, Some, find, true, false, OnOk, OnErr, IfOk, IfErr, IfSome};
 ghost use Rattle.std.specs.Prelude.{None, nat_eq, is_some, option_map, option_copied, slice_get, unwrap_or, map as each, IfNone, ◌<◌};
@@ -23,7 +30,8 @@ ghost use Rattle.seam_table.specs.Changes.{Leaves};
 ghost use Rattle.seam_table.specs.Entries.{table_of};
 
 use indexmap::IndexMap;
-use seam_memory::NoMemoryFor;
+pub use memory::NoMemoryFor;
+pub use shared::Shared;
 use std::alloc::{AllocError, Global};
 use std::marker::Model;
 

@@ -1,3 +1,5 @@
+// SPDX-License-Identifier: MIT
+
 //! Headers: the settings and types that the TOML text before a script stands for, or the first cause why it stands for nothing.
 //! `read_header` is the whole; the rest are its parts: the document that a text is, the grammar of a header's tables, the settings that
 //! its table of settings sets, and what is at fault in its values.

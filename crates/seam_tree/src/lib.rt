@@ -1,3 +1,5 @@
+// SPDX-License-Identifier: MIT
+
 //! A space cut into at most sixteen cells by boundaries along its axes, and sets of such cells.
 //!
 //! The tree of boundaries is that of the cells of a BigWorld space (BigWorld Server Overview, load balancing). For callers,

@@ -1,3 +1,5 @@
+// SPDX-License-Identifier: MIT
+
 //! The values that properties and arguments hold: whole numbers and short texts, their nine types,
 //! and the one way in which each value is spelled.
 //!

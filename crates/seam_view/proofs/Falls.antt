@@ -15,8 +15,8 @@ use Rattle.seam_view.specs.declared.Look.{Look}
 use Rattle.seam_view.specs.declared.Look.TheVariants.{Leave, Set, Enter}
 use Rattle.seam_view.specs.Replica.{Replica, IsView, AreShown, NeverFalls, seen_of, with_version_shown, after_showing, after_look}
 use Rattle.seam_view.specs.Replica.{after_looks}
-use Rattle.seam_view.specs.Looks.{is_far, in_view, leaves, has_changed, not_older, enters, leaving, changed, entering, one_look}
-use Rattle.seam_view.proofs.Known.{entities}
+use Rattle.seam_view.specs.ViewLooks.{is_far, in_view, leaves, has_changed, not_older, enters, leaving, changed, entering, one_look}
+use Rattle.seam_view.proofs.KnownOrder.{entities}
 use Rattle.seam_view.proofs.Kept.{get_by_shown}
 use Rattle.seam_view.proofs.Numbers.{number_is, same_again, apart}
 

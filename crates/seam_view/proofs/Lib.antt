@@ -1,7 +1,7 @@
 pub mod Numbers
 pub mod Shown
-pub mod Known
-pub mod Places
+pub mod KnownOrder
+pub mod EnterOrder
 pub mod Only
 pub mod Together
 pub mod Kept

@@ -20,9 +20,9 @@ use Rattle.seam_view.specs.declared.Look.TheVariants.{Leave, Set, Enter}
 use Rattle.seam_view.specs.declared.Note.{Note}
 use Rattle.seam_view.specs.declared.Note.TheVariants.{Stays, Leaves, Changed}
 use Rattle.seam_view.specs.Replica.{Replica, seen_of}
-use Rattle.seam_view.specs.Looks.{is_far, in_view, leaves, has_changed, not_older, enters, leaving, changed, entering}
+use Rattle.seam_view.specs.ViewLooks.{is_far, in_view, leaves, has_changed, not_older, enters, leaving, changed, entering}
 use Rattle.seam_view.specs.Notes.{note_of, notes_of, is_leave, is_change, noted}
-use Rattle.seam_view.proofs.Known.{entities}
+use Rattle.seam_view.proofs.KnownOrder.{entities}
 use Rattle.seam_view.proofs.Numbers.{apart, or_second, same_again}
 
 -- ---- the looks of the notes

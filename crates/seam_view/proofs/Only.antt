@@ -15,7 +15,7 @@ use Rattle.seam_view.specs.declared.Seen.{Seen}
 use Rattle.seam_view.specs.declared.Look.TheVariants.{Leave, Set, Enter}
 use Rattle.seam_view.specs.Replica.{Replica, seen_of, after_showing, after_look, after_looks, entity_of}
 use Rattle.seam_view.specs.declared.Look.{Look}
-use Rattle.seam_view.specs.Looks.{leaves, has_changed, enters, entering, leaving, changed, matters, in_view, not_older, one_look}
+use Rattle.seam_view.specs.ViewLooks.{leaves, has_changed, enters, entering, leaving, changed, matters, in_view, not_older, one_look}
 use Rattle.seam_view.proofs.Numbers.{number_is, or_second, same_again}
 
 filter_step : {A : Type 0} (x : A) (xs ys : List A) (p : A → Bool) (b c : Bool) → p x ≡ b → (b ≡ true → c ≡ true) → xs ≡ filter p ys →

@@ -7,7 +7,7 @@ use Rattle.seam_geo.specs.declared.pos.Pos.{Pos}
 use Rattle.seam_view.specs.declared.Seen.{Seen}
 use Rattle.seam_view.specs.declared.Look.TheVariants.{Leave, Set, Enter}
 use Rattle.seam_view.specs.Replica.{Replica, IsView, AreShown, seen_of}
-use Rattle.seam_view.specs.Looks.{is_far, leaves, has_changed, not_older, enters, one_look}
+use Rattle.seam_view.specs.ViewLooks.{is_far, leaves, has_changed, not_older, enters, one_look}
 use Rattle.seam_view.specs.Plain.{is_gone, is_new, plain_look, AreNotOlder}
 use Rattle.seam_view.proofs.Only.{filter_agree}
 use Rattle.seam_view.proofs.Numbers.{number_is}

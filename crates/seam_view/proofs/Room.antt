@@ -13,7 +13,7 @@ use Rattle.seam_view.specs.declared.Look.{Look}
 use Rattle.seam_view.specs.declared.Look.TheVariants.{Leave, Set, Enter}
 use Rattle.seam_view.specs.Replica.{Replica, ViewValue, HasRoom, SetsAreIn, enters_in, leaves_in, seen_of, placed, without, after_showing}
 use Rattle.seam_view.specs.Replica.{after_look}
-use Rattle.seam_view.specs.Looks.{leaves, has_changed, enters as enters_view, leaving, entering, one_look}
+use Rattle.seam_view.specs.ViewLooks.{leaves, has_changed, enters as enters_view, leaving, entering, one_look}
 use Rattle.seam_view.specs.Together.{leaves_next, looks_past, looks_past_all, kept_past_all}
 use Rattle.seam_view.proofs.Numbers.{number_is, or_second, same_again}
 use Rattle.seam_view.proofs.Noted.{left_or_changed}

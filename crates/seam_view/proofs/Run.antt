@@ -9,7 +9,7 @@ use Rattle.seam_view.specs.Replica.{Replica, SetsAreIn, placed, seen_of, after_s
 use Rattle.seam_view.specs.Together.{AreApart}
 use Rattle.seam_view.specs.Run.{with_lists, IsShown, AreKept}
 use Rattle.seam_view.proofs.Kept.{once_placed}
-use Rattle.seam_view.proofs.Places.{lookup_placed}
+use Rattle.seam_view.proofs.EnterOrder.{lookup_placed}
 use Rattle.seam_view.proofs.Shown.{shown_when_entered}
 use Rattle.seam_view.proofs.Apart.{apart_when_entered}
 use Rattle.seam_view.proofs.Room.{sets_when_more, in_placed}

@@ -1,5 +1,5 @@
 pub mod Replica
-pub mod Looks
+pub mod ViewLooks
 pub mod Plain
 pub mod Notes
 pub mod Together

@@ -5,7 +5,7 @@ use Rattle.seam_view.specs.declared.Seen.{Seen}
 use Rattle.seam_view.specs.declared.Note.{Note}
 use Rattle.seam_view.specs.declared.Note.TheVariants.{Stays, Leaves, Changed}
 use Rattle.seam_view.specs.Replica.{Replica, seen_of}
-use Rattle.seam_view.specs.Looks.{leaves, has_changed}
+use Rattle.seam_view.specs.ViewLooks.{leaves, has_changed}
 
 abbrev pub note_of : Replica → Pos → ℕ → Option Seen → Note
 note_of r own v o = if leaves r own v o then Leaves else if has_changed r own v o then Changed else Stays

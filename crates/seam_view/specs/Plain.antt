@@ -8,7 +8,7 @@ use Rattle.seam_view.specs.declared.Seen.{Seen}
 use Rattle.seam_view.specs.declared.Look.{Look}
 use Rattle.seam_view.specs.declared.Look.TheVariants.{Leave, Set, Enter}
 use Rattle.seam_view.specs.Replica.{Replica, seen_of}
-use Rattle.seam_view.specs.Looks.{is_far, has_changed, in_view, not_older}
+use Rattle.seam_view.specs.ViewLooks.{is_far, has_changed, in_view, not_older}
 
 -- an entity in view is not in the table, or is far
 abbrev pub is_gone : Replica → Pos → Option Seen → Bool

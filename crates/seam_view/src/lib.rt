@@ -1,3 +1,5 @@
+// SPDX-License-Identifier: MIT
+
 //! Which entities a witness has in view, and what its client was shown of them.
 //!
 //! An entity enters a view within a radius, and leaves it beyond the radius and a hysteresis. (After the area of interest
@@ -23,7 +25,7 @@ ghost use Rattle.std.specs.FinMap as versions;
 ghost use Rattle.seam_view.specs.Replica.{Replica, IsView, AreShown, NeverFalls, HasRoom, without, seen_of, with_version_shown};
 ghost use Rattle.seam_view.specs.Replica.{after_showing, after_look, after_looks, enters_in, leaves_in};
 ghost use Rattle.seam_view.specs.Together.{leaves_next, looks_past, looks_past_all, left_past_all, kept_past_all};
-ghost use Rattle.seam_view.specs.Looks.{is_far, in_view, not_older, enters, entering, one_look, matters};
+ghost use Rattle.seam_view.specs.ViewLooks.{is_far, in_view, not_older, enters, entering, one_look, matters};
 ghost use Rattle.seam_view.specs.Notes.{note_of, notes_of, is_leave, is_change, noted};
 ghost use Rattle.seam_view.specs.Plain.{plain_look, AreNotOlder};
 

@@ -1,3 +1,5 @@
+// SPDX-License-Identifier: MIT
+
 //! The words of a line: what is between spaces and tabs, or in quotes.
 //!
 //! Of `proofs/`, `WordTexts` (a line has one list of words, and none where they are at fault) is for callers.

@@ -18,12 +18,12 @@ use Rattle.seam_stamp.specs.declared.Letter.{Letter}
 use Rattle.seam_stamp.specs.declared.Stamped.{Stamped}
 use Rattle.seam_stamp.specs.Logs.{IsLogFrom, AreLogs, by_node}
 use Rattle.seam_stamp.proofs.Orders.{by_node_own, by_node_other}
-use Rattle.seam_merge.specs.Acts.{Act, received, state_after, sends, Legal, items, taken_by, entries, event_by, input_by}
-use Rattle.seam_merge.specs.Joined.{Did, Joined, IsRebuilt, left_of}
-use Rattle.seam_merge.proofs.Whole.{logs_are_run}
+use Rattle.seam_stamp.specs.Acts.{Act, received, state_after, sends, Legal, items, taken_by, entries, event_by, input_by}
+use Rattle.seam_stamp.specs.Joined.{Did, Joined, IsRebuilt, left_of}
+use Rattle.seam_stamp.proofs.Whole.{logs_are_run}
 use Rattle.seam_logged.proofs.Replay.{no_acts}
 use Rattle.seam_logged.specs.Logs.{LoggedView, EndsView, Root, taken, put, in_rings, out_rings}
-use Rattle.seam_mesh.specs.Mesh.{AreFull, AreLinked, ArePaired, IsNew, IsCell, at_start}
+use Rattle.seam_logged.specs.Mesh.{AreFull, AreLinked, ArePaired, IsNew, IsCell, at_start}
 use Rattle.seam_workers.specs.Seats.{IsRun, AreRuns, roots_of, HasEnds}
 use Rattle.seam_workers.specs.Rejoined.{IsRejoined, HasEventOf}
 use Rattle.seam_workers.proofs.Lists.{all_get}
@@ -126,20 +126,20 @@ module _ {N M H : Type 0} (has_work : N → Bool) (steps : N → Input M → Ste
     (linked : AreLinked n p.links ends) (done : List (LoggedView N M H)) (many : length done ≡ n)
     (runs : AreRuns has_work steps peers (roots_of p.nodes ends) done) where
   -- what is known of node k
-  pub record Known (k : ℕ) : Type 0 where
+  pub record NodeGivenBack (k : ℕ) : Type 0 where
     pub node : LoggedView N M H
     pub at : slice_get done k ≡ Some node
     pub run : IsRun has_work steps peers (roots_of p.nodes ends) k node
     pub starts : slice_get p.nodes k ≡ Some run.replay.root.start
     pub first : slice_get ends k ≡ Some run.replay.root.first
 
-  known_by : (k : ℕ) (v : LoggedView N M H) → slice_get done k ≡ Some v → Known k
+  known_by : (k : ℕ) (v : LoggedView N M H) → slice_get done k ≡ Some v → NodeGivenBack k
   known_by k v at =
       let run = runs k v at in
       let root = root_at p.nodes ends k run.replay.root (ap (slice_get (roots_of p.nodes ends)) (sym run.me_is) ∙ run.replay.named) in
       record { node = v; at = at; run = run; starts = root.0; first = root.1 }
 
-  known : (k : ℕ) → k < n → Known k
+  known : (k : ℕ) → k < n → NodeGivenBack k
   known k lt = let h = exists_at done k (omega (arith, lt, many)) in known_by k h.0 h.1
 
   ins_full : (k : ℕ) (v : LoggedView N M H) → slice_get done k ≡ Some v → length v.ends.ins ≡ n
@@ -344,7 +344,7 @@ module _ {N M H : Type 0} (has_work : N → Bool) (steps : N → Input M → Ste
         ap peers is ∙ (peers_are k h.node h.at ∙ sym count)
 
     -- a node that had a task has an event
-    event_by_log : (k : ℕ) (h : Known k) (s : N) → s ≡ h.run.replay.root.start → has_work s ≡ true → (l : List (Stamped Event)) →
+    event_by_log : (k : ℕ) (h : NodeGivenBack k) (s : N) → s ≡ h.run.replay.root.start → has_work s ≡ true → (l : List (Stamped Event)) →
         h.node.log ≡ l → HasEventOf k events
     event_by_log k h s is work [] e = absurd (
         let r = h.run.replay in

@@ -7,7 +7,7 @@ use Rattle.seam_machine.specs.declared.machines.Event.{Event}
 use Rattle.seam_stamp.specs.declared.Stamped.{Stamped}
 use Rattle.seam_stamp.specs.Logs.{AreLogs, IsMerge}
 use Rattle.seam_logged.specs.Logs.{LoggedView}
-use Rattle.seam_mesh.specs.Mesh.{AreFull, ArePaired, IsCell}
+use Rattle.seam_logged.specs.Mesh.{AreFull, ArePaired, IsCell}
 
 -- the net of the nodes and of what was left of their links, and the events of their logs, merged
 pub record IsRejoined {N M H : Type 0} (done : List (LoggedView N M H)) (net : NetView N M) (events : List Event) : Type 0 where

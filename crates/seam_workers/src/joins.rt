@@ -3,9 +3,8 @@
 ghost use Rattle.std.specs.Prelude.{◌≡◌, ◌<◌, length, map, IfOk};
 ghost use Rattle.seam_workers.specs.Rejoined.{CanRejoin, IsRejoined};
 
-use seam_logged::{Apart, Ends};
+use seam_logged::{Apart, Ends, left};
 use seam_machine::{Event, Machine, Net, NetParts};
-use seam_mesh::left;
 use seam_stamp::{Letter, Stamped, merge};
 use std::alloc::{AllocError, Global};
 

@@ -1,3 +1,5 @@
+// SPDX-License-Identifier: MIT
+
 //! Workers that step the nodes of a net in threads, and the net that they leave.
 //!
 //! Each node is under a lock of its own, with its links and a log of its steps; workers visit the nodes again and again. Once
@@ -27,9 +29,8 @@ use crate::alone::alone;
 use crate::joins::rejoin;
 use crate::shifts::{Shift, visit};
 use crossbeam_utils::CachePadded;
-use seam_logged::{Apart, Ends, Logged, Naming, Try};
+use seam_logged::{Apart, Ends, Logged, Naming, Try, linked};
 use seam_machine::{Event, Machine, Net, NetParts};
-use seam_mesh::linked;
 use std::alloc::{AllocError, Global};
 use std::marker::{Brand, Model};
 use std::sync::ledger::{Blank, Ledger};

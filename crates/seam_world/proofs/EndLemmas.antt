@@ -7,8 +7,8 @@ use Rattle.std.specs.Io.KnownBytes.{Appends}
 use Rattle.seam_io.specs.Causes.{Rose}
 use Rattle.seam_io.specs.States.{SourceState, SinkState}
 use Rattle.seam_io.specs.Lines.{Line, whole_lines_of}
-use Rattle.seam_summary.specs.Summary.{totals_of}
-use Rattle.seam_summary.specs.declared.totals.Totals.{Totals}
+use Rattle.seam_rule_rounds.specs.Summary.{totals_of}
+use Rattle.seam_rule_rounds.specs.declared.totals.Totals.{Totals}
 use Rattle.seam_world_rounds.specs.Transcripts.{IsOpen, IsEnded}
 use Rattle.seam_world_rounds.specs.Output.{text_output}
 use Rattle.seam_world_rounds.specs.declared.round.Output.TheVariants as output

@@ -8,5 +8,5 @@ pub fn a_storm_has_one_summary()
     ensures { (lines : ℕ) (text other : List ℕ) (steps others : List Journal) → IsSummary lines text steps → IsSummary lines other others
         → text ≡ other }
 {
-    seam_summary::storm_has_one_summary();
+    seam_rule_rounds::storm_has_one_summary();
 }

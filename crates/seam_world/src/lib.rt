@@ -1,3 +1,5 @@
+// SPDX-License-Identifier: MIT
+
 //! The world server: from commands on a source to the printed rounds on a sink.
 #![tactic(auto)]
 

@@ -6,7 +6,7 @@ ghost use Rattle.seam_world_rounds.specs.Transcripts.{IsOpen, IsEnded};
 ghost use Rattle.seam_world_ends.specs.Status.{IsRunEnd};
 ghost use Rattle.seam_world_rounds.specs.Output.{text_output};
 ghost use Rattle.seam_world_run.specs.Storm.{StormEnds, StormStopped};
-ghost use Rattle.seam_summary.specs.declared.totals.Totals.{Totals as TotalsOf};
+ghost use Rattle.seam_rule_rounds.specs.declared.totals.Totals.{Totals as TotalsOf};
 ghost use Rattle.seam_world_ends.specs.Ends.{RunEnds, MayComplete};
 ghost use Rattle.seam_world_run.specs.Histories.{Stopped};
 ghost use Rattle.seam_world.specs.Words.{asks_for_trace, storm_asked};
@@ -27,7 +27,7 @@ use std::thread::Threads;
 
 /// Runs a script: reads a header and commands, and writes for each round what happened in it. The words are those of the command line,
 /// without the program's name (`seam_args`). Where they ask for a generated input of so many lines (`seam_storm`), that is run in place of
-/// the script, and nothing but its summary (`seam_summary`) is written. The rounds are played by as many workers as the words say, who
+/// the script, and nothing but its summary (`seam_rule_rounds`) is written. The rounds are played by as many workers as the words say, who
 /// call the gate before each step; the watch is given the journal of each round as it ends, with space 0. Every end but `Done` and
 /// `WriteFault` writes a fault line last; if that fails, the status stays.
 pub fn run_seamless<S: Source, K: Sink, G: Gate + Sync, W: Watch, R: Threads + Wait + Sync>(

@@ -16,9 +16,9 @@ use Rattle.seam_toml.specs.declared.header.HeaderError.TheVariants as error
 use Rattle.seam_toml.specs.declared.faults.Fault.{Fault}
 use Rattle.seam_toml.specs.Header.{Reads, Refuses, HasFirstFault, number_of}
 use Rattle.seam_toml.specs.Faults.{HeaderHas}
-use Rattle.seam_transcript.specs.Header.{AreHeaderLines, BeginWithHeader, AwaitHeader, RefusesHeader, separator, text_of_contents}
+use Rattle.seam_rule_lines.specs.Header.{AreHeaderLines, BeginWithHeader, AwaitHeader, RefusesHeader, separator, text_of_contents}
 use Rattle.seam_watch.specs.declared.journal.Journal.{Journal}
-use Rattle.seam_transcript.proofs.HeaderLemmas.{text_is_one, end_for_header}
+use Rattle.seam_rule_lines.proofs.HeaderLemmas.{text_is_one, end_for_header}
 use Rattle.seam_world_ends.specs.Ends.{AreFirst, AreAll, IsPrefix, IsHeaderFault, Tells, MayComplete}
 use Rattle.seam_world_ends.specs.declared.status.Status.{Status}
 use Rattle.seam_world_ends.specs.declared.status.Status.TheVariants as status

@@ -7,7 +7,7 @@ use Rattle.seam_io.specs.Lines.{Line, lines_of, whole_lines_of}
 use Rattle.seam_watch.specs.Watching.{Told, after_all}
 use Rattle.seam_watch.specs.declared.journal.Journal.{Journal}
 use Rattle.seam_value.specs.Values.{decimal_of}
-use Rattle.seam_transcript.specs.Header.{BeginWithHeader, AwaitHeader, RefusesHeader, no_end}
+use Rattle.seam_rule_lines.specs.Header.{BeginWithHeader, AwaitHeader, RefusesHeader, no_end}
 use Rattle.seam_toml.specs.declared.header.Header.{Header}
 use Rattle.seam_world_ends.specs.declared.status.Status.{Status}
 use Rattle.seam_world_ends.specs.declared.status.Status.TheVariants as status

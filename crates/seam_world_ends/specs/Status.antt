@@ -1,6 +1,6 @@
 -- The exit status of each end of a run.
 use Rattle.std.specs.Prelude.{ℕ, ◌≤◌, Option, None, Some}
-use Rattle.seam_transcript.specs.Header.{no_end}
+use Rattle.seam_rule_lines.specs.Header.{no_end}
 use Rattle.seam_toml.specs.declared.header.HeaderError.{HeaderError}
 use Rattle.seam_toml.specs.Header.{number_of}
 use Rattle.seam_world_ends.specs.declared.status.Status.{Status}

@@ -1,3 +1,5 @@
+// SPDX-License-Identifier: MIT
+
 //! How a run of the world server ends: its statuses, what each tells of the bytes that were read and of what was written, text on its way to
 //! a sink, and the fault line.
 //!

@@ -1,11 +1,11 @@
 -- What is counted of pieces.
 use Rattle.std.proofs.Common.{◌≡◌, ℕ, List, [], ◌∷◌, ◌++◌, refl, sym, ap, ◌∙◌, append-nil}
-use Rattle.seam_transcript.specs.declared.verdict.Cause.{Cause}
-use Rattle.seam_rules.specs.Transcript.{Piece, Refusal}
-use Rattle.seam_summary.specs.Summary.{totals_of}
-use Rattle.seam_summary.specs.declared.totals.Sums.{Sums}
-use Rattle.seam_summary.specs.declared.totals.Totals.{Totals}
-use Rattle.seam_summary.proofs.Pieces.{sums_of_append}
+use Rattle.seam_rule_lines.specs.declared.verdict.Cause.{Cause}
+use Rattle.seam_rule_rounds.specs.Transcript.{Piece, Refusal}
+use Rattle.seam_rule_rounds.specs.Summary.{totals_of}
+use Rattle.seam_rule_rounds.specs.declared.totals.Sums.{Sums}
+use Rattle.seam_rule_rounds.specs.declared.totals.Totals.{Totals}
+use Rattle.seam_rule_rounds.proofs.Pieces.{sums_of_append}
 use Rattle.seam_world_rounds.specs.Output.{Counts, sums_for}
 use Rattle.seam_world_rounds.specs.declared.round.Output.{Output}
 use Rattle.seam_world_rounds.specs.declared.round.Output.TheVariants as output

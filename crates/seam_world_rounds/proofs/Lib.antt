@@ -1,6 +1,6 @@
 pub mod Counting
 mod Following
-mod Rounds
+mod PlayedRounds
 mod Playing
 mod ScriptLemmas
 pub mod Results

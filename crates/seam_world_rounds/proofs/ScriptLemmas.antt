@@ -4,30 +4,30 @@ use Rattle.std.proofs.lemmas.Option.{same_Some}
 use Rattle.seam_io.specs.Lines.{Line}
 use Rattle.seam_tree.specs.Division.{Division}
 use Rattle.seam_call.specs.declared.order.Batch.{Batch}
-use Rattle.seam_steps.specs.Nodes.{World}
-use Rattle.seam_steps.specs.Loads.{opened}
+use Rattle.seam_node_steps.specs.Nodes.{World}
+use Rattle.seam_node_steps.specs.Loads.{opened}
 use Rattle.seam_toml.specs.declared.header.Header.{Header}
-use Rattle.seam_transcript.specs.Book.{open_lines, one_cell, with_entry, empty_book}
-use Rattle.seam_transcript.specs.Judging.{Judges}
-use Rattle.seam_transcript.specs.declared.verdict.Cause.{Cause}
-use Rattle.seam_transcript.specs.declared.verdict.Entry.{Entry}
-use Rattle.seam_transcript.specs.declared.verdict.Verdict.TheVariants as verdict
-use Rattle.seam_transcript.specs.declared.limits.TheConstants.{MOST_LINES}
+use Rattle.seam_rule_lines.specs.Book.{open_lines, one_cell, with_entry, empty_book}
+use Rattle.seam_rule_lines.specs.Judging.{Judges}
+use Rattle.seam_rule_lines.specs.declared.verdict.Cause.{Cause}
+use Rattle.seam_rule_lines.specs.declared.verdict.Entry.{Entry}
+use Rattle.seam_rule_lines.specs.declared.verdict.Verdict.TheVariants as verdict
+use Rattle.seam_rule_lines.specs.declared.limits.TheConstants.{MOST_LINES}
 use Rattle.seam_accept.specs.Refines.{Refines as HoldsBook, LineAccepted}
 use Rattle.seam_accept.specs.declared.answers.Accepted.{Accepted}
 use Rattle.seam_accept.specs.declared.answers.Accepted.TheVariants as answer
 use Rattle.seam_accept.specs.Batches.{batch_of}
-use Rattle.seam_batches.specs.Books.{IsAccepted, as_begun}
-use Rattle.seam_laws.specs.Records.{MayBeGiven}
-use Rattle.seam_rules.specs.Standing.{Standing, after_header, with_line, with_book, replica_of}
-use Rattle.seam_legal.specs.Going.{frame_of}
-use Rattle.seam_played.specs.Beside.{StandsBeside}
-use Rattle.seam_quiet.specs.Rounds.{MayRun}
-use Rattle.seam_course.specs.Counts.{MayEnd, most_lines}
-use Rattle.seam_course.specs.Course.{GoesOn}
-use Rattle.seam_print.specs.Residents.{AreResidents}
-use Rattle.seam_print.specs.declared.residents.Resident.{Resident}
-use Rattle.seam_world_rounds.specs.Rounds.{HasPlayed}
+use Rattle.seam_law_book.specs.Books.{IsAccepted, as_begun}
+use Rattle.seam_law_all.specs.Records.{MayBeGiven}
+use Rattle.seam_rule_rounds.specs.Standing.{Standing, after_header, with_line, with_book, replica_of}
+use Rattle.seam_law_book.specs.Going.{frame_of}
+use Rattle.seam_law_transcript.specs.Beside.{StandsBeside}
+use Rattle.seam_quiet.specs.RoundRuns.{MayRun}
+use Rattle.seam_law_transcript.specs.Counts.{MayEnd, most_lines}
+use Rattle.seam_law_transcript.specs.Course.{GoesOn}
+use Rattle.seam_world_text.specs.Residents.{AreResidents}
+use Rattle.seam_world_text.specs.declared.residents.Resident.{Resident}
+use Rattle.seam_world_rounds.specs.PlayedRound.{HasPlayed}
 use Rattle.seam_world_rounds.specs.declared.round.Played.{Played}
 use Rattle.seam_world_rounds.specs.Output.{refusal_output}
 use Rattle.seam_world_rounds.specs.declared.round.Output.{Output}

@@ -1,5 +1,5 @@
 pub mod Transcripts
 pub mod Following
-pub mod Rounds
+pub mod PlayedRound
 pub mod Script
 pub mod Output

@@ -3,13 +3,13 @@ use Rattle.std.specs.Prelude.{◌≡◌, ℕ, true, false, Bool, List, [], ◌�
 use Rattle.std.specs.List.{flat_map}
 use Rattle.seam_defs.specs.declared.types.TypeDef.{TypeDef}
 use Rattle.seam_watch.specs.declared.journal.Journal.{Journal}
-use Rattle.seam_transcript.specs.Texts.{refusal}
-use Rattle.seam_transcript.specs.declared.verdict.Cause.{Cause}
-use Rattle.seam_rules.specs.Lines.{RoundData}
-use Rattle.seam_rules.specs.Transcript.{Piece, piece_text, played_text}
-use Rattle.seam_summary.specs.Summary.{sums_of, all_sums, totals_of}
-use Rattle.seam_summary.specs.declared.totals.Sums.{Sums}
-use Rattle.seam_summary.specs.declared.totals.Totals.{Totals}
+use Rattle.seam_rule_lines.specs.Texts.{refusal}
+use Rattle.seam_rule_lines.specs.declared.verdict.Cause.{Cause}
+use Rattle.seam_rule_rounds.specs.Lines.{RoundData}
+use Rattle.seam_rule_rounds.specs.Transcript.{Piece, piece_text, played_text}
+use Rattle.seam_rule_rounds.specs.Summary.{sums_of, all_sums, totals_of}
+use Rattle.seam_rule_rounds.specs.declared.totals.Sums.{Sums}
+use Rattle.seam_rule_rounds.specs.declared.totals.Totals.{Totals}
 use Rattle.seam_world_rounds.specs.declared.round.Output.{Output}
 use Rattle.seam_world_rounds.specs.declared.round.Output.TheVariants as output
 

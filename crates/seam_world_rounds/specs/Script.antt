@@ -2,18 +2,18 @@
 use Rattle.std.specs.Prelude.{◌≡◌, ◌<◌, ◌≤◌, ◌+◌, List, Option, Some}
 use Rattle.seam_io.specs.Lines.{Line}
 use Rattle.seam_tree.specs.Division.{Division}
-use Rattle.seam_steps.specs.Nodes.{World}
+use Rattle.seam_node_steps.specs.Nodes.{World}
 use Rattle.seam_toml.specs.declared.header.Header.{Header}
-use Rattle.seam_transcript.specs.Book.{open_lines}
-use Rattle.seam_transcript.specs.declared.limits.TheConstants.{MOST_LINES}
+use Rattle.seam_rule_lines.specs.Book.{open_lines}
+use Rattle.seam_rule_lines.specs.declared.limits.TheConstants.{MOST_LINES}
 use Rattle.seam_accept.specs.Refines.{Refines as HoldsBook, LineAccepted}
 use Rattle.seam_accept.specs.declared.answers.Accepted.{Accepted}
-use Rattle.seam_batches.specs.Books.{as_begun}
-use Rattle.seam_rules.specs.Standing.{Standing}
-use Rattle.seam_rules.specs.Transcript.{Piece}
-use Rattle.seam_course.specs.Counts.{MayEnd, most_lines}
-use Rattle.seam_course.specs.Course.{GoesOn}
-use Rattle.seam_print.specs.Residents.{AreResidents}
+use Rattle.seam_law_book.specs.Books.{as_begun}
+use Rattle.seam_rule_rounds.specs.Standing.{Standing}
+use Rattle.seam_rule_rounds.specs.Transcript.{Piece}
+use Rattle.seam_law_transcript.specs.Counts.{MayEnd, most_lines}
+use Rattle.seam_law_transcript.specs.Course.{GoesOn}
+use Rattle.seam_world_text.specs.Residents.{AreResidents}
 use Rattle.seam_world_rounds.specs.Transcripts.{PlayRounds}
 use Rattle.seam_world_rounds.specs.Output.{Counts}
 use Rattle.seam_world_rounds.specs.declared.round.Output.{Output}

@@ -1,6 +1,6 @@
 // Counts of lines and of rounds.
 ghost use Rattle.std.specs.Prelude.{◌≡◌, ◌+◌, ◌≤◌, IfOk};
-ghost use Rattle.seam_course.specs.Counts.{most_lines};
+ghost use Rattle.seam_law_transcript.specs.Counts.{most_lines};
 
 use std::alloc::AllocError;
 

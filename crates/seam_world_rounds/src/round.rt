@@ -1,39 +1,39 @@
 // A round, played by the world, and its text.
 ghost use Rattle.std.specs.Prelude.{◌≡◌, ◌+◌, ◌++◌, ℕ, Option, OnOk, IfOk, length, map};
 ghost use Rattle.seam_tree.specs.Division.{Division};
-ghost use Rattle.seam_steps.specs.Nodes.{World as AnyWorld};
-ghost use Rattle.seam_ones.specs.Frames.{Frame};
-ghost use Rattle.seam_replica.specs.Clients.{ClientReplica};
+ghost use Rattle.seam_node_steps.specs.Nodes.{World as AnyWorld};
+ghost use Rattle.seam_law_calls.specs.Frames.{Frame};
+ghost use Rattle.seam_rule_clients.specs.Clients.{ClientReplica};
 ghost use Rattle.seam_toml.specs.declared.header.Header.{Header as Headers};
-ghost use Rattle.seam_rules.specs.Standing.{Standing};
+ghost use Rattle.seam_rule_rounds.specs.Standing.{Standing};
 ghost use Rattle.seam_accept.specs.Batches.{batch_of};
-ghost use Rattle.seam_rules.specs.Transcript.{played_text};
-ghost use Rattle.seam_summary.specs.Summary.{sums_of};
-ghost use Rattle.seam_print.specs.Residents.{ArePresent};
-ghost use Rattle.seam_print.specs.Printing.{IsOpenRound};
-ghost use Rattle.seam_print.specs.Farewells.{AreFarewells};
-ghost use Rattle.seam_print.specs.Texts.{calls_text};
-ghost use Rattle.seam_played.specs.Beside.{StandsBeside};
-ghost use Rattle.seam_played.specs.Playing.{IsPlayed, data_of};
-ghost use Rattle.seam_quiet.specs.Rounds.{MayRun};
+ghost use Rattle.seam_rule_rounds.specs.Transcript.{played_text};
+ghost use Rattle.seam_rule_rounds.specs.Summary.{sums_of};
+ghost use Rattle.seam_world_text.specs.Residents.{ArePresent};
+ghost use Rattle.seam_world_text.specs.Printing.{IsOpenRound};
+ghost use Rattle.seam_world_text.specs.Farewells.{AreFarewells};
+ghost use Rattle.seam_world_text.specs.Texts.{calls_text};
+ghost use Rattle.seam_law_transcript.specs.Beside.{StandsBeside};
+ghost use Rattle.seam_law_transcript.specs.Playing.{IsPlayed, data_of};
+ghost use Rattle.seam_quiet.specs.RoundRuns.{MayRun};
 ghost use Rattle.seam_quiet.specs.Calls.{Beginning};
-ghost use Rattle.seam_world_rounds.specs.Rounds.{HasPlayed, IsBalancedBy, HasTaken, start_text};
+ghost use Rattle.seam_world_rounds.specs.PlayedRound.{HasPlayed, IsBalancedBy, HasTaken, start_text};
 ghost use Rattle.seam_world_rounds.specs.Output.{round_output, sums_if};
 
 use seam_balance::balance;
 use seam_call::Batch;
 use seam_core::World;
-use seam_print::{
-    Farewells, PrintedRound, Residents, count_did, count_shown, positions, sum_hp, write_calls,
-    write_ends, write_farewells,
-};
 use seam_quiet::{Ended, Workers, run_calls, run_ends};
 use seam_report::{push_journal, push_number_line};
-use seam_summary::Sums;
-use seam_transcript::Header;
+use seam_rule_lines::Header;
+use seam_rule_rounds::Sums;
 use seam_tree::Tree;
 use seam_watch::Journal;
 use seam_workers::Gate;
+use seam_world_text::{
+    Farewells, PrintedRound, Residents, count_did, count_shown, positions, sum_hp, write_calls,
+    write_ends, write_farewells,
+};
 use std::alloc::{AllocError, Global};
 use std::sync::Wait;
 use std::thread::Threads;
@@ -134,7 +134,7 @@ fn write_text(
         calls.now ≡ calls_text h.defs (data_of h s t w ended.now.world p bounds.now) →
         out.new.items ≡ out.old.items ++ played_text traced h.defs (data_of h s t w ended.now.world p bounds.now) ended.now.journal) }
 {
-    seam_print::a_rounds_text_has_two_parts();
+    seam_world_text::a_rounds_text_has_two_parts();
     write_start(out, round.number, traced, &ended.journal)?;
     out.extend_from_slice(calls)?;
     write_ends(out, round, kept, &ended.world, bounds)
@@ -230,7 +230,7 @@ pub fn play<G: Gate + Sync, R: Threads + Wait + Sync>(
         from.batch ≡ batch_of h s.book → header.now ≡ h → number ≡ s.rounds + 1 → ArePresent s.book residents.old →
         HasPlayed playing.now.output h s tree from.world r residents.new out.old.items out.new.items) }
 {
-    seam_played::entities_can_be_listed();
+    seam_law_transcript::entities_can_be_listed();
     let (tree, asked) = (batch.tree, batch.balance);
     let called = run_calls(rt, alloc, world, batch, &playing.workers)?;
     let round = PrintedRound {

@@ -5,14 +5,14 @@ ghost use Rattle.seam_io.specs.Lines.{Line as Lines, Content, Long};
 ghost use Rattle.seam_defs.specs.Settings.{AreLegal};
 ghost use Rattle.seam_defs.specs.Types.{AreDefs};
 ghost use Rattle.seam_toml.specs.declared.header.Header.{Header as Headers};
-ghost use Rattle.seam_transcript.specs.Book.{Book as Books};
+ghost use Rattle.seam_rule_lines.specs.Book.{Book as Books};
 ghost use Rattle.seam_accept.specs.Refines.{Refines as HoldsBook};
-ghost use Rattle.seam_steps.specs.Loads.{opened};
-ghost use Rattle.seam_rules.specs.Standing.{Standing, after_header, with_line};
-ghost use Rattle.seam_course.specs.Counts.{most_lines};
+ghost use Rattle.seam_node_steps.specs.Loads.{opened};
+ghost use Rattle.seam_rule_rounds.specs.Standing.{Standing, after_header, with_line};
+ghost use Rattle.seam_law_transcript.specs.Counts.{most_lines};
 ghost use Rattle.seam_world_rounds.specs.Following.{RoundEnds, LineFollowed, LineRead, InputEnded};
-ghost use Rattle.seam_rules.specs.Round.{with_bounds};
-ghost use Rattle.seam_summary.specs.Summary.{totals_of};
+ghost use Rattle.seam_rule_rounds.specs.Round.{with_bounds};
+ghost use Rattle.seam_rule_rounds.specs.Summary.{totals_of};
 ghost use Rattle.seam_world_rounds.specs.Script.{IsReady, ScriptRefines, Refines, Gives, HasAccepted};
 ghost use Rattle.seam_world_rounds.specs.Output.{AddsSums, refusal_output};
 
@@ -21,13 +21,13 @@ use crate::round::{Output, Playing, play};
 use seam_accept::{Accepted, Book, Refusal};
 use seam_core::World;
 use seam_io::LONGEST_LINE;
-use seam_print::Residents;
 use seam_report::push_refusal;
-use seam_summary::{Sums, Totals};
-use seam_transcript::{Cause, Header, MOST_LINES};
+use seam_rule_lines::{Cause, Header, MOST_LINES};
+use seam_rule_rounds::{Sums, Totals};
 use seam_tree::Tree;
 use seam_watch::Journal;
 use seam_workers::Gate;
+use seam_world_text::Residents;
 use std::alloc::{AllocError, Global};
 use std::sync::Wait;
 use std::thread::Threads;
@@ -59,7 +59,7 @@ impl Script {
         ensures totals { IfOk result (λ s. s.totals ≡ totals_of []) }
         ensures world { IfOk result (λ s. s.world ≡ Some (opened header.defs header.settings)) }
     {
-        seam_course::a_course_begins_and_goes_on();
+        seam_law_transcript::a_course_begins_and_goes_on();
         Ok(Script {
             alloc,
             book: Book::new(alloc, &header)?,
@@ -94,7 +94,7 @@ impl Script {
             (option_to_list ended)
             × (out.new.items ≡ out.old.items ++ text)) }
     {
-        seam_course::a_course_begins_and_goes_on();
+        seam_law_transcript::a_course_begins_and_goes_on();
         self.line = next_count(self.line)?;
         match self.book.accept(line) {
             Ok(accepted) => self.follow(rt, playing, accepted, out),
@@ -111,7 +111,7 @@ impl Script {
         ensures { OnOk result ((h : Headers) (t : Standing) → ScriptRefines h t self.old
             → (text : List ℕ) × LineRead output h t Long (Refines output h self.old self.new) text [] × (out.new.items ≡ out.old.items ++ text)) }
     {
-        seam_course::a_course_begins_and_goes_on();
+        seam_law_transcript::a_course_begins_and_goes_on();
         self.line = next_count(self.line)?;
         refuse(output, self.line, Cause::TooLong, out)
     }
@@ -130,8 +130,8 @@ impl Script {
             × LineFollowed playing.now.output h (with_line t) line (Refines playing.now.output h self.old self.new) text (option_to_list ended)
             × (out.new.items ≡ out.old.items ++ text)) }
     {
-        seam_course::a_course_begins_and_goes_on();
-        seam_course::a_round_may_be_run();
+        seam_law_transcript::a_course_begins_and_goes_on();
+        seam_law_transcript::a_round_may_be_run();
         match accepted {
             Accepted::Skipped => Ok(None),
             Accepted::Kept => {
@@ -156,10 +156,10 @@ impl Script {
             → (text : List ℕ) × RoundEnds playing.now.output h t (Refines playing.now.output h self.old self.new) text steps
             × (out.new.items ≡ out.old.items ++ text)) }
     {
-        seam_course::a_round_may_be_run();
-        seam_course::a_run_round_is_legal();
-        seam_course::each_entity_has_one_real_through_a_round();
-        seam_course::clients_see_all_within_their_radius();
+        seam_law_transcript::a_round_may_be_run();
+        seam_law_transcript::a_run_round_is_legal();
+        seam_law_transcript::each_entity_has_one_real_through_a_round();
+        seam_law_transcript::clients_see_all_within_their_radius();
         self.round = next_count(self.round)?;
         let Some(world) = self.world.take() else {
             return Err(AllocError);
@@ -195,7 +195,7 @@ impl Script {
             → (text : List ℕ) × InputEnded playing.now.output h t (Gives playing.now.output h self.old self.new) text
             (option_to_list ended) × (out.new.items ≡ out.old.items ++ text)) }
     {
-        seam_course::a_round_may_be_run();
+        seam_law_transcript::a_round_may_be_run();
         if self.book.count() == 0 {
             return Ok(None);
         }

@@ -15,9 +15,9 @@ use Rattle.seam_toml.specs.declared.header.Header.{Header}
 use Rattle.seam_toml.specs.declared.header.HeaderError.{HeaderError}
 use Rattle.seam_toml.specs.declared.header.HeaderError.TheVariants as error
 use Rattle.seam_toml.specs.Header.{number_of}
-use Rattle.seam_transcript.specs.Header.{AreHeaderLines, BeginWithHeader, AwaitHeader, RefusesHeader, separator}
-use Rattle.seam_summary.specs.declared.totals.Totals.{Totals}
-use Rattle.seam_transcript.proofs.HeaderLemmas.{await_at_first, long_line_for_header}
+use Rattle.seam_rule_lines.specs.Header.{AreHeaderLines, BeginWithHeader, AwaitHeader, RefusesHeader, separator}
+use Rattle.seam_rule_rounds.specs.declared.totals.Totals.{Totals}
+use Rattle.seam_rule_lines.proofs.HeaderLemmas.{await_at_first, long_line_for_header}
 use Rattle.seam_world_ends.specs.Status.{IsHeaderCause, IsHeaderEnd, IsRunEnd, refused_with, refusal_of}
 use Rattle.seam_world_ends.specs.Ends.{Tells, most_bytes, the_space}
 use Rattle.seam_world_run.specs.Histories.{InHeader, HasHeader, HeaderLineRead, OpenAs, EndedAs, StoppedFirst}

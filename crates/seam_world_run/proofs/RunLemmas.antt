@@ -6,20 +6,20 @@ use Rattle.std.proofs.lemmas.List.Elements.{filter_map-append}
 use Rattle.std.specs.Prelude.{MatchOption}
 use Rattle.std.specs.Io.KnownBytes.{Appends}
 use Rattle.std.proofs.lemmas.Option.{same_Some}
-use Rattle.seam_steps.specs.Nodes.{World}
-use Rattle.seam_steps.specs.Loads.{opened}
+use Rattle.seam_node_steps.specs.Nodes.{World}
+use Rattle.seam_node_steps.specs.Loads.{opened}
 use Rattle.seam_io.specs.Causes.{Rose}
 use Rattle.seam_io.specs.States.{SourceState, SinkState}
 use Rattle.seam_io.specs.Lines.{Line, whole_lines_of}
 use Rattle.seam_io.specs.Reading.{Reader, Reading, IsExact}
 use Rattle.seam_io.specs.declared.lines.Next.TheVariants as next
 use Rattle.seam_toml.specs.declared.header.Header.{Header}
-use Rattle.seam_rules.specs.Standing.{after_header}
-use Rattle.seam_rules.specs.Transcript.{Piece, Step, PrintLines, journals_of, journal_of}
-use Rattle.seam_summary.specs.Summary.{totals_of}
-use Rattle.seam_summary.specs.declared.totals.Totals.{Totals}
-use Rattle.seam_transcript.proofs.RunLemmas.{run_with_line}
-use Rattle.seam_transcript.proofs.HeaderLemmas.{header_of_append}
+use Rattle.seam_rule_rounds.specs.Standing.{after_header}
+use Rattle.seam_rule_rounds.specs.Transcript.{Piece, Step, PrintLines, journals_of, journal_of}
+use Rattle.seam_rule_rounds.specs.Summary.{totals_of}
+use Rattle.seam_rule_rounds.specs.declared.totals.Totals.{Totals}
+use Rattle.seam_rule_lines.proofs.RunLemmas.{run_with_line}
+use Rattle.seam_rule_lines.proofs.HeaderLemmas.{header_of_append}
 use Rattle.seam_world_rounds.specs.Transcripts.{PlayRounds}
 use Rattle.seam_world_rounds.specs.Following.{LineRead, InputEnded}
 use Rattle.seam_world_rounds.specs.Output.{Counts, output_of, piece_output, sums_for}

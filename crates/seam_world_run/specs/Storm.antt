@@ -8,8 +8,8 @@ use Rattle.seam_storm.specs.Storm.{text_of_storm}
 use Rattle.seam_watch.specs.Watching.{Told, after_all}
 use Rattle.seam_watch.specs.declared.journal.Journal.{Journal}
 use Rattle.seam_toml.specs.declared.header.Header.{Header}
-use Rattle.seam_rules.specs.Transcript.{Piece, PrintAll, journals_of}
-use Rattle.seam_summary.specs.Summary.{summary_text}
+use Rattle.seam_rule_rounds.specs.Transcript.{Piece, PrintAll, journals_of}
+use Rattle.seam_rule_rounds.specs.Summary.{summary_text}
 use Rattle.seam_world_rounds.specs.Transcripts.{WerePlayed, IsOpen}
 use Rattle.seam_world_ends.specs.Ends.{IsPrefix, IsProperPrefix, HasFaultLine, the_space}
 use Rattle.seam_world_ends.specs.Status.{IsRunEnd}

@@ -2,15 +2,15 @@
 ghost use Rattle.std.specs.Prelude.{◌≡◌, ◌≢◌, ◌⊎◌, MatchBool};
 ghost use Rattle.seam_args.specs.Words.{IsUpTo};
 ghost use Rattle.seam_args.specs.declared.TheConstants.{LONGEST_STORM};
-ghost use Rattle.seam_summary.specs.Summary.{totals_text};
+ghost use Rattle.seam_rule_rounds.specs.Summary.{totals_text};
 ghost use Rattle.seam_world_run.specs.Storm.{StormStopped};
 ghost use Rattle.seam_world_ends.specs.Printing.{StopsBy};
 
 use crate::run::run_body;
 use seam_io::{Sink, write_whole};
 use seam_quiet::Workers;
+use seam_rule_rounds::Totals;
 use seam_storm::StormSource;
-use seam_summary::Totals;
 use seam_watch::Watch;
 use seam_workers::Gate;
 use seam_world_ends::Status;

@@ -1,3 +1,5 @@
+// SPDX-License-Identifier: MIT
+
 //! Seamless: runs a script of commands from standard input, and prints its rounds to standard output.
 #![tactic(auto)]
 

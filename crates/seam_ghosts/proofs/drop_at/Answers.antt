@@ -2,15 +2,15 @@ use Rattle.std.proofs.Common.{◌≡◌, ℕ, false, nat_lt, if◌then◌else◌
 use Rattle.std.specs.FinMap as map
 use Rattle.seam_table.specs.Tables.{TableView, with_item}
 use Rattle.seam_ghosts.specs.declared.Kept.{Kept}
-use Rattle.seam_ghosts.specs.declared.Known.{Known}
+use Rattle.seam_ghosts.specs.declared.Heard.{Heard}
 use Rattle.seam_ghosts.specs.Book.{answer, with_ghost, after_message}
 use Rattle.seam_ghosts.specs.Joined.{noted, book_of, joined, IsBook}
 use Rattle.seam_ghosts.proofs.Joins.{known_beat, known_copy, joined_over, marked_over, no_beat, book_noted, is_book_noted}
 use Rattle.seam_ghosts.proofs.drop_at.Goals as goal
 
 -- what holds of the tables after a beat was noted where none was known, or not for want of memory
-module _ {P E : Type 0} (beats : TableView Known) (copies : TableView P) (e : ℕ) (first : None ≡ map.get beats.items e)
-    (book : IsBook beats copies) (beat : ℕ) (bs : TableView Known) where
+module _ {P E : Type 0} (beats : TableView Heard) (copies : TableView P) (e : ℕ) (first : None ≡ map.get beats.items e)
+    (book : IsBook beats copies) (beat : ℕ) (bs : TableView Heard) where
   noted_after : (r : Result Kept E) → OnOk r (bs ≡ (if (nat_lt 0 beat) then with_item beats e (noted beat false) else beats)) →
       OnOk r (book_of bs copies ≡ after_message (book_of beats copies) e (record { beat = beat; copy = None }))
   noted_after (Err x) h = tt

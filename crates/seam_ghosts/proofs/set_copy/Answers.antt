@@ -2,15 +2,15 @@ use Rattle.std.proofs.Common.{◌≡◌, ℕ, true, nat_lt, if◌then◌else◌,
 use Rattle.std.specs.FinMap as map
 use Rattle.seam_table.specs.Tables.{TableView, with_item}
 use Rattle.seam_ghosts.specs.declared.Kept.{Kept}
-use Rattle.seam_ghosts.specs.declared.Known.{Known}
+use Rattle.seam_ghosts.specs.declared.Heard.{Heard}
 use Rattle.seam_ghosts.specs.Book.{answer, with_ghost, after_message}
 use Rattle.seam_ghosts.specs.Joined.{noted, book_of, IsBook}
 use Rattle.seam_ghosts.proofs.Joins.{known_beat, book_over, is_book_over, book_same, is_book_same, beat_joined, beat_known}
 use Rattle.seam_ghosts.proofs.set_copy.Goals as goal
 
 -- what holds of the tables after a beat that is known was written over, or not for want of memory
-module _ {P E : Type 0} (beats : TableView Known) (copies : TableView P) (e : ℕ) (known : Known) (at : Some known ≡ map.get beats.items e)
-    (beat : ℕ) (p : P) (n : Known) (cs : TableView P) where
+module _ {P E : Type 0} (beats : TableView Heard) (copies : TableView P) (e : ℕ) (known : Heard) (at : Some known ≡ map.get beats.items e)
+    (beat : ℕ) (p : P) (n : Heard) (cs : TableView P) where
   over_after : (r : Result Kept E) → OnOk r (n ≡ (if (nat_lt known.beat beat) then noted beat true else known)) →
       OnOk r (cs ≡ (if (nat_lt known.beat beat) then with_item copies e p else copies)) →
       OnOk r (book_of (with_item beats e n) cs ≡ after_message (book_of beats copies) e (record { beat = beat; copy = Some p }))

@@ -1,6 +1,6 @@
 use Rattle.std.proofs.Common.{◌<◌, sym, ap, ◌∙◌, Some, length, arith, ltb-true, ltb-false}
 use Rattle.std.proofs.lemmas.List.{get_or_read}
-use Rattle.seam_view.proofs.Known.{seen_at, seen_here, seen_missing}
+use Rattle.seam_view.proofs.KnownOrder.{seen_at, seen_here, seen_missing}
 use Rattle.seam_view.proofs.find_seen.Goals as goal
 
 pub returns-then-seen-e : goal.returns-then-seen-e

@@ -1,6 +1,6 @@
 use Rattle.std.proofs.Common.{◌∙◌, ap, get_or}
 use Rattle.seam_view.specs.Replica.{placed}
-use Rattle.seam_view.proofs.Places.{placed_next, placed_of_insert}
+use Rattle.seam_view.proofs.EnterOrder.{placed_next, placed_of_insert}
 use Rattle.seam_view.proofs.map_of.Goals as goal
 
 pub loop-e-preserved : goal.loop-e-preserved

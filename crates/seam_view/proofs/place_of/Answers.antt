@@ -1,6 +1,6 @@
 use Rattle.std.proofs.Common.{ltb, ltb-true, ltb-false, rules}
 use Rattle.std.proofs.lemmas.List.Sorted.{IsPartitionPoint-from_clause, IsPartitionedBy-ltb}
-use Rattle.seam_view.proofs.Known.{rising_when_sorted}
+use Rattle.seam_view.proofs.KnownOrder.{rising_when_sorted}
 use Rattle.seam_view.proofs.place_of.Goals as goal
 
 pub returns-clause-below : goal.returns-clause-below

@@ -2,7 +2,7 @@ use Rattle.std.proofs.Common.{rules, ◌≡◌, ◌∙◌, length, map, ap, sym,
 use Rattle.seam_machine.specs.Views.{PartsView}
 use Rattle.seam_machine.specs.Nets.{AreParts}
 use Rattle.seam_machine.proofs.Occurring.{occurs}
-use Rattle.seam_runs.proofs.Runs.{leads_nowhere}
+use Rattle.seam_net_runs.proofs.Runs.{leads_nowhere}
 use Rattle.seam_workers.specs.Rejoined.{IsRejoined, IsOutcome}
 use Rattle.seam_workers.proofs.Whole.{ends_full, ends_paired, logs_are, is_run, has_event, peers_kept, has_ends, no_task, if_ok_then}
 use Rattle.seam_workers.proofs.run_crew.Goals as goal

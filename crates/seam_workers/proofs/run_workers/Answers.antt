@@ -1,4 +1,4 @@
-use Rattle.seam_runs.proofs.Runs.{leads_join}
+use Rattle.seam_net_runs.proofs.Runs.{leads_join}
 use Rattle.seam_workers.proofs.Sooner.{tasks_join}
 use Rattle.seam_workers.proofs.run_workers.Goals as goal
 

@@ -1,6 +1,6 @@
 use Rattle.std.proofs.Common.{refl, arith}
 use Rattle.std.proofs.lemmas.Grind.{common_steps}
-use Rattle.seam_transcript.proofs.SkipLemmas.{first_decides}
+use Rattle.seam_rule_lines.proofs.SkipLemmas.{first_decides}
 use Rattle.seam_accept.proofs.command.is_skipped.Goals as goal
 
 pub returns-then-byte-ne9 : goal.returns-then-byte-ne9

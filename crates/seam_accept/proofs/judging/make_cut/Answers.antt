@@ -2,8 +2,8 @@ use Rattle.std.proofs.Common.{sym, ◌∙◌, ap, subst}
 use Rattle.seam_tree.specs.Boundary.{across}
 use Rattle.seam_tree.specs.Division.{Division}
 use Rattle.seam_tree.specs.Change.{with_cut, CanCut}
-use Rattle.seam_transcript.specs.Language.{Cut}
-use Rattle.seam_transcript.specs.declared.verdict.Entry.TheVariants.{Divided}
+use Rattle.seam_rule_lines.specs.Language.{Cut}
+use Rattle.seam_rule_lines.specs.declared.verdict.Entry.TheVariants.{Divided}
 use Rattle.seam_accept.specs.Judging.{Accepts}
 use Rattle.seam_accept.proofs.TreeLemmas.{cut_accepted}
 use Rattle.seam_accept.proofs.judging.make_cut.Goals as goal

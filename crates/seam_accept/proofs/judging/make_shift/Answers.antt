@@ -1,8 +1,8 @@
 use Rattle.std.proofs.Common.{sym, ◌∙◌, ap, subst}
 use Rattle.seam_tree.specs.Division.{Division, HasBoundary, NoneEmpty}
 use Rattle.seam_tree.specs.Change.{with_place}
-use Rattle.seam_transcript.specs.Language.{Shift}
-use Rattle.seam_transcript.specs.declared.verdict.Entry.TheVariants.{Divided}
+use Rattle.seam_rule_lines.specs.Language.{Shift}
+use Rattle.seam_rule_lines.specs.declared.verdict.Entry.TheVariants.{Divided}
 use Rattle.seam_accept.specs.Judging.{Accepts}
 use Rattle.seam_accept.proofs.TreeLemmas.{shift_accepted}
 use Rattle.seam_accept.proofs.judging.make_shift.Goals as goal

@@ -1,6 +1,6 @@
 use Rattle.std.proofs.Common.{sym, ◌∙◌, ap}
 use Rattle.std.proofs.lemmas.Bool.{false≢true}
-use Rattle.seam_transcript.specs.Book.{has_client}
+use Rattle.seam_rule_lines.specs.Book.{has_client}
 use Rattle.seam_accept.proofs.NamingLemmas.{number_of_client, same_client}
 use Rattle.seam_accept.proofs.NamedEntities.{client_is_whole}
 use Rattle.seam_accept.proofs.naming.client_named.Goals as goal

@@ -1,6 +1,6 @@
 use Rattle.std.proofs.Common.{ap, ◌∙◌}
 use Rattle.seam_entity.specs.Preparing.{node_with}
-use Rattle.seam_steps.specs.BaseCases.{with_offer, executed}
+use Rattle.seam_node_steps.specs.BaseCases.{with_offer, executed}
 use Rattle.seam_base.specs.Parts.{part_of}
 use Rattle.seam_base.proofs.PartLemmas.{executed_from}
 use Rattle.seam_base.proofs.calls.execute_turn.Goals as goal

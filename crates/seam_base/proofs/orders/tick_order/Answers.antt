@@ -1,7 +1,7 @@
 use Rattle.std.proofs.Common.{sym, ap, ◌∙◌, ◌++◌, ◌∷◌, [], map, append_assoc, arith}
 use Rattle.std.specs.List.{range_with_len}
 use Rattle.std.proofs.lemmas.List.FromFn.{map-range_with_len_more}
-use Rattle.seam_steps.specs.BaseCases.{tick_to}
+use Rattle.seam_node_steps.specs.BaseCases.{tick_to}
 use Rattle.seam_entity.specs.declared.message.Msg.TheVariants.{Tick}
 use Rattle.seam_base.proofs.orders.tick_order.Goals as goal
 

@@ -1,6 +1,6 @@
 use Rattle.std.proofs.Common.{◌≡◌, ◌≤◌, ◌+◌, ◌++◌, map}
 use Rattle.std.specs.List.{range_with_len}
-use Rattle.seam_steps.specs.BaseCases.{tick_to}
+use Rattle.seam_node_steps.specs.BaseCases.{tick_to}
 use Rattle.seam_base.proofs.orders.tick_order.Given as goal
 
 abbrev pub invariant-loop-k : goal.invariant-loop-k

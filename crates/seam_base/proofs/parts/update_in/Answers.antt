@@ -1,6 +1,6 @@
 use Rattle.std.proofs.Common.{if◌then◌else◌, ap, refl, sym, ◌∙◌}
 use Rattle.std.specs.FinMap as table
-use Rattle.seam_steps.specs.BaseCases.{stray_update}
+use Rattle.seam_node_steps.specs.BaseCases.{stray_update}
 use Rattle.seam_base.specs.Nodes.{has_call, has_update}
 use Rattle.seam_base.specs.Parts.{changed_at, with_update}
 use Rattle.seam_base.specs.Marks.{passes}

@@ -2,8 +2,8 @@ use Rattle.std.proofs.Common.{sym, ap, subst, ◌∙◌}
 use Rattle.std.specs.Option.{unwrap_or}
 use Rattle.seam_tree.specs.Division.{IsInSpace}
 use Rattle.seam_entity.specs.Executing.{executed}
-use Rattle.seam_parts.specs.Kept.{here_in}
-use Rattle.seam_parts.specs.Stepping.{HasBegun, parts_of}
+use Rattle.seam_cell_parts.specs.Kept.{here_in}
+use Rattle.seam_cell_parts.specs.Stepping.{HasBegun, parts_of}
 use Rattle.seam_cell_cases.proofs.KeptLemmas.{executed_there}
 use Rattle.seam_cell_cases.proofs.CallLemmas.{after_is, executed_later}
 use Rattle.seam_cell_cases.proofs.calls.begin_call.Goals as goal

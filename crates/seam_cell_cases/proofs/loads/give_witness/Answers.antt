@@ -1,11 +1,11 @@
 use Rattle.std.proofs.Common.{sym, ap, subst, option_map, is_some, not, Some, ◌∙◌}
 use Rattle.std.specs.FinMap as table
-use Rattle.seam_entity.specs.Looks.{with_witness}
-use Rattle.seam_steps.specs.Maps.{set_at}
-use Rattle.seam_parts.specs.Kept.{here_in, IsOpen}
-use Rattle.seam_parts.proofs.MarkLemmas.{put_again, put_back, remove_none}
+use Rattle.seam_entity.specs.WitnessLooks.{with_witness}
+use Rattle.seam_node_steps.specs.Maps.{set_at}
+use Rattle.seam_cell_parts.specs.Kept.{here_in, IsOpen}
+use Rattle.seam_cell_parts.proofs.MarkLemmas.{put_again, put_back, remove_none}
 use Rattle.seam_cell_cases.proofs.Lookups.{none_there}
-use Rattle.seam_parts.proofs.RealLemmas.{witness_marked}
+use Rattle.seam_cell_parts.proofs.RealLemmas.{witness_marked}
 use Rattle.seam_cell_cases.proofs.loads.give_witness.Goals as goal
 
 pub returns-then-is_none-clause-after : goal.returns-then-is_none-clause-after

@@ -1,6 +1,6 @@
 use Rattle.std.proofs.Common.{sym, ap, subst, is_some, ◌∙◌}
 use Rattle.std.specs.FinMap as table
-use Rattle.seam_parts.specs.Kept.{IsOpen}
+use Rattle.seam_cell_parts.specs.Kept.{IsOpen}
 use Rattle.seam_cell_cases.proofs.loads.make_real.Goals as goal
 
 pub put_in-requires : goal.put_in-requires

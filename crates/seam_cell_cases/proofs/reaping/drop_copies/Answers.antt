@@ -1,8 +1,8 @@
 use Rattle.std.proofs.Common.{◌≡◌, ◌++◌, ap, sym, ◌∙◌, append_assoc, arith}
 use Rattle.std.specs.List.{filter_map, range_with_len}
-use Rattle.seam_steps.specs.CellCases.{drop_at}
-use Rattle.seam_parts.specs.News.{listed}
-use Rattle.seam_parts.proofs.NewsLemmas.{told_more}
+use Rattle.seam_node_steps.specs.CellCases.{drop_at}
+use Rattle.seam_cell_parts.specs.News.{listed}
+use Rattle.seam_cell_parts.proofs.NewsLemmas.{told_more}
 use Rattle.seam_cell_cases.proofs.reaping.drop_copies.Goals as goal
 
 pub loop-k-preserved : goal.loop-k-preserved

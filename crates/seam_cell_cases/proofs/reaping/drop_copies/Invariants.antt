@@ -1,6 +1,6 @@
 use Rattle.std.proofs.Common.{◌≡◌, ◌≤◌, ◌+◌, ◌++◌}
 use Rattle.std.specs.List.{filter_map, range_with_len}
-use Rattle.seam_steps.specs.CellCases.{drop_at}
+use Rattle.seam_node_steps.specs.CellCases.{drop_at}
 use Rattle.seam_cell_cases.proofs.reaping.drop_copies.Given as goal
 
 abbrev pub invariant-loop-k : goal.invariant-loop-k

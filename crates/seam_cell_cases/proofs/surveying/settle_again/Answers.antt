@@ -1,6 +1,6 @@
 use Rattle.std.proofs.Common.{false, refl, sym}
-use Rattle.seam_parts.specs.Kept.{here_in}
-use Rattle.seam_parts.specs.Stepping.{parts_of}
+use Rattle.seam_cell_parts.specs.Kept.{here_in}
+use Rattle.seam_cell_parts.specs.Stepping.{parts_of}
 use Rattle.seam_cell_cases.proofs.surveying.settle_again.Goals as goal
 
 pub returns-clause-done : goal.returns-clause-done

@@ -1,7 +1,7 @@
 use Rattle.std.proofs.Common.{rules, refl, ap, option_map, ◌∙◌}
-use Rattle.seam_steps.specs.Maps.{set_at}
-use Rattle.seam_parts.specs.Stepping.{core_of}
-use Rattle.seam_parts.proofs.SetLemmas.{first_taken}
+use Rattle.seam_node_steps.specs.Maps.{set_at}
+use Rattle.seam_cell_parts.specs.Stepping.{core_of}
+use Rattle.seam_cell_parts.proofs.SetLemmas.{first_taken}
 use Rattle.seam_cell_cases.proofs.SurveyLemmas.{from_ok, from_err, moot_done, surveyed, survey_told, survey_undone}
 use Rattle.seam_cell_cases.proofs.surveying.survey_task.Goals as goal
 

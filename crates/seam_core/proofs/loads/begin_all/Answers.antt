@@ -1,6 +1,6 @@
 use Rattle.std.proofs.Common.{◌<◌, length, sym, ap, ◌∙◌, arith}
 use Rattle.std.specs.Prelude.{slice_get}
-use Rattle.seam_steps.specs.Nodes.{World}
+use Rattle.seam_node_steps.specs.Nodes.{World}
 use Rattle.seam_core.specs.Begun.{begun}
 use Rattle.seam_core.proofs.Loading.{next_is, one_more}
 use Rattle.seam_core.proofs.loads.begin_all.Goals as goal

@@ -1,5 +1,5 @@
 use Rattle.std.proofs.Common.{◌≡◌, take}
-use Rattle.seam_steps.specs.Loads.{reaps_loaded}
+use Rattle.seam_node_steps.specs.Loads.{reaps_loaded}
 use Rattle.seam_core.proofs.loads.reap_all.Given as goal
 
 abbrev pub invariant-loop-e : goal.invariant-loop-e

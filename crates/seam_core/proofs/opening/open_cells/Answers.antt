@@ -1,5 +1,5 @@
 use Rattle.std.proofs.Common.{ap, ◌∙◌, arith}
-use Rattle.seam_steps.specs.Loads.{empty_cell}
+use Rattle.seam_node_steps.specs.Loads.{empty_cell}
 use Rattle.seam_core.proofs.Opened.{one_opened}
 use Rattle.seam_core.proofs.opening.open_cells.Goals as goal
 

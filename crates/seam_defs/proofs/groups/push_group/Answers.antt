@@ -1,7 +1,7 @@
 use Rattle.std.proofs.Common.{◌∙◌, sym}
 use Rattle.std.proofs.lemmas.List.{append-nil}
 use Rattle.seam_defs.specs.Remaining.{properties_left, values_left}
-use Rattle.seam_defs.proofs.Places.{zip-done}
+use Rattle.seam_defs.proofs.PropertyPlaces.{zip-done}
 use Rattle.seam_defs.proofs.groups.push_group.Goals as goal
 
 pub returns-clause-ok : goal.returns-clause-ok

@@ -6,7 +6,7 @@ use Rattle.seam_defs.specs.Groups.{in_group}
 use Rattle.seam_defs.specs.Deeds.{properties_of}
 use Rattle.seam_defs.specs.Remaining.{shown_of}
 use Rattle.seam_defs.proofs.Marks.{marked-all, marked-out}
-use Rattle.seam_defs.proofs.Places.{zip-nil}
+use Rattle.seam_defs.proofs.PropertyPlaces.{zip-nil}
 use Rattle.seam_defs.proofs.props.left_out_of_all.Goals as goal
 use Rattle.seam_defs.proofs.props.left_out_of_all.Goals.{then-passed-values+then-in_group, then-not-in_group, else-not-in_group, else-passed-values, else-passed-values-via-then-passed-values+else-in_group, else-passed-values-via-else-passed-values}
 

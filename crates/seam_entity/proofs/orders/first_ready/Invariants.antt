@@ -1,4 +1,4 @@
-use Rattle.seam_entity.specs.Places.{NoneReady}
+use Rattle.seam_entity.specs.SenderPlaces.{NoneReady}
 use Rattle.seam_entity.proofs.orders.first_ready.Given as goal
 
 abbrev pub invariant-loop-i : goal.invariant-loop-i

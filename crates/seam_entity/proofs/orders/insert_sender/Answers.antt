@@ -3,7 +3,7 @@ use Rattle.std.specs.List.{insert}
 use Rattle.std.specs.FinSet as set
 use Rattle.seam_call.specs.Senders.{rank_of}
 use Rattle.seam_entity.specs.Orders.{view_of}
-use Rattle.seam_entity.specs.Places.{Entries, AreOrdered}
+use Rattle.seam_entity.specs.SenderPlaces.{Entries, AreOrdered}
 use Rattle.seam_entity.proofs.OrderLemmas.{orders_inserted, place_made, ordered_inserted, new_is, either, where_ok}
 use Rattle.seam_entity.proofs.orders.insert_sender.Goals as goal
 

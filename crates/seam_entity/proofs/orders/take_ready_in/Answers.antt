@@ -1,5 +1,5 @@
 use Rattle.std.proofs.Common.{◌∙◌, subst, length}
-use Rattle.seam_entity.specs.Places.{NoneReady, IsFirstReady}
+use Rattle.seam_entity.specs.SenderPlaces.{NoneReady, IsFirstReady}
 use Rattle.seam_entity.proofs.OrderLemmas.{ordered_read}
 use Rattle.seam_entity.proofs.ReadyLemmas.{no_call, nothing_taken, call_found, call_taken}
 use Rattle.seam_entity.proofs.orders.take_ready_in.Goals as goal

@@ -1,6 +1,6 @@
 use Rattle.std.proofs.Common.{◌++◌, ap}
 use Rattle.seam_machine.specs.Sends.{items_to}
-use Rattle.seam_merge.specs.Acts.{stamped}
+use Rattle.seam_stamp.specs.Acts.{stamped}
 use Rattle.seam_logged.specs.Logs.{LoggedView}
 use Rattle.seam_logged.proofs.Replay.{replay_put}
 use Rattle.seam_logged.proofs.Logged.flush.Goals as goal

@@ -1,6 +1,6 @@
 use Rattle.std.proofs.Common.{rules, ◌≡◌, ◌∙◌, [], sym, ap}
 use Rattle.std.proofs.lemmas.List.{nil_from_length}
-use Rattle.seam_merge.specs.Acts.{stamped}
+use Rattle.seam_stamp.specs.Acts.{stamped}
 use Rattle.seam_logged.specs.Logs.{LoggedView}
 use Rattle.seam_logged.proofs.Replay.{stamp_of_none}
 use Rattle.seam_logged.proofs.Logged.is_new.Goals as goal

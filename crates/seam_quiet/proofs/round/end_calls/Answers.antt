@@ -1,6 +1,6 @@
 use Rattle.std.proofs.Common.{refl, sym, subst}
-use Rattle.seam_steps.specs.Nodes.{node_steps, node_has_work}
-use Rattle.seam_finish.specs.Finishing.{EndsWithin}
+use Rattle.seam_node_steps.specs.Nodes.{node_steps, node_has_work}
+use Rattle.seam_net_runs.specs.Finishing.{EndsWithin}
 use Rattle.seam_core.specs.Worlds.{Leads}
 use Rattle.seam_quiet.proofs.round.end_calls.Goals as goal
 

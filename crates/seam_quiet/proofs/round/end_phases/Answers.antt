@@ -1,7 +1,7 @@
 use Rattle.std.proofs.Common.{[], refl, subst, ap, ◌∙◌}
-use Rattle.seam_steps.specs.Loads.{reaps_loaded}
+use Rattle.seam_node_steps.specs.Loads.{reaps_loaded}
 use Rattle.seam_core.specs.Worlds.{Leads}
-use Rattle.seam_quiet.specs.Rounds.BeginsPhase.{reaps_begin, looks_begin}
+use Rattle.seam_quiet.specs.RoundRuns.BeginsPhase.{reaps_begin, looks_begin}
 use Rattle.seam_quiet.proofs.Phases.{goes_through}
 use Rattle.seam_quiet.proofs.round.end_phases.Goals as goal
 

@@ -1,5 +1,5 @@
 use Rattle.std.proofs.Common.{sym, subst}
-use Rattle.seam_quiet.specs.Rounds.{MayRun}
+use Rattle.seam_quiet.specs.RoundRuns.{MayRun}
 use Rattle.seam_quiet.specs.Calls.{HasCalled}
 use Rattle.seam_quiet.proofs.round.run_both.Goals as goal
 

@@ -1,5 +1,5 @@
-use Rattle.seam_runs.proofs.Runs.{leads_join}
-use Rattle.seam_steps.specs.Nodes.{node_steps, node_has_work}
+use Rattle.seam_net_runs.proofs.Runs.{leads_join}
+use Rattle.seam_node_steps.specs.Nodes.{node_steps, node_has_work}
 use Rattle.seam_quiet.proofs.round.take_events.Goals as goal
 
 pub returns-clause-run : goal.returns-clause-run

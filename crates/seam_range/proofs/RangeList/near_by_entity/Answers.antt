@@ -1,6 +1,6 @@
 use Rattle.std.proofs.Common.{sym, ap, ◌∙◌, ◌++◌, ◌≡◌, []}
 use Rattle.std.specs.List.{filter}
-use Rattle.seam_range.specs.Places.{is_within, within}
+use Rattle.seam_range.specs.Locations.{is_within, within}
 use Rattle.seam_range.proofs.Sorted.{entries_when_sorted}
 use Rattle.seam_range.proofs.RangeList.near_by_entity.Goals as goal
 

@@ -1,6 +1,6 @@
 use Rattle.std.proofs.Common.{◌≡◌, ◌++◌}
 use Rattle.std.specs.List.{filter}
-use Rattle.seam_range.specs.Places.{is_within, within}
+use Rattle.seam_range.specs.Locations.{is_within, within}
 use Rattle.seam_range.proofs.RangeList.near_by_entity.Given as goal
 
 abbrev pub invariant-loop-e : goal.invariant-loop-e

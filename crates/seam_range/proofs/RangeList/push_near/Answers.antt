@@ -7,8 +7,8 @@ use Rattle.std.specs.declared.ops.Bound.TheVariants.{Included, Excluded}
 use Rattle.std.specs.Ordering.{nat_cmp}
 use Rattle.seam_range.specs.Indexed.{by_spot}
 use Rattle.seam_range.specs.Found.{count_of, AreInPlace, one_if, is_in_strip}
-use Rattle.seam_range.specs.Places.{is_within}
-use Rattle.seam_range.specs.declared.Place.{Place}
+use Rattle.seam_range.specs.Locations.{is_within}
+use Rattle.seam_range.specs.declared.Location.{Location}
 use Rattle.seam_range.specs.declared.TheConstants.{ROW_WIDTH}
 use Rattle.seam_range.proofs.Moves.{place_of_entry}
 use Rattle.seam_range.proofs.Strips.{Key, AreListed, count_near, count_when_found, run_of, count_in_run, run_listed}
@@ -44,7 +44,7 @@ loop-e-preserved-in-Continue-1 c =
     let d = c.args.d in
     let found = c.loop-e.found.items in
     let rest = c.next.new.self in
-    let r : Key × Place = (c.in-Some.field-0-0.now, c.in-Some.place.now) in
+    let r : Key × Location = (c.in-Some.field-0-0.now, c.in-Some.place.now) in
     let steps : c.loop-e.e-iterator ≡ r ∷ rest = c.in-Some.ensures.steps in
     let items : c.push.new.self.items ≡ found ++ (r.0.1, r.1) ∷ [] = c.in_ok-push.ensures.items in
     let near : is_within p d r.1 ≡ true = sym c.if-is_near.ensures in

@@ -2,7 +2,7 @@ use Rattle.std.proofs.Common.{◌≡◌, ℕ, sym, subst, ap, ◌∙◌, rules}
 use Rattle.std.specs.FinMap as map
 use Rattle.std.specs.Option.{IfSome}
 use Rattle.std.proofs.lemmas.List.Sorted.{IsNonDecreasingBy-from_sort_by_key}
-use Rattle.seam_range.specs.Places.{is_within, within}
+use Rattle.seam_range.specs.Locations.{is_within, within}
 use Rattle.seam_range.specs.Found.{count_of, AreInPlace, one_if}
 use Rattle.seam_range.proofs.Counted.{sorted_when_counted}
 use Rattle.seam_range.proofs.RangeList.within.Goals as goal

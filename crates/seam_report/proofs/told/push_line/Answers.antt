@@ -1,6 +1,6 @@
 use Rattle.std.proofs.Common.{◌++◌, sym, subst, ap, ◌∙◌}
 use Rattle.std.proofs.lemmas.Result.{on_ok_weaker}
-use Rattle.seam_rules.specs.Texts.{client_text}
+use Rattle.seam_rule_rounds.specs.Texts.{client_text}
 use Rattle.seam_report.specs.Spelled.{SpellingsView, GoesBy}
 use Rattle.seam_report.proofs.Spelled.{alone}
 use Rattle.seam_report.proofs.told.push_line.Goals as goal

@@ -8,8 +8,8 @@ use Rattle.seam_defs.specs.declared.flags.Group.TheVariants as group
 use Rattle.seam_call.specs.declared.shown.GhostCopy.{GhostCopy}
 use Rattle.seam_call.specs.declared.shown.Shown.TheVariants.{Enter, Set}
 use Rattle.seam_call.specs.declared.shown.ClientText.TheVariants as client
-use Rattle.seam_transcript.specs.Texts.{field}
-use Rattle.seam_rules.specs.Texts.{state_text, shown_text, told_text}
+use Rattle.seam_rule_lines.specs.Texts.{field}
+use Rattle.seam_rule_rounds.specs.Texts.{state_text, shown_text, told_text}
 use Rattle.seam_report.specs.Spelled.{ShowsOf, IsOf, enter_text, copy_text}
 use Rattle.seam_report.proofs.Spelled.{glue, ended}
 use Rattle.seam_report.proofs.told.push_shown.Goals as goal

@@ -3,7 +3,7 @@ use Rattle.seam_view.specs.Replica.{with_version_shown}
 use Rattle.std.specs.List.{IsDistinct}
 use Rattle.std.specs.Map.{keys_of, lookup}
 use Rattle.seam_view.proofs.Kept.{once_placed}
-use Rattle.seam_view.proofs.Places.{lookup_placed}
+use Rattle.seam_view.proofs.EnterOrder.{lookup_placed}
 use Rattle.seam_view.proofs.Shown.{shown_when_entered, view_of_lists, none_when_empty}
 use Rattle.seam_view.specs.Together.{AreApart}
 use Rattle.seam_view.proofs.Apart.{apart_when_entered, apart_from_none}

@@ -5,7 +5,7 @@ use Rattle.std.specs.Map.{keys_of}
 use Rattle.std.proofs.lemmas.List.{length-map}
 use Rattle.seam_view.specs.declared.Seen.{Seen}
 use Rattle.seam_view.specs.declared.Note.TheVariants.{Leaves}
-use Rattle.seam_view.specs.Looks.{entering}
+use Rattle.seam_view.specs.ViewLooks.{entering}
 use Rattle.seam_view.specs.Notes.{notes_of}
 use Rattle.seam_view.proofs.Noted.{notes_of_none, notes_when_found, notes_when_missing, missing, place_below}
 use Rattle.seam_view.proofs.Noted.{viewed_at, entering_with_next, entering_past, entering_past_viewed}

@@ -1,5 +1,5 @@
 use Rattle.std.proofs.Common.{◌≡◌, ◌++◌, take, drop}
-use Rattle.seam_view.specs.Looks.{entering}
+use Rattle.seam_view.specs.ViewLooks.{entering}
 use Rattle.seam_view.specs.Notes.{notes_of}
 use Rattle.seam_view.proofs.View.note_known.Given as goal
 

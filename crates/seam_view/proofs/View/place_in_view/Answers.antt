@@ -1,6 +1,6 @@
 use Rattle.std.proofs.Common.{◌≡◌, false, slice_get, Some, subst}
 use Rattle.std.specs.Option.{IfSome, IfNone}
-use Rattle.seam_view.specs.Looks.{in_view}
+use Rattle.seam_view.specs.ViewLooks.{in_view}
 use Rattle.seam_view.proofs.View.place_in_view.Goals as goal
 
 pub returns-clause-there : goal.returns-clause-there

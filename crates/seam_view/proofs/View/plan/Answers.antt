@@ -3,7 +3,7 @@ use Rattle.std.specs.List.{IsDistinct}
 use Rattle.std.specs.Map.{keys_of}
 use Rattle.std.specs.Prelude.{nat_eq}
 use Rattle.seam_view.specs.declared.Look.TheVariants.{Leave, Set}
-use Rattle.seam_view.specs.Looks.{leaving, entering}
+use Rattle.seam_view.specs.ViewLooks.{leaving, entering}
 use Rattle.seam_view.specs.Notes.{is_leave, is_change, noted}
 use Rattle.seam_view.specs.Replica.{HasRoom}
 use Rattle.seam_view.proofs.Noted.{leaves_noted, changes_noted}

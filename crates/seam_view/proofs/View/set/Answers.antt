@@ -1,11 +1,11 @@
 use Rattle.std.proofs.Common.{◌∙◌, ap, cond, eqb, refl, sym, subst, ℕ, arith}
 use Rattle.std.specs.List.{IsDistinct}
 use Rattle.std.specs.Map.{keys_of, lookup}
-use Rattle.seam_view.specs.Looks.{in_view}
+use Rattle.seam_view.specs.ViewLooks.{in_view}
 use Rattle.seam_view.specs.Replica.{with_version_shown}
 use Rattle.seam_view.specs.Together.{AreApart}
 use Rattle.seam_view.proofs.Kept.{once_placed}
-use Rattle.seam_view.proofs.Places.{lookup_placed}
+use Rattle.seam_view.proofs.EnterOrder.{lookup_placed}
 use Rattle.seam_view.proofs.Shown.{shown_when_entered, view_of_lists}
 use Rattle.seam_view.proofs.Apart.{apart_when_entered, not_left_when_in}
 use Rattle.seam_view.proofs.View.set.Goals as goal

@@ -2,8 +2,8 @@ use Rattle.std.proofs.Common.{◌∙◌, ◌++◌, ap, sym, eqb}
 use Rattle.std.specs.FinMap as versions
 use Rattle.std.specs.Map.{lookup}
 use Rattle.std.specs.Option.{option_or}
-use Rattle.seam_view.specs.Looks.{in_view}
-use Rattle.seam_view.proofs.Places.{lookup_at}
+use Rattle.seam_view.specs.ViewLooks.{in_view}
+use Rattle.seam_view.proofs.EnterOrder.{lookup_at}
 use Rattle.seam_view.proofs.Shown.{shown_of_lookup, sought}
 use Rattle.seam_view.proofs.View.shown.Goals as goal
 

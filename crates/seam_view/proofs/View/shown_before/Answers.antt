@@ -2,7 +2,7 @@ use Rattle.std.proofs.Common.{◌≡◌, ◌∙◌, ◌++◌, ap, sym, [], eqb}
 use Rattle.std.specs.FinMap as versions
 use Rattle.std.specs.Map.{lookup}
 use Rattle.std.specs.Option.{option_or}
-use Rattle.seam_view.specs.Looks.{in_view}
+use Rattle.seam_view.specs.ViewLooks.{in_view}
 use Rattle.seam_view.proofs.Shown.{shown_of_lookup, sought, not_in_view, none_when_empty}
 use Rattle.seam_view.proofs.View.shown_before.Goals as goal
 

@@ -3,7 +3,7 @@ use Rattle.std.specs.Prelude.{option_copied}
 use Rattle.seam_view.specs.declared.Seen.{Seen}
 use Rattle.seam_view.specs.declared.Look.TheVariants.{Enter}
 use Rattle.seam_view.specs.Replica.{seen_of}
-use Rattle.seam_view.proofs.Known.{known_of}
+use Rattle.seam_view.proofs.KnownOrder.{known_of}
 use Rattle.seam_view.proofs.numbered.entering.Goals as goal
 
 pub returns-in-Enter : goal.returns-in-Enter

@@ -1,5 +1,5 @@
 use Rattle.std.proofs.Common.{rules, inl, inr}
-use Rattle.seam_runs.proofs.Runs.{leads_extend}
+use Rattle.seam_net_runs.proofs.Runs.{leads_extend}
 use Rattle.seam_workers.proofs.alone.alone.Goals as goal
 
 pub returns-then-has_event_above-clause-until : goal.returns-then-has_event_above-clause-until

@@ -3,7 +3,7 @@ use Rattle.std.proofs.lemmas.List.{length-map}
 use Rattle.seam_machine.specs.Views.{PartsView}
 use Rattle.seam_machine.proofs.Parts.{parts_place}
 use Rattle.seam_stamp.specs.Logs.{AreLogs, IsMerge}
-use Rattle.seam_mesh.specs.Mesh.{AreFull, ArePaired, IsCell}
+use Rattle.seam_logged.specs.Mesh.{AreFull, ArePaired, IsCell}
 use Rattle.seam_workers.proofs.joins.rejoin.Goals as goal
 
 pub left-requires-clause-paired : goal.left-requires-clause-paired

@@ -1,7 +1,7 @@
 use Rattle.std.proofs.Common.{Some, map, refl, sym, subst, ◌∙◌}
 use Rattle.seam_balance.specs.Balance.{IsBalanced}
-use Rattle.seam_played.specs.Playing.{data_of}
-use Rattle.seam_world_rounds.specs.Rounds.{IsBalancedBy}
+use Rattle.seam_law_transcript.specs.Playing.{data_of}
+use Rattle.seam_world_rounds.specs.PlayedRound.{IsBalancedBy}
 use Rattle.seam_world_rounds.proofs.round.balanced.Goals as goal
 
 pub returns : goal.returns

@@ -1,6 +1,6 @@
 use Rattle.std.proofs.Common.{◌≡◌, ◌≢◌, ◌++◌, Option, None, Some, ap, sym, subst, ◌∙◌, refl, append-nil}
-use Rattle.seam_summary.specs.declared.totals.Sums.{Sums}
-use Rattle.seam_played.specs.Playing.{data_of}
+use Rattle.seam_rule_rounds.specs.declared.totals.Sums.{Sums}
+use Rattle.seam_law_transcript.specs.Playing.{data_of}
 use Rattle.seam_world_rounds.specs.Output.{round_output, sums_if}
 use Rattle.seam_world_rounds.specs.declared.round.Output.TheVariants as output
 use Rattle.seam_world_rounds.proofs.round.give_round.Goals as goal

@@ -2,11 +2,11 @@ use Rattle.std.proofs.Common.{◌≡◌, map, ap, sym, subst, ◌∙◌}
 use Rattle.seam_call.specs.declared.order.Batch.{Batch}
 use Rattle.seam_toml.specs.declared.header.Header.{Header as Headers}
 use Rattle.seam_accept.specs.Batches.{batch_of}
-use Rattle.seam_transcript.specs.Book.{tree_of}
-use Rattle.seam_played.specs.Playing.{data_of}
-use Rattle.seam_print.specs.Farewells.{AreFarewells}
-use Rattle.seam_world_rounds.specs.Rounds.{IsBalancedBy}
-use Rattle.seam_quiet.specs.Rounds.{MayRun}
+use Rattle.seam_rule_lines.specs.Book.{tree_of}
+use Rattle.seam_law_transcript.specs.Playing.{data_of}
+use Rattle.seam_world_text.specs.Farewells.{AreFarewells}
+use Rattle.seam_world_rounds.specs.PlayedRound.{IsBalancedBy}
+use Rattle.seam_quiet.specs.RoundRuns.{MayRun}
 use Rattle.seam_quiet.specs.Calls.{HasCalled}
 use Rattle.seam_world_rounds.proofs.Playing.{played_so}
 use Rattle.seam_world_rounds.proofs.round.play.Goals as goal

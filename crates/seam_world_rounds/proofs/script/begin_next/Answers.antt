@@ -1,6 +1,6 @@
 use Rattle.std.proofs.Common.{sym, subst}
 use Rattle.seam_accept.specs.Refines.{Refines as HoldsBook}
-use Rattle.seam_rules.specs.Round.{with_bounds}
+use Rattle.seam_rule_rounds.specs.Round.{with_bounds}
 use Rattle.seam_world_rounds.proofs.script.begin_next.Goals as goal
 
 pub returns-in-Some : goal.returns-in-Some

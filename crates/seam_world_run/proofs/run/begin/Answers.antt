@@ -1,6 +1,6 @@
 use Rattle.std.proofs.Common.{[], refl, arith}
 use Rattle.std.proofs.KnownBytes.{Consumes-nil}
-use Rattle.seam_rules.specs.Standing.{after_header}
+use Rattle.seam_rule_rounds.specs.Standing.{after_header}
 use Rattle.seam_toml.proofs.HeaderLaws.{reads_legal, reads_defs}
 use Rattle.seam_world_run.proofs.RunLemmas.{after_a_header}
 use Rattle.seam_world_run.proofs.HeaderRuns.{nothing_judged, header_alone}

@@ -1,8 +1,8 @@
 use Rattle.std.proofs.Common.{◌≡◌, sym, subst}
 use Rattle.std.proofs.lemmas.Result.{err_from_is_err_and}
 use Rattle.seam_toml.specs.declared.header.Header.{Header}
-use Rattle.seam_transcript.specs.Book.{Book, with_entry}
-use Rattle.seam_transcript.specs.Language.{Command}
+use Rattle.seam_rule_lines.specs.Book.{Book, with_entry}
+use Rattle.seam_rule_lines.specs.Language.{Command}
 use Rattle.seam_accept.specs.Judging.{Refuses}
 use Rattle.seam_accept.specs.Refines.{Refines, CommandAccepted, CommandTaken}
 use Rattle.seam_accept.specs.BookView.{BookView, counted}

@@ -1,5 +1,5 @@
 use Rattle.std.proofs.Common.{refl, sym, subst}
-use Rattle.seam_transcript.specs.declared.verdict.Entry.TheVariants.{Ticked}
+use Rattle.seam_rule_lines.specs.declared.verdict.Entry.TheVariants.{Ticked}
 use Rattle.seam_accept.specs.Refines.{Refines}
 use Rattle.seam_accept.proofs.Keeping.{other_kept}
 use Rattle.seam_accept.proofs.book.Book.add_tick.Goals as goal

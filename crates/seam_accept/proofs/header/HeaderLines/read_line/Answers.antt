@@ -2,8 +2,8 @@ use Rattle.std.proofs.Common.{◌≡◌, ◌<◌, ◌≤◌, ◌++◌, ◌∷◌
 use Rattle.std.proofs.lemmas.Option.{same_Some}
 use Rattle.seam_io.specs.Lines.{Content}
 use Rattle.seam_toml.specs.declared.documents.TheConstants.{MOST_HEADER_BYTES}
-use Rattle.seam_transcript.specs.Header.{AreHeaderLines}
-use Rattle.seam_transcript.proofs.HeaderLemmas.{with_line, too_long_for_header}
+use Rattle.seam_rule_lines.specs.Header.{AreHeaderLines}
+use Rattle.seam_rule_lines.proofs.HeaderLemmas.{with_line, too_long_for_header}
 use Rattle.seam_accept.proofs.header.HeaderLines.read_line.Goals as goal
 
 pub returns-then-len-line-ge-MOST_HEADER_BYTES-clause-refused : goal.returns-then-len-line-ge-MOST_HEADER_BYTES-clause-refused

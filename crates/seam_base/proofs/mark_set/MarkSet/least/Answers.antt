@@ -1,7 +1,7 @@
 use Rattle.std.proofs.Common.{find, ap, ◌∙◌}
 use Rattle.std.specs.Prelude.{option_map}
 use Rattle.std.specs.FinMap as table
-use Rattle.seam_steps.specs.Maps.{number_of}
+use Rattle.seam_node_steps.specs.Maps.{number_of}
 use Rattle.seam_base.specs.Marks.{any_mark}
 use Rattle.seam_base.proofs.Marks.{first_is_least}
 use Rattle.seam_base.proofs.mark_set.MarkSet.least.Goals as goal

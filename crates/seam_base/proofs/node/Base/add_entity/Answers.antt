@@ -1,6 +1,6 @@
 use Rattle.std.proofs.Common.{ap, sym, subst}
 use Rattle.std.specs.FinMap as table
-use Rattle.seam_steps.specs.Valid.{RoutesAreCells}
+use Rattle.seam_node_steps.specs.Valid.{RoutesAreCells}
 use Rattle.seam_base.proofs.RouteLemmas.{route_put}
 use Rattle.seam_base.proofs.node.Base.add_entity.Goals as goal
 

@@ -1,7 +1,7 @@
 use Rattle.std.proofs.Common.{ap, sym, ◌∙◌, subst}
 use Rattle.std.specs.FinMap as table
-use Rattle.seam_steps.specs.BaseCases.{current, sends_none, stray_current, unless_stray}
-use Rattle.seam_steps.specs.Valid.{RoutesAreCells}
+use Rattle.seam_node_steps.specs.BaseCases.{current, sends_none, stray_current, unless_stray}
+use Rattle.seam_node_steps.specs.Valid.{RoutesAreCells}
 use Rattle.seam_base.specs.Nodes.{node_of}
 use Rattle.seam_base.proofs.RouteLemmas.{renewed_are_cells, node_renewed}
 use Rattle.seam_base.proofs.node.Base.hear_current.Goals as goal

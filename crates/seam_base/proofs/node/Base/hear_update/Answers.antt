@@ -1,6 +1,6 @@
 use Rattle.std.proofs.Common.{◌≡◌, subst, OnOk}
 use Rattle.std.specs.FinMap as table
-use Rattle.seam_steps.specs.BaseCases.{unless_stray, sends_none, stray_update, update}
+use Rattle.seam_node_steps.specs.BaseCases.{unless_stray, sends_none, stray_update, update}
 use Rattle.seam_base.specs.Nodes.{node_of}
 use Rattle.seam_base.proofs.NodeLemmas.{update_left}
 use Rattle.seam_base.proofs.node.Base.hear_update.Goals as goal

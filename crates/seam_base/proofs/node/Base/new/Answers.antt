@@ -1,5 +1,5 @@
 use Rattle.std.proofs.Common.{ap, sym, subst, arith}
-use Rattle.seam_steps.specs.Valid.{RoutesAreCells}
+use Rattle.seam_node_steps.specs.Valid.{RoutesAreCells}
 use Rattle.seam_base.proofs.RouteLemmas.{no_routes}
 use Rattle.seam_base.proofs.node.Base.new.Goals as goal
 

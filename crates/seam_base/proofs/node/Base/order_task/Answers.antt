@@ -1,5 +1,5 @@
 use Rattle.std.proofs.Common.{◌≡◌, ◌++◌, ◌∷◌, subst, OnOk}
-use Rattle.seam_steps.specs.BaseCases.{base_task}
+use Rattle.seam_node_steps.specs.BaseCases.{base_task}
 use Rattle.seam_base.specs.Nodes.{node_of}
 use Rattle.seam_base.proofs.NodeLemmas.{order_stays, nothing_is_sent}
 use Rattle.seam_base.proofs.node.Base.order_task.Goals as goal

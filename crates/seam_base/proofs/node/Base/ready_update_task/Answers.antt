@@ -1,5 +1,5 @@
 use Rattle.std.proofs.Common.{◌≡◌, ap, ◌∙◌, subst, OnOk}
-use Rattle.seam_steps.specs.BaseCases.{task_without_orders, ready_part}
+use Rattle.seam_node_steps.specs.BaseCases.{task_without_orders, ready_part}
 use Rattle.seam_base.specs.Nodes.{node_of, has_call, has_update}
 use Rattle.seam_base.specs.Marks.{least}
 use Rattle.seam_base.proofs.NodeLemmas.{least_is_there, update_waits, update_is_shown}

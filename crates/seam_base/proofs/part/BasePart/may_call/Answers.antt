@@ -1,7 +1,7 @@
 use Rattle.std.proofs.Common.{ap, ◌∙◌, ◌&&◌}
 use Rattle.seam_entity.specs.Calls.{may_offer}
 use Rattle.seam_entity.specs.Orders.{order_of}
-use Rattle.seam_steps.specs.BaseCases.{may_execute}
+use Rattle.seam_node_steps.specs.BaseCases.{may_execute}
 use Rattle.seam_base.proofs.part.BasePart.may_call.Goals as goal
 
 pub returns-then-not-fits : goal.returns-then-not-fits

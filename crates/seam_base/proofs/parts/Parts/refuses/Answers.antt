@@ -1,5 +1,5 @@
 use Rattle.std.proofs.Common.{ap, ◌∙◌, not}
-use Rattle.seam_steps.specs.BaseCases.{stray_base_call}
+use Rattle.seam_node_steps.specs.BaseCases.{stray_base_call}
 use Rattle.seam_base.specs.Nodes.{here_in}
 use Rattle.seam_base.proofs.parts.Parts.refuses.Goals as goal
 

@@ -1,6 +1,6 @@
 use Rattle.std.proofs.Common.{rules, ap}
-use Rattle.seam_steps.specs.Loads.{part_begins}
-use Rattle.seam_base.proofs.Rounds.{calls_begun, updates_begun}
+use Rattle.seam_node_steps.specs.Loads.{part_begins}
+use Rattle.seam_base.proofs.RoundMarks.{calls_begun, updates_begun}
 use Rattle.seam_base.proofs.parts.Parts.start_round.Goals as goal
 
 pub invariant_of-self : goal.invariant_of-self

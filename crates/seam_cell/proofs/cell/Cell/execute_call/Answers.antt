@@ -2,13 +2,13 @@ use Rattle.std.proofs.Common.{◌≡◌, ◌++◌, true, ap, sym, subst, option_
 use Rattle.std.proofs.lemmas.Result.{on_ok_weaker, on_err_weaker}
 use Rattle.seam_machine.specs.declared.machines.Input.TheVariants.{From}
 use Rattle.seam_entity.specs.declared.message.Msg.TheVariants.{Call}
-use Rattle.seam_steps.specs.Maps.{set_at}
-use Rattle.seam_steps.specs.Cells.{cell_steps}
-use Rattle.seam_parts.specs.Kept.{AreWhole}
+use Rattle.seam_node_steps.specs.Maps.{set_at}
+use Rattle.seam_node_steps.specs.Cells.{cell_steps}
+use Rattle.seam_cell_parts.specs.Kept.{AreWhole}
 use Rattle.seam_cell_cases.specs.Calling.{is_called, IsTurn}
-use Rattle.seam_parts.specs.Stepping.{core_of}
+use Rattle.seam_cell_parts.specs.Stepping.{core_of}
 use Rattle.seam_cell_cases.proofs.StepLemmas.{by_result, both_err, whole_after, whole_again, undone, turn_left}
-use Rattle.seam_sight.proofs.ToldLemmas.{none_told}
+use Rattle.seam_cell_look.proofs.ToldLemmas.{none_told}
 use Rattle.seam_cell.proofs.cell.Cell.execute_call.Goals as goal
 
 pub execute_turn-called-requires-clause-there : goal.execute_turn-called-requires-clause-there

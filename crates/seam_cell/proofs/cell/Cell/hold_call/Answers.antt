@@ -3,11 +3,11 @@ use Rattle.std.specs.FinMap as table
 use Rattle.std.proofs.lemmas.Result.{on_ok_weaker, on_err_weaker}
 use Rattle.seam_machine.specs.declared.machines.Input.TheVariants.{From}
 use Rattle.seam_entity.specs.declared.message.Msg.TheVariants.{Call}
-use Rattle.seam_steps.specs.Cells.{cell_steps}
-use Rattle.seam_parts.specs.Kept.{AreWhole}
+use Rattle.seam_node_steps.specs.Cells.{cell_steps}
+use Rattle.seam_cell_parts.specs.Kept.{AreWhole}
 use Rattle.seam_cell_cases.specs.Calling.{is_called, IsTurn}
 use Rattle.seam_cell_cases.proofs.StepLemmas.{by_result, whole_after, whole_again, held_sends, held_left, held_not}
-use Rattle.seam_sight.proofs.ToldLemmas.{none_told}
+use Rattle.seam_cell_look.proofs.ToldLemmas.{none_told}
 use Rattle.seam_cell.proofs.cell.Cell.hold_call.Goals as goal
 
 pub returns-in_default-clause-sent : goal.returns-in_default-clause-sent

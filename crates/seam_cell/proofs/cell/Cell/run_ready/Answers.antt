@@ -4,14 +4,14 @@ use Rattle.std.proofs.lemmas.Result.{on_ok_weaker, on_err_weaker}
 use Rattle.seam_machine.specs.declared.machines.Input.TheVariants.{Task}
 use Rattle.seam_entity.specs.Calls.{has_ready}
 use Rattle.seam_entity.specs.Executing.{may_execute}
-use Rattle.seam_steps.specs.Maps.{set_at}
-use Rattle.seam_steps.specs.Cells.{CellView, cell_steps, ready_entity}
-use Rattle.seam_parts.specs.Kept.{cell_of, AreWhole}
+use Rattle.seam_node_steps.specs.Maps.{set_at}
+use Rattle.seam_node_steps.specs.Cells.{CellView, cell_steps, ready_entity}
+use Rattle.seam_cell_parts.specs.Kept.{cell_of, AreWhole}
 use Rattle.seam_cell_cases.specs.Calling.{may_run}
-use Rattle.seam_parts.specs.Stepping.{core_of}
+use Rattle.seam_cell_parts.specs.Stepping.{core_of}
 use Rattle.seam_entity.proofs.HeldLemmas.{both}
 use Rattle.seam_cell_cases.proofs.StepLemmas.{by_result, both_err, whole_after, whole_again, undone, ready_left, TaskLeaves}
-use Rattle.seam_sight.proofs.ToldLemmas.{none_told}
+use Rattle.seam_cell_look.proofs.ToldLemmas.{none_told}
 use Rattle.seam_cell.proofs.cell.Cell.run_ready.Goals as goal
 
 pub execute_ready-tasked-requires-clause-there : goal.execute_ready-tasked-requires-clause-there

@@ -1,6 +1,6 @@
 use Rattle.std.proofs.Common.{◌++◌, ap, sym, ◌∙◌}
 use Rattle.std.proofs.lemmas.Result.{on_ok_weaker}
-use Rattle.seam_steps.specs.Cells.{cell_steps}
+use Rattle.seam_node_steps.specs.Cells.{cell_steps}
 use Rattle.seam_cell.proofs.cell.CellMachine.step.Goals as goal
 
 pub returns-in-From-clause-state : goal.returns-in-From-clause-state

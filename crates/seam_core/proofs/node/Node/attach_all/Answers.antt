@@ -1,5 +1,5 @@
 use Rattle.std.proofs.Common.{get_or, sym, subst, arith}
-use Rattle.seam_steps.specs.Nodes.{NodeView}
+use Rattle.seam_node_steps.specs.Nodes.{NodeView}
 use Rattle.seam_core.proofs.Nodes.{IsUnseen, unseen_at}
 use Rattle.seam_core.proofs.node.Node.attach_all.Goals as goal
 

@@ -1,6 +1,6 @@
 use Rattle.std.proofs.Common.{◌≡◌, OnOk, sym, subst, ap, ◌∙◌, arith}
 use Rattle.std.proofs.lemmas.Result.{on_ok_weaker}
-use Rattle.seam_steps.specs.Loads.{created_at}
+use Rattle.seam_node_steps.specs.Loads.{created_at}
 use Rattle.seam_core.specs.Nodes.{node_of}
 use Rattle.seam_core.specs.contracts.node.Node.{the_view}
 use Rattle.seam_core.proofs.Nodes.{made_cell, made_base}

@@ -1,5 +1,5 @@
 use Rattle.std.proofs.Common.{min, ap, ◌∙◌}
-use Rattle.seam_steps.specs.Holders.{holders}
+use Rattle.seam_node_steps.specs.Holders.{holders}
 use Rattle.seam_core.proofs.Counts.{most}
 use Rattle.seam_core.proofs.Worlds.{lives_once}
 use Rattle.seam_core.proofs.world.World.holders.Goals as goal

@@ -1,6 +1,6 @@
 use Rattle.std.proofs.Common.{length, sym, subst, ap, ◌∙◌, arith}
-use Rattle.seam_rounds.specs.Rounds.{first_frame}
-use Rattle.seam_laws.specs.Records.{KeepsRecords}
+use Rattle.seam_law_rounds.specs.LastPhases.{first_frame}
+use Rattle.seam_law_all.specs.Records.{KeepsRecords}
 use Rattle.seam_core.specs.Worlds.{IsWorld}
 use Rattle.seam_core.proofs.Worlds.{frame_opened, many_opened, world_opened, is_opened}
 use Rattle.seam_core.proofs.world.World.«open».Goals as goal

@@ -3,7 +3,7 @@ use Rattle.std.specs.Prelude.{MatchOption}
 use Rattle.std.specs.Option.{is_some}
 use Rattle.seam_value.specs.declared.values.Value.{Value}
 use Rattle.seam_defs.specs.Remaining.{properties_left, values_left}
-use Rattle.seam_defs.proofs.Places.{zip-done}
+use Rattle.seam_defs.proofs.PropertyPlaces.{zip-done}
 use Rattle.seam_defs.proofs.types.TypeDef.is_projection.Goals as goal
 
 -- no value comes exactly where none is left

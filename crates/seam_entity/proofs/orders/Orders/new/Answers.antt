@@ -1,5 +1,5 @@
 use Rattle.std.proofs.Common.{subst, sym}
-use Rattle.seam_entity.specs.Places.{AreOrdered}
+use Rattle.seam_entity.specs.SenderPlaces.{AreOrdered}
 use Rattle.seam_entity.proofs.OrderLemmas.{ordered_none}
 use Rattle.seam_entity.proofs.orders.Orders.new.Goals as goal
 

@@ -3,7 +3,7 @@ use Rattle.std.specs.Prelude.{slice_get}
 use Rattle.seam_machine.specs.Nets.{link, enabled}
 use Rattle.seam_machine.specs.Inside.{is_marked, has_task}
 use Rattle.seam_machine.proofs.Quiet.{task_first, quiet_without, sender_enabled, sender_first, task_enabled}
-use Rattle.seam_machine.proofs.Known.{on_within, off_at}
+use Rattle.seam_machine.proofs.TaskMarks.{on_within, off_at}
 use Rattle.seam_machine.proofs.nets.Net.next_event.Goals as goal
 use Rattle.seam_machine.proofs.nets.Net.next_event.Goals.{After-first, In-Some-first_busy}
 

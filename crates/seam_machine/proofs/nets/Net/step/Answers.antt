@@ -7,7 +7,7 @@ use Rattle.std.proofs.lemmas.Option.{slice_get_read}
 use Rattle.seam_machine.specs.Nets.{input_from, is_ready, ArePeers}
 use Rattle.seam_machine.specs.Inside.{IsNet}
 use Rattle.seam_machine.proofs.Occurring.{occurs, node_within, fed_happens, net_fed}
-use Rattle.seam_machine.proofs.Known.{knows_after}
+use Rattle.seam_machine.proofs.TaskMarks.{knows_after}
 use Rattle.seam_machine.proofs.nets.Net.step.Goals as goal
 use Rattle.seam_machine.proofs.nets.Net.step.Goals.{After-self, After-index_mut-node}
 

@@ -1,7 +1,7 @@
 use Rattle.std.proofs.Common.{◌≤◌, ◌∙◌, Bool, true, false, cond, eqb, get_or, ap, arith}
 use Rattle.std.specs.List.{list_any}
 use Rattle.seam_view.specs.Replica.{placed}
-use Rattle.seam_view.proofs.Places.{placed_next}
+use Rattle.seam_view.proofs.EnterOrder.{placed_next}
 use Rattle.seam_view.proofs.numbered.Entered.of_pairs.Goals as goal
 
 at_most_one : (b : Bool) → cond b 0 1 ≤ 1

@@ -1,8 +1,8 @@
 use Rattle.std.proofs.Common.{ℕ, ◌+◌, refl, sym, ap, ◌∙◌}
-use Rattle.seam_rules.specs.Standing.{replica_of}
-use Rattle.seam_legal.specs.Going.{frame_of}
+use Rattle.seam_rule_rounds.specs.Standing.{replica_of}
+use Rattle.seam_law_book.specs.Going.{frame_of}
 use Rattle.seam_world_rounds.proofs.ScriptLemmas.{may_run, played_in, beside_in}
-use Rattle.seam_world_rounds.proofs.Rounds.{round_ended}
+use Rattle.seam_world_rounds.proofs.PlayedRounds.{round_ended}
 use Rattle.seam_world_rounds.proofs.script.Script.end_round.Goals as goal
 
 pub play-requires : goal.play-requires

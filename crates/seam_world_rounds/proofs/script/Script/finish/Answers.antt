@@ -1,5 +1,5 @@
 use Rattle.std.proofs.Common.{◌≢◌, [], refl, sym, ◌∙◌, append-nil}
-use Rattle.seam_transcript.specs.Book.{open_lines}
+use Rattle.seam_rule_lines.specs.Book.{open_lines}
 use Rattle.seam_world_rounds.specs.Script.{Gives, Refines}
 use Rattle.seam_world_rounds.proofs.Counting.{no_pieces_counted}
 use Rattle.seam_world_rounds.proofs.Worlds.{none_played}

@@ -1,8 +1,8 @@
 use Rattle.std.proofs.Common.{refl}
 use Rattle.std.proofs.lemmas.Result.{on_ok_weaker}
 use Rattle.seam_io.specs.Lines.{Long}
-use Rattle.seam_transcript.specs.declared.verdict.Cause.TheVariants.{TooLong}
-use Rattle.seam_transcript.proofs.Refusals.{long_is_refused}
+use Rattle.seam_rule_lines.specs.declared.verdict.Cause.TheVariants.{TooLong}
+use Rattle.seam_rule_lines.proofs.Refusals.{long_is_refused}
 use Rattle.seam_world_rounds.specs.Output.{refusal_output}
 use Rattle.seam_world_rounds.proofs.ScriptLemmas.{refused_line}
 use Rattle.seam_world_rounds.proofs.script.Script.read_long.Goals as goal

@@ -1,5 +1,0 @@
-use Rattle.seam_base_calls.proofs.StrayRuns.{base_burden_leads}
-use Rattle.seam_base_calls.proofs.base_calls.base_numbers_stay_small.Goals as goal
-
-pub returns : goal.returns
-returns c = λ f e w v es q run. base_burden_leads f e w v es q run

@@ -1,8 +1,0 @@
-use Rattle.seam_base_rounds.proofs.Going.{calls_once, executed_then}
-use Rattle.seam_base_rounds.proofs.base_calls_of_a_batch_are_executed_once.Goals as goal
-
-pub returns-clause-once : goal.returns-clause-once
-returns-clause-once c = λ f w b may e k r here p at v es run. calls_once f w b may e k r here v es run p at
-
-pub returns-clause-executed : goal.returns-clause-executed
-returns-clause-executed c = executed_then

@@ -1,5 +1,0 @@
-use Rattle.seam_base_rounds.proofs.Going.{none_strays}
-use Rattle.seam_base_rounds.proofs.nothing_about_a_loaded_entity_is_stray_at_a_base_node.Goals as goal
-
-pub returns : goal.returns
-returns c = none_strays

@@ -1,5 +1,0 @@
-pub mod Proper
-pub mod Adding
-pub mod Present
-pub mod Untouched
-mod Round

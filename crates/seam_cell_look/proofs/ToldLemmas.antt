@@ -1,0 +1,76 @@
+-- What was told of entities while that is what is known of them.
+use Rattle.std.proofs.Common.{◌≡◌, ℕ, ◌∙◌, Bool, true, false, cond, eqb, [], Option, None, Some, refl, ap, sym, arith}
+use Rattle.std.specs.Prelude.{option_map, ◌≢◌}
+use Rattle.std.specs.Ordering.{nat_cmp, is_eq, eq_by_cmp}
+use Rattle.std.specs.Cmp.{nat_cmp_total, tied_itself}
+use Rattle.std.specs.FinMap as table
+use Rattle.std.proofs.lemmas.Bool.Decides.{nat_tests}
+use Rattle.seam_ghosts.specs.declared.Ghost.{Ghost}
+use Rattle.seam_ghosts.specs.Book.{copy_in}
+use Rattle.seam_call.specs.declared.shown.GhostCopy.{GhostCopy}
+use Rattle.seam_entity.specs.Here.{Here}
+use Rattle.seam_entity.specs.Reals.{RealView}
+use Rattle.seam_node_steps.specs.Maps.{Map}
+use Rattle.seam_entity.specs.WitnessLooks.{other_of_real, other_of_copy}
+use Rattle.seam_node_steps.specs.Knowing.{known_by}
+use Rattle.seam_cell_look.specs.Told.{Told, told_of, known_with, AreTold, AreToldBut, AreStillTold}
+
+pub none_told : (known : ℕ → Option GhostCopy) (told : Told) → told ≡ [] → AreTold known told
+none_told known told none e c is = let wrong : None ≡ Some c = sym (ap (told_of e) none) ∙ is in cc
+
+module _ (own : ℕ) (known : ℕ → Option GhostCopy) where
+  pub told_again : (a b c : Told) → AreStillTold own known a b → AreStillTold own known b c → AreStillTold own known a c
+  told_again a b c first second = (second.0, second.1 ∙ first.1)
+
+  pub still_told : (a b c : Told) → b ≡ a → AreStillTold own known b c → AreStillTold own known a c
+  still_told a b c same still = (still.0, still.1 ∙ ap (told_of own) same)
+
+-- ---- what is known of an entity
+
+module _ (h : Here) (reals : Map RealView) (ghosts : Map (Ghost GhostCopy)) (e : ℕ) where
+  pub real_is_known : (r : RealView) → Some r ≡ table.get reals e → Some (other_of_real h r) ≡ known_with h reals ghosts e
+  real_is_known r at = ap (λ o. known_by h o (copy_in (table.get ghosts e))) at
+
+  pub copy_is_known : (o : Option GhostCopy) → None ≡ table.get reals e → o ≡ copy_in (table.get ghosts e) →
+      option_map (other_of_copy h) o ≡ known_with h reals ghosts e
+  copy_is_known o none at = λ i. known_by h (none i) (at i)
+
+-- ---- a look, in which the real of the own entity is not among the others
+
+module _ (h : Here) (reals : Map RealView) (ghosts : Map (Ghost GhostCopy)) (own : ℕ) (told : Told) where
+  apart : (e : ℕ) → e ≢ own → eq_by_cmp nat_cmp e own ≡ false
+  apart e other = grind (arith, nat_tests, other)
+
+  -- what is told of others is known without the own real
+  pub told_of_others : AreTold (known_with h reals ghosts) told →
+      (m : Map RealView) → m ≡ table.remove reals own → AreToldBut own (known_with h m ghosts) told
+  told_of_others are m out e c other at =
+      ap (λ o. known_by h o (copy_in (table.get ghosts e)))
+      (ap (λ n. table.get n e) out ∙ (table.get-remove nat_cmp_total reals own e
+      ∙ ap (λ b. cond b None (table.get reals e)) (apart e other)))
+      ∙ are e c at
+
+  module _ (now : Told) (m : Map RealView) (out : m ≡ table.remove reals own)
+      (are : AreTold (known_with h reals ghosts) told) (still : AreStillTold own (known_with h m ghosts) told now)
+      (r q : RealView) (at : table.get reals own ≡ Some r) (alike : other_of_real h q ≡ other_of_real h r)
+      (after : Map RealView) (put : after ≡ table.insert m own q) where
+    by_entity : (t : Bool) (e : ℕ) (c : GhostCopy) → eqb e own ≡ t → told_of e now ≡ Some c → known_with h after ghosts e ≡ Some c
+    by_entity true e c is told_it =
+        let same : e ≡ own = grind (arith, nat_tests, is) in
+        ap (known_with h after ghosts) same
+        ∙ (ap (λ o. known_by h o (copy_in (table.get ghosts own)))
+        (ap (λ n. table.get n own) put ∙ (table.get-insert nat_cmp_total m own q own
+        ∙ ap (λ o. cond (is_eq o) (Some q) (table.get m own)) (tied_itself nat_cmp_total own)))
+        ∙ (ap Some alike
+        ∙ (sym (ap (λ o. known_by h o (copy_in (table.get ghosts own))) at)
+        ∙ are own c (sym still.1 ∙ (ap (λ x. told_of x now) (sym same) ∙ told_it)))))
+    by_entity false e c is told_it =
+        let other : e ≢ own = grind (arith, nat_tests, is) in
+        ap (λ o. known_by h o (copy_in (table.get ghosts e)))
+        (ap (λ n. table.get n e) put ∙ (table.get-insert nat_cmp_total m own q e
+        ∙ ap (λ b. cond b (Some q) (table.get m e)) (apart e other)))
+        ∙ still.0 e c other told_it
+
+    -- it is put back, and others see it as before
+    pub told_after_look : AreTold (known_with h after ghosts) now
+    told_after_look e c told_it = by_entity (eqb e own) e c refl told_it

@@ -1,0 +1,16 @@
+use Rattle.std.proofs.Common.{◌≡◌, take}
+use Rattle.std.specs.List.{filter_map}
+use Rattle.seam_node_steps.specs.CellLooks.{shown_for}
+use Rattle.seam_node_steps.specs.Cells.{CellView, known_to}
+use Rattle.seam_cell_parts.specs.Kept.{here_in}
+use Rattle.seam_cell_look.specs.Looking.{seeing}
+use Rattle.seam_cell_look.specs.Told.{known_with, AreStillTold}
+use Rattle.seam_cell_look.specs.Updates.{with_shown}
+use Rattle.seam_cell_look.proofs.looking.Sight.add_all.Given as goal
+
+abbrev pub invariant-loop-look : goal.invariant-loop-look
+invariant-loop-look l =
+    ((c : CellView) →
+    let d : CellView = seeing c (here_in l.self.known.now) l.self.reals.now.items l.self.copies.now.ghosts in
+    l.shown ≡ with_shown l.fn.shown (filter_map (shown_for (known_to d l.self.own)) (take l.look-index l.looks)))
+    × AreStillTold l.self.own (known_with (here_in l.self.known.now) l.self.reals.now.items l.self.copies.now.ghosts) l.fn.told l.told

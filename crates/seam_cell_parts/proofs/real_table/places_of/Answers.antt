@@ -1,0 +1,32 @@
+use Rattle.std.proofs.Common.{◌++◌, [], ◌∷◌, get_or, ap, ◌∙◌}
+use Rattle.std.specs.FinMap as map
+use Rattle.seam_cell_parts.specs.Spots.{place_of_real}
+use Rattle.seam_cell_parts.proofs.SpotLemmas.{find_real, never_missing, placed_more, all_placed}
+use Rattle.seam_cell_parts.proofs.real_table.places_of.Goals as goal
+
+pub unreachable-requires : goal.unreachable-requires
+unreachable-requires c =
+    let m = c.args.items.now.items in
+    let ns = c.deref-e-items.result.now in
+    let are = c.deref-e-items.ensures.value ∙ c.in_ok-entities.ensures in
+    let i = c.loop-e.e-index in
+    never_missing place_of_real (map.entries m) (map.entries_sorted m) ns are i c.loop-e-test.true (c.in_default.ensures.item ∙ find_real m (get_or ns i 0))
+
+pub loop-e-preserved : goal.loop-e-preserved
+loop-e-preserved c =
+    let m = c.args.items.now.items in
+    let ns = c.deref-e-items.result.now in
+    let are = c.deref-e-items.ensures.value ∙ c.in_ok-entities.ensures in
+    let i = c.loop-e.e-index in
+    placed_more place_of_real (map.entries m) (map.entries_sorted m) ns are i c.loop-e-test.true c.in-Some.parcel.now c.loop-e.places.items c.push.new.self.items
+    (c.in-Some.ensures.item ∙ find_real m (get_or ns i 0)) c.loop-e.invariant
+    (c.in_ok-push.ensures.items
+    ∙ ap (λ p. c.loop-e.places.items ++ (get_or ns i 0, p) ∷ []) (c.place_of.ensures ∙ ap place_of_real c.parcel.view_is))
+
+pub returns : goal.returns
+returns c =
+    let m = c.args.items.now.items in
+    let ns = c.deref-e-items.result.now in
+    let are = c.deref-e-items.ensures.value ∙ c.in_ok-entities.ensures in
+    let i = c.loop-e.e-index in
+    all_placed place_of_real (map.entries m) (map.entries_sorted m) ns are i c.loop-e.places.items c.loop-e-test.false c.loop-e.invariant

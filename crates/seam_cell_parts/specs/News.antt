@@ -1,0 +1,43 @@
+-- What the haunts of a real are told, cell by cell.
+use Rattle.std.specs.Prelude.{◌≡◌, ℕ, ◌+◌, List, [], ◌∷◌, filter_map, Option, None, Some}
+use Rattle.std.specs.List.{range_with_len}
+use Rattle.seam_call.specs.declared.shown.GhostCopy.{GhostCopy}
+use Rattle.seam_entity.specs.Reals.{RealView}
+use Rattle.seam_entity.specs.Here.{Here}
+use Rattle.seam_entity.specs.Executing.{copy_of_real}
+use Rattle.seam_entity.specs.declared.message.Msg.{Msg}
+use Rattle.seam_entity.specs.declared.message.Msg.TheVariants.{GhostSet, GhostDrop}
+use Rattle.seam_defs.specs.declared.states.State.{State}
+use Rattle.seam_cell_parts.specs.declared.news.Subject.{Subject}
+use Rattle.seam_haunt.specs.Telling.{word}
+use Rattle.seam_haunt.specs.declared.telling.Telling.{Telling}
+use Rattle.seam_haunt.specs.declared.telling.Told.{Told}
+use Rattle.seam_haunt.specs.declared.telling.Told.TheVariants.{Nothing, Set, Drop}
+
+-- the state of the real of which is told
+abbrev pub state_of : Subject → State
+state_of of = record { pos = of.pos; props = of.props.now }
+
+abbrev pub said : Telling → GhostCopy → ℕ → Told → Option (ℕ × Msg)
+said t g k Nothing = None
+said t g k Set = Some (k, GhostSet t.entity t.beat g)
+said t g k Drop = Some (k, GhostDrop t.entity t.beat)
+
+abbrev pub listed : {A : Type 0} → Option A → List A
+listed None = []
+listed (Some x) = x ∷ []
+
+abbrev pub told_by : Telling → GhostCopy → ℕ → Option (ℕ × Msg)
+told_by t g k = said t g k (word t k)
+
+-- what the cells below n are told, in rising number
+abbrev pub news : Telling → GhostCopy → ℕ → List (ℕ × Msg)
+news t g n = filter_map (told_by t g) (range_with_len 0 n)
+
+-- this is told by cell h of the real r, of which the copy is g, under the next beat
+pub record Tells (h : Here) (r : RealView) (t : Telling) (g : GhostCopy) : Type 0 where
+  pub me : t.me ≡ h.me
+  pub entity : t.entity ≡ r.entity
+  pub beat : t.beat ≡ r.beat + 1
+  pub old : t.old ≡ r.haunts
+  pub copy : g ≡ copy_of_real h r

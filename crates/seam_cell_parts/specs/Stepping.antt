@@ -1,0 +1,95 @@
+-- What a step of one entity's slot leaves in the parts of a cell.
+use Rattle.std.specs.Prelude.{◌≡◌, ℕ, ◌+◌, ◌++◌, ◌==◌, Bool, true, false, is_none, List, Option, Some, if◌then◌else◌}
+use Rattle.std.specs.FinMap as table
+use Rattle.std.specs.FinSet as set
+use Rattle.seam_tree.specs.Division.{Division}
+use Rattle.seam_geo.specs.declared.pos.Pos.{Pos}
+use Rattle.seam_ghosts.specs.declared.Ghost.{Ghost}
+use Rattle.seam_ghosts.specs.Book.{ghost_after}
+use Rattle.seam_call.specs.declared.shown.GhostCopy.{GhostCopy}
+use Rattle.seam_machine.specs.Views.{OutView}
+use Rattle.seam_entity.specs.Here.{Here}
+use Rattle.seam_entity.specs.Reals.{RealView, RoomyReal}
+use Rattle.seam_entity.specs.Executing.{copy_of_real}
+use Rattle.seam_entity.specs.declared.message.Msg.{Msg}
+use Rattle.seam_node_steps.specs.Maps.{Map, set_at, has_any}
+use Rattle.seam_node_steps.specs.Slots.{Slot, NextPlace, SlotStep, slot_after}
+use Rattle.seam_node_steps.specs.Settle.{home_after, haunts_at, ghost_messages, copy_if}
+use Rattle.seam_node_steps.specs.Cells.{without}
+use Rattle.seam_haunt.specs.declared.telling.Telling.{Telling}
+use Rattle.seam_cell_parts.specs.declared.places.Places.{Places}
+use Rattle.seam_cell_parts.specs.declared.settle.Begun.{Begun}
+use Rattle.seam_cell_parts.specs.Settling.{former}
+
+-- ---- what settling begins with
+
+-- what is told of a real of cell h that settles at that position
+abbrev pub telling_at : Here → Division → RealView → Pos → Bool → Telling
+telling_at h t r p changed =
+    let j : ℕ = home_after h t p in
+    record {
+      me = h.me;
+      home = j;
+      old = r.haunts;
+      haunts = haunts_at h t p j (former h.me j r.haunts);
+      changed = changed;
+      entity = r.entity;
+      beat = r.beat + 1;
+    }
+
+-- `later` is what the real is after a call: of the same entity, with the same haunts and beat
+pub record IsLater (r later : RealView) : Type 0 where
+  pub entity : later.entity ≡ r.entity
+  pub haunts : later.haunts ≡ r.haunts
+  pub beat : later.beat ≡ r.beat
+
+-- ---- what a step leaves
+
+-- what a step may change beside the real: the next places, the ghosts, and what is sent
+pub record PartsView : Type 0 where
+  pub nexts : Map NextPlace
+  pub ghosts : Map (Ghost GhostCopy)
+  pub sent : List (ℕ × Msg)
+
+abbrev pub parts_of : Places → OutView Msg → PartsView
+parts_of p o = record { nexts = p.nexts.items; ghosts = p.copies.ghosts; sent = o.items }
+
+-- the slot of entity e in these parts, with that real
+abbrev pub slot_in : PartsView → ℕ → RealView → Slot
+slot_in w e r = record { real = Some r; next = table.get w.nexts e; ghost = table.get w.ghosts e }
+
+abbrev pub core_of : RoomyReal → RealView
+core_of r = r.core
+
+-- the ghosts once the own book heard of the real, of which the copy is g; it hears where the real goes
+abbrev pub heard : Telling → GhostCopy → Map (Ghost GhostCopy) → Map (Ghost GhostCopy)
+heard t g ghosts =
+    if t.home == t.me
+    then ghosts
+    else set_at ghosts t.entity
+    (ghost_after (table.get ghosts t.entity) (record { beat = t.beat; copy = copy_if (set.contains t.haunts t.me) g }))
+
+-- what the haunts of the real are told
+abbrev pub told_of : Here → RealView → Telling → List (ℕ × Msg)
+told_of h r t = ghost_messages h r t.home t.haunts t.changed
+
+-- the settling of the real, changed or not, has begun: its haunts were told, where it goes the own book heard, and nothing else changed
+pub record HasBegun (h : Here) (t : Division) (r : RealView) (changed : Bool) (before after : PartsView) (b : Begun) : Type 0 where
+  pub telling : b.telling ≡ telling_at h t r r.state.pos changed
+  pub has_told : b.has_told ≡ has_any (told_of h r b.telling)
+  pub nexts : after.nexts ≡ before.nexts
+  pub ghosts : after.ghosts ≡ heard b.telling (copy_of_real h r) before.ghosts
+  pub sent : after.sent ≡ before.sent ++ told_of h r b.telling
+
+-- the step of the slot of entity e, whose real was r, left this of the real and of the parts
+pub record IsDone (t : SlotStep) (e : ℕ) (r : RealView) (left : Option RealView) (before after : PartsView) : Type 0 where
+  pub real : left ≡ (slot_after t.slot (slot_in before e r)).real
+  pub nexts : after.nexts ≡ set_at before.nexts e (slot_after t.slot (slot_in before e r)).next
+  pub ghosts : after.ghosts ≡ set_at before.ghosts e (slot_after t.slot (slot_in before e r)).ghost
+  pub sent : after.sent ≡ before.sent ++ t.sent
+  pub unlisted : t.unlisted ≡ is_none left
+
+-- a list without the entity, where its entries go
+abbrev pub list_after : Bool → ℕ → List ℕ → List ℕ
+list_after true e es = without e es
+list_after false e es = es

@@ -1,0 +1,35 @@
+// SPDX-License-Identifier: MIT
+
+//! The parts of a cell, and how a real settles among them.
+//!
+//! Which reals have a ready call, which have a witness, and which are to settle or to look are ordered sets, so that no step searches
+//! all reals; where reals and copies are is kept for looks, where there are many. Settling first does all that may want memory, the
+//! last of which is what the own book hears; what comes then cannot fail. Of `proofs/`, `SetLemmas`, `MarkLemmas` and `RealLemmas`
+//! (what the marks of reals are after a change), `NewsLemmas` (what haunts are told), `SettleLemmas` (what settling leaves) and
+//! `SpotLemmas` (lists of all places) are for callers.
+#![tactic(auto)]
+
+mod context;
+mod copy_book;
+mod entity_queue;
+mod entity_set;
+mod lists;
+mod news;
+mod next;
+mod places;
+mod real_table;
+mod reals;
+mod settle;
+mod spots;
+
+pub use context::CellContext;
+pub use copy_book::CopyBook;
+pub use entity_queue::{EntityQueue, EntityRow};
+pub use entity_set::EntitySet;
+pub use lists::{Lists, unlist};
+pub use news::Subject;
+pub use next::Next;
+pub use places::Places;
+pub use real_table::RealTable;
+pub use reals::{Reals, close, first_ready, make_place, put_after, put_in, take_out};
+pub use settle::{Begun, Plan, begin, is_at_rest, make_plan, settle_real};

@@ -1,8 +1,0 @@
-use Rattle.seam_copies.proofs.Ends.{right_kept, right_made}
-use Rattle.seam_copies.proofs.places.places_are_right.Goals as goal
-
-pub returns-clause-kept : goal.returns-clause-kept
-returns-clause-kept c = right_kept
-
-pub returns-clause-made : goal.returns-clause-made
-returns-clause-made c = right_made

@@ -1,5 +1,0 @@
-use Rattle.seam_copies.proofs.Known.{known_within}
-use Rattle.seam_copies.proofs.places.who_may_be_seen_is_known.Goals as goal
-
-pub returns : goal.returns
-returns c = known_within c.triangle_inequality.ensures.over

@@ -1,6 +1,0 @@
-pub mod Tasks
-pub mod Entries
-pub mod GhostMoves
-pub mod Truths
-pub mod Places
-pub mod Copies

@@ -1,4 +1,0 @@
-mod Fewer
-mod Created
-mod Present
-mod Ends

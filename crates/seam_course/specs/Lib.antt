@@ -1,4 +1,0 @@
-pub mod Counts
-pub mod Course
-pub mod OneReal
-pub mod Radius

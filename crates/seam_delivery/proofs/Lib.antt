@@ -1,4 +1,0 @@
-pub mod Delivering
-pub mod Lasting
-pub mod Lives
-pub mod Numbers

@@ -1,3 +1,0 @@
-pub mod Deliveries
-pub mod Lives
-pub mod Numbered

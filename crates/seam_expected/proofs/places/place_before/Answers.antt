@@ -1,5 +1,0 @@
-use Rattle.seam_round.proofs.Places.{none_are_small}
-use Rattle.seam_expected.proofs.places.place_before.Goals as goal
-
-pub invariant_of-result : goal.invariant_of-result
-invariant_of-result c = none_are_small c.none.result c.none.ensures

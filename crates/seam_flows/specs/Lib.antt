@@ -1,5 +1,0 @@
-pub mod Flows
-pub mod Narrow
-pub mod Newest
-pub mod Sent
-pub mod Tokens

@@ -1,4 +1,0 @@
-mod Naming
-mod LookCounts
-mod Telling
-mod Rounds

@@ -1,7 +1,0 @@
-use Rattle.std.proofs.Common.{◌≡◌, take}
-use Rattle.std.specs.Prelude.{filter}
-use Rattle.seam_rules.specs.Clients.{is_base}
-use Rattle.seam_judge.proofs.clients.base_among.Given as goal
-
-abbrev pub invariant-loop-text : goal.invariant-loop-text
-invariant-loop-text l = l.bases.items ≡ filter is_base (take l.text-index l.texts)

@@ -1,5 +1,0 @@
-use Rattle.seam_judge.proofs.Told.{RisesBelow}
-use Rattle.seam_judge.proofs.clients.do_rise.Given as goal
-
-abbrev pub invariant-loop-i : goal.invariant-loop-i
-invariant-loop-i l = RisesBelow l.numbers l.i

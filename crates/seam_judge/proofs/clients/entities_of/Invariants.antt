@@ -1,5 +1,0 @@
-use Rattle.std.proofs.Common.{◌≡◌, take, map}
-use Rattle.seam_judge.proofs.clients.entities_of.Given as goal
-
-abbrev pub invariant-loop-line : goal.invariant-loop-line
-invariant-loop-line l = l.entities.items ≡ map (λ x. x.entity) (take l.line-index l.lines)

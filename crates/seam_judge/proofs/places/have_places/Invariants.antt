@@ -1,8 +1,0 @@
-use Rattle.std.proofs.Common.{ℕ, ◌<◌, get_or}
-use Rattle.seam_call.specs.declared.create.Create.{Create}
-use Rattle.seam_rules.specs.Places.{HasPlace}
-use Rattle.seam_round.specs.Standings.{standing_of}
-use Rattle.seam_judge.proofs.places.have_places.Given as goal
-
-abbrev pub invariant-loop-create : goal.invariant-loop-create
-invariant-loop-create l = (k : ℕ) (d : Create) → k < l.create-index → HasPlace l.header (standing_of l.before) (standing_of l.after) (get_or l.live k d)

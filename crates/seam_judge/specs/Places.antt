@@ -1,9 +1,0 @@
--- What is known of where entities are held.
-use Rattle.std.specs.Prelude.{ℕ, ◌<◌}
-use Rattle.seam_tree.specs.Division.{cells_of}
-use Rattle.seam_transcript.specs.Book.{tree_of}
-use Rattle.seam_rules.specs.Standing.{Standing}
-
--- each entity has its home in a cell of the open round's tree
-abbrev pub HaveHomes : Standing → Type 0
-HaveHomes s = (e : ℕ) → (s.places e).home < cells_of (tree_of s.book)

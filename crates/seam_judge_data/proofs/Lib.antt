@@ -1,0 +1,3 @@
+pub mod CellNumbers
+mod Lists
+mod Trees

@@ -1,0 +1,201 @@
+-- A round is legal where each of its points holds.
+use Rattle.std.proofs.Common.{◌≡◌, ◌+◌, ◌++◌, ◌≤◌, ◌⊎◌, ℕ, Bool, true, false, List, map, Option, None, Some, sym, ap, ◌∙◌, subst, inl, inr}
+use Rattle.std.proofs.Common.{IsTrue, IsFalse, ◌↔◌}
+use Rattle.std.specs.Prelude.{filter, MatchBool}
+use Rattle.std.specs.List.{All, flat_map}
+use Rattle.std.proofs.lemmas.List.Elements.{filter-append}
+use Rattle.std.proofs.lemmas.Option.{same_Some}
+use Rattle.seam_tree.specs.declared.area_table.TheConstants.{MOST_CELLS}
+use Rattle.seam_tree.specs.Division.{Division, cells_of}
+use Rattle.seam_defs.specs.declared.flags.Part.{Part}
+use Rattle.seam_call.specs.Calls.{is_for}
+use Rattle.seam_call.specs.declared.call.Call.{Call}
+use Rattle.seam_call.specs.declared.create.Create.{Create}
+use Rattle.seam_toml.specs.declared.header.Header.{Header}
+use Rattle.seam_rule_lines.specs.Book.{live_as, tree_of, has_balance, with_round_ended}
+use Rattle.seam_rule_lines.specs.Round.{DoneLine, Lists, ExtendsOrders}
+use Rattle.seam_rule_lines.proofs.Lists.{listed_is_one}
+use Rattle.seam_rule_rounds.specs.Standing.{Standing}
+use Rattle.seam_rule_rounds.specs.RoundPlaces.{HasPlace}
+use Rattle.seam_rule_rounds.specs.Lines.{RoundData}
+use Rattle.seam_rule_rounds.specs.Clients.{HasLooked}
+use Rattle.seam_rule_rounds.specs.Round.{home_line, base_line, ghost_lines, with_bounds, HasBounds, IsRound}
+use Rattle.seam_judge_rounds.specs.Bounds.{PrintsBounds}
+use Rattle.seam_judge_data.specs.Standings.{standing_of}
+use Rattle.seam_judge_data.specs.declared.standing.Standing as plain
+use Rattle.seam_judge_rounds.specs.After.{AreForMade, after_round}
+use Rattle.seam_judge_rounds.specs.Points.{OfLive, Holds}
+use Rattle.seam_judge_rounds.specs.declared.verdict.Point.{Point}
+use Rattle.seam_judge_rounds.specs.declared.verdict.Point.TheVariants as point
+use Rattle.seam_judge_rounds.proofs.Leaves.{round_left}
+
+-- ---- the first that does not hold
+
+module _ (H : Point → Type 0) where
+  -- what is known of an answer: there is none exactly where all of these hold, and the one that is given does not hold
+  abbrev pub Decides : Type 0 → Option Point → Type 0
+  Decides Q o = ((o ≡ None) ↔ Q) × ((p : Point) → o ≡ Some p → ¬ (H p))
+
+  not_so : (x p : Point) (b : Bool) → (IsTrue b ↔ H x) → (p ≡ x) × IsFalse b → ¬ (H p)
+  not_so x p b decides (same, fails) holds = let so = decides.1 (subst H same holds) in absurd (cc)
+
+  pub last_one : (x : Point) (b : Bool) (o later : Option Point) → later ≡ None → (IsTrue b ↔ H x) →
+      ((o ≡ None) ↔ (IsTrue b × (later ≡ None))) → ((p : Point) → o ≡ Some p → ((p ≡ x) × IsFalse b) ⊎ (later ≡ Some p)) →
+      Decides (H x) o
+  last_one x b o later no_later decides none some = (
+    ((λ is. decides.0 (none.0 is).0), (λ holds. none.1 (decides.1 holds, no_later))),
+    (λ p is. elim (some p is) [ inl this ↦ not_so x p b decides this | inr never ↦ absurd (cc) ]),
+  )
+
+  pub one_more : (Q : Type 0) (x : Point) (b : Bool) (o later : Option Point) → Decides Q later → (IsTrue b ↔ H x) →
+      ((o ≡ None) ↔ (IsTrue b × (later ≡ None))) → ((p : Point) → o ≡ Some p → ((p ≡ x) × IsFalse b) ⊎ (later ≡ Some p)) →
+      Decides (H x × Q) o
+  one_more Q x b o later rest decides none some = (
+    (
+      (λ is. let two = none.0 is in (decides.0 two.0, rest.0.0 two.1)),
+      (λ both. none.1 (decides.1 both.0, rest.0.1 both.1)),
+    ),
+    (λ p is. elim (some p is) [ inl this ↦ not_so x p b decides this | inr further ↦ rest.1 p further ]),
+  )
+
+-- ---- boundaries
+
+match_map : {A B C D : Type 0} (b : Bool) → (A → C) → (B → D) → MatchBool b A B → MatchBool b C D
+match_map true f g x = f x
+match_map false f g x = g x
+
+module _ (h : Header) (s : Standing) (r : RoundData) (t : Standing) (book : t.book ≡ with_bounds (with_round_ended s.book) r.bounds) where
+  pub bounds_decided : (b : Bool) → (IsTrue b ↔ PrintsBounds h s r.homes r.bounds) → (IsTrue b ↔ HasBounds h s r t)
+  bounds_decided b decides = (
+    (λ so. match_map (has_balance s.book)
+        (λ (next, balanced, is). (next, balanced, is, book ∙ ap (λ (o : Option Division). with_bounds (with_round_ended s.book) o) is))
+        (λ is. (is, book ∙ ap (λ (o : Option Division). with_bounds (with_round_ended s.book) o) is)) (decides.0 so)),
+    (λ has. decides.1 (match_map (has_balance s.book) (λ (next, balanced, is, left). (next, balanced, is)) (λ (is, left). is) has)),
+  )
+
+-- ---- orders
+
+-- the orders after a round, by the calls that its lines show
+pub orders_decided : (s : plain.Standing) (r : RoundData) (t : Standing) (done : List Call) (p : Part) (lines : List DoneLine) (b : Bool) →
+    t ≡ after_round (standing_of s) r → done ≡ map (λ l. l.call) (r.did ++ r.dob) →
+    (IsTrue b ↔ ExtendsOrders (standing_of s).book p ((standing_of s).orders p) (λ e. filter (is_for p e) (s.calls.items ++ done)) lines) →
+    (IsTrue b ↔ ExtendsOrders (standing_of s).book p ((standing_of s).orders p) (t.orders p) lines)
+orders_decided s r t done p lines b follows are decides =
+    let same : (e : ℕ) → filter (is_for p e) (s.calls.items ++ done) ≡ t.orders p e =
+    λ e. filter-append (is_for p e) s.calls.items done
+    ∙ ap (λ (ds : List Call). filter (is_for p e) s.calls.items ++ filter (is_for p e) ds) are
+    ∙ sym (ap (λ (x : Standing). x.orders p e) follows) in
+    subst (λ (after : ℕ → List Call). IsTrue b ↔ ExtendsOrders (standing_of s).book p ((standing_of s).orders p) after lines)
+    (λ i e. same e i) decides
+
+-- ---- lines
+
+-- what is decided of equal lines
+pub of_lines : {X : Type 0} (P : List X → Type 0) (xs ys : List X) (b : Bool) → xs ≡ ys → (IsTrue b ↔ P xs) → (IsTrue b ↔ P ys)
+of_lines {X} P xs ys b same decides = subst (λ (zs : List X). IsTrue b ↔ P zs) same decides
+
+-- ---- all points
+
+pub of_live : (s : Standing) (live : List Create) (b : Bool) (P : List Create → Type 0) → Lists (live_as s.book) live → (IsTrue b ↔ P live) →
+    (IsTrue b ↔ OfLive s P)
+of_live s live b P listed decides = (
+  (λ so other listed_too. subst P (listed_is_one (live_as s.book) live other listed listed_too) (decides.0 so)),
+  (λ all. decides.1 (all live listed)),
+)
+
+module _ (h : Header) (s : Standing) (r : RoundData) (t : Standing) where
+  as_live : (x : IsRound h s r t) (P : List Create → Type 0) → P x.live → OfLive s P
+  as_live x P holds live listed = subst P (listed_is_one (live_as s.book) x.live live x.listed listed) holds
+
+  pub points_hold : IsRound h s r t → (p : Point) → Holds h s r t p
+  points_hold x point.Number = x.number
+  points_hold x point.Did = x.did
+  points_hold x point.Dob = x.dob
+  points_hold x point.Places = as_live x (All (HasPlace h s t)) x.places
+  points_hold x point.Homes = as_live x (λ (l : List Create). r.homes ≡ map (home_line h t) l) x.homes
+  points_hold x point.Bases = as_live x (λ (l : List Create). r.bases ≡ map (base_line h t) l) x.bases
+  points_hold x point.Ghosts = as_live x (λ (l : List Create). r.ghosts ≡ flat_map (ghost_lines h (tree_of s.book) t) l) x.ghosts
+  points_hold x point.Shown = x.shown
+  points_hold x point.Looked = as_live x (HasLooked h s r t) x.looked
+  points_hold x point.Bounds = x.bounds
+
+  module _ (live : List Create) (listed : Lists (live_as s.book) live) where
+    pub round_of : t.lines ≡ s.lines → t.rounds ≡ s.rounds + 1 → ((p : Point) → Holds h s r t p) → IsRound h s r t
+    round_of lines rounds all = record {
+      number = all point.Number;
+      did = all point.Did;
+      dob = all point.Dob;
+      live = live;
+      listed = listed;
+      places = all point.Places live listed;
+      homes = all point.Homes live listed;
+      bases = all point.Bases live listed;
+      ghosts = all point.Ghosts live listed;
+      shown = all point.Shown;
+      looked = all point.Looked live listed;
+      bounds = all point.Bounds;
+      lines = lines;
+      rounds = rounds;
+    }
+
+    -- the points in the order in which they are judged
+    abbrev pub InOrder : Type 0
+    InOrder =
+        Holds h s r t point.Did × (Holds h s r t point.Dob × (Holds h s r t point.Places × (Holds h s r t point.Homes
+        × (Holds h s r t point.Bases × (Holds h s r t point.Ghosts × (Holds h s r t point.Shown × (Holds h s r t point.Looked
+        × Holds h s r t point.Bounds)))))))
+
+    each : Holds h s r t point.Number → InOrder → (p : Point) → Holds h s r t p
+    each number (did, (dob, (places, (homes, (bases, (ghosts, (shown, (looked, bounds)))))))) point.Number = number
+    each number (did, (dob, (places, (homes, (bases, (ghosts, (shown, (looked, bounds)))))))) point.Did = did
+    each number (did, (dob, (places, (homes, (bases, (ghosts, (shown, (looked, bounds)))))))) point.Dob = dob
+    each number (did, (dob, (places, (homes, (bases, (ghosts, (shown, (looked, bounds)))))))) point.Places = places
+    each number (did, (dob, (places, (homes, (bases, (ghosts, (shown, (looked, bounds)))))))) point.Homes = homes
+    each number (did, (dob, (places, (homes, (bases, (ghosts, (shown, (looked, bounds)))))))) point.Bases = bases
+    each number (did, (dob, (places, (homes, (bases, (ghosts, (shown, (looked, bounds)))))))) point.Ghosts = ghosts
+    each number (did, (dob, (places, (homes, (bases, (ghosts, (shown, (looked, bounds)))))))) point.Shown = shown
+    each number (did, (dob, (places, (homes, (bases, (ghosts, (shown, (looked, bounds)))))))) point.Looked = looked
+    each number (did, (dob, (places, (homes, (bases, (ghosts, (shown, (looked, bounds)))))))) point.Bounds = bounds
+
+    -- a round of the right number is legal exactly where they all hold
+    pub legal : t ≡ after_round s r → r.number ≡ s.rounds + 1 → (o : Option Point) → ((o ≡ None) ↔ InOrder) → ((o ≡ None) ↔ IsRound h s r t)
+    legal follows number o decides = (
+      (λ is. round_of (ap (λ (x : Standing). x.lines) follows) (ap (λ (x : Standing). x.rounds) follows) (each number (decides.0 is))),
+      (λ x. let hold = points_hold x in
+          decides.1 (
+            hold point.Did,
+            (
+              hold point.Dob,
+              (
+                hold point.Places,
+                (
+                  hold point.Homes,
+                  (
+                    hold point.Bases,
+                    (hold point.Ghosts, (hold point.Shown, (hold point.Looked, hold point.Bounds))),
+                  ),
+                ),
+              ),
+            ),
+          )),
+    )
+
+-- ---- a round of another number
+
+pub wrong_number : (h : Header) (s : Standing) (r : RoundData) (t : Standing) (b : Bool) → b ≡ false → (IsTrue b ↔ (r.number ≡ s.rounds + 1)) →
+    (p : Point) → Some point.Number ≡ Some p → ¬ (Holds h s r t p)
+wrong_number h s r t b fails decides p is holds =
+    let same : p ≡ point.Number = sym (same_Some point.Number p is) in
+    let so = decides.1 (subst (Holds h s r t) same holds) in
+    absurd (cc)
+
+pub never_legal : (h : Header) (s : Standing) (r : RoundData) (t : Standing) (b : Bool) → b ≡ false →
+    (IsTrue b ↔ (r.number ≡ s.rounds + 1)) → ¬ (IsRound h s r t)
+never_legal h s r t b fails decides x = let so = decides.1 x.number in absurd (cc)
+
+-- a refused round is legal with no standing
+pub never_left : (h : Header) (s : Standing) (r : RoundData) (o : Option Point) → ((o ≡ None) ↔ IsRound h s r (after_round s r)) →
+    cells_of (tree_of s.book) ≤ MOST_CELLS → (p : Point) → o ≡ Some p → AreForMade s.book → (t : Standing) → ¬ (IsRound h s r t)
+never_left h s r o decides few p is made t x =
+    let none = decides.1 (round_left h s r t made few x) in
+    absurd (cc)

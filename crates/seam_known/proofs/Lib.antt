@@ -1,2 +1,0 @@
-pub mod Sorted
-pub mod Knowing

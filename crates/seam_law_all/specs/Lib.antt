@@ -1,0 +1,4 @@
+pub mod Records
+pub mod Calls
+pub mod Reaps
+pub mod LookLaws

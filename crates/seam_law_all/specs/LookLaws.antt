@@ -1,0 +1,51 @@
+-- The laws of looks: what is true of a world to which a list of events led from one whose witnesses are to look.
+use Rattle.std.specs.Prelude.{◌≡◌, ℕ, List, ◌++◌, Some}
+use Rattle.seam_law_flow.specs.Tokens.{In}
+use Rattle.seam_call.specs.declared.shown.Shown.{Shown}
+use Rattle.seam_entity.specs.Reals.{RealView, WitnessView}
+use Rattle.seam_node_steps.specs.Holders.{holders}
+use Rattle.seam_node_steps.specs.Nodes.{World}
+use Rattle.seam_law_calls.specs.Frames.{Frame}
+use Rattle.seam_law_calls.specs.Sights.{entity_flow}
+use Rattle.seam_law_calls.specs.Ones.{real_in}
+use Rattle.seam_law_calls.specs.BaseTurns.{home_of}
+use Rattle.seam_law_calls.specs.Clients.{shown_at}
+use Rattle.seam_law_rounds.specs.LastPhases.{HasNoCalls}
+use Rattle.seam_law_rounds.specs.Parts.{IsServed}
+use Rattle.seam_law_ghosts.specs.Copies.{AreTold}
+use Rattle.seam_rule_clients.specs.Clients.{ClientReplica, after_all_shown}
+use Rattle.seam_rule_clients.specs.Looks.{one_look}
+use Rattle.seam_law_clients.specs.Tables.{rows_of}
+use Rattle.seam_law_all.specs.Calls.{NoneIsStrayAtCells, UpdatesFindClients}
+
+-- what entity e's client was shown since the round began
+abbrev pub shown_to : Frame → ℕ → World → List Shown
+shown_to f e w = shown_at ((entity_flow e w).slot (home_of f e))
+
+-- The laws of looks: of the world v to which a list of events led from u, where witnesses are to look and each client shows `clients e`.
+pub record ObeysLawsOfLooks (f : Frame) (clients : ℕ → ClientReplica) (u v : World) : Type 0 where
+  -- each entity keeps its one real, and no other gets one
+  pub one_real : (e : ℕ) → holders u e ≡ 1 → holders v e ≡ 1
+  pub no_other : (e : ℕ) → holders u e ≡ 0 → holders v e ≡ 0
+  -- no call waits
+  pub no_calls : (e : ℕ) → holders u e ≡ 1 → HasNoCalls e v
+  -- each cell is told what the real wants
+  pub told : (e home : ℕ) (r q : RealView) → real_in ((entity_flow e u).slot home) ≡ Some r →
+      real_in ((entity_flow e v).slot home) ≡ Some q → AreTold f e v (In home) q
+  -- each client is shown what its witness tells, in order, each update once
+  pub served : (e k : ℕ) (r : RealView) → real_in ((entity_flow e u).slot k) ≡ Some r → IsServed f e r.ty v
+  -- and that is a first part of exactly one look at the flat table
+  pub until : (e k : ℕ) (r : RealView) → real_in ((entity_flow e u).slot k) ≡ Some r → (x : WitnessView) → r.witness ≡ Some x →
+      (rest : List Shown) × (shown_to f e v ++ rest ≡ shown_to f e u ++ one_look (clients e) e (rows_of u))
+  -- nothing is stray
+  pub cells : NoneIsStrayAtCells v
+  pub updates : UpdatesFindClients f v
+
+-- where it is quiet, each client was shown exactly that look
+abbrev pub AreShownOneLook : Frame → (ℕ → ClientReplica) → World → World → Type 0
+AreShownOneLook f clients u v = (e k : ℕ) (r : RealView) → real_in ((entity_flow e u).slot k) ≡ Some r → (x : WitnessView) →
+    r.witness ≡ Some x → shown_to f e v ≡ shown_to f e u ++ one_look (clients e) e (rows_of u)
+
+-- once each client was shown one look at the flat table
+abbrev pub clients_looked : (ℕ → ClientReplica) → World → ℕ → ClientReplica
+clients_looked clients u e = after_all_shown (clients e) (one_look (clients e) e (rows_of u))

@@ -1,0 +1,42 @@
+-- The laws of reaps: what is true of a world to which a list of events led from one that was told to reap entities.
+use Rattle.std.specs.Prelude.{◌≡◌, ℕ, ◌<◌, List, Some, None}
+use Rattle.std.specs.List.{AllByRecursion}
+use Rattle.seam_law_flow.specs.Tokens.{In}
+use Rattle.seam_entity.specs.Here.{cell_count}
+use Rattle.seam_entity.specs.Reals.{RealView}
+use Rattle.seam_node_steps.specs.Bases.{PartView}
+use Rattle.seam_node_steps.specs.Holders.{holders}
+use Rattle.seam_node_steps.specs.Nodes.{World}
+use Rattle.seam_law_calls.specs.Frames.{Frame}
+use Rattle.seam_law_calls.specs.Sights.{entity_flow}
+use Rattle.seam_law_calls.specs.Ones.{real_in}
+use Rattle.seam_law_calls.specs.Reaps.{HasNoPart}
+use Rattle.seam_law_rounds.specs.LastPhases.{HasNoCalls}
+use Rattle.seam_law_ghosts.specs.Copies.{copy_at, AreTold, IsForgotten}
+use Rattle.seam_law_calls.specs.Telling.{IsToldNothing}
+use Rattle.seam_law_all.specs.Calls.{NoneIsStrayAtCells}
+
+-- The laws of reaps: of the world v to which a list of events led from u, where the entities `es` are to be reaped.
+pub record ObeysLawsOfReaps (f : Frame) (u : World) (es : List ℕ) (v : World) : Type 0 where
+  -- each entity that is not to be reaped keeps its one real, and no other gets one
+  pub one_real : (e : ℕ) → holders u e ≡ 1 → AllByRecursion (λ x. x ≡ e → ⊥) es → holders v e ≡ 1
+  pub no_other : (e : ℕ) → holders u e ≡ 0 → holders v e ≡ 0
+  -- no call waits
+  pub no_calls : (e : ℕ) → holders u e ≡ 1 → HasNoCalls e v
+  -- where the real still is, each cell is told what it wants; where it is gone, that there is to be no copy
+  pub told : (e home : ℕ) (r q : RealView) → real_in ((entity_flow e u).slot home) ≡ Some r →
+      real_in ((entity_flow e v).slot home) ≡ Some q → AreTold f e v (In home) q
+  pub forgotten : (e home : ℕ) (r : RealView) → real_in ((entity_flow e u).slot home) ≡ Some r →
+      real_in ((entity_flow e v).slot home) ≡ None → IsForgotten e v
+  -- a base part that is still there is what it was, with what its client was shown
+  pub parts : (e home : ℕ) (r : RealView) → real_in ((entity_flow e u).slot home) ≡ Some r → (k : ℕ) (p : PartView) →
+      ((entity_flow e v).slot k).base.part ≡ Some p → ((entity_flow e u).slot k).base.part ≡ Some p
+  -- nothing is stray: no update is on its way
+  pub cells : NoneIsStrayAtCells v
+  pub updates : (e : ℕ) → IsToldNothing e v
+
+-- where it is quiet, nothing is left of those that were reaped: no real, no copy in any cell, no base part and no client
+pub record AreGone (es : List ℕ) (v : World) : Type 0 where
+  pub reals : AllByRecursion (λ e. holders v e ≡ 0) es
+  pub copies : AllByRecursion (λ e. (k : ℕ) → k < cell_count → copy_at e v k ≡ None) es
+  pub parts : AllByRecursion (λ e. HasNoPart e v) es

@@ -1,0 +1,159 @@
+-- Where the calls of a round leave the world quiet, each part executed all that was accepted for it.
+use Rattle.std.proofs.Common.{◌≡◌, ℕ, zero, suc, ◌+◌, ◌<◌, ◌≤◌, Bool, true, false, cond, List, [], ◌∷◌, ◌++◌}
+use Rattle.std.proofs.Common.{refl, sym, ap, ◌∙◌, subst, arith, inl, inr, append-nil, ◌⊎◌}
+use Rattle.std.specs.Prelude.{◌==◌, ◌&&◌, filter}
+use Rattle.std.specs.List.{AllByRecursion, flat_map, range_with_len}
+use Rattle.std.proofs.lemmas.Bool.{cases_eq, cases_lt, eq-eqb}
+use Rattle.std.proofs.lemmas.List.Elements.{filter-append, filter_map-append}
+use Rattle.seam_law_flow.specs.Flows.{letters_of, more_letter}
+use Rattle.seam_defs.specs.declared.flags.Part.{Part}
+use Rattle.seam_defs.specs.declared.limits.TheConstants.{MOST_BASE_NODES}
+use Rattle.seam_call.specs.Calls.{is_for, is_from}
+use Rattle.seam_call.specs.Senders.{IsSender, same_sender, rank_of}
+use Rattle.seam_call.specs.declared.sender.Sender.{Sender}
+use Rattle.seam_call.specs.declared.sender.Sender.TheVariants as sender
+use Rattle.seam_call.specs.declared.call.Call.{Call as CallData}
+use Rattle.seam_rule_lines.specs.Book.{Book, called, calls_of, accepted}
+use Rattle.seam_rule_lines.specs.Orders.{of_sender, IsFull}
+use Rattle.seam_rule_lines.proofs.BookEntries.{differ}
+use Rattle.seam_law_book.specs.Books.{as_begun}
+use Rattle.seam_law_book.specs.Bringing.{calls_from}
+use Rattle.seam_law_book.proofs.Untouched.{IsFromSender, accepted_by_place, same_place}
+use Rattle.seam_law_calls.specs.Sights.{kept_if}
+use Rattle.seam_law_calls.specs.CellTurns.{from_sender}
+
+-- ---- a list by its senders
+
+-- the calls of a place in the order of senders
+abbrev pub of_place : ℕ → List CallData → List CallData
+of_place n cs = filter (λ c. rank_of c.sender == n) cs
+
+letters_by : (n : ℕ) (c : CallData) (t : Bool) (cs : List CallData) → more_letter (kept_if t c) cs ≡ cond t (c ∷ cs) cs
+letters_by n c true cs = refl
+letters_by n c false cs = refl
+
+pub letters_are_of_place : (n : ℕ) (cs : List CallData) → letters_of (from_sender n) cs ≡ of_place n cs
+letters_are_of_place n [] = refl
+letters_are_of_place n (c ∷ cs) =
+    letters_by n c (rank_of c.sender == n) (letters_of (from_sender n) cs)
+    ∙ ap (λ l. cond (rank_of c.sender == n) (c ∷ l) l) (letters_are_of_place n cs)
+
+-- what is true of the calls of each place is true of all
+module _ (P : CallData → Type 0) where
+  first_by : (c : CallData) (cs : List CallData) (t : Bool) → t ≡ true → AllByRecursion P (cond t (c ∷ cs) cs) → P c
+  first_by c cs true is all = all.0
+  first_by c cs false is all = absurd (let z = is in cc)
+
+  rest_by : (c : CallData) (cs : List CallData) (t : Bool) → AllByRecursion P (cond t (c ∷ cs) cs) → AllByRecursion P cs
+  rest_by c cs true all = all.1
+  rest_by c cs false all = all
+
+  pub all_by_place : (cs : List CallData) → ((n : ℕ) → AllByRecursion P (of_place n cs)) → AllByRecursion P cs
+  all_by_place [] all = tt
+  all_by_place (c ∷ cs) all = (
+    first_by c (of_place (rank_of c.sender) cs) (rank_of c.sender == rank_of c.sender) (eq-eqb (rank_of c.sender) (rank_of c.sender) refl)
+        (all (rank_of c.sender)),
+    all_by_place cs (λ n. rest_by c (of_place n cs) (rank_of c.sender == n) (all n)),
+  )
+
+  kept_by : (c : CallData) (cs : List CallData) (t : Bool) → P c → AllByRecursion P cs → AllByRecursion P (cond t (c ∷ cs) cs)
+  kept_by c cs true here all = (here, all)
+  kept_by c cs false here all = all
+
+  all_kept : (test : CallData → Bool) (cs : List CallData) → AllByRecursion P cs → AllByRecursion P (filter test cs)
+  all_kept test [] all = tt
+  all_kept test (c ∷ cs) all = kept_by c (filter test cs) (test c) all.0 (all_kept test cs all.1)
+
+-- senders are told by their places
+of_sender_by_place : (s : Sender) → IsSender s → (cs : List CallData) → AllByRecursion IsFromSender cs →
+    of_sender s cs ≡ of_place (rank_of s) cs
+of_sender_by_place s is [] all = refl
+of_sender_by_place s is (c ∷ cs) all =
+    ap (λ x. cond x (c ∷ of_sender s cs) (of_sender s cs)) (same_place c.sender s all.0 is)
+    ∙ ap (λ l. cond (rank_of c.sender == rank_of s) (c ∷ l) l) (of_sender_by_place s is cs all.1)
+
+-- one that is no sender made no call
+module _ (n : ℕ) (not : IsSender (sender.Base n) → ⊥) where
+  unlike : (s : Sender) → IsSender s → same_sender s (sender.Base n) ≡ false
+  unlike (sender.Base m) is = differ m n (λ same. not (subst (λ x. IsSender (sender.Base x)) same is))
+  unlike (sender.Client e) is = refl
+
+  none_of : (cs : List CallData) → AllByRecursion IsFromSender cs → of_sender (sender.Base n) cs ≡ []
+  none_of [] all = refl
+  none_of (c ∷ cs) all =
+      ap (λ x. cond x (c ∷ of_sender (sender.Base n) cs) (of_sender (sender.Base n) cs)) (unlike c.sender all.0) ∙ none_of cs all.1
+
+  and_false : (x : Bool) → (x && false) ≡ false
+  and_false true = refl
+  and_false false = refl
+
+  pub none_from : (p : Part) (e : ℕ) (cs : List CallData) → AllByRecursion IsFromSender cs → filter (is_from p e (sender.Base n)) cs ≡ []
+  none_from p e [] all = refl
+  none_from p e (c ∷ cs) all =
+      ap (λ x. cond (is_for p e c && x) (c ∷ filter (is_from p e (sender.Base n)) cs) (filter (is_from p e (sender.Base n)) cs))
+      (unlike c.sender all.0)
+      ∙ ap (λ x. cond x (c ∷ filter (is_from p e (sender.Base n)) cs) (filter (is_from p e (sender.Base n)) cs)) (and_false (is_for p e c))
+      ∙ none_from p e cs all.1
+
+-- whether a number is that of a base node
+pub sender_or_not : (n : ℕ) → IsSender (sender.Base n) ⊎ (IsSender (sender.Base n) → ⊥)
+sender_or_not n = elim (cases_lt n 1) [
+  | inl zero_ ↦ inr (λ is. let from = is.from_one in omega (arith, zero_, from))
+  | inr from ↦ elim (cases_lt MOST_BASE_NODES n) [
+    | inl past ↦ inr (λ is. let most = is.most in omega (arith, past, most))
+    | inr most ↦ inl (record { from_one = from; most = most })
+  ]
+]
+
+-- ---- a part
+
+module _ (b : Book) (p : Part) (e : ℕ) (senders : AllByRecursion IsFromSender (calls_of b.current)) (done : List CallData)
+    (executed : (n : ℕ) → letters_of (from_sender n) done ≡ calls_from p e n (calls_of b.current)) where
+  by_place : (n : ℕ) → of_place n done ≡ calls_from p e n (calls_of b.current)
+  by_place n = sym (letters_are_of_place n done) ∙ executed n
+
+  done_senders : AllByRecursion IsFromSender done
+  done_senders =
+      all_by_place IsFromSender done
+      (λ n. subst (AllByRecursion IsFromSender) (sym (by_place n)) (all_kept IsFromSender _ (calls_of b.current) senders))
+
+  done_by : (s : Sender) → IsSender s → of_sender s done ≡ filter (is_from p e s) (calls_of b.current)
+  done_by s is =
+      of_sender_by_place s is done done_senders ∙ by_place (rank_of s) ∙ sym (accepted_by_place p e s is (calls_of b.current) senders)
+
+  done_of_base : (n : ℕ) → IsSender (sender.Base n) ⊎ (IsSender (sender.Base n) → ⊥) →
+      of_sender (sender.Base n) done ≡ filter (is_from p e (sender.Base n)) (calls_of b.current)
+  done_of_base n (inl is) = done_by (sender.Base n) is
+  done_of_base n (inr not) = none_of n not done done_senders ∙ sym (none_from n not p e (calls_of b.current) senders)
+
+  done_of : (s : Sender) → of_sender s done ≡ filter (is_from p e s) (calls_of b.current)
+  done_of (sender.Base n) = done_of_base n (sender_or_not n)
+  done_of (sender.Client d) = done_by (sender.Client d) tt
+
+  -- what it executed before, and then these, is all that was accepted
+  pub executes_all : (before : List CallData) → IsFull (accepted (as_begun b) p e) before → IsFull (accepted b p e) (before ++ done)
+  executes_all before full s =
+      filter-append (λ c. same_sender c.sender s) before done
+      ∙ ap (λ l. l ++ of_sender s done) (full s ∙ ap (λ xs. filter (is_from p e s) (calls_of xs)) (append-nil b.past))
+      ∙ ap (λ l. filter (is_from p e s) (calls_of b.past) ++ l) (done_of s)
+      ∙ sym (ap (filter (is_from p e s)) (filter_map-append called b.past b.current)
+      ∙ filter-append (is_from p e s) (calls_of b.past) (calls_of b.current))
+
+-- ---- the cell where the real is
+
+module _ {X : Type 0} (g : ℕ → List X) where
+  pub none_in : (a n : ℕ) → ((j : ℕ) → a ≤ j → g j ≡ []) → flat_map g (range_with_len a n) ≡ []
+  none_in a zero none = refl
+  none_in a (suc n) none =
+      ap (λ l. l ++ flat_map g (range_with_len (a + 1) n)) (none a (omega arith))
+      ∙ none_in (a + 1) n (λ j le. none j (omega (arith, le)))
+
+  pub one_in : (k a n : ℕ) → a ≤ k → k < a + n → ((j : ℕ) → (j ≡ k → ⊥) → g j ≡ []) → flat_map g (range_with_len a n) ≡ g k
+  one_in k a zero from to none = absurd (omega (arith, from, to))
+  one_in k a (suc n) from to none = elim (cases_eq a k) [
+    | inl is ↦
+        ap (λ l. g a ++ l) (none_in (a + 1) n (λ j le. none j (λ same. omega (arith, is, le, same)))) ∙ append-nil (g a) ∙ ap g is
+    | inr not ↦
+        ap (λ l. l ++ flat_map g (range_with_len (a + 1) n)) (none a not)
+        ∙ one_in k (a + 1) n (omega (arith, from, not)) (omega (arith, to)) none
+  ]

@@ -1,0 +1,62 @@
+-- A client of a round has a witness at the round's end, and had it before the look.
+use Rattle.std.proofs.Common.{◌≡◌, ℕ, List, true, Option, None, Some, refl, sym, ap, ◌∙◌, inl, inr}
+use Rattle.std.specs.Prelude.{is_some, IsTrue, not, ◌&&◌}
+use Rattle.std.specs.List.{list_any}
+use Rattle.std.proofs.lemmas.Bool.{cases_eq}
+use Rattle.seam_tree.specs.Division.{Division}
+use Rattle.seam_machine.specs.Nets.{LeadsTo}
+use Rattle.seam_machine.specs.declared.machines.Event.{Event}
+use Rattle.seam_toml.specs.declared.header.Header.{Header}
+use Rattle.seam_rule_lines.specs.Book.{Book, entries, created_as, joins, was_dead, is_shown, with_round_ended}
+use Rattle.seam_entity.specs.Reals.{RealView, WitnessView}
+use Rattle.seam_node_steps.specs.Nodes.{World, node_steps, node_has_work}
+use Rattle.seam_node_steps.specs.Loads.{look_loaded}
+use Rattle.seam_law_calls.specs.Frames.{Frame}
+use Rattle.seam_law_calls.specs.Sights.{entity_flow}
+use Rattle.seam_law_calls.specs.Ones.{real_in}
+use Rattle.seam_law_calls.proofs.Holds.{both}
+use Rattle.seam_law_rounds.specs.Between.{IsBetweenRounds}
+use Rattle.seam_law_rounds.specs.Parts.{HasPartsBetweenRounds}
+use Rattle.seam_law_ghosts.specs.RealPlaces.{WasThere}
+use Rattle.seam_law_book.specs.Going.{frame_of, GoesWith}
+use Rattle.seam_law_book.proofs.Ended.{client_of, live_ended}
+use Rattle.seam_law_book.proofs.Parts.{both_seen, looks_leave_part}
+
+-- the real of a live entity that has a client in the round has a witness at its end
+module _ (h : Header) (b : Book) (tree : Division) (v : World) (goes : GoesWith h (with_round_ended b) tree v)
+    (between : IsBetweenRounds (frame_of h tree) v) (e k : ℕ) (q : RealView) (at : real_in ((entity_flow e v).slot k) ≡ Some q)
+    (shown : IsTrue (is_shown b e)) where
+  was_joined : list_any (joins e) (entries b) ≡ true
+  was_joined =
+      (both (is_some (created_as b e)) (list_any (joins e) (entries b))
+      (both (is_some (created_as b e) && list_any (joins e) (entries b)) (not (was_dead b e)) shown).0).1
+
+  pub has_witness : is_some q.witness ≡ true
+  has_witness =
+      let l = goes.reals e k q at in
+      let held = goes.live e l.0 l.1 in
+      let same : held.real ≡ q = elim (cases_eq held.cell k) [
+        | inl is ↦ (let z = sym held.here ∙ (ap (λ j. real_in ((entity_flow e v).slot j)) is ∙ at) in cc)
+        | inr other ↦ absurd (let z = sym ((between.settled e k q at).others held.cell other) ∙ held.here in cc)
+      ] in
+      sym (ap (λ (y : RealView). is_some y.witness) same) ∙ held.client ∙ client_of b e l.0 (sym (live_ended b e) ∙ l.1) ∙ was_joined
+
+-- and it had one before the look
+module _ (g : Frame) (u : World) (before : IsBetweenRounds g u) (parts : HasPartsBetweenRounds g u) (v : World) (es : List Event)
+    (run : LeadsTo node_has_work node_steps (look_loaded u) es v) (then : HasPartsBetweenRounds g v) (e k : ℕ) (q : RealView)
+    (at : real_in ((entity_flow e v).slot k) ≡ Some q) (was : WasThere e k q u) where
+  had_witness : is_some q.witness ≡ true → is_some was.real.witness ≡ true
+  had_witness is =
+      let left = parts.parts e k was.real was.here in
+      let ended = then.parts e k q at in
+      let stays = looks_leave_part g u before v es run e was.real.ty left ended.part ended.here in
+      both_seen was.real.witness left.part.proxy left.part.version (parts.clients e k was.real was.here left.part left.here)
+      ∙ sym stays.client
+      ∙ sym (both_seen q.witness ended.part.proxy ended.part.version (then.clients e k q at ended.part ended.here)) ∙ is
+
+  witness_by : (o : Option WitnessView) → is_some o ≡ true → (x : WitnessView) × (o ≡ Some x)
+  witness_by None is = absurd (let z = is in cc)
+  witness_by (Some x) is = (x, refl)
+
+  pub its_witness : is_some q.witness ≡ true → (x : WitnessView) × (was.real.witness ≡ Some x)
+  its_witness is = witness_by was.real.witness (had_witness is)

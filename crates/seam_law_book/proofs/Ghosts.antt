@@ -1,0 +1,91 @@
+-- The ghost lines that are read off a world are those of the rules.
+use Rattle.std.proofs.Common.{◌≡◌, ℕ, zero, suc, ◌+◌, ◌<◌, ◌≤◌, Bool, true, false, cond, List, [], ◌∷◌, ◌++◌, map, length}
+use Rattle.std.proofs.Common.{refl, sym, ap, ◌∙◌, arith}
+use Rattle.std.specs.Prelude.{filter}
+use Rattle.std.specs.FinSet as set
+use Rattle.std.specs.List.{flat_map, range_with_len}
+use Rattle.seam_tree.specs.Division.{Division, cells_of}
+use Rattle.seam_defs.specs.declared.flags.Part.TheVariants as part
+use Rattle.seam_call.specs.declared.create.Create.{Create}
+use Rattle.seam_call.specs.declared.shown.GhostCopy.{GhostCopy}
+use Rattle.seam_toml.specs.declared.header.Header.{Header}
+use Rattle.seam_entity.specs.Here.{cell_count}
+use Rattle.seam_entity.specs.Reals.{RealView}
+use Rattle.seam_node_steps.specs.Nodes.{World}
+use Rattle.seam_node_steps.specs.Settle.{copy_if}
+use Rattle.seam_law_calls.specs.Fits.{RealFits}
+use Rattle.seam_law_ghosts.specs.RealPlaces.{place_of}
+use Rattle.seam_law_ghosts.specs.Copies.{present, copy_at, AreSettled}
+use Rattle.seam_rule_rounds.specs.FlatTable.{public_at}
+use Rattle.seam_rule_rounds.specs.Lines.{GhostLine}
+use Rattle.seam_rule_rounds.specs.RoundPlaces.{ghost_cells}
+use Rattle.seam_rule_rounds.specs.Round.{ghost_lines}
+use Rattle.seam_rule_rounds.specs.Standing.{Standing}
+use Rattle.seam_law_book.specs.Going.{frame_of}
+use Rattle.seam_law_book.specs.ExecutedRound.{IsInTable}
+use Rattle.seam_law_book.specs.Standings.{ghost_read, ghosts_read}
+
+is_false : (b : Bool) → (b ≡ true → ⊥) → b ≡ false
+is_false true not = absurd (not refl)
+is_false false not = refl
+
+module _ (test : ℕ → Bool) where
+  none_pass : (a n : ℕ) → ((j : ℕ) → a ≤ j → test j ≡ false) → filter test (range_with_len a n) ≡ []
+  none_pass a zero none = refl
+  none_pass a (suc n) none =
+      ap (λ b. cond b (a ∷ filter test (range_with_len (a + 1) n)) (filter test (range_with_len (a + 1) n))) (none a (omega arith))
+      ∙ none_pass (a + 1) n (λ j le. none j (omega (arith, le)))
+
+  -- no number past the first ones passes
+  first_pass : (a n m : ℕ) → n ≤ m → ((j : ℕ) → a + n ≤ j → test j ≡ false) →
+      filter test (range_with_len a m) ≡ filter test (range_with_len a n)
+  first_pass a zero m le none = none_pass a m (λ j from. none j (omega (arith, from)))
+  first_pass a (suc n) zero le none = absurd (omega (arith, le))
+  first_pass a (suc n) (suc m) le none =
+      ap (λ l. cond (test a) (a ∷ l) l) (first_pass (a + 1) n m (omega (arith, le)) (λ j from. none j (omega (arith, from))))
+
+  module _ (line : ℕ → GhostLine) (read : ℕ → List GhostLine) where
+    joined : (b : Bool) (a : ℕ) (ks : List ℕ) → cond b (line a ∷ []) [] ++ map line ks ≡ map line (cond b (a ∷ ks) ks)
+    joined true a ks = refl
+    joined false a ks = refl
+
+    -- a line is read for each number that passes
+    read_are : (a n : ℕ) → ((j : ℕ) → j < a + n → read j ≡ cond (test j) (line j ∷ []) []) →
+        flat_map read (range_with_len a n) ≡ map line (filter test (range_with_len a n))
+    read_are a zero each = refl
+    read_are a (suc n) each =
+        ap (λ l. l ++ flat_map read (range_with_len (a + 1) n)) (each a (omega arith))
+        ∙ ap (λ l. cond (test a) (line a ∷ []) [] ++ l) (read_are (a + 1) n (λ j lt. each j (omega (arith, lt))))
+        ∙ joined (test a) a (filter test (range_with_len (a + 1) n))
+
+-- the ghost line of an entity at a version, in a cell
+abbrev ghost_line : ℕ → ℕ → ℕ → GhostLine
+ghost_line e version k = record { entity = e; cell = k; version = version }
+
+read_if : (e k : ℕ) (b : Bool) (c : GhostCopy) → ghost_read e k (copy_if b c) ≡ cond b (ghost_line e c.version k ∷ []) []
+read_if e k true c = refl
+read_if e k false c = refl
+
+module _ (h : Header) (tree : Division) (v : World) (t : Standing) (c : Create) (k : ℕ) (q : RealView)
+    (fits : RealFits (frame_of h tree) c.entity q.ty k q) (few : cells_of tree ≤ cell_count)
+    (copies : AreSettled (frame_of h tree) c.entity k q v) (row : IsInTable h c (t.orders part.Cell c.entity) q)
+    (there : t.places c.entity ≡ place_of k q) where
+  abbrev haunted : ℕ → Bool
+  haunted j = set.contains q.haunts j
+
+  each_read : (j : ℕ) → j < cell_count →
+      ghost_read c.entity j (copy_at c.entity v j) ≡ cond (haunted j) (ghost_line c.entity q.public j ∷ []) []
+  each_read j lt =
+      ap (ghost_read c.entity j) (copies.copies j lt) ∙ read_if c.entity j (haunted j) (present (frame_of h tree) q)
+
+  beyond : (j : ℕ) → cells_of tree ≤ j → haunted j ≡ false
+  beyond j le = is_false (haunted j) (λ is. let below = fits.haunts j is in omega (arith, below, le))
+
+  pub ghosts_are : ghosts_read c.entity v ≡ ghost_lines h tree t c
+  ghosts_are =
+      let order = t.orders part.Cell c.entity in
+      read_are haunted (ghost_line c.entity q.public) (λ j. ghost_read c.entity j (copy_at c.entity v j)) 0 cell_count
+      (λ j lt. each_read j (omega (arith, lt)))
+      ∙ ap (map (ghost_line c.entity q.public)) (first_pass haunted 0 (cells_of tree) cell_count few (λ j le. beyond j (omega (arith, le))))
+      ∙ ap (λ n. map (ghost_line c.entity n) (ghost_cells tree (place_of k q))) row.public
+      ∙ ap (λ p. map (ghost_line c.entity (public_at h c order (length order))) (ghost_cells tree p)) (sym there)

@@ -1,0 +1,27 @@
+pub mod Proper
+pub mod Adding
+pub mod Present
+pub mod Untouched
+mod Round
+mod Orders
+mod Holding
+mod Origins
+mod Numbering
+mod Fitting
+mod Given
+mod Started
+mod Nowhere
+pub mod Parts
+mod Clients
+mod Playing
+pub mod Ended
+pub mod Executed
+pub mod Accounts
+mod Done
+mod Table
+mod Placing
+mod Ghosts
+pub mod Rows
+pub mod Further
+mod Bases
+pub mod PartsTable

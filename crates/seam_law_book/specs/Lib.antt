@@ -1,0 +1,6 @@
+pub mod Books
+pub mod Bringing
+pub mod Going
+pub mod ExecutedRound
+pub mod Standings
+pub mod Playing

@@ -1,0 +1,236 @@
+-- Over every list of events cells know, and witnesses view, no other entities than those at the start.
+use Rattle.std.proofs.Common.{◌≡◌, ℕ, Bool, true, false, cond, List, [], ◌∷◌, drop, Option, None, Some, refl, sym, subst}
+use Rattle.std.proofs.Common.{arith}
+use Rattle.std.specs.Prelude.{not, slice_get}
+use Rattle.std.specs.List.{AllByRecursion, range_with_len}
+use Rattle.std.specs.Ordering.{nat_cmp, eq_by_cmp}
+use Rattle.std.specs.FinMap as table
+use Rattle.std.proofs.lemmas.Bool.Decides.{nat_tests}
+use Rattle.seam_machine.specs.Views.{Stepped}
+use Rattle.seam_machine.specs.Nets.{link, letter, input_from, happens, enabled}
+use Rattle.seam_machine.specs.Events.{Occurs, EachNode, EachLink}
+use Rattle.seam_machine.specs.declared.machines.Input.{Input}
+use Rattle.seam_machine.specs.declared.machines.Input.TheVariants.{Task, From}
+use Rattle.seam_machine.specs.declared.machines.Event.{Event}
+use Rattle.seam_machine.proofs.Occurring.{occurs}
+use Rattle.seam_net_runs.specs.Kept.{StaysTrue}
+use Rattle.seam_net_runs.proofs.Keeping.{each_node, each_link}
+use Rattle.seam_net_runs.proofs.Runs.{leads_keeps}
+use Rattle.seam_law_flow.proofs.Following.{all_append}
+use Rattle.seam_call.specs.declared.call.Call.{Call as CallData}
+use Rattle.seam_call.specs.declared.order.Order.{Order}
+use Rattle.seam_call.specs.declared.order.Order.TheVariants as order
+use Rattle.seam_entity.specs.declared.message.Msg.{Msg}
+use Rattle.seam_entity.specs.declared.message.Msg.TheVariants.{Call, Reap}
+use Rattle.seam_node_steps.specs.Slots.{Slot, SlotStep, slot_after}
+use Rattle.seam_node_steps.specs.CellCases.{about, slot_steps, stray_survey, stray_ready_call}
+use Rattle.seam_node_steps.specs.CellLooks.{stray_look}
+use Rattle.seam_node_steps.specs.Cells.{CellView, slot_of, stepped, known_to, surveys, calls_ready, looks_around, ready_entity, look_next}
+use Rattle.seam_node_steps.specs.Cells.{ready_next}
+use Rattle.seam_node_steps.specs.Cells.{cell_task, cell_hears, cell_steps}
+use Rattle.seam_node_steps.specs.Bases.{BaseView, PartView, RouteView}
+use Rattle.seam_node_steps.specs.BaseCases.{unless_stray, on_route, base_order, is_base_node_of, tick_to, order_of_node, stray_order, ready_part}
+use Rattle.seam_node_steps.specs.BaseCases.{ready_proxy, proxy_task, task_without_orders, base_task, base_steps, is_stray, may_show, may_execute}
+use Rattle.seam_node_steps.specs.Nodes.{NodeView, World, node_steps, node_has_work}
+use Rattle.seam_node_steps.specs.Nodes.NodeView.{Cell, Base}
+use Rattle.seam_node_steps.specs.Valid.{IsCell, IsNode}
+use Rattle.seam_node_steps.proofs.Slots.{slot_stepped}
+use Rattle.seam_law_calls.specs.Frames.{Frame, IsInFrame}
+use Rattle.seam_law_calls.proofs.Classify.{frame_happens}
+use Rattle.seam_law_bounds.specs.Looking.{LooksAmong, Always}
+use Rattle.seam_law_bounds.proofs.AmongSlots.{SlotOk, LetterOk, SentOk, StepOk, unless_ok, message_ok, survey_ok, ready_ok, look_ok}
+use Rattle.seam_law_bounds.proofs.AmongSlots.{all_mapped}
+use Rattle.seam_law_bounds.proofs.LookCounts.{known_named, seen_are_named}
+
+module _ (us ws : List ℕ) where
+  abbrev CellOk : CellView → Type 0
+  CellOk c = (e : ℕ) → SlotOk us ws e (slot_of c e)
+
+  record CellStepOk (t : Stepped CellView Msg) : Type 0 where
+    state : CellOk t.state
+    sent : SentOk us ws t.sent
+
+  -- ---- a cell
+
+  either : (q e : ℕ) (b : Bool) → eq_by_cmp nat_cmp q e ≡ b → (s t : Slot) → SlotOk us ws e s → SlotOk us ws q t →
+      SlotOk us ws q (cond b s t)
+  either q e true is s t a b = let same : e ≡ q = grind (arith, nat_tests, is) in subst (λ j. SlotOk us ws j s) same a
+  either q e false is s t a b = b
+
+  stepped_ok : (c : CellView) (e : ℕ) (t : SlotStep) → CellOk c → StepOk us ws e (slot_of c e) t → CellStepOk (stepped c e t)
+  stepped_ok c e t ok step = record {
+    state = λ q.
+        subst (SlotOk us ws q) (sym (slot_stepped c e q t))
+        (either q e (eq_by_cmp nat_cmp q e) refl (slot_after t.slot (slot_of c e)) (slot_of c q) step.slot (ok q));
+    sent = step.sent;
+  }
+
+  module _ (c : CellView) (is : IsCell c) (ok : CellOk c) where
+    look_next_ok : (es : List ℕ) → CellStepOk (look_next c es)
+    look_next_ok [] = record { state = ok; sent = tt }
+    look_next_ok (e ∷ es) =
+        let named =
+        seen_are_named us c (known_named us c (λ q r at. ((ok q).real r at).named) (λ q x at. (ok q).copy x at)) e in
+        stepped_ok (record c { looks = es }) e (looks_around c e (table.get c.reals e) (known_to c e)) ok
+        (unless_ok us ws e (stray_look c.here (table.get c.reals e) (known_to c e)) (slot_of c e) _ (ok e)
+        (look_ok us ws e c.here (slot_of c e) (ok e) (known_to c e) named (table.get c.reals e) refl))
+
+    ready_next_ok : (o : Option ℕ) → CellStepOk (ready_next c o)
+    ready_next_ok None = look_next_ok c.looks
+    ready_next_ok (Some e) =
+        stepped_ok c e (calls_ready c e (table.get c.reals e)) ok
+        (unless_ok us ws e (stray_ready_call (table.get c.reals e)) (slot_of c e) _ (ok e)
+        (ready_ok us ws e c.here c.tree (slot_of c e) (ok e) (table.get c.reals e) refl (is.keys e)))
+
+    task_ok : (es : List ℕ) → CellStepOk (cell_task c es)
+    task_ok [] = ready_next_ok (ready_entity c)
+    task_ok (e ∷ es) =
+        stepped_ok (record c { survey = es }) e (surveys c e (table.get c.reals e)) ok
+        (unless_ok us ws e (stray_survey (table.get c.reals e)) (slot_of c e) _ (ok e)
+        (survey_ok us ws e c.here c.tree (slot_of c e) (ok e) (table.get c.reals e) refl (is.keys e)))
+
+    hears_ok : (m : Msg) (o : Option ℕ) → about m ≡ o → LetterOk us ws m → CellStepOk (cell_hears c m o)
+    hears_ok m None at letter = record { state = ok; sent = tt }
+    hears_ok m (Some e) at letter =
+        stepped_ok c e (slot_steps c.here c.tree (slot_of c e) m) ok
+        (message_ok us ws e c.here c.tree (slot_of c e) (ok e) m at letter (is.keys e))
+
+    abbrev InputOk : Input Msg → Type 0
+    InputOk Task = Unit {0}
+    InputOk (From a m) = LetterOk us ws m
+
+    cell_ok : (i : Input Msg) → InputOk i → CellStepOk (cell_steps c i)
+    cell_ok Task letter = task_ok c.survey
+    cell_ok (From a m) letter = hears_ok m (about m) refl letter
+
+  -- ---- a base node
+
+  unless_sent : (d : Bool) (b : BaseView) (t : Stepped BaseView Msg) → SentOk us ws t.sent → SentOk us ws (unless_stray d b t).sent
+  unless_sent true b t h = tt
+  unless_sent false b t h = h
+
+  route_sent : (o : Option RouteView) (m : Msg) → LetterOk us ws m → SentOk us ws (on_route o m)
+  route_sent None m h = tt
+  route_sent (Some r) m h = (h, tt)
+
+  base_order_sent : (d : Bool) (b : BaseView) (k : CallData) → SentOk us ws (base_order d b k).sent
+  base_order_sent true b k = tt
+  base_order_sent false b k = (tt, tt)
+
+  order_sent : (b : BaseView) (o : Order) → SentOk us ws (order_of_node b o).sent
+  order_sent b (order.Cell k) = route_sent (table.get b.routes k.entity) (Call k) tt
+  order_sent b (order.Base k) = base_order_sent (is_base_node_of b.here k.entity) b k
+  order_sent b order.Tick = all_mapped (λ p. LetterOk us ws p.1) tick_to (range_with_len 0 b.cells) (λ k. tt)
+  order_sent b (order.Reap e) = route_sent (table.get b.routes e) (Reap e) tt
+
+  proxy_sent : (b : BaseView) (o : Option (ℕ × PartView)) → SentOk us ws (proxy_task b o).sent
+  proxy_sent b None = tt
+  proxy_sent b (Some p) = unless_sent (not (may_show p.1.proxy)) b _ tt
+
+  part_sent : (b : BaseView) (o : Option (ℕ × PartView)) → SentOk us ws (task_without_orders b o).sent
+  part_sent b None = proxy_sent b (ready_proxy b)
+  part_sent b (Some p) = unless_sent (not (may_execute p.1)) b _ tt
+
+  base_task_sent : (b : BaseView) (os : List Order) → SentOk us ws (base_task b os).sent
+  base_task_sent b [] = part_sent b (ready_part b)
+  base_task_sent b (o ∷ os) = unless_sent (stray_order b o) b _ (order_sent (record b { orders = os }) o)
+
+  base_sent : (b : BaseView) (i : Input Msg) → SentOk us ws (base_steps b i).sent
+  base_sent b Task = base_task_sent b b.orders
+  base_sent b (From a m) = unless_sent (is_stray b m) b _ tt
+
+  -- ---- a world
+
+  abbrev NodeOk : NodeView → Type 0
+  NodeOk (Cell c) = CellOk c
+  NodeOk (Base b) = Unit {0}
+
+  abbrev FedOk : Input Msg → Type 0
+  FedOk Task = Unit {0}
+  FedOk (From a m) = LetterOk us ws m
+
+  fed_of : (i : Input Msg) (c : CellView) (is : IsCell c) (ok : CellOk c) → FedOk i → InputOk c is ok i
+  fed_of Task c is ok h = tt
+  fed_of (From a m) c is ok h = h
+
+  node_state : (s : NodeView) (i : Input Msg) → IsNode s → NodeOk s → FedOk i → NodeOk (node_steps s i).state
+  node_state (Cell c) i is ok fed = (cell_ok c is ok i (fed_of i c is ok fed)).state
+  node_state (Base b) i is ok fed = tt
+
+  node_sent : (s : NodeView) (i : Input Msg) → IsNode s → NodeOk s → FedOk i →
+      SentOk us ws (node_steps s i).sent
+  node_sent (Cell c) i is ok fed = (cell_ok c is ok i (fed_of i c is ok fed)).sent
+  node_sent (Base b) i is ok fed = base_sent b i
+
+  abbrev LinkOk : ℕ → ℕ → List Msg → Type 0
+  LinkOk a b l = AllByRecursion (λ m. LetterOk us ws m) l
+
+  stays_true : (k : ℕ) (ps : List (ℕ × Msg)) → SentOk us ws ps → StaysTrue LinkOk k ps
+  stays_true k [] h = tt
+  stays_true k (p ∷ ps) h = (λ l ok. all_append (λ m. LetterOk us ws m) l (p.1 ∷ []) ok (h.0, tt), stays_true k ps h.1)
+
+  dropped : (l : List Msg) → AllByRecursion (λ m. LetterOk us ws m) l → AllByRecursion (λ m. LetterOk us ws m) (drop 1 l)
+  dropped [] h = tt
+  dropped (m ∷ ms) h = h.1
+
+  first_ok : (a : ℕ) (l : List Msg) (i : Input Msg) → letter a l ≡ Some i → AllByRecursion (λ m. LetterOk us ws m) l → FedOk i
+  first_ok a [] i is h = cc
+  first_ok a (m ∷ ms) Task is h = tt
+  first_ok a (m ∷ ms) (From b x) is h = let same : m ≡ x = cc in subst (LetterOk us ws) same h.0
+
+  fed_ok : (w : World) (k : ℕ) (from : Option ℕ) (i : Input Msg) → EachLink LinkOk w.rows → input_from w.rows k from ≡ Some i → FedOk i
+  fed_ok w k None Task links is = tt
+  fed_ok w k None (From a m) links is = cc
+  fed_ok w k (Some a) i links is = first_ok a (link w.rows a k) i is (links a k)
+
+  module _ (f : Frame) where
+    record IsOk (w : World) : Type 0 where
+      frame : IsInFrame f w
+      nodes : EachNode (λ k s. NodeOk s) w.nodes
+      links : EachLink LinkOk w.rows
+
+    ok_more : (w : World) (x : Event) → IsOk w → enabled node_has_work w x ≡ true → IsOk (happens node_steps w x)
+    ok_more w x h on =
+        let o : Occurs w x = occurs node_has_work w x on in
+        let valid = h.frame.sound.states x.node o.node o.is_node in
+        let node = h.nodes x.node o.node o.is_node in
+        let fed = fed_ok w x.node x.from o.input h.links o.is_fed in
+        record {
+          frame = frame_happens f w x o h.frame;
+          nodes = each_node (λ k s. NodeOk s) node_steps w x o h.nodes (node_state o.node o.input valid node fed);
+          links =
+              each_link LinkOk node_steps w x o h.links (λ a is. dropped (link w.rows a x.node) (h.links a x.node))
+              (stays_true x.node (node_steps o.node o.input).sent (node_sent o.node o.input valid node fed));
+        }
+
+    start_node : (w : World) → LooksAmong us (λ k. ws) w → (k : ℕ) (s : NodeView) → slice_get w.nodes k ≡ Some s → NodeOk s
+    start_node w h k (Base b) at = tt
+    start_node w h k (Cell c) at = λ e.
+        record {
+          real = λ r there. record {
+            named = h.reals k c at e r there;
+            witness = λ x has.
+                let v = h.views k c at e r x there has in
+                record { view = v.0; names = v.1; among = h.witnesses k c at e r x there has };
+          };
+          copy = λ x there. h.copies k c at e x there;
+        }
+
+    -- where no message is on its way at the start, it stays so
+    pub always_among : (w : World) → IsInFrame f w → ((a b : ℕ) → link w.rows a b ≡ []) → LooksAmong us (λ k. ws) w →
+        Always (LooksAmong us (λ k. ws)) w
+    always_among w frame empty h v es run =
+        let start : IsOk w = record {
+          frame = frame;
+          nodes = λ k s at. start_node w h k s at;
+          links = λ a b. subst (AllByRecursion (λ m. LetterOk us ws m)) (sym (empty a b)) tt;
+        } in
+        let then = leads_keeps node_has_work node_steps IsOk ok_more w v es start run in
+        record {
+          reals = λ k c at e r there. ((then.nodes k (Cell c) at e).real r there).named;
+          copies = λ k c at e x there. (then.nodes k (Cell c) at e).copy x there;
+          views = λ k c at e r x there has.
+              let q = ((then.nodes k (Cell c) at e).real r there).witness x has in
+              (q.view, q.names);
+          witnesses = λ k c at e r x there has. (((then.nodes k (Cell c) at e).real r there).witness x has).among;
+        }

@@ -1,0 +1,189 @@
+-- Each call to a cell part that is on its way in a round was ordered.
+use Rattle.std.proofs.Common.{◌≡◌, ℕ, Bool, true, false, cond, List, [], ◌∷◌, Option, None, Some, refl, sym, ap, subst}
+use Rattle.std.specs.Prelude.{slice_get}
+use Rattle.std.specs.List.{AllByRecursion, range_with_len}
+use Rattle.std.specs.FinSet as set
+use Rattle.seam_machine.specs.Nets.{link, happens, enabled, LeadsTo}
+use Rattle.seam_machine.specs.Events.{EachNode}
+use Rattle.seam_machine.specs.declared.machines.Event.{Event}
+use Rattle.seam_machine.proofs.Occurring.{occurs}
+use Rattle.seam_net_runs.proofs.Runs.{leads_by_one, leads_keeps}
+use Rattle.seam_law_flow.specs.Flows.{comes, slot_at, letters_of}
+use Rattle.seam_law_flow.specs.Sent.{IsSilent}
+use Rattle.seam_law_flow.proofs.Following.{all_append, letters_kept, came}
+use Rattle.seam_call.specs.declared.call.Call.{Call as CallData}
+use Rattle.seam_call.specs.declared.order.Order.{Order}
+use Rattle.seam_call.specs.declared.order.Order.TheVariants as order
+use Rattle.seam_entity.specs.declared.message.Msg.{Msg}
+use Rattle.seam_entity.specs.declared.message.Msg.TheVariants.{Call, BaseCall, Hand, Current, GhostSet, GhostDrop, Tick, Reap, Update}
+use Rattle.seam_entity.specs.Here.{base_numbers, base_of}
+use Rattle.seam_node_steps.specs.Settle.{haunts_at, ghost_messages}
+use Rattle.seam_node_steps.specs.CellCases.{current_to}
+use Rattle.seam_node_steps.specs.BaseCases.{tick_to}
+use Rattle.seam_node_steps.specs.Nodes.{NodeView, World, node_steps, node_has_work}
+use Rattle.seam_node_steps.specs.Nodes.NodeView.{Cell, Base}
+use Rattle.seam_law_calls.specs.Frames.{Frame, here_at, IsInFrame}
+use Rattle.seam_law_calls.specs.Sights.{Has, mine, order_concerns, orders_of, has_of, has_none, entity_flow}
+use Rattle.seam_law_calls.specs.CellMoves as move
+use Rattle.seam_law_calls.specs.CellMoves.{CellMoves}
+use Rattle.seam_law_calls.specs.BaseMoves as base_move
+use Rattle.seam_law_calls.specs.BaseMoves.{BaseMoves}
+use Rattle.seam_law_calls.specs.Moves.{Moves, at_a_cell, at_a_base}
+use Rattle.seam_law_calls.proofs.Classify.{event_moves, frame_happens}
+use Rattle.seam_law_calls.proofs.Plain.{SeesNoGhost, ghosts_silent, drops_silent, mapped_silent, numbered_silent}
+use Rattle.seam_law_calls.proofs.Sparing.{items_all}
+use Rattle.seam_law_ghosts.proofs.Strays.{seen_first}
+use Rattle.seam_law_calls.proofs.WayMoves.{call_in}
+use Rattle.seam_law_bounds.proofs.Ordered.{OrdersAre, orders_lead}
+
+no_calls : SeesNoGhost call_in
+no_calls = record { sets = λ e n c. refl; drops = λ e n. refl }
+
+-- P is true of each call to a cell part
+module _ (P : CallData → Type 0) where
+  abbrev pub OrderIs : Order → Type 0
+  OrderIs (order.Cell c) = P c
+  OrderIs (order.Base c) = Unit {0}
+  OrderIs order.Tick = Unit {0}
+  OrderIs (order.Reap e) = Unit {0}
+
+  abbrev pub MessageIs : Msg → Type 0
+  MessageIs (Call c) = P c
+  MessageIs (BaseCall c) = Unit {0}
+  MessageIs (Hand r) = Unit {0}
+  MessageIs (Current e j g) = Unit {0}
+  MessageIs (GhostSet e n c) = Unit {0}
+  MessageIs (GhostDrop e n) = Unit {0}
+  MessageIs Tick = Unit {0}
+  MessageIs (Reap e) = Unit {0}
+  MessageIs (Update u) = Unit {0}
+
+  silent_one : (m : Msg) → call_in m ≡ None → MessageIs m
+  silent_one (Call c) h = cc
+  silent_one (BaseCall c) h = tt
+  silent_one (Hand r) h = tt
+  silent_one (Current e j g) h = tt
+  silent_one (GhostSet e n c) h = tt
+  silent_one (GhostDrop e n) h = tt
+  silent_one Tick h = tt
+  silent_one (Reap e) h = tt
+  silent_one (Update u) h = tt
+
+  silent : (ps : List (ℕ × Msg)) → IsSilent call_in ps → AllByRecursion (λ p. MessageIs p.1) ps
+  silent [] h = tt
+  silent (p ∷ ps) h = (silent_one p.1 h.0, silent ps h.1)
+
+  module _ (f : Frame) (e k : ℕ) (s : Has) (i : Option Msg) (t : Has) (sent : List (ℕ × Msg))
+      (stored : AllByRecursion OrderIs s.base.orders) (brought : (m : Msg) → i ≡ Some m → MessageIs m) where
+    abbrev SentAre : Type 0
+    SentAre = AllByRecursion (λ p. MessageIs p.1) sent
+
+    of : (l : List (ℕ × Msg)) → sent ≡ l → IsSilent call_in l → SentAre
+    of l is h = subst (AllByRecursion (λ p. MessageIs p.1)) (sym is) (silent l h)
+
+    cell_sends : CellMoves (here_at f k) f.tree e s.cell i t.cell sent → SentAre
+    cell_sends (move.rests n d) = of [] d.sends tt
+    cell_sends (move.strays m n b d) = of [] d.sends tt
+    cell_sends (move.stays u r q changed has own acts at d) =
+        of _ d.sends (ghosts_silent call_in no_calls (here_at f k) q k (haunts_at (here_at f k) f.tree q.state.pos k q.haunts) changed)
+    cell_sends (move.goes u r q changed j has own acts at n d) =
+        let haunts = haunts_at (here_at f k) f.tree q.state.pos j (set.insert q.haunts k) in
+        of _ d.sends
+        (all_append (λ p. call_in p.1 ≡ None) (ghost_messages (here_at f k) q j haunts changed) _
+        (ghosts_silent call_in no_calls (here_at f k) q j haunts changed) (refl, tt))
+    cell_sends (move.late c r n has may lt d) = of [] d.sends tt
+    cell_sends (move.holds c r n own has mine may lt d) = of [] d.sends tt
+    cell_sends (move.passes c p n own has at d) =
+        subst (AllByRecursion (λ p. MessageIs p.1)) (sym d.sends) (brought (Call c) n, tt)
+    cell_sends (move.lands r n own has may d) =
+        of _ d.sends (mapped_silent call_in (current_to (here_at f k) r) (λ b. refl) (base_numbers (here_at f k)))
+    cell_sends (move.hears_set n c h has d) = of [] d.sends tt
+    cell_sends (move.ignores_set n c r h has d) = of [] d.sends tt
+    cell_sends (move.hears_drop n h d) = of [] d.sends tt
+    cell_sends (move.reaped r n has own may d) = of _ d.sends (drops_silent call_in no_calls r)
+    cell_sends (move.ticks n st z) = of [] z tt
+    cell_sends (move.unlists n h at b d) = of [] d.sends tt
+    cell_sends (move.looks n r w known h at has own v small d) =
+        of _ d.sends (numbered_silent call_in (base_of (here_at f k) r.entity) r.entity w.sent _ (λ u. refl))
+    cell_sends (move.overlooks n known h at b d) = of [] d.sends tt
+    cell_sends (move.stuck r h has ready may d) = of [] d.sends tt
+
+    base_sends : (cells : ℕ) → BaseMoves (here_at f k) cells e s.base i t.base sent → SentAre
+    base_sends cells (base_move.rests n a z) = of [] z tt
+    base_sends cells (base_move.strays m n b a z) = of [] z tt
+    base_sends cells (base_move.reroutes new r n has b a z) = of [] z tt
+    base_sends cells (base_move.offers c p n own has may a z) = of [] z tt
+    base_sends cells (base_move.updates u n own b a z) = of [] z tt
+    base_sends cells (base_move.orders_call c os r n at own has a z) =
+        let all : AllByRecursion OrderIs (order.Cell c ∷ os) = subst (AllByRecursion OrderIs) at stored in
+        subst (AllByRecursion (λ p. MessageIs p.1)) (sym z) (all.0, tt)
+    base_sends cells (base_move.orders_base_call c os n at own b a z) = of _ z (refl, tt)
+    base_sends cells (base_move.offers_own c os p n at own b has may a z) = of [] z tt
+    base_sends cells (base_move.orders_tick os n at a z) = of _ z (mapped_silent call_in tick_to (λ j. refl) (range_with_len 0 cells))
+    base_sends cells (base_move.orders_reap os r n at has a z) = of _ z (refl, tt)
+    base_sends cells (base_move.stuck_order o os n at b a z) = of [] z tt
+    base_sends cells (base_move.executes p o c n has may at item a z) = of [] z tt
+    base_sends cells (base_move.stuck_part p n has v may a z) = of [] z tt
+    base_sends cells (base_move.shows p n has v may a z) = of [] z tt
+    base_sends cells (base_move.stuck_client p n has v may a z) = of [] z tt
+
+    sends_are : Moves f e k s i t sent → SentAre
+    sends_are (at_a_cell low m same) = cell_sends m
+    sends_are (at_a_base high m same) = base_sends _ m
+
+  -- ---- a world
+
+  filtered_by : (o : Order) (os : List Order) (d : Bool) → OrderIs o → AllByRecursion OrderIs os →
+      AllByRecursion OrderIs (cond d (o ∷ os) os)
+  filtered_by o os true h all = (h, all)
+  filtered_by o os false h all = all
+
+  filtered : (e : ℕ) (os : List Order) → AllByRecursion OrderIs os → AllByRecursion OrderIs (orders_of e os)
+  filtered e [] h = tt
+  filtered e (o ∷ os) h = filtered_by o (orders_of e os) (order_concerns e o) h.0 (filtered e os h.1)
+
+  node_orders : (e : ℕ) (s : NodeView) → OrdersAre OrderIs s → AllByRecursion OrderIs (has_of e s).base.orders
+  node_orders e (Cell c) h = tt
+  node_orders e (Base b) h = filtered e b.orders h
+
+  module _ (f : Frame) (e : ℕ) where
+    record AreBatched (w : World) : Type 0 where
+      frame : IsInFrame f w
+      orders : EachNode (λ k s. OrdersAre OrderIs s) w.nodes
+      letters : (a k : ℕ) → AllByRecursion MessageIs ((entity_flow e w).mail a k)
+
+    slot_orders : (w : World) → AreBatched w → (k : ℕ) (o : Option NodeView) → slice_get w.nodes k ≡ o →
+        AllByRecursion OrderIs (slot_at (has_of e) has_none o).base.orders
+    slot_orders w h k None at = tt
+    slot_orders w h k (Some s) at = node_orders e s (h.orders k s at)
+
+    batched_more : (w : World) (v : Event) → AreBatched w → enabled node_has_work w v ≡ true → AreBatched (happens node_steps w v)
+    batched_more w v h on =
+        let o = occurs node_has_work w v on in
+        let then = happens node_steps w v in
+        let g = event_moves f w v o h.frame e in
+        record {
+          frame = frame_happens f w v o h.frame;
+          orders = orders_lead OrderIs w then (v ∷ []) h.orders (leads_by_one node_has_work node_steps w v on);
+          letters =
+              letters_kept (λ a k m. MessageIs m) g h.letters (λ j.
+              subst (AllByRecursion MessageIs) (sym (g.moves.items j))
+              (items_all MessageIs j g.moves.sent
+              (sends_are f e g.k ((entity_flow e w).slot g.k) (comes g.input) ((entity_flow e then).slot g.k) g.moves.sent
+              (slot_orders w h g.k (slice_get w.nodes g.k) refl) (λ m is. (came (λ a k x. MessageIs x) g m is h.letters).1)
+              g.moves.moves)));
+        }
+
+  -- over every list of events, P is true of each call that is the first of its link, where it is of each that is ordered and none is on
+  -- its way
+  pub calls_are : (f : Frame) (w v : World) (es : List Event) → IsInFrame f w → EachNode (λ k s. OrdersAre OrderIs s) w.nodes →
+      ((a k : ℕ) → link w.rows a k ≡ []) → LeadsTo node_has_work node_steps w es v → (a k : ℕ) (c : CallData) (ms : List Msg) →
+      link v.rows a k ≡ Call c ∷ ms → P c
+  calls_are f w v es q orders empty run a k c ms at =
+      let start : AreBatched f c.entity w = record {
+        frame = q;
+        orders = orders;
+        letters = λ x y. subst (AllByRecursion MessageIs) (sym (ap (letters_of (mine c.entity)) (empty x y))) tt;
+      } in
+      let then = leads_keeps node_has_work node_steps (AreBatched f c.entity) (batched_more f c.entity) w v es start run in
+      (subst (AllByRecursion MessageIs) (seen_first c.entity v a k (Call c) ms at refl) (then.letters a k)).0

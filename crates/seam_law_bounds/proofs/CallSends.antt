@@ -1,0 +1,139 @@
+-- What each step sends of calls to the cell part: one that was ordered, one that is passed on, or none.
+use Rattle.std.proofs.Common.{◌≡◌, ℕ, ◌+◌, ◌<◌, ◌≤◌, ◌⊎◌, true, List, [], ◌∷◌, Option, None, Some, refl, sym, ap, ◌∙◌, subst}
+use Rattle.std.proofs.Common.{arith, inl, inr}
+use Rattle.std.specs.List.{range_with_len}
+use Rattle.std.specs.FinSet as set
+use Rattle.seam_law_flow.specs.Sent.{IsSilent}
+use Rattle.seam_law_flow.proofs.Following.{all_append}
+use Rattle.seam_call.specs.declared.call.Call.{Call as CallData}
+use Rattle.seam_call.specs.declared.order.Order.{Order}
+use Rattle.seam_call.specs.declared.order.Order.TheVariants as order
+use Rattle.seam_entity.specs.Reals.{RealView}
+use Rattle.seam_entity.specs.declared.message.Msg.{Msg}
+use Rattle.seam_entity.specs.declared.message.Msg.TheVariants.{Call, Hand}
+use Rattle.seam_entity.specs.Here.{cell_count, base_numbers, base_of}
+use Rattle.seam_node_steps.specs.Slots.{NextPlace}
+use Rattle.seam_node_steps.specs.Settle.{haunts_at, ghost_messages}
+use Rattle.seam_entity.specs.Executing.{settled_to}
+use Rattle.seam_node_steps.specs.CellCases.{stray_call, is_stray, current_to}
+use Rattle.seam_node_steps.specs.Bases.{RouteView}
+use Rattle.seam_node_steps.specs.BaseCases.{tick_to}
+use Rattle.seam_law_calls.specs.Frames.{Frame, here_at}
+use Rattle.seam_law_calls.specs.Sights.{Has}
+use Rattle.seam_law_calls.specs.CellMoves as move
+use Rattle.seam_law_calls.specs.CellMoves.{Does, CellMoves}
+use Rattle.seam_law_calls.specs.BaseMoves as base_move
+use Rattle.seam_law_calls.specs.BaseMoves.{BaseMoves}
+use Rattle.seam_law_calls.specs.Moves.{Moves, at_a_cell, at_a_base}
+use Rattle.seam_law_calls.specs.Ones.{real_in}
+use Rattle.seam_law_calls.proofs.Plain.{SeesNoGhost, ghosts_silent, drops_silent, mapped_silent, numbered_silent}
+use Rattle.seam_law_calls.proofs.WayMoves.{call_in}
+
+no_calls : SeesNoGhost call_in
+no_calls = record { sets = λ e n c. refl; drops = λ e n. refl }
+
+module _ (f : Frame) (e k : ℕ) (s : Has) (i : Option Msg) (t : Has) (sent : List (ℕ × Msg)) where
+  -- no call comes to a node that the real left
+  abbrev NonePasses : Type 0
+  NonePasses = (c : CallData) → i ≡ Some (Call c) → real_in s ≡ None → (n : NextPlace) → s.cell.slot.next ≡ Some n → ⊥
+
+  -- the orders are the same, or the first is gone
+  abbrev pub FewerOrders : Type 0
+  FewerOrders = (t.base.orders ≡ s.base.orders) ⊎ ((o : Order) × (s.base.orders ≡ o ∷ t.base.orders))
+
+  pub data Sends : Type 0 where
+    plain : IsSilent call_in sent → NonePasses → FewerOrders → Sends
+    ordered : (c : CallData) (r : RouteView) → i ≡ None → s.base.orders ≡ order.Cell c ∷ t.base.orders → s.base.route ≡ Some r
+        → sent ≡ (r.cell, Call c) ∷ [] → Sends
+    passed : (c : CallData) (n : NextPlace) → i ≡ Some (Call c) → real_in s ≡ None → s.cell.slot.next ≡ Some n
+        → t.cell.slot.next ≡ Some n → t.base.orders ≡ s.base.orders → sent ≡ (n.cell, Call c) ∷ [] → Sends
+
+  task : i ≡ None → NonePasses
+  task a c is away n at = let z = sym a ∙ is in cc
+
+  other : (m : Msg) → i ≡ Some m → ((c : CallData) → m ≡ Call c → ⊥) → NonePasses
+  other m a none c is away n at = none c (let z = sym a ∙ is in cc)
+
+  held : (r : RealView) → real_in s ≡ Some r → NonePasses
+  held r has c is away n at = let z = sym has ∙ away in cc
+
+  silent_of : (l : List (ℕ × Msg)) → sent ≡ l → IsSilent call_in l → IsSilent call_in sent
+  silent_of l is h = subst (IsSilent call_in) (sym is) h
+
+  stray_none : (m : Msg) → i ≡ Some m → is_stray (here_at f k) f.tree s.cell.slot m ≡ true → NonePasses
+  stray_none m a b c is away n at =
+      let same : m ≡ Call c = let z = sym a ∙ is in cc in
+      let strays : stray_call (here_at f k) c s.cell.slot.real s.cell.slot.next ≡ true =
+      ap (is_stray (here_at f k) f.tree s.cell.slot) (sym same) ∙ b in
+      let gone = ap (λ o. stray_call (here_at f k) c o s.cell.slot.next) away in
+      let left = ap (stray_call (here_at f k) c None) at in
+      let z = sym strays ∙ (gone ∙ left) in
+      cc
+
+  module _ (base : t.base ≡ s.base) where
+    same : FewerOrders
+    same = inl (ap (λ b. b.orders) base)
+
+    cell_sends : CellMoves (here_at f k) f.tree e s.cell i t.cell sent → Sends
+    cell_sends (move.rests n d) = plain (silent_of [] d.sends tt) (task n) same
+    cell_sends (move.strays m n b d) = plain (silent_of [] d.sends tt) (stray_none m n b) same
+    cell_sends (move.stays u r q changed has own acts at d) =
+        plain (silent_of _ d.sends (ghosts_silent call_in no_calls (here_at f k) q k (haunts_at (here_at f k) f.tree q.state.pos k q.haunts)
+        changed)) (held r has) same
+    cell_sends (move.goes u r q changed j has own acts at n d) =
+        let haunts = haunts_at (here_at f k) f.tree q.state.pos j (set.insert q.haunts k) in
+        let gone = settled_to q haunts (q.beat + 1) (q.generation + 1) in
+        let told = ghost_messages (here_at f k) q j haunts changed in
+        plain (silent_of _ d.sends (all_append (λ p. call_in p.1 ≡ None) told ((j, Hand gone) ∷ [])
+        (ghosts_silent call_in no_calls (here_at f k) q j haunts changed) (refl, tt))) (held r has) same
+    cell_sends (move.late c r n has may lt d) = plain (silent_of [] d.sends tt) (held r has) same
+    cell_sends (move.holds c r n own has mine may lt d) = plain (silent_of [] d.sends tt) (held r has) same
+    cell_sends (move.passes c p n own away at d) =
+        passed c p n away at (ap (λ a. a.slot.next) d.state ∙ at) (ap (λ b. b.orders) base) d.sends
+    cell_sends (move.lands r n own has may d) =
+        plain (silent_of _ d.sends (mapped_silent call_in (current_to (here_at f k) r) (λ b. refl) (base_numbers (here_at f k))))
+        (other _ n (λ c z. cc)) same
+    cell_sends (move.hears_set n c a has d) = plain (silent_of [] d.sends tt) (other _ a (λ c z. cc)) same
+    cell_sends (move.ignores_set n c r a has d) = plain (silent_of [] d.sends tt) (other _ a (λ c z. cc)) same
+    cell_sends (move.hears_drop n a d) = plain (silent_of [] d.sends tt) (other _ a (λ c z. cc)) same
+    cell_sends (move.reaped r n has own may d) = plain (silent_of _ d.sends (drops_silent call_in no_calls r)) (held r has) same
+    cell_sends (move.ticks n st z) = plain (silent_of [] z tt) (other _ n (λ c y. cc)) same
+    cell_sends (move.unlists n a at b d) = plain (silent_of [] d.sends tt) (task a) same
+    cell_sends (move.looks n r w known a at has own v small d) =
+        plain (silent_of _ d.sends (numbered_silent call_in (base_of (here_at f k) r.entity) r.entity w.sent _ (λ u. refl))) (task a) same
+    cell_sends (move.overlooks n known a at b d) = plain (silent_of [] d.sends tt) (task a) same
+    cell_sends (move.stuck r a has ready may d) = plain (silent_of [] d.sends tt) (task a) same
+
+  module _ (high : cell_count ≤ k) (cell : (c : CallData) → i ≡ Some (Call c) → k < cell_count) where
+    at_base : NonePasses
+    at_base c is away n at = let low = cell c is in omega (arith, low, high)
+
+    gone : (o : Order) (os : List Order) → s.base.orders ≡ o ∷ os → t.base.orders ≡ os → FewerOrders
+    gone o os at now = inr (o, at ∙ ap (λ l. o ∷ l) (sym now))
+
+    base_sends : (cells : ℕ) → BaseMoves (here_at f k) cells e s.base i t.base sent → Sends
+    base_sends cells (base_move.rests n a z) = plain (silent_of [] z tt) at_base (inl (ap (λ b. b.orders) a))
+    base_sends cells (base_move.strays m n b a z) = plain (silent_of [] z tt) at_base (inl (ap (λ b. b.orders) a))
+    base_sends cells (base_move.reroutes new r n has b a z) = plain (silent_of [] z tt) at_base (inl (ap (λ b. b.orders) a))
+    base_sends cells (base_move.offers c p n own has may a z) = plain (silent_of [] z tt) at_base (inl (ap (λ b. b.orders) a))
+    base_sends cells (base_move.updates u n own b a z) = plain (silent_of [] z tt) at_base (inl (ap (λ b. b.orders) a))
+    base_sends cells (base_move.orders_call c os r n at own has a z) =
+        ordered c r n (at ∙ ap (λ l. order.Cell c ∷ l) (sym (ap (λ b. b.orders) a))) has z
+    base_sends cells (base_move.orders_base_call c os n at own b a z) =
+        plain (silent_of _ z (refl, tt)) at_base (gone _ os at (ap (λ b. b.orders) a))
+    base_sends cells (base_move.offers_own c os p n at own b has may a z) =
+        plain (silent_of [] z tt) at_base (gone _ os at (ap (λ b. b.orders) a))
+    base_sends cells (base_move.orders_tick os n at a z) =
+        plain (silent_of _ z (mapped_silent call_in tick_to (λ j. refl) (range_with_len 0 cells))) at_base
+        (gone _ os at (ap (λ b. b.orders) a))
+    base_sends cells (base_move.orders_reap os r n at has a z) =
+        plain (silent_of _ z (refl, tt)) at_base (gone _ os at (ap (λ b. b.orders) a))
+    base_sends cells (base_move.stuck_order o os n at b a z) = plain (silent_of [] z tt) at_base (inl (ap (λ b. b.orders) a))
+    base_sends cells (base_move.executes p o c n has may at item a z) = plain (silent_of [] z tt) at_base (inl (ap (λ b. b.orders) a))
+    base_sends cells (base_move.stuck_part p n has v may a z) = plain (silent_of [] z tt) at_base (inl (ap (λ b. b.orders) a))
+    base_sends cells (base_move.shows p n has v may a z) = plain (silent_of [] z tt) at_base (inl (ap (λ b. b.orders) a))
+    base_sends cells (base_move.stuck_client p n has v may a z) = plain (silent_of [] z tt) at_base (inl (ap (λ b. b.orders) a))
+
+  pub sends : ((c : CallData) → i ≡ Some (Call c) → k < cell_count) → Moves f e k s i t sent → Sends
+  sends cell (at_a_cell low m is) = cell_sends is m
+  sends cell (at_a_base high m is) = base_sends high cell _ m

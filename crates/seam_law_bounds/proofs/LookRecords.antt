@@ -1,0 +1,83 @@
+-- The phase of looks ends by the records: no client runs out of numbers in it.
+use Rattle.std.proofs.Common.{◌≡◌, ℕ, ◌+◌, ◌≤◌, ◌⊎◌, true, List, length, Some, sym, ap, ◌∙◌, arith, inl, inr}
+use Rattle.std.specs.Prelude.{slice_get}
+use Rattle.std.specs.List.{range_with_len}
+use Rattle.std.specs.FinMap as table
+use Rattle.std.proofs.lemmas.Bool.{cases_eq}
+use Rattle.seam_machine.specs.Nets.{LeadsTo}
+use Rattle.seam_machine.specs.Totals.{total}
+use Rattle.seam_machine.specs.declared.machines.Event.{Event}
+use Rattle.seam_net_runs.specs.Sums.{weight_or}
+use Rattle.seam_law_flow.specs.Flows.{slot_at}
+use Rattle.seam_entity.specs.Here.{cell_count}
+use Rattle.seam_entity.specs.Reals.{RealView}
+use Rattle.seam_node_steps.specs.Bases.{BaseView, PartView}
+use Rattle.seam_node_steps.specs.BaseCases.{proxy_is_ready, may_show}
+use Rattle.seam_node_steps.specs.Nodes.{World, node_steps, node_has_work}
+use Rattle.seam_node_steps.specs.Nodes.NodeView.{Base}
+use Rattle.seam_node_steps.specs.Loads.{look_loaded}
+use Rattle.seam_law_calls.specs.Frames.{Frame}
+use Rattle.seam_law_calls.specs.Sights.{has_of, has_none, entity_flow}
+use Rattle.seam_law_calls.specs.Ones.{real_in}
+use Rattle.seam_law_rounds.specs.Between.{IsBetweenRounds}
+use Rattle.seam_law_rounds.proofs.Shape.{Somewhere, Nowhere, search_real}
+use Rattle.seam_law_calls.specs.BaseTurns.{home_of}
+use Rattle.seam_law_calls.specs.WitnessMoves.{sent_by}
+use Rattle.seam_law_calls.proofs.ClientRuns.{part_may_show}
+use Rattle.seam_law_calls.proofs.StrayRuns.{base_burden_leads}
+use Rattle.seam_law_rounds.specs.Parts.{HasPartsBetweenRounds, HasSmallNumbers, IsServed, bare, served}
+use Rattle.seam_law_rounds.proofs.Calms.{look_settles, look_numbers, look_serves}
+use Rattle.seam_law_rounds.proofs.Ticking.{most_told}
+use Rattle.seam_law_bounds.specs.Weights.{part_weight}
+use Rattle.seam_law_bounds.specs.Looking.{Always, LooksAmong, ClientsKeepRoom}
+use Rattle.seam_law_bounds.specs.Phases.{HoldsNothing, events_of_looks}
+use Rattle.seam_law_bounds.proofs.Cans.{none_is_shown}
+use Rattle.seam_law_bounds.proofs.LookCounts.{looks_fit}
+use Rattle.seam_law_bounds.proofs.LookPhase.{frame_start, looks_end}
+use Rattle.seam_law_bounds.proofs.LookStarts.{looks_among}
+use Rattle.seam_law_bounds.proofs.Nothing.{idle_in_looks}
+
+module _ (f : Frame) (u : World) (between : IsBetweenRounds f u) (parts : HasPartsBetweenRounds f u) (small : HasSmallNumbers f u)
+    (none : HoldsNothing u) where
+  module _ (v : World) (vs : List Event) (run : LeadsTo node_has_work node_steps (look_loaded u) vs v) (k : ℕ) (b : BaseView)
+      (node : slice_get v.nodes k ≡ Some (Base b)) (e : ℕ) (p : PartView) (at : table.get b.parts e ≡ Some p) where
+    has : ((entity_flow e v).slot k).base.part ≡ Some p
+    has = ap (λ o. (slot_at (has_of e) has_none o).base.part) node ∙ at
+
+    -- the client of an entity that is there has numbers
+    module _ (home : ℕ) (r : RealView) (here : real_in ((entity_flow e u).slot home) ≡ Some r) where
+      at_home : ((entity_flow e v).slot (home_of f e)).base.part ≡ Some p
+      at_home = elim (cases_eq k (home_of f e)) [
+        | inl is ↦ ap (λ i. ((entity_flow e v).slot i).base.part) (sym is) ∙ has
+        | inr n ↦
+            absurd (let z = sym ((look_settles f u between parts small vs v run e home r here).others k n) ∙ has in cc)
+      ]
+
+      served_may : IsServed f e r.ty v → may_show p.proxy ≡ true
+      served_may (bare none unseen) = ap may_show (none k p has)
+      served_may (served first low client seen) =
+          let numbers = look_numbers f u between parts small vs v run e home r here in
+          let less = base_burden_leads f e (look_loaded u) v vs (frame_start f u between none) run in
+          let room = numbers.room in
+          part_may_show f e r.ty first (sent_by r + most_told) v client numbers.most (omega (arith, less, room)) p at_home
+
+      there_may : may_show p.proxy ≡ true
+      there_may = served_may (look_serves f u between parts small vs v run e home r here)
+
+    -- and one of an entity that is gone is not ready
+    shows_by : Somewhere e u ⊎ Nowhere e u → proxy_is_ready p.proxy ≡ true → may_show p.proxy ≡ true
+    shows_by (inl s) ready = there_may s.0 s.1 s.2
+    shows_by (inr n) ready =
+        let zero = (idle_in_looks f u between none vs v run e n).parts k in
+        let its = ap (weight_or part_weight) has in
+        absurd (none_is_shown b.here p (omega (arith, zero, its)) ready)
+
+  pub clients_keep_room : Always ClientsKeepRoom (look_loaded u)
+  clients_keep_room v vs run k b node e p at = shows_by v vs run k b node e p at (search_real e u)
+
+  pub looks_are_bounded : (us : List ℕ) (ws : ℕ → List ℕ) → LooksAmong us ws u → (vs : List Event) (v : World) →
+      LeadsTo node_has_work node_steps (look_loaded u) vs v →
+      length vs ≤ events_of_looks (length us) (total (λ k. length (ws k)) (range_with_len 0 cell_count))
+  looks_are_bounded us ws among vs v run =
+      looks_end f u between none (length us) (λ k. length (ws k))
+      (λ x ds on. looks_fit us ws f.settings.bases x (looks_among f u between none us ws among x ds on)) clients_keep_room vs v run

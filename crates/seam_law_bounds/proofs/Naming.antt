@@ -1,0 +1,20 @@
+-- What there is to look at in a loaded world is of the entities that have a real there.
+use Rattle.std.proofs.Common.{ℕ, List, ap, ◌∙◌}
+use Rattle.seam_law_flow.specs.Flows.{slot_at}
+use Rattle.seam_call.specs.declared.order.Batch.{Batch}
+use Rattle.seam_node_steps.specs.Loads.{loaded}
+use Rattle.seam_node_steps.specs.Nodes.{World}
+use Rattle.seam_law_calls.specs.Frames.{Frame}
+use Rattle.seam_law_calls.specs.Sights.{has_of, has_none}
+use Rattle.seam_law_calls.specs.Ones.{real_in}
+use Rattle.seam_law_ghosts.specs.Copies.{AreCopiesBetweenRounds}
+use Rattle.seam_law_rounds.specs.Parts.{MayBeLoaded}
+use Rattle.seam_law_bounds.specs.Looking.{LooksAmong, SeesWhatIsThere}
+use Rattle.seam_law_bounds.proofs.There.{among_named}
+use Rattle.seam_law_bounds.specs.Most.{AreAmong}
+
+pub among_these : (f : Frame) (w : World) (b : Batch) → MayBeLoaded f w b → AreCopiesBetweenRounds f w → SeesWhatIsThere (loaded w b) →
+    (us : List ℕ) → AreAmong us (loaded w b) → LooksAmong us (λ k. us) (loaded w b)
+among_these f w b may copies sees us named =
+    among_named f w b may copies us us (λ e p. named e p.0 p.1 p.2) sees
+    (λ k c node e r x at has. named e k r (ap (λ o. real_in (slot_at (has_of e) has_none o)) node ∙ at))

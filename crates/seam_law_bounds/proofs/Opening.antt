@@ -1,0 +1,57 @@
+-- What the laws ask of where a phase begins is true of an opened world.
+use Rattle.std.proofs.Common.{◌≡◌, ℕ, ◌≤◌, false, List, [], Some, refl, sym, ap, ◌∙◌}
+use Rattle.std.specs.Prelude.{slice_get}
+use Rattle.std.specs.List.{AllByRecursion}
+use Rattle.std.specs.FinMap as table
+use Rattle.seam_law_flow.specs.Flows.{slot_at}
+use Rattle.seam_ghosts.specs.Book.{copy_in}
+use Rattle.seam_defs.specs.declared.settings.Settings.{Settings}
+use Rattle.seam_defs.specs.declared.types.TypeDef.{TypeDef}
+use Rattle.seam_entity.specs.Reals.{RealView}
+use Rattle.seam_node_steps.specs.Cells.{CellView}
+use Rattle.seam_node_steps.specs.Bases.{BaseView, PartView}
+use Rattle.seam_node_steps.specs.Nodes.{NodeView, World}
+use Rattle.seam_node_steps.specs.Nodes.NodeView.{Cell, Base}
+use Rattle.seam_node_steps.specs.Loads.{opened}
+use Rattle.seam_law_calls.specs.Sights.{Has, has_of, has_none}
+use Rattle.seam_law_calls.specs.Ones.{real_in, IsFrame}
+use Rattle.seam_law_rounds.specs.LastPhases.{first_frame}
+use Rattle.seam_law_rounds.proofs.Opened.{opened_is_new, opened_has_none}
+use Rattle.seam_law_calls.specs.Clients.{is_tick_order}
+use Rattle.seam_law_rounds.specs.FirstBatchExample.{first_batch}
+use Rattle.seam_law_bounds.specs.Looking.{LooksAmong, SeesWhatIsThere}
+use Rattle.seam_law_bounds.specs.Phases.{HoldsNothing}
+
+module _ (defs : List TypeDef) (settings : Settings) (frame : IsFrame (first_frame defs settings)) (bases : 1 ≤ settings.bases) where
+  abbrev w : World
+  w = opened defs settings
+
+  has_is : (e k : ℕ) (s : NodeView) → slice_get w.nodes k ≡ Some s → has_of e s ≡ has_none
+  has_is e k s at = sym (ap (slot_at (has_of e) has_none) at) ∙ opened_is_new defs settings frame bases e k
+
+  no_part : (k : ℕ) (b : BaseView) → slice_get w.nodes k ≡ Some (Base b) → (e : ℕ) (p : PartView) → table.get b.parts e ≡ Some p → ⊥
+  no_part k b at e p there = let z = sym (ap (λ (h : Has). h.base.part) (has_is e k (Base b) at)) ∙ there in cc
+
+  no_real : (k : ℕ) (c : CellView) → slice_get w.nodes k ≡ Some (Cell c) → (e : ℕ) (r : RealView) → table.get c.reals e ≡ Some r → ⊥
+  no_real k c at e r there = let z = sym (ap real_in (has_is e k (Cell c) at)) ∙ there in cc
+
+  pub opened_nothing : HoldsNothing w
+  opened_nothing k b at e p there = absurd (no_part k b at e p there)
+
+  pub opened_among : LooksAmong [] (λ k. []) w
+  opened_among = record {
+    reals = λ k c at e r there. absurd (no_real k c at e r there);
+    copies = λ k c at e x there.
+        let gone = ap (λ (h : Has). copy_in h.cell.slot.ghost) (has_is e k (Cell c) at) in
+        absurd (let z = sym gone ∙ there in cc);
+    views = λ k c at e r x there has. absurd (no_real k c at e r there);
+    witnesses = λ k c at e r x there has. absurd (no_real k c at e r there);
+  }
+
+  pub opened_sees : SeesWhatIsThere w
+  opened_sees e k r at = absurd (let z = sym (opened_has_none defs settings frame bases e k) ∙ at in cc)
+
+-- ---- a first batch
+
+pub first_ticks : AllByRecursion (λ o. is_tick_order o.1 ≡ false) first_batch.orders
+first_ticks = (refl, (refl, (refl, tt)))

@@ -1,0 +1,113 @@
+-- The orders of base nodes only go: what is true of each order at the start is true of each that is left.
+use Rattle.std.proofs.Common.{◌≡◌, ℕ, Bool, true, false, List, [], ◌∷◌, Option, None, Some, refl, sym, subst}
+use Rattle.std.specs.Prelude.{not}
+use Rattle.std.specs.List.{AllByRecursion}
+use Rattle.std.specs.FinMap as table
+use Rattle.seam_machine.specs.Views.{Stepped}
+use Rattle.seam_machine.specs.Nets.{LeadsTo}
+use Rattle.seam_machine.specs.Events.{EachNode}
+use Rattle.seam_machine.specs.declared.machines.Event.{Event}
+use Rattle.seam_machine.specs.declared.machines.Input.{Input}
+use Rattle.seam_machine.specs.declared.machines.Input.TheVariants.{Task, From}
+use Rattle.seam_machine.proofs.Occurring.{occurs}
+use Rattle.seam_net_runs.proofs.Keeping.{each_node}
+use Rattle.seam_net_runs.proofs.Runs.{leads_keeps}
+use Rattle.seam_call.specs.declared.call.Call.{Call as CallData}
+use Rattle.seam_call.specs.declared.order.Order.{Order}
+use Rattle.seam_call.specs.declared.order.Order.TheVariants as order
+use Rattle.seam_call.specs.declared.shown.Update.{Update as UpdateData}
+use Rattle.seam_entity.specs.declared.message.Msg.{Msg}
+use Rattle.seam_entity.specs.declared.message.Msg.TheVariants.{Call, BaseCall, Hand, Current, GhostSet, GhostDrop, Tick, Reap, Update}
+use Rattle.seam_node_steps.specs.Bases.{BaseView, PartView, ProxyView, RouteView}
+use Rattle.seam_node_steps.specs.BaseCases.{unless_stray, part_called, base_order, is_base_node_of, order_of_node, stray_order}
+use Rattle.seam_node_steps.specs.BaseCases.{ready_part, ready_proxy, proxy_task, task_without_orders, base_task, newer_route, current}
+use Rattle.seam_node_steps.specs.BaseCases.{updated_proxy, update, is_stray, case_of, base_steps, may_execute, may_show}
+use Rattle.seam_node_steps.specs.Nodes.{NodeView, World, node_steps, node_has_work}
+use Rattle.seam_node_steps.specs.Nodes.NodeView.{Cell, Base}
+
+-- ---- a step keeps the orders, or takes the first
+
+orders_called : (b : BaseView) (k : CallData) (o : Option PartView) → (part_called b k o).orders ≡ b.orders
+orders_called b k None = refl
+orders_called b k (Some p) = refl
+
+orders_updated : (b : BaseView) (u : UpdateData) (p : PartView) (o : Option ProxyView) → (updated_proxy b u p o).orders ≡ b.orders
+orders_updated b u p None = refl
+orders_updated b u p (Some x) = refl
+
+orders_client : (b : BaseView) (u : UpdateData) (o : Option PartView) → (update b u o).orders ≡ b.orders
+orders_client b u None = refl
+orders_client b u (Some p) = orders_updated b u p p.proxy
+
+orders_newer : (d : Bool) (b : BaseView) (e : ℕ) (n : RouteView) → (newer_route d b e n).orders ≡ b.orders
+orders_newer true b e n = refl
+orders_newer false b e n = refl
+
+orders_current : (b : BaseView) (e : ℕ) (n : RouteView) (o : Option RouteView) → (current b e n o).orders ≡ b.orders
+orders_current b e n None = refl
+orders_current b e n (Some r) = orders_newer _ b e n
+
+orders_case : (b : BaseView) (m : Msg) → (case_of b m).orders ≡ b.orders
+orders_case b (Call k) = refl
+orders_case b (BaseCall k) = orders_called b k (table.get b.parts k.entity)
+orders_case b (Hand r) = refl
+orders_case b (Current e j g) = orders_current b e _ (table.get b.routes e)
+orders_case b (GhostSet e n c) = refl
+orders_case b (GhostDrop e n) = refl
+orders_case b Tick = refl
+orders_case b (Reap e) = refl
+orders_case b (Update u) = orders_client b u (table.get b.parts u.entity)
+
+module _ (Ok : Order → Type 0) where
+  abbrev pub AllOk : List Order → Type 0
+  AllOk os = AllByRecursion Ok os
+
+  unless_ok : (d : Bool) (b : BaseView) (t : Stepped BaseView Msg) → AllOk b.orders → AllOk t.state.orders →
+      AllOk (unless_stray d b t).state.orders
+  unless_ok true b t h k = h
+  unless_ok false b t h k = k
+
+  order_ok : (d : Bool) (b : BaseView) (k : CallData) → AllOk b.orders → AllOk (base_order d b k).state.orders
+  order_ok true b k h = subst AllOk (sym (orders_called b k (table.get b.parts k.entity))) h
+  order_ok false b k h = h
+
+  node_order_ok : (b : BaseView) (o : Order) → AllOk b.orders → AllOk (order_of_node b o).state.orders
+  node_order_ok b (order.Cell k) h = h
+  node_order_ok b (order.Base k) h = order_ok (is_base_node_of b.here k.entity) b k h
+  node_order_ok b order.Tick h = h
+  node_order_ok b (order.Reap e) h = h
+
+  proxy_ok : (b : BaseView) (o : Option (ℕ × PartView)) → AllOk b.orders → AllOk (proxy_task b o).state.orders
+  proxy_ok b None h = h
+  proxy_ok b (Some p) h = unless_ok (not (may_show p.1.proxy)) b _ h h
+
+  part_ok : (b : BaseView) (o : Option (ℕ × PartView)) → AllOk b.orders → AllOk (task_without_orders b o).state.orders
+  part_ok b None h = proxy_ok b (ready_proxy b) h
+  part_ok b (Some p) h = unless_ok (not (may_execute p.1)) b _ h h
+
+  task_ok : (b : BaseView) (os : List Order) → b.orders ≡ os → AllOk b.orders → AllOk (base_task b os).state.orders
+  task_ok b [] is h = part_ok b (ready_part b) h
+  task_ok b (o ∷ os) is h =
+      unless_ok (stray_order b o) b _ h (node_order_ok (record b { orders = os }) o (subst AllOk is h).1)
+
+  base_ok : (b : BaseView) (i : Input Msg) → AllOk b.orders → AllOk (base_steps b i).state.orders
+  base_ok b Task h = task_ok b b.orders refl h
+  base_ok b (From a m) h = unless_ok (is_stray b m) b _ h (subst AllOk (sym (orders_case b m)) h)
+
+  abbrev pub OrdersAre : NodeView → Type 0
+  OrdersAre (Cell c) = Unit {0}
+  OrdersAre (Base b) = AllOk b.orders
+
+  orders_step : (s : NodeView) (i : Input Msg) → OrdersAre s → OrdersAre (node_steps s i).state
+  orders_step (Cell c) i h = tt
+  orders_step (Base b) i h = base_ok b i h
+
+  -- every list of events
+  pub orders_lead : (w v : World) (es : List Event) → EachNode (λ k s. OrdersAre s) w.nodes →
+      LeadsTo node_has_work node_steps w es v → EachNode (λ k s. OrdersAre s) v.nodes
+  orders_lead w v es h run =
+      leads_keeps node_has_work node_steps (λ x. EachNode (λ k s. OrdersAre s) x.nodes)
+      (λ x a each on.
+      let o = occurs node_has_work x a on in
+      each_node (λ k s. OrdersAre s) node_steps x a o each (orders_step o.node o.input (each a.node o.node o.is_node)))
+      w v es h run

@@ -1,0 +1,71 @@
+-- How often a call is passed on, and how often its entity is handed over.
+use Rattle.std.specs.Prelude.{ℕ, ◌==◌, Bool, false, ◌&&◌, is_some, is_none, List, Option, None, Some}
+use Rattle.seam_machine.specs.Nets.{input_from, happens}
+use Rattle.seam_machine.specs.declared.machines.Input.{Input}
+use Rattle.seam_machine.specs.declared.machines.Input.TheVariants.{Task, From}
+use Rattle.seam_machine.specs.declared.machines.Event.{Event}
+use Rattle.seam_net_runs.specs.Weights.{counted}
+use Rattle.seam_call.specs.declared.call.Call.{Call as CallData}
+use Rattle.seam_entity.specs.declared.message.Msg.{Msg}
+use Rattle.seam_entity.specs.declared.message.Msg.TheVariants.{Call, BaseCall, Hand, Current, GhostSet, GhostDrop, Tick, Reap, Update}
+use Rattle.seam_node_steps.specs.Nodes.{World, node_steps}
+use Rattle.seam_law_calls.specs.Sights.{Has, entity_flow}
+use Rattle.seam_law_calls.specs.Ones.{real_in}
+use Rattle.seam_law_calls.specs.CellTurns.{is_from}
+
+-- ---- the call of a sender with a number
+
+abbrev pub has_number : ℕ → ℕ → CallData → Bool
+has_number s n c = is_from s c && (c.number == n)
+
+-- the message is a call to a cell part, of that sender and with that number
+abbrev pub is_numbered : ℕ → ℕ → Msg → Bool
+is_numbered s n (Call c) = has_number s n c
+is_numbered s n (BaseCall c) = false
+is_numbered s n (Hand r) = false
+is_numbered s n (Current e j g) = false
+is_numbered s n (GhostSet e b c) = false
+is_numbered s n (GhostDrop e b) = false
+is_numbered s n Tick = false
+is_numbered s n (Reap e) = false
+is_numbered s n (Update u) = false
+
+abbrev pub is_to : ℕ → Msg → Bool
+is_to e (Call c) = c.entity == e
+is_to e (BaseCall c) = false
+is_to e (Hand r) = false
+is_to e (Current x j g) = false
+is_to e (GhostSet x b c) = false
+is_to e (GhostDrop x b) = false
+is_to e Tick = false
+is_to e (Reap x) = false
+is_to e (Update u) = false
+
+-- the input is the call of sender s to entity e that has number n
+abbrev pub brings_call : ℕ → ℕ → ℕ → Option (Input Msg) → Bool
+brings_call e s n None = false
+brings_call e s n (Some Task) = false
+brings_call e s n (Some (From a m)) = is_to e m && is_numbered s n m
+
+-- the real is not here, and left the next place
+abbrev pub was_left : Has → Bool
+was_left h = is_none (real_in h) && is_some h.cell.slot.next
+
+-- ---- events
+
+-- the event brings the call to a node that the real left: it is passed on to the next place
+abbrev pub passes_on : ℕ → ℕ → ℕ → World → Event → Bool
+passes_on e s n w x = brings_call e s n (input_from w.rows x.node x.from) && was_left ((entity_flow e w).slot x.node)
+
+-- the event's node has the entity's real before the event, and not after it
+abbrev pub hands_over : ℕ → World → Event → Bool
+hands_over e w x =
+    is_some (real_in ((entity_flow e w).slot x.node)) && is_none (real_in ((entity_flow e (happens node_steps w x)).slot x.node))
+
+-- how many of the events pass the call on
+abbrev pub passes : ℕ → ℕ → ℕ → World → List Event → ℕ
+passes e s n w es = counted node_steps (passes_on e s n) w es
+
+-- how many of the events hand the entity's real over
+abbrev pub hand_overs : ℕ → World → List Event → ℕ
+hand_overs e w es = counted node_steps (hands_over e) w es

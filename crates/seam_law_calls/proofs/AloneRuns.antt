@@ -1,0 +1,81 @@
+-- Each call once to the base part of an entity without a client: after every list of events.
+use Rattle.std.proofs.Common.{◌≡◌, ℕ, true, List, ◌∷◌, ap}
+use Rattle.seam_machine.specs.Nets.{happens, enabled, LeadsTo}
+use Rattle.seam_machine.specs.Events.{Occurs}
+use Rattle.seam_machine.specs.declared.machines.Event.{Event}
+use Rattle.seam_machine.proofs.Occurring.{occurs}
+use Rattle.seam_net_runs.proofs.Runs.{leads_keeps}
+use Rattle.seam_law_flow.specs.Flows.{comes}
+use Rattle.seam_law_flow.proofs.Following.{slots_kept}
+use Rattle.seam_call.specs.declared.call.Call.{Call as CallData}
+use Rattle.seam_entity.specs.declared.message.Msg.{Msg}
+use Rattle.seam_entity.specs.declared.message.Msg.TheVariants.{BaseCall}
+use Rattle.seam_node_steps.specs.BaseCases.{may_show}
+use Rattle.seam_node_steps.specs.Nodes.{World, node_steps, node_has_work}
+use Rattle.seam_law_calls.specs.Frames.{Frame, here_at, IsInFrame}
+use Rattle.seam_law_calls.specs.Sights.{entity_flow}
+use Rattle.seam_law_calls.proofs.Classify.{frame_happens, event_moves}
+use Rattle.seam_law_calls.specs.Ones.{IsSpared}
+use Rattle.seam_law_calls.proofs.OneReal.{spared_happens}
+use Rattle.seam_law_calls.specs.PartMoves.{HasNoProxy}
+use Rattle.seam_law_calls.specs.BaseTurns.{home_of, FindsPart, HasBaseCalls, HasNoClient}
+use Rattle.seam_law_calls.proofs.PartSteps.{part_moves}
+use Rattle.seam_law_calls.proofs.ClientSteps.{client_after, stays_alone}
+use Rattle.seam_law_calls.proofs.BaseRuns.{unordered, finds, kept_happens}
+
+-- an entity without a client gets none
+module _ (f : Frame) (e : ℕ) where
+  bare_happens : (w : World) (v : Event) (o : Occurs w v) → IsInFrame f w → IsSpared e w → HasNoClient e w →
+      HasNoClient e (happens node_steps w v)
+  bare_happens w v o frame spared alone =
+      let g = event_moves f w v o frame e in
+      slots_kept (λ k s. HasNoProxy s.base.part) g alone
+      (stays_alone (here_at f g.k) _ (comes g.input) _
+      (client_after (here_at f g.k) e _ _ _ g.moves.sent (λ os. unordered e w g.k os spared)
+      (part_moves f e g.k ((entity_flow e w).slot g.k) (comes g.input) ((entity_flow e (happens node_steps w v)).slot g.k) g.moves.sent
+      g.moves.moves)) (alone g.k))
+
+  record Bare (w : World) : Type 0 where
+    frame : IsInFrame f w
+    spared : IsSpared e w
+    none : HasNoClient e w
+
+  bare_more : (w : World) (v : Event) → Bare w → enabled node_has_work w v ≡ true → Bare (happens node_steps w v)
+  bare_more w v h on =
+      let o = occurs node_has_work w v on in
+      record {
+        frame = frame_happens f w v o h.frame;
+        spared = spared_happens f e w v o h.frame h.spared;
+        none = bare_happens w v o h.frame h.spared h.none;
+      }
+
+  pub bare_leads : (w v : World) (es : List Event) → IsInFrame f w → IsSpared e w → HasNoClient e w →
+      LeadsTo node_has_work node_steps w es v → HasNoClient e v
+  bare_leads w v es frame spared none run =
+      (leads_keeps node_has_work node_steps Bare bare_more w v es (record { frame = frame; spared = spared; none = none }) run).none
+
+module _ (f : Frame) (e ty : ℕ) (first : ℕ → ℕ) (batch : ℕ → List CallData) where
+  -- nothing is to be shown
+  pub no_lines : (w : World) (h : HasBaseCalls f e ty first batch w) → HasNoClient e w → may_show h.part.part.proxy ≡ true
+  no_lines w h alone = ap may_show (alone (home_of f e) h.part.part h.part.here)
+
+  pub finds_alone : (w : World) (h : HasBaseCalls f e ty first batch w) → HasNoClient e w → (a k : ℕ) (c : CallData) (ms : List Msg) →
+      (entity_flow e w).mail a k ≡ BaseCall c ∷ ms → FindsPart f e k ((entity_flow e w).slot k).base c
+  finds_alone w h alone a k c ms at = finds f e ty first batch w h a k c ms at (no_lines w h alone)
+
+  pub record Alone (w : World) : Type 0 where
+    pub calls : HasBaseCalls f e ty first batch w
+    pub alone : HasNoClient e w
+
+  alone_more : (w : World) (v : Event) → Alone w → enabled node_has_work w v ≡ true → Alone (happens node_steps w v)
+  alone_more w v h on =
+      let o = occurs node_has_work w v on in
+      record {
+        calls = kept_happens f e ty first batch w v o h.calls (no_lines w h.calls h.alone);
+        alone = bare_happens f e w v o h.calls.part.frame h.calls.spared h.alone;
+      }
+
+  pub alone_leads : (w v : World) (es : List Event) → HasBaseCalls f e ty first batch w → HasNoClient e w →
+      LeadsTo node_has_work node_steps w es v → Alone v
+  alone_leads w v es h alone run =
+      leads_keeps node_has_work node_steps Alone alone_more w v es (record { calls = h; alone = alone }) run

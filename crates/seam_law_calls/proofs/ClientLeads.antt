@@ -1,0 +1,128 @@
+-- Each call to a base part with a client once, over every list of events in which its witness tells no more than there is room for.
+use Rattle.std.proofs.Common.{◌≡◌, ℕ, ◌+◌, ◌≤◌, true, List, [], ◌∷◌, length, refl, sym, ap, subst, arith}
+use Rattle.seam_machine.specs.Nets.{happens, enabled, run, AllEnabled, LeadsTo}
+use Rattle.seam_machine.specs.declared.machines.Event.{Event}
+use Rattle.seam_machine.proofs.Occurring.{occurs}
+use Rattle.seam_net_runs.proofs.Runs.{leads_keeps}
+use Rattle.seam_call.specs.declared.call.Call.{Call as CallData}
+use Rattle.seam_entity.specs.Reals.{RealView}
+use Rattle.seam_entity.specs.declared.message.Msg.{Msg}
+use Rattle.seam_entity.specs.declared.message.Msg.TheVariants.{BaseCall}
+use Rattle.seam_node_steps.specs.BaseCases.{may_show}
+use Rattle.seam_node_steps.specs.Nodes.{World, node_steps, node_has_work}
+use Rattle.seam_law_calls.specs.Frames.{Frame, IsInFrame}
+use Rattle.seam_law_calls.specs.Sights.{entity_flow}
+use Rattle.seam_law_calls.proofs.Classify.{frame_happens}
+use Rattle.seam_law_calls.specs.Ones.{IsSpared}
+use Rattle.seam_law_calls.proofs.OneReal.{one_leads, spared_happens}
+use Rattle.seam_law_calls.specs.WitnessMoves.{sent_of, sent_by}
+use Rattle.seam_law_calls.specs.BaseTurns.{FindsPart, HasBaseCalls}
+use Rattle.seam_law_calls.specs.Clients.{EachReal, HasToldAtMost, HasClient, HasRoomFor}
+use Rattle.seam_law_calls.proofs.PartEasing.{base_burden_happens}
+use Rattle.seam_law_calls.proofs.WitnessKept.{each_weaker, each_happens}
+use Rattle.seam_law_calls.proofs.BaseRuns.{finds, kept_happens}
+use Rattle.seam_law_calls.proofs.ClientRuns.{one_of, part_may_show, client_happens}
+
+-- ---- what witnesses told never falls
+
+abbrev AtLeast : ℕ → RealView → Type 0
+AtLeast m r = m ≤ sent_by r
+
+module _ (f : Frame) (e m : ℕ) where
+  record Told (w : World) : Type 0 where
+    frame : IsInFrame f w
+    each : EachReal e (AtLeast m) w
+
+  told_more : (w : World) (v : Event) → Told w → enabled node_has_work w v ≡ true → Told (happens node_steps w v)
+  told_more w v h on =
+      let o = occurs node_has_work w v on in
+      record {
+        frame = frame_happens f w v o h.frame;
+        each =
+            each_happens (AtLeast m) (λ r q same le. let a = ap sent_of same in omega (arith, a, le)) f e w v o h.frame
+            (λ k n r q x y shown at wit wit' sum le.
+            let a = ap sent_of wit in
+            let b = ap sent_of wit' in
+            omega (arith, le, a, b, sum)) h.each;
+      }
+
+  told_leads : (w v : World) (es : List Event) → IsInFrame f w → EachReal e (AtLeast m) w → LeadsTo node_has_work node_steps w es v →
+      EachReal e (AtLeast m) v
+  told_leads w v es q each run =
+      (leads_keeps node_has_work node_steps Told told_more w v es (record { frame = q; each = each }) run).each
+
+-- a witness that told at most n in the end told at most n before
+told_before : (f : Frame) (e ty first n : ℕ) (w v : World) (es : List Event) (h : HasClient f e ty first w) → IsSpared e w →
+    LeadsTo node_has_work node_steps w es v → HasToldAtMost e n v → HasToldAtMost e n w
+told_before f e ty first n w v es h spared run most =
+    let number = first + length h.issued in
+    let one = (one_leads f h.frame e ty h.known w v es h.one spared run).has in
+    let started = one_of (λ r. sent_by r + 1 ≡ number) e w h.one.place h.one.real h.one.one h.told in
+    let least =
+    each_weaker (λ r. sent_by r + 1 ≡ number) (AtLeast (sent_by h.one.real)) e w (λ r is. omega (arith, is, started)) h.told in
+    let then =
+    one_of (AtLeast (sent_by h.one.real)) e v one.place one.real one.one
+    (told_leads f e (sent_by h.one.real) w v es h.one.fits.frame least run) in
+    let few = one_of (λ r. sent_by r ≤ n) e v one.place one.real one.one most in
+    each_weaker (λ r. sent_by r + 1 ≡ number) (λ r. sent_by r ≤ n) e w (λ r is. omega (arith, is, started, then, few)) h.told
+
+-- ---- a run
+
+module _ (f : Frame) (e ty : ℕ) (first : ℕ → ℕ) (batch : ℕ → List CallData) (update n : ℕ) where
+  pub record Both (w : World) : Type 0 where
+    pub calls : HasBaseCalls f e ty first batch w
+    pub client : HasClient f e ty update w
+
+  lines : (w : World) (h : Both w) → HasToldAtMost e n w → HasRoomFor e n w → may_show h.calls.part.part.proxy ≡ true
+  lines w h most room = part_may_show f e ty update n w h.client most room h.calls.part.part h.calls.part.here
+
+  pub finds_both : (w : World) (h : Both w) → HasToldAtMost e n w → HasRoomFor e n w → (a k : ℕ) (c : CallData) (ms : List Msg) →
+      (entity_flow e w).mail a k ≡ BaseCall c ∷ ms → FindsPart f e k ((entity_flow e w).slot k).base c
+  finds_both w h most room a k c ms at = finds f e ty first batch w h.calls a k c ms at (lines w h most room)
+
+  both_run : (w : World) (es : List Event) → Both w → HasRoomFor e n w → AllEnabled node_has_work node_steps w es →
+      HasToldAtMost e n (run node_steps w es) → Both (run node_steps w es)
+  both_run w [] h room on most = h
+  both_run w (v ∷ es) h room on most =
+      let o = occurs node_has_work w v on.0 in
+      let now =
+      told_before f e ty update n w (run node_steps w (v ∷ es)) (v ∷ es) h.client h.calls.spared (record { each = on; is_run = refl })
+      most in
+      let less = base_burden_happens f e w v o h.calls.part.frame in
+      both_run (happens node_steps w v) es
+      (record {
+        calls = kept_happens f e ty first batch w v o h.calls (lines w h now room);
+        client = client_happens f e ty update n w v o h.client h.calls.spared now room;
+      }) (omega (arith, less, room)) on.1 most
+
+  pub both_leads : (w v : World) (es : List Event) → Both w → HasRoomFor e n w → LeadsTo node_has_work node_steps w es v →
+      HasToldAtMost e n v → Both v
+  both_leads w v es h room r most =
+      subst Both (sym r.is_run) (both_run w es h room r.each (subst (HasToldAtMost e n) r.is_run most))
+
+-- ---- a client, whatever is called
+
+module _ (f : Frame) (e ty update n : ℕ) where
+  record Served (w : World) : Type 0 where
+    client : HasClient f e ty update w
+    spared : IsSpared e w
+
+  client_run : (w : World) (es : List Event) → Served w → HasRoomFor e n w → AllEnabled node_has_work node_steps w es →
+      HasToldAtMost e n (run node_steps w es) → Served (run node_steps w es)
+  client_run w [] h room on most = h
+  client_run w (v ∷ es) h room on most =
+      let o = occurs node_has_work w v on.0 in
+      let now =
+      told_before f e ty update n w (run node_steps w (v ∷ es)) (v ∷ es) h.client h.spared (record { each = on; is_run = refl }) most in
+      let less = base_burden_happens f e w v o h.client.one.fits.frame in
+      client_run (happens node_steps w v) es
+      (record {
+        client = client_happens f e ty update n w v o h.client h.spared now room;
+        spared = spared_happens f e w v o h.client.one.fits.frame h.spared;
+      }) (omega (arith, less, room)) on.1 most
+
+  pub client_leads : (w v : World) (es : List Event) → HasClient f e ty update w → IsSpared e w → HasRoomFor e n w →
+      LeadsTo node_has_work node_steps w es v → HasToldAtMost e n v → HasClient f e ty update v
+  client_leads w v es h spared room r most =
+      let end = client_run w es (record { client = h; spared = spared }) room r.each (subst (HasToldAtMost e n) r.is_run most) in
+      subst (HasClient f e ty update) (sym r.is_run) end.client

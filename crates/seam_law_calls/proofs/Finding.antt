@@ -1,0 +1,67 @@
+-- Calls find their way after every list of events.
+use Rattle.std.proofs.Common.{◌≡◌, ℕ, ◌<◌, Bool, true, false, not, ◌&&◌, ◌||◌, is_some, List, [], ◌∷◌, length, None, Some, refl}
+use Rattle.std.proofs.Common.{sym, ap, ◌∙◌, subst}
+use Rattle.std.specs.List.{AllByRecursion}
+use Rattle.seam_machine.specs.Nets.{happens, enabled, LeadsTo}
+use Rattle.seam_machine.specs.declared.machines.Event.{Event}
+use Rattle.seam_machine.proofs.Occurring.{occurs}
+use Rattle.seam_net_runs.proofs.Runs.{leads_keeps}
+use Rattle.seam_law_flow.specs.Flows.{Flow, comes}
+use Rattle.seam_call.specs.declared.call.Call.{Call as CallData}
+use Rattle.seam_entity.specs.declared.message.Msg.{Msg}
+use Rattle.seam_entity.specs.declared.message.Msg.TheVariants.{Call}
+use Rattle.seam_node_steps.specs.Bases.{RouteView}
+use Rattle.seam_node_steps.specs.Nodes.{World, node_steps, node_has_work}
+use Rattle.seam_law_calls.specs.Frames.{Frame}
+use Rattle.seam_law_calls.specs.Sights.{Has, entity_flow}
+use Rattle.seam_law_calls.specs.Ones.{IsSpared, IsFrame, HasOne}
+use Rattle.seam_law_calls.proofs.OneReal.{goes, room, one_happens, calm_of, spared_happens}
+use Rattle.seam_law_calls.specs.Ways.{is_visited, follow, NamesVisited, AllLead}
+use Rattle.seam_law_calls.proofs.WayMoves.{leads}
+use Rattle.seam_law_calls.proofs.Leading.{lead_goes}
+
+module _ (f : Frame) (frame : IsFrame f) (e ty : ℕ) (known : ty < length f.defs) where
+  record Found (w : World) : Type 0 where
+    has : HasOne f e ty w
+    spared : IsSpared e w
+    lead : AllLead (entity_flow e w)
+
+  found_more : (w : World) (v : Event) → Found w → enabled node_has_work w v ≡ true → Found (happens node_steps w v)
+  found_more w v h on =
+      let o = occurs node_has_work w v on in
+      let calm = calm_of f e w v o h.has.fits.frame h.spared in
+      let g = goes f frame e ty known w v o h.has calm in
+      record {
+        has = (one_happens f frame e ty known w v o h.has calm).has;
+        spared = spared_happens f e w v o h.has.fits.frame h.spared;
+        lead =
+            lead_goes g g.moves.0.sent g.moves.0.items
+            (leads f e g.k ((entity_flow e w).slot g.k) (comes g.input) ((entity_flow e (happens node_steps w v)).slot g.k) g.moves.0.sent
+            (room f frame e ty known w v o h.has calm) g.moves.1.1 g.moves.0.moves) h.lead;
+      }
+
+  pub ways_lead : (w v : World) (es : List Event) → HasOne f e ty w → IsSpared e w → AllLead (entity_flow e w) →
+      LeadsTo node_has_work node_steps w es v → AllLead (entity_flow e v)
+  ways_lead w v es has spared lead run =
+      (leads_keeps node_has_work node_steps Found found_more w v es (record { has = has; spared = spared; lead = lead }) run).lead
+
+first_by : (v a : Bool) → ((not true || v) && a) ≡ true → v ≡ true
+first_by true a h = refl
+first_by false a h = cc
+
+-- a call that is the first of its link finds the real, or the next place
+pub first_finds : (w : Flow Has Msg) → AllLead w → (a k : ℕ) (c : CallData) (ms : List Msg) → w.mail a k ≡ Call c ∷ ms →
+    is_visited (w.slot k) ≡ true
+first_finds w lead a k c ms at =
+    first_by (is_visited (w.slot k)) (follow (is_visited (w.slot k) || false) ms)
+    (sym (ap (follow (is_visited (w.slot k))) at) ∙ lead.calls a k)
+
+-- with no letter and no next place, and every route to a cell that has the real, all lead there
+pub starts_leading : (w : Flow Has Msg) → ((a k : ℕ) → w.mail a k ≡ []) → ((k : ℕ) → (w.slot k).cell.slot.next ≡ None) →
+    ((k : ℕ) (r : RouteView) → (w.slot k).base.route ≡ Some r → is_some (w.slot r.cell).cell.slot.real ≡ true) → AllLead w
+starts_leading w mail nexts routes = record {
+  nexts = λ k n h. let z = sym (nexts k) ∙ h in absurd cc;
+  routes = λ k r h. ap (λ b. b || is_some (w.slot r.cell).cell.slot.next) (routes k r h);
+  currents = λ a k. subst (AllByRecursion (NamesVisited w)) (sym (mail a k)) tt;
+  calls = λ a k. ap (follow (is_visited (w.slot k))) (mail a k);
+}

@@ -1,0 +1,163 @@
+-- A Reap that finds the real takes it out of the world, and an entity that no one has stays gone.
+use Rattle.std.proofs.Common.{◌≡◌, ℕ, ◌+◌, Bool, true, false, not, List, Option, None, Some, refl, sym, ap, ◌∙◌}
+use Rattle.std.proofs.Common.{subst, arith}
+use Rattle.std.specs.List.{AllByRecursion}
+use Rattle.seam_machine.specs.Nets.{happens, enabled, LeadsTo}
+use Rattle.seam_machine.specs.Events.{Occurs}
+use Rattle.seam_machine.specs.declared.machines.Event.{Event}
+use Rattle.seam_machine.proofs.Occurring.{occurs}
+use Rattle.seam_net_runs.proofs.Runs.{leads_keeps}
+use Rattle.seam_law_flow.specs.Flows.{Goes, comes, letter_in, letters_of}
+use Rattle.seam_law_flow.specs.Sent.{IsSilent}
+use Rattle.seam_law_flow.specs.Tokens.{carried_in, Nobody, Handles, still, turns, lands, leaves, relays}
+use Rattle.seam_law_flow.proofs.Following.{came}
+use Rattle.seam_law_flow.proofs.SendLists.{sees_none}
+use Rattle.seam_law_flow.proofs.Lives.{nobody_still, nobody_ends}
+use Rattle.seam_entity.specs.Reals.{RealView}
+use Rattle.seam_entity.specs.declared.message.Msg.{Msg}
+use Rattle.seam_entity.specs.declared.message.Msg.TheVariants.{Hand, Reap}
+use Rattle.seam_entity.specs.Numbers.{limit, may_rise}
+use Rattle.seam_node_steps.specs.CellCases.{is_stray}
+use Rattle.seam_node_steps.specs.Nodes.{World, node_steps, node_has_work}
+use Rattle.seam_law_calls.specs.Frames.{Frame, here_at, IsInFrame}
+use Rattle.seam_law_calls.specs.Sights.{Has, AtCell, mine, has_of, entity_flow}
+use Rattle.seam_law_calls.specs.CellMoves as move
+use Rattle.seam_law_calls.specs.CellMoves.{Acts, surveys, calls, readies, CellMoves}
+use Rattle.seam_law_calls.specs.Moves.{Moves, at_a_cell, at_a_base, MovesTo}
+use Rattle.seam_law_calls.proofs.Classify.{frame_happens, event_moves, event_moves_with}
+use Rattle.seam_law_calls.specs.Replays.{Replays}
+use Rattle.seam_law_calls.specs.Ones.{real_in, real_of, IsFrame, HasOne}
+use Rattle.seam_law_calls.proofs.Holds.{below_is}
+use Rattle.seam_law_calls.proofs.Plain.{drops_silent}
+use Rattle.seam_law_calls.proofs.Handling.{reals_unseen, handled}
+use Rattle.seam_law_calls.proofs.Easing.{reaped_small}
+use Rattle.seam_law_calls.proofs.OneReal.{hands_all, came_hand}
+
+-- ---- nobody has it
+
+module _ (f : Frame) (frame : IsFrame f) (e : ℕ) (w : World) (v : Event) (o : Occurs w v) (q : IsInFrame f w)
+    (none : Nobody real_in real_of (entity_flow e w)) where
+  moves : Goes (MovesTo f e) (entity_flow e w) (entity_flow e (happens node_steps w v))
+  moves = event_moves f w v o q e
+
+  none_comes : (r : RealView) → comes moves.input ≡ Some (Hand r) → ⊥
+  none_comes r h =
+      (came (λ a k m. (r : RealView) → m ≡ Hand r → ⊥) moves (Hand r) h (λ a k.
+      hands_all (λ r. ⊥) ((entity_flow e w).mail a k) (subst (AllByRecursion (λ r. ⊥)) (sym (none.mail a k)) tt))).1 r refl
+
+  none_here : (r : RealView) → real_in ((entity_flow e w).slot moves.k) ≡ Some r → ⊥
+  none_here r h = let no = sym (none.slots moves.k) ∙ h in cc
+
+  gone_by : Handles real_in real_of (Replays f) ((entity_flow e w).slot moves.k) (comes moves.input)
+      ((entity_flow e (happens node_steps w v)).slot moves.k) moves.out → Nobody real_in real_of (entity_flow e (happens node_steps w v))
+  gone_by (still a b c) = nobody_still real_in real_of moves none a b c
+  gone_by (turns r p a b c d s) = absurd (none_here r a)
+  gone_by (lands r p a b c s) = absurd (none_comes r (came_hand (comes moves.input) r a))
+  gone_by (leaves r p to a b c d s) = absurd (none_here r a)
+  gone_by (relays r p to a b c s) = absurd (none_comes r (came_hand (comes moves.input) r a))
+
+  pub gone_happens : Nobody real_in real_of (entity_flow e (happens node_steps w v))
+  gone_happens =
+      gone_by (handled f frame.defs e 0 moves.k _ (comes moves.input) _ moves.moves.sent moves.out moves.moves.items
+      (λ r h. absurd (none_comes r h)) (λ r h is. none_here r h) moves.moves.moves).0
+
+record Gone (f : Frame) (e : ℕ) (w : World) : Type 0 where
+  frame : IsInFrame f w
+  none : Nobody real_in real_of (entity_flow e w)
+
+gone_more : (f : Frame) → IsFrame f → (e : ℕ) (w : World) (v : Event) → Gone f e w → enabled node_has_work w v ≡ true →
+    Gone f e (happens node_steps w v)
+gone_more f frame e w v g on =
+    let o = occurs node_has_work w v on in
+    record { frame = frame_happens f w v o g.frame; none = gone_happens f frame e w v o g.frame g.none }
+
+-- after every list of events
+pub gone_leads : (f : Frame) → IsFrame f → (e : ℕ) (w v : World) (es : List Event) → IsInFrame f w →
+    Nobody real_in real_of (entity_flow e w) → LeadsTo node_has_work node_steps w es v → Nobody real_in real_of (entity_flow e v)
+gone_leads f frame e w v es q none run =
+    (leads_keeps node_has_work node_steps (Gone f e) (gone_more f frame e) w v es (record { frame = q; none = none }) run).none
+
+-- ---- a Reap finds the real
+
+not_yes : (b : Bool) → b ≡ true → not b ≡ true → ⊥
+not_yes true h k = cc
+not_yes false h k = cc
+
+module _ (f : Frame) (e k : ℕ) (s : Has) (i : Option Msg) (t : Has) (sent : List (ℕ × Msg)) (r : RealView) (is : i ≡ Some (Reap e))
+    (has : real_in s ≡ Some r) (may : may_rise r.beat ≡ true) where
+  -- the real is no more, and none is sent
+  record Takes : Type 0 where
+    none : real_in t ≡ None
+    silent : IsSilent real_of sent
+
+  never : (i ≡ None) → Takes
+  never n = let no = sym is ∙ n in absurd cc
+
+  not_reap : (m : Msg) → i ≡ Some m → (Reap e ≡ m → ⊥) → Takes
+  not_reap m n apart = absurd (apart (let same = sym is ∙ n in cc))
+
+  acts_not : (u : AtCell) (p q : RealView) (changed : Bool) → Acts (here_at f k) e s.cell i p u q changed → Takes
+  acts_not u p q changed (surveys n a b c) = never a
+  acts_not u p q changed (calls c a b d g) = not_reap _ a (λ z. cc)
+  acts_not u p q changed (readies o c a b d g) = never a
+
+  stray_not : (m : Msg) → i ≡ Some m → is_stray (here_at f k) f.tree s.cell.slot m ≡ true → Takes
+  stray_not m n b =
+      let same : Reap e ≡ m = let z = sym is ∙ n in cc in
+      let c = ap (is_stray (here_at f k) f.tree s.cell.slot) same ∙ b in
+      absurd (not_yes (may_rise r.beat) may
+      (sym (ap (λ o. is_stray (here_at f k) f.tree (record { real = o; next = s.cell.slot.next; ghost = s.cell.slot.ghost }) (Reap e))
+      has) ∙ c))
+
+  takes : CellMoves (here_at f k) f.tree e s.cell i t.cell sent → Takes
+  takes (move.rests n d) = never n
+  takes (move.strays m n b d) = stray_not m n b
+  takes (move.stays u p q changed h own acts at d) = acts_not u p q changed acts
+  takes (move.goes u p q changed j h own acts at n d) = acts_not u p q changed acts
+  takes (move.late c p n h m lt d) = not_reap _ n (λ z. cc)
+  takes (move.holds c p n own h mine m lt d) = not_reap _ n (λ z. cc)
+  takes (move.passes c p n own h at d) = not_reap _ n (λ z. cc)
+  takes (move.lands p n own h m d) = not_reap _ n (λ z. cc)
+  takes (move.hears_set n c h p d) = not_reap _ h (λ z. cc)
+  takes (move.ignores_set n c p h q d) = not_reap _ h (λ z. cc)
+  takes (move.hears_drop n h d) = not_reap _ h (λ z. cc)
+  takes (move.reaped p n h own m d) = record {
+    none = ap (λ a. a.slot.real) d.state;
+    silent = subst (IsSilent real_of) (sym d.sends) (drops_silent real_of reals_unseen p);
+  }
+  takes (move.ticks n st se) = not_reap _ n (λ z. cc)
+  takes (move.unlists n h at b d) = never h
+  takes (move.looks n p x known h at q own g small d) = never h
+  takes (move.overlooks n known h at b d) = never h
+  takes (move.stuck p h q ready m d) = never h
+
+module _ (f : Frame) (frame : IsFrame f) (e ty : ℕ) (w : World) (v : Event) (o : Occurs w v) (has : HasOne f e ty w) (r : RealView)
+    (fed : letter_in (mine e) o.input ≡ Some (Reap e)) (here : real_in (has_of e o.node) ≡ Some r) where
+  abbrev Found : Has → Option Msg → Type 0
+  Found s i = (i ≡ Some (Reap e)) × (real_in s ≡ Some r) × (may_rise r.beat ≡ true)
+
+  small : may_rise r.beat ≡ true
+  small =
+      let few = reaped_small f e w v o has.fits.frame has.fits.room r here fed in
+      below_is (r.beat + 1) limit (omega (arith, few))
+
+  finds : Goes (λ k s i t out. MovesTo f e k s i t out × Found s i) (entity_flow e w) (entity_flow e (happens node_steps w v))
+  finds = event_moves_with f w v o has.fits.frame e Found (fed, here, small)
+
+  ends : (t : Has) → Moves f e finds.k ((entity_flow e w).slot finds.k) (comes finds.input) t finds.moves.0.sent →
+      Takes f e finds.k ((entity_flow e w).slot finds.k) (comes finds.input) t finds.moves.0.sent r finds.moves.1.0 finds.moves.1.1
+      finds.moves.1.2
+  ends t (at_a_cell low m same) =
+      takes f e finds.k _ (comes finds.input) t finds.moves.0.sent r finds.moves.1.0 finds.moves.1.1 finds.moves.1.2 m
+  ends t (at_a_base high m same) =
+      let fits = has.fits.reals finds.k r finds.moves.1.1 in
+      let low = fits.home in
+      let most = frame.tree.cells_to in
+      absurd (omega (arith, low, most, high))
+
+  -- nobody has it then
+  pub reap_ends : Nobody real_in real_of (entity_flow e (happens node_steps w v))
+  reap_ends =
+      let t = ends _ finds.moves.0.moves in
+      nobody_ends real_in real_of finds has.place has.real r has.one finds.moves.1.1 t.none (ap (carried_in real_of) finds.moves.1.0)
+      (λ j. ap (letters_of real_of) (finds.moves.0.items j) ∙ sees_none real_of j finds.moves.0.sent t.silent)

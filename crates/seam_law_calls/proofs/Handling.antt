@@ -1,0 +1,253 @@
+-- What each move does with the entity's real: it stays as it is, is turned into what calls make of it, lands, or leaves.
+use Rattle.std.proofs.Common.{◌≡◌, ℕ, ◌+◌, ◌<◌, ◌≤◌, Bool, true, List, [], ◌∷◌, Option, None, Some, refl, sym, ap, ◌∙◌}
+use Rattle.std.proofs.Common.{subst, arith, inl, inr}
+use Rattle.std.specs.List.{range_with_len}
+use Rattle.std.specs.FinSet as set
+use Rattle.seam_defs.specs.Types.{AreDefs}
+use Rattle.seam_machine.specs.Sends.{items_to}
+use Rattle.seam_law_flow.specs.Flows.{letters_of}
+use Rattle.seam_law_flow.specs.Sent.{IsSilent}
+use Rattle.seam_law_flow.specs.Tokens.{carried_in, SendsNone, Handles, still, turns, lands, leaves, relays}
+use Rattle.seam_law_flow.proofs.SendLists.{sees_none, sees_after_silent, sees_one_here, sees_one_there}
+use Rattle.seam_entity.specs.Reals.{RealView}
+use Rattle.seam_entity.specs.declared.message.Msg.{Msg}
+use Rattle.seam_entity.specs.declared.message.Msg.TheVariants.{Call, BaseCall, Hand, Current, GhostSet, GhostDrop, Tick, Reap, Update}
+use Rattle.seam_entity.specs.Here.{cell_count, base_numbers, base_of}
+use Rattle.seam_entity.specs.Executing.{with_offer, settled_to}
+use Rattle.seam_node_steps.specs.Slots.{SlotStep, slot_after}
+use Rattle.seam_node_steps.specs.Settle.{haunts_at, ghost_messages, beat_after}
+use Rattle.seam_node_steps.specs.Settle as settle
+use Rattle.seam_node_steps.specs.CellCases.{current_to, is_stray, may_come}
+use Rattle.seam_node_steps.specs.CellLooks.{shown_of, looks_with}
+use Rattle.seam_node_steps.specs.BaseCases.{tick_to}
+use Rattle.seam_law_calls.specs.Frames.{Frame, here_at}
+use Rattle.seam_law_calls.specs.Sights.{Has, AtCell}
+use Rattle.seam_law_calls.specs.CellMoves as move
+use Rattle.seam_law_calls.specs.CellMoves.{Does, Acts, surveys, calls, readies, CellMoves}
+use Rattle.seam_law_calls.specs.BaseMoves as base_move
+use Rattle.seam_law_calls.specs.BaseMoves.{BaseMoves}
+use Rattle.seam_law_calls.specs.Moves.{Moves, at_a_cell, at_a_base}
+use Rattle.seam_law_calls.specs.Replays.{Replays}
+use Rattle.seam_law_calls.specs.Fits.{RealFits}
+use Rattle.seam_law_calls.specs.Ones.{real_in, real_of}
+use Rattle.seam_law_calls.proofs.Holds.{not_both}
+use Rattle.seam_law_calls.proofs.Plain.{SeesNoGhost, ghosts_silent, mapped_silent, numbered_silent}
+use Rattle.seam_law_calls.proofs.Replaying.{acts_replays}
+use Rattle.seam_law_calls.proofs.RealsKept.{executed_fits, held_fits, ready_fits, settled_fits, home_is_low}
+
+pub reals_unseen : SeesNoGhost real_of
+reals_unseen = record { sets = λ e n c. refl; drops = λ e n. refl }
+
+-- what a hand-over finds where it comes: a cell without the real, which may take it
+pub record FindsRoom (f : Frame) (k : ℕ) (s : Has) (r : RealView) : Type 0 where
+  pub cell : k < cell_count
+  pub free : real_in s ≡ None
+  pub may : may_come (here_at f k) f.tree r ≡ true
+
+module _ (f : Frame) (defs : AreDefs f.defs) (e ty k : ℕ) (s : Has) (i : Option Msg) (t : Has) (sent : List (ℕ × Msg)) (out : ℕ →
+    List Msg) (items : (j : ℕ) → out j ≡ items_to j sent) where
+  abbrev pub Does_it : Type 0
+  Does_it = Handles real_in real_of (Replays f) s i t out
+
+  -- a real that fitted still fits, where it is now
+  abbrev pub StillFits : Does_it → Type 0
+  StillFits (still a b c) = Unit {0}
+  StillFits (turns r q a b c d o) = RealFits f e ty k r → RealFits f e ty k q
+  StillFits (lands r q a b c o) = RealFits f e ty k r → RealFits f e ty k q
+  StillFits (leaves r q to a b c d o) = RealFits f e ty k r → RealFits f e ty to q
+  StillFits (relays r q to a b c o) = RealFits f e ty k r → RealFits f e ty to q
+
+  abbrev pub Handled : Type 0
+  Handled = (m : Does_it) × StillFits m
+
+  sends_none : IsSilent real_of sent → SendsNone real_of out
+  sends_none h j = ap (letters_of real_of) (items j) ∙ sees_none real_of j sent h
+
+  rests : real_in t ≡ real_in s → carried_in real_of i ≡ None → IsSilent real_of sent → Handled
+  rests same none silent = (still same none (sends_none silent), tt)
+
+  acts_none : (u : AtCell) (r q : RealView) (changed : Bool) → Acts (here_at f k) e s.cell i r u q changed → carried_in real_of i ≡ None
+  acts_none u r q changed (surveys n a b c) = ap (carried_in real_of) a
+  acts_none u r q changed (calls c a b d g) = ap (carried_in real_of) a
+  acts_none u r q changed (readies o c a b d g) = ap (carried_in real_of) a
+
+  acts_fit : (u : AtCell) (r q : RealView) (changed : Bool) → Acts (here_at f k) e s.cell i r u q changed → RealFits f e ty k r →
+      RealFits f e ty k q
+  acts_fit u r q changed (surveys n a b c) is = is
+  acts_fit u r q changed (calls c a b d g) is = executed_fits f defs e ty k r c is d
+  acts_fit u r q changed (readies o c a b d g) is = ready_fits f defs e ty k r o c is d g
+
+  settled_replays : (u : AtCell) (r q : RealView) (changed : Bool) (haunts : _) (beat generation : ℕ) →
+      Acts (here_at f k) e s.cell i r u q changed → Replays f r (settled_to q haunts beat generation)
+  settled_replays u r q changed haunts beat generation a =
+      let p = acts_replays f k e s.cell u i r q changed a in
+      record { further = p.further; entity = p.entity; type = p.type; account = p.account }
+
+  module _ (x : SlotStep) (u : AtCell) (d : Does u x t.cell sent) where
+    real_is : real_in t ≡ (slot_after x.slot u.slot).real
+    real_is = ap (λ a. a.slot.real) d.state
+
+    silent_of : IsSilent real_of x.sent → IsSilent real_of sent
+    silent_of h = subst (IsSilent real_of) (sym d.sends) h
+
+  none_of : i ≡ None → carried_in real_of i ≡ None
+  none_of h = ap (carried_in real_of) h
+
+  came_none : (m : Msg) → i ≡ Some m → real_of m ≡ None → carried_in real_of i ≡ None
+  came_none m h n = ap (carried_in real_of) h ∙ n
+
+  stray_none : ((r : RealView) → i ≡ Some (Hand r) → FindsRoom f k s r) → (m : Msg) → i ≡ Some m →
+      is_stray (here_at f k) f.tree s.cell.slot m ≡ true → carried_in real_of i ≡ None
+  stray_none room (Call c) h b = came_none (Call c) h refl
+  stray_none room (BaseCall c) h b = came_none (BaseCall c) h refl
+  stray_none room (Hand r) h b =
+      let p = room r h in
+      absurd (not_both (may_come (here_at f k) f.tree r) p.may
+      (sym (ap (λ o. is_stray (here_at f k) f.tree (record { real = o; next = s.cell.slot.next; ghost = s.cell.slot.ghost }) (Hand r))
+      p.free)
+      ∙ b))
+  stray_none room (Current x j g) h b = came_none (Current x j g) h refl
+  stray_none room (GhostSet x n c) h b = came_none (GhostSet x n c) h refl
+  stray_none room (GhostDrop x n) h b = came_none (GhostDrop x n) h refl
+  stray_none room Tick h b = came_none Tick h refl
+  stray_none room (Reap x) h b = came_none (Reap x) h refl
+  stray_none room (Update u) h b = came_none (Update u) h refl
+
+  -- a settling that stays
+  stays_handled : (u : AtCell) (r q : RealView) (changed : Bool) → real_in s ≡ Some r → Acts (here_at f k) e s.cell i r u q changed →
+      Does u (settle.stays (here_at f k) f.tree s.cell.slot q changed) t.cell sent → Handled
+  stays_handled u r q changed has acts d =
+      let haunts = haunts_at (here_at f k) f.tree q.state.pos k q.haunts in
+      let told = ghost_messages (here_at f k) q k haunts changed in
+      let beat = beat_after told q.beat in (
+        turns r (settled_to q haunts beat q.generation) has
+            (real_is (settle.stays (here_at f k) f.tree s.cell.slot q changed) u d)
+            (inr (settled_replays u r q changed haunts beat q.generation acts)) (acts_none u r q changed acts)
+            (sends_none (silent_of (settle.stays (here_at f k) f.tree s.cell.slot q changed) u d
+            (ghosts_silent real_of reals_unseen (here_at f k) q k haunts changed))),
+        λ is. settled_fits f defs e ty k q k k q.haunts beat q.generation (acts_fit u r q changed acts is) is.home,
+      )
+
+  -- a settling that goes
+  goes_handled : (u : AtCell) (r q : RealView) (changed : Bool) (j : ℕ) → real_in s ≡ Some r →
+      Acts (here_at f k) e s.cell i r u q changed → settle.home_after (here_at f k) f.tree q.state.pos ≡ j →
+      Does u (settle.goes (here_at f k) f.tree s.cell.slot q changed j) t.cell sent → Handled
+  goes_handled u r q changed j has acts at d =
+      let old = set.insert q.haunts k in
+      let haunts = haunts_at (here_at f k) f.tree q.state.pos j old in
+      let told = ghost_messages (here_at f k) q j haunts changed in
+      let gone = settled_to q haunts (q.beat + 1) (q.generation + 1) in
+      let silent = ghosts_silent real_of reals_unseen (here_at f k) q j haunts changed in (
+        leaves r gone j has (real_is (settle.goes (here_at f k) f.tree s.cell.slot q changed j) u d)
+            (inr (settled_replays u r q changed haunts (q.beat + 1) (q.generation + 1) acts)) (acts_none u r q changed acts)
+            (record {
+              here =
+                  ap (letters_of real_of) (items j ∙ ap (items_to j) d.sends)
+                  ∙ (sees_after_silent real_of j told ((j, Hand gone) ∷ []) silent ∙ sees_one_here real_of j (Hand gone));
+              others = λ x n.
+                  ap (letters_of real_of) (items x ∙ ap (items_to x) d.sends)
+                  ∙ (sees_after_silent real_of x told ((j, Hand gone) ∷ []) silent ∙ sees_one_there real_of j x (Hand gone) n);
+            }),
+        λ is.
+            let fits = acts_fit u r q changed acts is in
+            settled_fits f defs e ty k q j j old (q.beat + 1) (q.generation + 1) fits
+            (home_is_low f defs e ty k q.state.pos j at is.home),
+      )
+
+  cell_handled : ((r : RealView) → i ≡ Some (Hand r) → FindsRoom f k s r) → ((r : RealView) → real_in s ≡ Some r → i ≡ Some (Reap e) → ⊥) →
+      CellMoves (here_at f k) f.tree e s.cell i t.cell sent → Handled
+  cell_handled room spared (move.rests n d) = rests (real_is _ s.cell d) (none_of n) (silent_of _ s.cell d tt)
+  cell_handled room spared (move.strays m n b d) = rests (real_is _ s.cell d) (stray_none room m n b) (silent_of _ s.cell d tt)
+  cell_handled room spared (move.stays u r q changed has own acts at d) = stays_handled u r q changed has acts d
+  cell_handled room spared (move.goes u r q changed j has own acts at n d) = goes_handled u r q changed j has acts at d
+  cell_handled room spared (move.late c r n has may lt d) =
+      rests (real_is _ s.cell d) (came_none (Call c) n refl) (silent_of _ s.cell d tt)
+  cell_handled room spared (move.holds c r n is has own may lt d) = (
+    turns r (with_offer r c) has (real_is _ s.cell d) (inr (record { further = []; entity = refl; type = refl; account = refl }))
+        (came_none (Call c) n refl) (sends_none (silent_of _ s.cell d tt)),
+    λ fits. held_fits f defs e ty k r c fits may,
+  )
+  cell_handled room spared (move.passes c p n is has at d) =
+      rests (real_is _ s.cell d) (came_none (Call c) n refl) (silent_of _ s.cell d (refl, tt))
+  cell_handled room spared (move.lands r n is has may d) = (
+    lands r r (ap (carried_in real_of) n) (real_is _ s.cell d) (inl refl)
+        (sends_none (silent_of _ s.cell d (mapped_silent real_of (current_to (here_at f k) r) (λ b. refl) (base_numbers (here_at f k))))),
+    λ fits. fits,
+  )
+  cell_handled room spared (move.hears_set n c h has d) =
+      rests (real_is _ s.cell d) (came_none (GhostSet e n c) h refl) (silent_of _ s.cell d tt)
+  cell_handled room spared (move.ignores_set n c r h has d) =
+      rests (real_is _ s.cell d) (came_none (GhostSet e n c) h refl) (silent_of _ s.cell d tt)
+  cell_handled room spared (move.hears_drop n h d) =
+      rests (real_is _ s.cell d) (came_none (GhostDrop e n) h refl) (silent_of _ s.cell d tt)
+  cell_handled room spared (move.reaped r n has own may d) = absurd (spared r has n)
+  cell_handled room spared (move.ticks n st se) =
+      rests (ap (λ a. a.slot.real) st) (came_none Tick n refl) (subst (IsSilent real_of) (sym se) tt)
+  cell_handled room spared (move.unlists n h at b d) =
+      rests (real_is _ (record { slot = s.cell.slot; survey = n; looks = s.cell.looks }) d) (none_of h) (silent_of _ _ d tt)
+  cell_handled room spared (move.looks n r w known h at has own is small d) = (
+    turns r _ has (real_is (looks_with (here_at f k) s.cell.slot r w known (shown_of (here_at f k) r w known)) _ d)
+        (inr (record { further = []; entity = refl; type = refl; account = refl })) (none_of h)
+        (sends_none (silent_of (looks_with (here_at f k) s.cell.slot r w known (shown_of (here_at f k) r w known)) _ d
+        (numbered_silent real_of (base_of (here_at f k) r.entity) r.entity w.sent _ (λ u. refl)))),
+    λ fits. record {
+      entity = fits.entity;
+      type = fits.type;
+      values = fits.values;
+      inside = fits.inside;
+      held = fits.held;
+      home = fits.home;
+      haunts = fits.haunts;
+    },
+  )
+  cell_handled room spared (move.overlooks n known h at b d) =
+      rests (real_is _ (record { slot = s.cell.slot; survey = s.cell.survey; looks = n }) d) (none_of h) (silent_of _ _ d tt)
+  cell_handled room spared (move.stuck r h has ready may d) = rests (real_is _ s.cell d) (none_of h) (silent_of _ s.cell d tt)
+
+  -- ---- a base node
+
+  base_stray_none : cell_count ≤ k → ((r : RealView) → i ≡ Some (Hand r) → FindsRoom f k s r) → (m : Msg) → i ≡ Some m →
+      carried_in real_of i ≡ None
+  base_stray_none high room (Call c) h = came_none (Call c) h refl
+  base_stray_none high room (BaseCall c) h = came_none (BaseCall c) h refl
+  base_stray_none high room (Hand r) h = let p = room r h in let low = p.cell in absurd (omega (arith, low, high))
+  base_stray_none high room (Current x j g) h = came_none (Current x j g) h refl
+  base_stray_none high room (GhostSet x n c) h = came_none (GhostSet x n c) h refl
+  base_stray_none high room (GhostDrop x n) h = came_none (GhostDrop x n) h refl
+  base_stray_none high room Tick h = came_none Tick h refl
+  base_stray_none high room (Reap x) h = came_none (Reap x) h refl
+  base_stray_none high room (Update u) h = came_none (Update u) h refl
+
+  quiet : sent ≡ [] → IsSilent real_of sent
+  quiet h = subst (IsSilent real_of) (sym h) tt
+
+  one_quiet : (j : ℕ) (m : Msg) → real_of m ≡ None → sent ≡ (j, m) ∷ [] → IsSilent real_of sent
+  one_quiet j m n h = subst (IsSilent real_of) (sym h) (n, tt)
+
+  base_handled : cell_count ≤ k → ((r : RealView) → i ≡ Some (Hand r) → FindsRoom f k s r) → (cells : ℕ) →
+      BaseMoves (here_at f k) cells e s.base i t.base sent → real_in t ≡ real_in s → Handled
+  base_handled high room cells (base_move.rests n a z) same = rests same (none_of n) (quiet z)
+  base_handled high room cells (base_move.strays m n b a z) same = rests same (base_stray_none high room m n) (quiet z)
+  base_handled high room cells (base_move.reroutes new r n has b a z) same =
+      rests same (came_none (Current e new.cell new.generation) n refl) (quiet z)
+  base_handled high room cells (base_move.offers c p n is has may a z) same = rests same (came_none (BaseCall c) n refl) (quiet z)
+  base_handled high room cells (base_move.updates u n is b a z) same = rests same (came_none (Update u) n refl) (quiet z)
+  base_handled high room cells (base_move.orders_call c os r n at is has a z) same =
+      rests same (none_of n) (one_quiet r.cell (Call c) refl z)
+  base_handled high room cells (base_move.orders_base_call c os n at is b a z) same =
+      rests same (none_of n) (one_quiet (base_of (here_at f k) e) (BaseCall c) refl z)
+  base_handled high room cells (base_move.offers_own c os p n at is b has may a z) same = rests same (none_of n) (quiet z)
+  base_handled high room cells (base_move.orders_tick os n at a z) same =
+      rests same (none_of n)
+      (subst (IsSilent real_of) (sym z) (mapped_silent real_of tick_to (λ j. refl) (range_with_len 0 cells)))
+  base_handled high room cells (base_move.orders_reap os r n at has a z) same = rests same (none_of n) (one_quiet r.cell (Reap e) refl z)
+  base_handled high room cells (base_move.stuck_order o os n at b a z) same = rests same (none_of n) (quiet z)
+  base_handled high room cells (base_move.executes p o c n has may at item a z) same = rests same (none_of n) (quiet z)
+  base_handled high room cells (base_move.stuck_part p n has is may a z) same = rests same (none_of n) (quiet z)
+  base_handled high room cells (base_move.shows p n has is may a z) same = rests same (none_of n) (quiet z)
+  base_handled high room cells (base_move.stuck_client p n has is may a z) same = rests same (none_of n) (quiet z)
+
+  pub handled : ((r : RealView) → i ≡ Some (Hand r) → FindsRoom f k s r) → ((r : RealView) → real_in s ≡ Some r → i ≡ Some (Reap e) → ⊥) →
+      Moves f e k s i t sent → Handled
+  handled room spared (at_a_cell low m same) = cell_handled room spared m
+  handled room spared (at_a_base high m same) = base_handled high room _ m (ap (λ c. c.slot.real) same)

@@ -1,0 +1,163 @@
+-- A witness tells only in looks: without them, what it told is all.
+use Rattle.std.proofs.Common.{◌≡◌, ℕ, ◌≤◌, Bool, true, false, List, [], ◌∷◌, Option, None, Some, refl, sym, ap, ◌∙◌, subst, arith}
+use Rattle.std.specs.List.{AllByRecursion}
+use Rattle.std.specs.FinSet as set
+use Rattle.seam_machine.specs.Nets.{happens, enabled, LeadsTo}
+use Rattle.seam_machine.specs.declared.machines.Event.{Event}
+use Rattle.seam_machine.proofs.Occurring.{occurs}
+use Rattle.seam_net_runs.proofs.Runs.{leads_keeps}
+use Rattle.seam_law_flow.specs.Flows.{comes}
+use Rattle.seam_law_flow.specs.Sent.{IsSilent}
+use Rattle.seam_law_flow.proofs.Following.{all_append, slots_kept, letters_kept, came}
+use Rattle.seam_call.specs.declared.order.Order.{Order}
+use Rattle.seam_call.specs.declared.order.Order.TheVariants as order
+use Rattle.seam_entity.specs.Reals.{RealView}
+use Rattle.seam_entity.specs.declared.message.Msg.{Msg}
+use Rattle.seam_entity.specs.declared.message.Msg.TheVariants.{Tick}
+use Rattle.seam_entity.specs.Here.{base_numbers}
+use Rattle.seam_node_steps.specs.Slots.{SlotStep}
+use Rattle.seam_node_steps.specs.Settle.{haunts_at, ghost_messages}
+use Rattle.seam_node_steps.specs.CellCases.{current_to}
+use Rattle.seam_node_steps.specs.Nodes.{World, node_steps, node_has_work}
+use Rattle.seam_law_calls.specs.Frames.{Frame, here_at, IsInFrame}
+use Rattle.seam_law_calls.specs.Sights.{Has, AtCell, AtBase, entity_flow}
+use Rattle.seam_law_calls.specs.CellMoves as move
+use Rattle.seam_law_calls.specs.CellMoves.{unlisted_if, Does, Acts, surveys, calls, readies, CellMoves}
+use Rattle.seam_law_calls.specs.BaseMoves as base_move
+use Rattle.seam_law_calls.specs.BaseMoves.{BaseMoves}
+use Rattle.seam_law_calls.specs.Moves.{Moves, at_a_cell, at_a_base}
+use Rattle.seam_law_calls.proofs.Classify.{event_moves, frame_happens}
+use Rattle.seam_law_calls.proofs.Plain.{SeesNoGhost, ghosts_silent, drops_silent, mapped_silent}
+use Rattle.seam_law_calls.proofs.Sparing.{items_all}
+use Rattle.seam_law_calls.specs.WitnessMoves.{sent_of, sent_by}
+use Rattle.seam_law_calls.specs.Clients.{is_tick_order, tick_in, HasToldAtMost, HasNoLooks}
+use Rattle.seam_law_calls.proofs.WitnessKept.{each_happens}
+
+pub no_tick : SeesNoGhost tick_in
+no_tick = record { sets = λ e n c. refl; drops = λ e n. refl }
+
+abbrev pub NoTicks : List Order → Type 0
+NoTicks os = AllByRecursion (λ o. is_tick_order o ≡ false) os
+
+unlisted_none : (b : Bool) (n : ℕ) → n ≡ 0 → unlisted_if b n ≡ 0
+unlisted_none true n is = refl
+unlisted_none false n is = is
+
+module _ (f : Frame) (e k : ℕ) (s : Has) (i : Option Msg) (t : Has) (sent : List (ℕ × Msg)) (calm : i ≡ Some Tick → ⊥) where
+  -- ---- ticks and look lists
+
+  record Calm : Type 0 where
+    cell : t.cell.looks ≡ 0
+    orders : NoTicks t.base.orders
+    silent : IsSilent tick_in sent
+
+  module _ (none : s.cell.looks ≡ 0) where
+    looks_are : (x : SlotStep) (u : AtCell) → Does u x t.cell sent → u.looks ≡ 0 → t.cell.looks ≡ 0
+    looks_are x u d is = ap (λ a. a.looks) d.state ∙ unlisted_none x.unlisted u.looks is
+
+    acts_keep : (u : AtCell) (r q : RealView) (changed : Bool) → Acts (here_at f k) e s.cell i r u q changed → u.looks ≡ 0
+    acts_keep u r q changed (surveys n a b c) = none
+    acts_keep u r q changed (calls c a x m d) = none
+    acts_keep u r q changed (readies o c a m at item) = none
+
+    module _ (base : NoTicks t.base.orders) where
+      calm_step : (x : SlotStep) (u : AtCell) → Does u x t.cell sent → u.looks ≡ 0 → IsSilent tick_in x.sent → Calm
+      calm_step x u d is z = record { cell = looks_are x u d is; orders = base; silent = subst (IsSilent tick_in) (sym d.sends) z }
+
+      cell_calm : CellMoves (here_at f k) f.tree e s.cell i t.cell sent → Calm
+      cell_calm (move.rests n d) = calm_step _ s.cell d none tt
+      cell_calm (move.strays m n b d) = calm_step _ s.cell d none tt
+      cell_calm (move.stays u r q changed has own acts at d) =
+          calm_step _ u d (acts_keep u r q changed acts)
+          (ghosts_silent tick_in no_tick (here_at f k) q k (haunts_at (here_at f k) f.tree q.state.pos k q.haunts) changed)
+      cell_calm (move.goes u r q changed j has own acts at n d) =
+          let haunts = haunts_at (here_at f k) f.tree q.state.pos j (set.insert q.haunts k) in
+          calm_step _ u d (acts_keep u r q changed acts)
+          (all_append (λ p. tick_in p.1 ≡ None) (ghost_messages (here_at f k) q j haunts changed) _
+          (ghosts_silent tick_in no_tick (here_at f k) q j haunts changed) (refl, tt))
+      cell_calm (move.late c r n has may lt d) = calm_step _ s.cell d none tt
+      cell_calm (move.holds c r n own has mine may lt d) = calm_step _ s.cell d none tt
+      cell_calm (move.passes c p n own has at d) = calm_step _ s.cell d none (refl, tt)
+      cell_calm (move.lands r n own has may d) =
+          calm_step _ s.cell d none (mapped_silent tick_in (current_to (here_at f k) r) (λ b. refl) (base_numbers (here_at f k)))
+      cell_calm (move.hears_set n c h has d) = calm_step _ s.cell d none tt
+      cell_calm (move.ignores_set n c r h has d) = calm_step _ s.cell d none tt
+      cell_calm (move.hears_drop n h d) = calm_step _ s.cell d none tt
+      cell_calm (move.reaped r n has own may d) = calm_step _ s.cell d none (drops_silent tick_in no_tick r)
+      cell_calm (move.ticks n st z) = absurd (calm n)
+      cell_calm (move.unlists n h at b d) = calm_step _ (record { slot = s.cell.slot; survey = n; looks = s.cell.looks }) d none tt
+      cell_calm (move.looks n r w known h at has own v small d) = absurd (omega (arith, at, none))
+      cell_calm (move.overlooks n known h at b d) = absurd (omega (arith, at, none))
+      cell_calm (move.stuck r h has ready may d) = calm_step _ s.cell d none tt
+
+  module _ (cell : t.cell.looks ≡ 0) (before : NoTicks s.base.orders) where
+    kept : (b : AtBase) → b.orders ≡ s.base.orders → t.base ≡ b → NoTicks t.base.orders
+    kept b same a = subst NoTicks (sym (ap (λ x. x.orders) a ∙ same)) before
+
+    gone : (o : Order) (os : List Order) (b : AtBase) → s.base.orders ≡ o ∷ os → b.orders ≡ os → t.base ≡ b → NoTicks t.base.orders
+    gone o os b at same a =
+        let all : NoTicks (o ∷ os) = subst NoTicks at before in
+        subst NoTicks (sym (ap (λ x. x.orders) a ∙ same)) all.1
+
+    rest : NoTicks t.base.orders → (l : List (ℕ × Msg)) → sent ≡ l → IsSilent tick_in l → Calm
+    rest os l is z = record { cell = cell; orders = os; silent = subst (IsSilent tick_in) (sym is) z }
+
+    base_calm : (cells : ℕ) → BaseMoves (here_at f k) cells e s.base i t.base sent → Calm
+    base_calm cells (base_move.rests n a z) = rest (kept s.base refl a) [] z tt
+    base_calm cells (base_move.strays m n b a z) = rest (kept s.base refl a) [] z tt
+    base_calm cells (base_move.reroutes new r n has b a z) = rest (kept _ refl a) [] z tt
+    base_calm cells (base_move.offers c p n own has may a z) = rest (kept _ refl a) [] z tt
+    base_calm cells (base_move.updates u n own b a z) = rest (kept _ refl a) [] z tt
+    base_calm cells (base_move.orders_call c os r n at own has a z) = rest (gone (order.Cell c) os _ at refl a) _ z (refl, tt)
+    base_calm cells (base_move.orders_base_call c os n at own b a z) = rest (gone (order.Base c) os _ at refl a) _ z (refl, tt)
+    base_calm cells (base_move.offers_own c os p n at own b has may a z) = rest (gone (order.Base c) os _ at refl a) [] z tt
+    base_calm cells (base_move.orders_tick os n at a z) =
+        let all : NoTicks (order.Tick ∷ os) = subst NoTicks at before in
+        absurd (let no = all.0 in cc)
+    base_calm cells (base_move.orders_reap os r n at has a z) = rest (gone (order.Reap e) os _ at refl a) _ z (refl, tt)
+    base_calm cells (base_move.stuck_order o os n at b a z) = rest (kept s.base refl a) [] z tt
+    base_calm cells (base_move.executes p o c n has may at item a z) = rest (kept _ refl a) [] z tt
+    base_calm cells (base_move.stuck_part p n has v may a z) = rest (kept s.base refl a) [] z tt
+    base_calm cells (base_move.shows p n has v may a z) = rest (kept _ refl a) [] z tt
+    base_calm cells (base_move.stuck_client p n has v may a z) = rest (kept s.base refl a) [] z tt
+
+  calm_moves : s.cell.looks ≡ 0 → NoTicks s.base.orders → Moves f e k s i t sent → Calm
+  calm_moves none before (at_a_cell low m same) = cell_calm none (subst NoTicks (sym (ap (λ b. b.orders) same)) before) m
+  calm_moves none before (at_a_base high m same) = base_calm (ap (λ c. c.looks) same ∙ none) before _ m
+
+-- ---- a run
+
+module _ (f : Frame) (e n : ℕ) where
+  pub record WithoutLooks (w : World) : Type 0 where
+    pub frame : IsInFrame f w
+    pub looks : HasNoLooks e w
+    pub told : HasToldAtMost e n w
+
+  looks_more : (w : World) (v : Event) → WithoutLooks w → enabled node_has_work w v ≡ true → WithoutLooks (happens node_steps w v)
+  looks_more w v h on =
+      let o = occurs node_has_work w v on in
+      let g = event_moves f w v o h.frame e in
+      let calm : comes g.input ≡ Some Tick → ⊥ =
+      λ is. let no = (came (λ a k m. tick_in m ≡ None) g Tick is h.looks.letters).1 in cc in
+      let was = (entity_flow e w).slot g.k in
+      let now = (entity_flow e (happens node_steps w v)).slot g.k in
+      let c = calm_moves f e g.k was (comes g.input) now g.moves.sent calm (h.looks.cells g.k) (h.looks.orders g.k) g.moves.moves in
+      record {
+        frame = frame_happens f w v o h.frame;
+        looks = record {
+          cells = slots_kept (λ k s. s.cell.looks ≡ 0) g h.looks.cells c.cell;
+          orders = slots_kept (λ k s. NoTicks s.base.orders) g h.looks.orders c.orders;
+          letters =
+              letters_kept (λ a k m. tick_in m ≡ None) g h.looks.letters
+              (λ j. subst (AllByRecursion (λ m. tick_in m ≡ None)) (sym (g.moves.items j))
+              (items_all (λ m. tick_in m ≡ None) j g.moves.sent c.silent));
+        };
+        told =
+            each_happens (λ r. sent_by r ≤ n) (λ r q same le. let a = ap sent_of same in omega (arith, a, le)) f e w v o h.frame
+            (λ k m r q x y shown at wit wit' sum le. let none = h.looks.cells k in absurd (omega (arith, at, none))) h.told;
+      }
+
+  pub looks_lead : (w v : World) (es : List Event) → IsInFrame f w → HasNoLooks e w → HasToldAtMost e n w →
+      LeadsTo node_has_work node_steps w es v → WithoutLooks v
+  looks_lead w v es q looks told run =
+      leads_keeps node_has_work node_steps WithoutLooks looks_more w v es (record { frame = q; looks = looks; told = told }) run

@@ -1,0 +1,120 @@
+-- Where no look is left, or the entity has no witness, its client is told nothing.
+use Rattle.std.proofs.Common.{◌≡◌, ℕ, ◌+◌, ◌≤◌, true, false, is_some, List, Option, None, Some, refl, sym, ap, ◌∙◌, subst}
+use Rattle.std.proofs.Common.{arith}
+use Rattle.std.specs.List.{AllByRecursion}
+use Rattle.seam_tree.specs.Division.{cells_of}
+use Rattle.seam_machine.specs.Nets.{happens, enabled, LeadsTo}
+use Rattle.seam_machine.specs.Events.{Occurs}
+use Rattle.seam_machine.specs.declared.machines.Event.{Event}
+use Rattle.seam_machine.proofs.Occurring.{occurs}
+use Rattle.seam_net_runs.proofs.Runs.{leads_keeps}
+use Rattle.seam_net_runs.proofs.Weighing.{weight_bounds}
+use Rattle.seam_law_flow.specs.Flows.{letter_in, slot_at}
+use Rattle.seam_law_flow.specs.Sent.{IsSilent}
+use Rattle.seam_law_flow.proofs.Following.{all_append, letters_kept}
+use Rattle.seam_entity.specs.Reals.{RealView, WitnessView}
+use Rattle.seam_entity.specs.declared.message.Msg.{Msg}
+use Rattle.seam_entity.specs.Here.{cell_count}
+use Rattle.seam_node_steps.specs.Nodes.{World, node_steps, node_has_work}
+use Rattle.seam_law_calls.specs.Frames.{Frame, here_at, IsInFrame}
+use Rattle.seam_law_calls.specs.Sights.{Has, AtCell, mine, concerning, has_of, has_none}
+use Rattle.seam_law_calls.specs.Moves.{Moves, at_a_cell, at_a_base}
+use Rattle.seam_law_calls.proofs.Classify.{node_moves, frame_happens}
+use Rattle.seam_law_calls.specs.Ones.{real_in}
+use Rattle.seam_law_calls.proofs.Sparing.{items_all}
+use Rattle.seam_law_calls.specs.PartMoves.{update_in}
+use Rattle.seam_law_calls.specs.WitnessMoves as witness
+use Rattle.seam_law_calls.specs.WitnessMoves.{WitnessMoves}
+use Rattle.seam_law_calls.specs.Clients.{EachReal}
+use Rattle.seam_law_calls.proofs.BaseSilent.{sees_no_update, base_silent}
+use Rattle.seam_law_calls.proofs.WitnessKept.{IsSeen, each_happens}
+use Rattle.seam_law_calls.proofs.WitnessSteps.{witness_moves}
+use Rattle.seam_law_calls.specs.Telling.{node_looks, mine_looks, looks_left, IsToldNothing}
+use Rattle.seam_law_calls.proofs.LooksLeft.{looks_left_happens}
+use Rattle.seam_law_calls.proofs.Telling.{event_fact}
+
+-- the node's real has no witness that is to look
+abbrev NeverLooks : AtCell → Type 0
+NeverLooks s = (n : ℕ) (r : RealView) (w : WitnessView) → s.looks ≡ n + 1 → s.slot.real ≡ Some r → r.witness ≡ Some w → ⊥
+
+module _ (f : Frame) (e k : ℕ) (s : Has) (i : Option Msg) (t : Has) (sent : List (ℕ × Msg)) (never : NeverLooks s.cell) where
+  cell_silent : WitnessMoves (here_at f k) e s.cell i (real_in t) sent → IsSilent update_in sent
+  cell_silent (witness.rests keeps a b) = a
+  cell_silent (witness.lands r n now a b) = a
+  cell_silent (witness.leaves r q to told has gone same z a b) =
+      subst (IsSilent update_in) (sym z) (all_append (λ p. update_in p.1 ≡ None) told _ a (refl, tt))
+  cell_silent (witness.looks n r q w v shown at has wit now wit' sum small z) = absurd (never n r w at has wit)
+
+  moves_silent : Moves f e k s i t sent → IsSilent update_in sent
+  moves_silent (at_a_cell low m same) = cell_silent (witness_moves f e k s i t sent m)
+  moves_silent (at_a_base high m same) = base_silent update_in sees_no_update _ _ e _ i _ sent m
+
+-- ---- an event
+
+module _ (f : Frame) (e : ℕ) (w : World) (v : Event) (o : Occurs w v) (q : IsInFrame f w) (never : NeverLooks (has_of e o.node).cell)
+    (none : IsToldNothing e w) where
+  abbrev Silent : Has → Option Msg → Has → List (ℕ × Msg) → Type 0
+  Silent s i t sent = IsSilent update_in sent
+
+  silent_happens : IsToldNothing e (happens node_steps w v)
+  silent_happens =
+      let g = event_fact f e w v o q Silent
+      (moves_silent f e v.node (has_of e o.node) (letter_in (mine e) o.input) (has_of e (node_steps o.node o.input).state)
+      (concerning e (node_steps o.node o.input).sent) never
+      (node_moves f e v.node o.node o.input (q.sound.states v.node o.node o.is_node) (q.nodes v.node o.node o.is_node))) in
+      letters_kept (λ a k m. update_in m ≡ None) g none
+      (λ j. subst (AllByRecursion (λ m. update_in m ≡ None)) (sym (g.moves.0.items j))
+      (items_all (λ m. update_in m ≡ None) j g.moves.0.sent g.moves.1))
+
+-- ---- no look is left
+
+module _ (f : Frame) (most : cells_of f.tree ≤ cell_count) (e : ℕ) where
+  record Lookless (w : World) : Type 0 where
+    frame : IsInFrame f w
+    left : looks_left e w ≡ 0
+    none : IsToldNothing e w
+
+  lookless_more : (w : World) (v : Event) → Lookless w → enabled node_has_work w v ≡ true → Lookless (happens node_steps w v)
+  lookless_more w v h on =
+      let o = occurs node_has_work w v on in
+      let less = looks_left_happens f most e w v o h.frame in
+      let left = h.left in
+      let bound = weight_bounds (node_looks e) (mine_looks e) w v o in
+      record {
+        frame = frame_happens f w v o h.frame;
+        left = omega (arith, less, left);
+        none = silent_happens f e w v o h.frame (λ n r x at has seen. omega (arith, at, bound, left)) h.none;
+      }
+
+  pub tells_none : (w v : World) (es : List Event) → IsInFrame f w → looks_left e w ≡ 0 → IsToldNothing e w →
+      LeadsTo node_has_work node_steps w es v → IsToldNothing e v
+  tells_none w v es frame left none run =
+      (leads_keeps node_has_work node_steps Lookless lookless_more w v es (record { frame = frame; left = left; none = none }) run).none
+
+-- ---- there is no witness
+
+module _ (f : Frame) (e : ℕ) where
+  record Unseen (w : World) : Type 0 where
+    frame : IsInFrame f w
+    each : EachReal e (IsSeen f e false) w
+    none : IsToldNothing e w
+
+  unseen_more : (w : World) (v : Event) → Unseen w → enabled node_has_work w v ≡ true → Unseen (happens node_steps w v)
+  unseen_more w v h on =
+      let o = occurs node_has_work w v on in
+      record {
+        frame = frame_happens f w v o h.frame;
+        each =
+            each_happens (IsSeen f e false) (λ r q same is. ap is_some same ∙ is) f e w v o h.frame
+            (λ k n r q x y shown at wit wit' sum is. ap is_some wit' ∙ (sym (ap is_some wit) ∙ is)) h.each;
+        none =
+            silent_happens f e w v o h.frame
+            (λ n r x at has seen.
+            let is = h.each.cells v.node r (ap (λ z. real_in (slot_at (has_of e) has_none z)) o.is_node ∙ has) in
+            absurd (let z = sym (ap is_some seen) ∙ is in cc)) h.none;
+      }
+
+  pub unseen_told_none : (w v : World) (es : List Event) → IsInFrame f w → EachReal e (IsSeen f e false) w → IsToldNothing e w →
+      LeadsTo node_has_work node_steps w es v → IsToldNothing e v
+  unseen_told_none w v es frame each none run =
+      (leads_keeps node_has_work node_steps Unseen unseen_more w v es (record { frame = frame; each = each; none = none }) run).none

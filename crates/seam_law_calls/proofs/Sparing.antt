@@ -1,0 +1,121 @@
+-- An entity that no one reaps is reaped by none: no move orders it or sends a Reap.
+use Rattle.std.proofs.Common.{◌≡◌, ℕ, Bool, true, false, cond, eqb, List, [], ◌∷◌, Option, None, refl, sym, ap, ◌∙◌, subst}
+use Rattle.std.specs.List.{AllByRecursion, range_with_len}
+use Rattle.std.specs.FinSet as set
+use Rattle.seam_machine.specs.Sends.{items_to}
+use Rattle.seam_law_flow.specs.Sent.{IsSilent}
+use Rattle.seam_law_flow.proofs.Following.{all_append}
+use Rattle.seam_call.specs.declared.order.Order.{Order}
+use Rattle.seam_call.specs.declared.order.Order.TheVariants as order
+use Rattle.seam_entity.specs.declared.message.Msg.{Msg}
+use Rattle.seam_entity.specs.Here.{base_numbers, base_of}
+use Rattle.seam_node_steps.specs.Slots.{SlotStep}
+use Rattle.seam_node_steps.specs.Settle.{haunts_at, ghost_messages}
+use Rattle.seam_node_steps.specs.CellCases.{current_to}
+use Rattle.seam_node_steps.specs.BaseCases.{tick_to}
+use Rattle.seam_law_calls.specs.Frames.{Frame, here_at}
+use Rattle.seam_law_calls.specs.Sights.{Has, AtCell, AtBase}
+use Rattle.seam_law_calls.specs.CellMoves as move
+use Rattle.seam_law_calls.specs.CellMoves.{Does, CellMoves}
+use Rattle.seam_law_calls.specs.BaseMoves as base_move
+use Rattle.seam_law_calls.specs.BaseMoves.{BaseMoves}
+use Rattle.seam_law_calls.specs.Moves.{Moves, at_a_cell, at_a_base}
+use Rattle.seam_law_calls.specs.Ones.{reaped_by, reaped_by_order, HasNoReaps}
+use Rattle.seam_law_calls.proofs.Plain.{SeesNoGhost, ghosts_silent, drops_silent, mapped_silent, numbered_silent}
+
+no_ghosts : SeesNoGhost reaped_by
+no_ghosts = record { sets = λ e n c. refl; drops = λ e n. refl }
+
+abbrev NoneReaped : List Order → Type 0
+NoneReaped os = AllByRecursion (λ o. reaped_by_order o ≡ None) os
+
+-- a fact of each of the sends is one of what each node gets
+items_by : (P : Msg → Type 0) (j : ℕ) (p : ℕ × Msg) (ps : List (ℕ × Msg)) (b : Bool) → P p.1 → AllByRecursion P (items_to j ps) →
+    AllByRecursion P (cond b (p.1 ∷ items_to j ps) (items_to j ps))
+items_by P j p ps true h more = (h, more)
+items_by P j p ps false h more = more
+
+pub items_all : (P : Msg → Type 0) (j : ℕ) (ps : List (ℕ × Msg)) → AllByRecursion (λ p. P p.1) ps → AllByRecursion P (items_to j ps)
+items_all P j [] h = tt
+items_all P j (p ∷ ps) h = items_by P j p ps (eqb p.0 j) h.0 (items_all P j ps h.1)
+
+module _ (f : Frame) (e k : ℕ) (s : Has) (i : Option Msg) (t : Has) (sent : List (ℕ × Msg)) where
+  abbrev Unreaped : Type 0
+  Unreaped = IsSilent reaped_by sent
+
+  of : (x : SlotStep) (u : AtCell) → Does u x t.cell sent → IsSilent reaped_by x.sent → Unreaped
+  of x u d h = subst (IsSilent reaped_by) (sym d.sends) h
+
+  is : (l : List (ℕ × Msg)) → sent ≡ l → IsSilent reaped_by l → Unreaped
+  is l z h = subst (IsSilent reaped_by) (sym z) h
+
+  cell_silent : CellMoves (here_at f k) f.tree e s.cell i t.cell sent → Unreaped
+  cell_silent (move.rests n d) = of _ s.cell d tt
+  cell_silent (move.strays m n b d) = of _ s.cell d tt
+  cell_silent (move.stays u r q changed has own acts at d) =
+      of _ u d (ghosts_silent reaped_by no_ghosts (here_at f k) q k (haunts_at (here_at f k) f.tree q.state.pos k q.haunts) changed)
+  cell_silent (move.goes u r q changed j has own acts at n d) =
+      let haunts = haunts_at (here_at f k) f.tree q.state.pos j (set.insert q.haunts k) in
+      of _ u d (all_append (λ p. reaped_by p.1 ≡ None) (ghost_messages (here_at f k) q j haunts changed) _
+      (ghosts_silent reaped_by no_ghosts (here_at f k) q j haunts changed) (refl, tt))
+  cell_silent (move.late c r n has may lt d) = of _ s.cell d tt
+  cell_silent (move.holds c r n own has mine may lt d) = of _ s.cell d tt
+  cell_silent (move.passes c p n own has at d) = of _ s.cell d (refl, tt)
+  cell_silent (move.lands r n own has may d) =
+      of _ s.cell d (mapped_silent reaped_by (current_to (here_at f k) r) (λ b. refl) (base_numbers (here_at f k)))
+  cell_silent (move.hears_set n c h has d) = of _ s.cell d tt
+  cell_silent (move.ignores_set n c r h has d) = of _ s.cell d tt
+  cell_silent (move.hears_drop n h d) = of _ s.cell d tt
+  cell_silent (move.reaped r n has own may d) = of _ s.cell d (drops_silent reaped_by no_ghosts r)
+  cell_silent (move.ticks n st z) = is [] z tt
+  cell_silent (move.unlists n h at b d) = of _ _ d tt
+  cell_silent (move.looks n r w known h at has own v small d) =
+      of _ _ d (numbered_silent reaped_by (base_of (here_at f k) r.entity) r.entity w.sent _ (λ u. refl))
+  cell_silent (move.overlooks n known h at b d) = of _ _ d tt
+  cell_silent (move.stuck r h has ready may d) = of _ s.cell d tt
+
+  tail_of : (o : Order) (os : List Order) → s.base.orders ≡ o ∷ os → HasNoReaps s → NoneReaped (o ∷ os)
+  tail_of o os at h = subst NoneReaped at h
+
+  -- what is left of the orders, and what is sent
+  record Left : Type 0 where
+    orders : HasNoReaps t
+    silent : Unreaped
+
+  kept : (b : AtBase) → b.orders ≡ s.base.orders → t.base ≡ b → HasNoReaps s → HasNoReaps t
+  kept b same a h = subst NoneReaped (sym (ap (λ x. x.orders) a ∙ same)) h
+
+  gone : (o : Order) (os : List Order) (b : AtBase) → s.base.orders ≡ o ∷ os → b.orders ≡ os → t.base ≡ b → HasNoReaps s → HasNoReaps t
+  gone o os b at same a h = subst NoneReaped (sym (ap (λ x. x.orders) a ∙ same)) (tail_of o os at h).1
+
+  base_left : (cells : ℕ) → HasNoReaps s → BaseMoves (here_at f k) cells e s.base i t.base sent → Left
+  base_left cells h (base_move.rests n a z) = record { orders = kept s.base refl a h; silent = is [] z tt }
+  base_left cells h (base_move.strays m n b a z) = record { orders = kept s.base refl a h; silent = is [] z tt }
+  base_left cells h (base_move.reroutes new r n has b a z) = record { orders = kept _ refl a h; silent = is [] z tt }
+  base_left cells h (base_move.offers c p n own has may a z) = record { orders = kept _ refl a h; silent = is [] z tt }
+  base_left cells h (base_move.updates u n own b a z) = record { orders = kept _ refl a h; silent = is [] z tt }
+  base_left cells h (base_move.orders_call c os r n at own has a z) =
+      record { orders = gone (order.Cell c) os _ at refl a h; silent = is _ z (refl, tt) }
+  base_left cells h (base_move.orders_base_call c os n at own b a z) =
+      record { orders = gone (order.Base c) os _ at refl a h; silent = is _ z (refl, tt) }
+  base_left cells h (base_move.offers_own c os p n at own b has may a z) =
+      record { orders = gone (order.Base c) os _ at refl a h; silent = is [] z tt }
+  base_left cells h (base_move.orders_tick os n at a z) =
+      record {
+        orders = gone order.Tick os _ at refl a h;
+        silent = is _ z (mapped_silent reaped_by tick_to (λ j. refl) (range_with_len 0 cells));
+      }
+  base_left cells h (base_move.orders_reap os r n at has a z) = absurd (let no = (tail_of (order.Reap e) os at h).0 in cc)
+  base_left cells h (base_move.stuck_order o os n at b a z) = record { orders = kept s.base refl a h; silent = is [] z tt }
+  base_left cells h (base_move.executes p o c n has may at item a z) = record { orders = kept _ refl a h; silent = is [] z tt }
+  base_left cells h (base_move.stuck_part p n has v may a z) = record { orders = kept s.base refl a h; silent = is [] z tt }
+  base_left cells h (base_move.shows p n has v may a z) = record { orders = kept _ refl a h; silent = is [] z tt }
+  base_left cells h (base_move.stuck_client p n has v may a z) = record { orders = kept s.base refl a h; silent = is [] z tt }
+
+  pub orders_spared : HasNoReaps s → Moves f e k s i t sent → HasNoReaps t
+  orders_spared h (at_a_cell low m same) = kept s.base refl same h
+  orders_spared h (at_a_base high m same) = (base_left _ h m).orders
+
+  pub sent_spared : HasNoReaps s → Moves f e k s i t sent → Unreaped
+  sent_spared h (at_a_cell low m same) = cell_silent m
+  sent_spared h (at_a_base high m same) = (base_left _ h m).silent

@@ -1,0 +1,65 @@
+-- Nothing about the entity is stray at a base node, over every list of events.
+use Rattle.std.proofs.Common.{◌≡◌, ℕ, ◌<◌, ◌≤◌, true, List, length, arith}
+use Rattle.seam_machine.specs.Nets.{happens, enabled, LeadsTo}
+use Rattle.seam_machine.specs.declared.machines.Event.{Event}
+use Rattle.seam_machine.proofs.Occurring.{occurs}
+use Rattle.seam_net_runs.proofs.Runs.{leads_keeps}
+use Rattle.seam_call.specs.declared.call.Call.{Call as CallData}
+use Rattle.seam_node_steps.specs.Nodes.{World, node_steps, node_has_work}
+use Rattle.seam_law_calls.specs.Frames.{Frame, IsInFrame}
+use Rattle.seam_law_calls.specs.Ones.{IsFrame, IsSpared, HasOne}
+use Rattle.seam_law_calls.proofs.Easing.{falls_lead}
+use Rattle.seam_law_calls.proofs.OneReal.{one_happens, calm_of, spared_happens}
+use Rattle.seam_law_calls.specs.BaseTurns.{base_burden, HasBaseCalls, HasNoClient}
+use Rattle.seam_law_calls.specs.Clients.{HasClient, HasToldAtMost, HasRoomFor}
+use Rattle.seam_law_calls.specs.Strays.{HasRoutes, no_client, client, NothingIsStray}
+use Rattle.seam_law_calls.proofs.PartEasing.{base_burden_happens}
+use Rattle.seam_law_calls.proofs.RoutesKept.{routes_happen}
+use Rattle.seam_law_calls.proofs.AloneRuns.{alone_leads}
+use Rattle.seam_law_calls.proofs.ClientLeads.{both_leads}
+use Rattle.seam_law_calls.proofs.NoStray.{nothing_is_stray}
+
+-- ---- routes
+
+module _ (f : Frame) (frame : IsFrame f) (e ty : ℕ) (known : ty < length f.defs) where
+  record Routed (w : World) : Type 0 where
+    one : HasOne f e ty w
+    spared : IsSpared e w
+    routes : HasRoutes f e w
+
+  routed_more : (w : World) (v : Event) → Routed w → enabled node_has_work w v ≡ true → Routed (happens node_steps w v)
+  routed_more w v h on =
+      let o = occurs node_has_work w v on in
+      let calm = calm_of f e w v o h.one.fits.frame h.spared in
+      record {
+        one = (one_happens f frame e ty known w v o h.one calm).has;
+        spared = spared_happens f e w v o h.one.fits.frame h.spared;
+        routes = routes_happen f frame e ty known w v o h.one calm h.routes;
+      }
+
+  pub routes_lead : (w v : World) (es : List Event) → HasOne f e ty w → IsSpared e w → HasRoutes f e w →
+      LeadsTo node_has_work node_steps w es v → HasRoutes f e v
+  routes_lead w v es one spared routes run =
+      (leads_keeps node_has_work node_steps Routed routed_more w v es (record { one = one; spared = spared; routes = routes }) run).routes
+
+-- ---- what is yet to do
+
+pub base_burden_leads : (f : Frame) (e : ℕ) (w v : World) (es : List Event) → IsInFrame f w → LeadsTo node_has_work node_steps w es v →
+    base_burden e v ≤ base_burden e w
+base_burden_leads f e w v es q run = falls_lead f (base_burden e) (base_burden_happens f e) w v es q run
+
+-- ---- nothing is stray
+
+module _ (f : Frame) (e ty : ℕ) (first : ℕ → ℕ) (batch : ℕ → List CallData) (w v : World) (es : List Event)
+    (h : HasBaseCalls f e ty first batch w) (routes : HasRoutes f e w) (run : LeadsTo node_has_work node_steps w es v) where
+  pub alone_without_stray : IsFrame f → ty < length f.defs → HasOne f e ty w → HasNoClient e w → NothingIsStray f e v
+  alone_without_stray frame known one alone =
+      let a = alone_leads f e ty first batch w v es h alone run in
+      nothing_is_stray f e ty first batch 0 0 v a.calls (routes_lead f frame e ty known w v es one h.spared routes run) (no_client a.alone)
+
+  pub client_without_stray : (update n : ℕ) → HasClient f e ty update w → HasRoomFor e n w → HasToldAtMost e n v → NothingIsStray f e v
+  client_without_stray update n c room most =
+      let both = both_leads f e ty first batch update n w v es (record { calls = h; client = c }) room run most in
+      let less = base_burden_leads f e w v es h.part.frame run in
+      nothing_is_stray f e ty first batch update n v both.calls
+      (routes_lead f c.frame e ty c.known w v es c.one h.spared routes run) (client both.client most (omega (arith, less, room)))

@@ -1,0 +1,18 @@
+-- A world of two cells with one entity and three calls, of which one hands it over: what the laws ask of a world is true of it.
+use Rattle.std.specs.Prelude.{List, map}
+use Rattle.seam_machine.specs.declared.machines.Event.{Event}
+use Rattle.seam_defs.specs.Builtin.{builtin}
+use Rattle.seam_defs.specs.Settings.{standard}
+use Rattle.seam_node_steps.specs.Nodes.{World}
+use Rattle.seam_node_steps.specs.EarlyCall.{two_cells}
+use Rattle.seam_law_calls.specs.Frames.{Frame}
+
+abbrev pub frame : Frame
+frame = record { defs = builtin; settings = standard; tree = two_cells }
+
+abbrev event_of : Event × World → Event
+event_of s = s.0
+
+-- the events of a worked row
+abbrev pub events_of : List (Event × World) → List Event
+events_of steps = map event_of steps

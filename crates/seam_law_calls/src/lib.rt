@@ -1,0 +1,41 @@
+// SPDX-License-Identifier: MIT
+
+//! Each entity once, and each of its calls once, over every list of events.
+//!
+//! `moves` has what each step of a node does with one entity; the other modules are laws over those moves: `ones`, exactly one real, and
+//! what it is; `ways`, calls find their way to it; `once`, each call to a cell part is executed once and in order. Each law is a clause of
+//! a function that does nothing. The head of each module says which modules of `proofs` crates above cite.
+//!
+//! What base nodes do with calls, routes and updates, over every list of events.
+//!
+//! `base_calls` has calls to base parts, each executed once and in order, and that nothing comes to a base node that is stray; `told` how
+//! much a witness tells its client. Each law is a clause of a function that does nothing. The head of each module says which modules of
+//! `proofs` crates above cite.
+#![tactic(auto)]
+
+mod base_calls;
+mod moves;
+mod once;
+mod ones;
+mod told;
+mod ways;
+
+pub use base_calls::{
+    a_base_call_is_never_stray, a_clients_updates_come_in_order,
+    a_loaded_world_has_its_base_calls_in_turn, a_reap_ends_the_base_part,
+    a_witness_tells_only_in_looks, all_base_calls_are_executed, base_numbers_stay_small,
+    each_base_call_waits_once, nothing_is_stray_at_a_base_node, routes_are_kept,
+};
+pub use moves::{a_step_is_a_move, an_event_is_a_move};
+pub use once::{
+    a_cell_call_is_never_stray, a_loaded_world_has_its_calls_in_turn, all_cell_calls_are_executed,
+    each_cell_call_waits_once,
+};
+pub use ones::{
+    a_loaded_world_has_what_the_laws_ask, a_reap_ends_the_one_real, exactly_one_real,
+    holders_are_at_one_place, numbers_stay_small, reals_replay_their_calls,
+};
+pub use told::{a_witness_tells_few, entities_stay_few, nothing_is_told_without_looks};
+pub use ways::{
+    a_call_that_comes_finds_a_place, a_round_begins_with_all_ways, calls_find_their_way,
+};

@@ -1,0 +1,34 @@
+//! What each step of a node does with one entity: the moves of its flow, a kind of move for each case.
+//!
+//! A world of many entities is, for each of them, a flow of what the nodes have of it and of the messages that concern it (those that
+//! name it, and ticks). Each step of a cell or a base node is one of the moves of `specs/CellMoves` and `specs/BaseMoves`, whatever the
+//! entity; so a law of one entity is proved over moves alone, and the cases of the steps are taken apart here only.
+//!
+//! Crates above cite these modules of `proofs`: `Classify` (a step and an event are moves, nodes as machines, the frame is kept),
+//! `Lists` (what of a list concerns the entity).
+
+ghost use Rattle.std.specs.Prelude.{◌≡◌, ℕ, true};
+ghost use Rattle.seam_machine.specs.Nets.{happens, enabled};
+ghost use Rattle.seam_machine.specs.Events.{Occurs};
+ghost use Rattle.seam_machine.specs.declared.machines.Input.{Input};
+ghost use Rattle.seam_machine.specs.declared.machines.Event.{Event};
+ghost use Rattle.seam_law_flow.specs.Flows.{Goes, letter_in};
+ghost use Rattle.seam_entity.specs.declared.message.Msg.{Msg};
+ghost use Rattle.seam_node_steps.specs.Nodes.{NodeView, World, node_steps};
+ghost use Rattle.seam_node_steps.specs.Valid.{IsNode};
+ghost use Rattle.seam_law_calls.specs.Frames.{Frame, IsAt, IsInFrame};
+ghost use Rattle.seam_law_calls.specs.Sights.{mine, concerning, has_of, entity_flow};
+ghost use Rattle.seam_law_calls.specs.Moves.{Moves, MovesTo};
+
+/// A step of a node is, for each entity, one of the moves.
+pub fn a_step_is_a_move()
+    ensures { (f : Frame) (e k : ℕ) (s : NodeView) (i : Input Msg) → IsNode s → IsAt f k s
+        → Moves f e k (has_of e s) (letter_in (mine e) i) (has_of e (node_steps s i).state) (concerning e (node_steps s i).sent) }
+{}
+
+/// An event of a world is, for each entity, a step of its flow by one of the moves, and the world's nodes go by the same frame after it.
+pub fn an_event_is_a_move()
+    ensures moves { (f : Frame) (w : World) (v : Event) (o : Occurs w v) → IsInFrame f w → (e : ℕ)
+        → Goes (MovesTo f e) (entity_flow e w) (entity_flow e (happens node_steps w v)) }
+    ensures framed { (f : Frame) (w : World) (v : Event) (o : Occurs w v) → IsInFrame f w → IsInFrame f (happens node_steps w v) }
+{}

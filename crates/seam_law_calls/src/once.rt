@@ -1,0 +1,65 @@
+//! Each call once, over every list of events: calls to cell parts.
+//!
+//! Any sender's calls to an entity's cell part wait in a base node's orders, on links, where they are passed on as the real is handed over,
+//! or with the real, which may itself be on its way. Of each sender's calls the real has executed the first ones, in the order of their
+//! numbers; each of the others waits at one place alone, and no other number waits. So no call is lost, none is executed twice, and a call
+//! that comes to the real is never late and never held already; in a quiet world all are executed (BigWorld Server Programming Guide:
+//! messages to an entity arrive in order; sequence numbers, as of the Transmission Control Protocol).
+//!
+//! What a world is to one sender is in `specs/CellTurns`: each step of a node is one or two of the moves of `seam_law_flow`, for each sender.
+//!
+//! Of `proofs/`, `CellRuns` (an event and a list of events), `DeskLemmas` (one sender's desk after an offer and after a taking) and
+//! `Quieting` (what is not there in a quiet world) are for callers.
+
+ghost use Rattle.std.specs.Prelude.{◌≡◌, ℕ, ◌+◌, ◌<◌, List, ◌∷◌, length, Some};
+ghost use Rattle.seam_machine.specs.Nets.{IsQuiet, LeadsTo};
+ghost use Rattle.seam_machine.specs.declared.machines.Event.{Event};
+ghost use Rattle.seam_law_flow.specs.Flows.{letters_of};
+ghost use Rattle.seam_call.specs.declared.call.Call.{Call as CallData};
+ghost use Rattle.seam_entity.specs.Reals.{RealView};
+ghost use Rattle.seam_entity.specs.declared.message.Msg.{Msg};
+ghost use Rattle.seam_entity.specs.declared.message.Msg.TheVariants.{Call};
+ghost use Rattle.seam_entity.specs.Numbers.{limit};
+ghost use Rattle.seam_node_steps.specs.EarlyCall as early;
+ghost use Rattle.seam_node_steps.specs.Nodes.{World, node_steps, node_has_work};
+ghost use Rattle.seam_law_calls.specs.Frames.{Frame};
+ghost use Rattle.seam_law_calls.specs.Sights.{entity_flow};
+ghost use Rattle.seam_law_calls.specs.Burdens.{burden};
+ghost use Rattle.seam_law_calls.specs.HandOverExample.{frame};
+ghost use Rattle.seam_law_calls.specs.Ones.{real_in, HasOne, IsSpared, IsFrame};
+ghost use Rattle.seam_law_calls.specs.Ways.{AllLead};
+ghost use Rattle.seam_law_calls.specs.CellTurns.{from_sender, AreCallsOf, CellCallsInTurn, FindsTurn};
+ghost use Rattle.seam_law_calls.specs.TurnsExample.{calls_of, from_one};
+
+/// In a world of an entity that fits, has one real and is not reaped, where calls find their way, each sender's calls to the cell part
+/// are in turn, and the numbers have room for one more, they are in turn after every list of events.
+pub fn each_cell_call_waits_once()
+    ensures { (f : Frame) (e ty : ℕ) (w v : World) (es : List Event) → IsFrame f → ty < length f.defs → HasOne f e ty w →
+        IsSpared e w → AllLead (entity_flow e w) → (first : ℕ → ℕ) (batch : ℕ → List CallData) → AreCallsOf f e ty batch →
+        CellCallsInTurn e first batch w → burden e w + 1 < limit → LeadsTo node_has_work node_steps w es v →
+        CellCallsInTurn e first batch v }
+{}
+
+/// A call that is the first of its link in such a world finds a cell with the real or the next place, and the real may be offered it: it
+/// is not stray, not late, and not held already.
+pub fn a_cell_call_is_never_stray()
+    ensures { (f : Frame) (e ty : ℕ) (w : World) → IsFrame f → ty < length f.defs → HasOne f e ty w →
+        IsSpared e w → AllLead (entity_flow e w) → (first : ℕ → ℕ) (batch : ℕ → List CallData) → AreCallsOf f e ty batch →
+        CellCallsInTurn e first batch w → burden e w + 1 < limit → (a k : ℕ) (c : CallData) (ms : List Msg) →
+        (entity_flow e w).mail a k ≡ Call c ∷ ms → FindsTurn f k ((entity_flow e w).slot k) c }
+{}
+
+/// Where a list of events leaves such a world quiet, the real has executed all calls of each sender, in the order of their numbers.
+pub fn all_cell_calls_are_executed()
+    ensures { (f : Frame) (e ty : ℕ) (w v : World) (es : List Event) → IsFrame f → ty < length f.defs → HasOne f e ty w →
+        IsSpared e w → AllLead (entity_flow e w) → (first : ℕ → ℕ) (batch : ℕ → List CallData) → AreCallsOf f e ty batch →
+        CellCallsInTurn e first batch w → burden e w + 1 < limit → LeadsTo node_has_work node_steps w es v → IsQuiet node_has_work v →
+        (k : ℕ) (r : RealView) → real_in ((entity_flow e v).slot k) ≡ Some r → (s : ℕ) → letters_of (from_sender s) r.done ≡ batch s }
+{}
+
+/// What these laws ask of the calls is true of those of the world of two cells of `ones`, which a load made.
+pub fn a_loaded_world_has_its_calls_in_turn()
+    ensures ours { AreCallsOf frame 1 0 calls_of }
+    ensures room { burden 1 early.world_0 + 1 < limit }
+    ensures turns { CellCallsInTurn 1 from_one calls_of early.world_0 }
+{}

@@ -1,0 +1,66 @@
+-- A witness tells rightly, over every list of events.
+use Rattle.std.proofs.Common.{ℕ, List, Some, sym, subst}
+use Rattle.std.proofs.lemmas.List.Sums.{fold-append}
+use Rattle.seam_machine.specs.Nets.{LeadsTo}
+use Rattle.seam_machine.specs.declared.machines.Event.{Event}
+use Rattle.seam_call.specs.declared.shown.Shown.{Shown}
+use Rattle.seam_entity.specs.Reals.{RealView, WitnessView}
+use Rattle.seam_node_steps.specs.CellLooks.{shown_of, looks_of, after_looking}
+use Rattle.seam_node_steps.specs.Cells.{known_to}
+use Rattle.seam_node_steps.specs.Nodes.{World, node_steps, node_has_work}
+use Rattle.seam_law_calls.specs.Frames.{Frame}
+use Rattle.seam_law_calls.specs.Ones.{IsSpared}
+use Rattle.seam_law_calls.specs.Clients.{HasClient, HasToldAtMost, HasRoomFor}
+use Rattle.seam_rule_clients.specs.Clients.{ClientReplica, after_shown, after_all_shown}
+use Rattle.seam_rule_clients.specs.Lines.{Truth, ShowsRightly}
+use Rattle.seam_law_clients.specs.Fits.{FitsWithin}
+use Rattle.seam_law_clients.specs.Telling.{ComesBetween, IsTrueBetween, TellsRightly}
+use Rattle.seam_law_clients.proofs.Looking.{look_shows, look_fits}
+use Rattle.seam_law_clients.proofs.Reals.{fits_on}
+use Rattle.seam_law_clients.proofs.InTurn.{rightly_append}
+use Rattle.seam_law_clients.proofs.Tells.{Tells, tells_lead}
+
+module _ (f : Frame) (e ty first n : ℕ) (t : Truth) (c : ClientReplica) (start end : World)
+    (most : (u : World) → ComesBetween start end u → HasToldAtMost e n u) (true_ : IsTrueBetween f e t start end) where
+  -- what was told may be shown, and the client that was shown it fits
+  abbrev IsRight : List Shown → RealView → WitnessView → Type 0
+  IsRight us r x = ShowsRightly t e c us × FitsWithin f r x (after_all_shown c us)
+
+  pub rightly_leads : (es : List Event) → TellsRightly f e ty first t c start → HasClient f e ty first start → IsSpared e start →
+      HasRoomFor e n start → LeadsTo node_has_work node_steps start es end → TellsRightly f e ty first t c end
+  rightly_leads es h client spared room run_ =
+      let after : Tells f e ty first IsRight end =
+      tells_lead f e ty first n IsRight
+      (λ us r q x p both. (both.0, fits_on f r q p x (after_all_shown c us) both.1)) start end most
+      (λ w between k cell there here r at x seen m waits us due both.
+      let d : ClientReplica = after_all_shown c us in (
+        rightly_append t e c us (shown_of cell.here r x (known_to cell e)) both.0
+            (look_shows f k e r x d both.1 cell t (true_.own w between k r at) (true_.others w between k cell there) here),
+        subst (λ y. FitsWithin f (record r {
+          witness = Some (after_looking (known_to cell e) (looks_of r x (known_to cell e))
+              (shown_of cell.here r x (known_to cell e)) r x);
+        })
+            (after_looking (known_to cell e) (looks_of r x (known_to cell e)) (shown_of cell.here r x (known_to cell e)) r x) y)
+            (sym (fold-append after_shown c us (shown_of cell.here r x (known_to cell e))))
+            (look_fits f k e r x d both.1 cell here),
+      ))
+      es
+      (record {
+        one = h.one;
+        witness = h.witness;
+        has = h.has;
+        told = h.told;
+        number = h.number;
+        delivery = h.delivery;
+        holds = (h.rightly, h.fits);
+      }) client spared room run_ in
+      record {
+        one = after.one;
+        witness = after.witness;
+        has = after.has;
+        told = after.told;
+        number = after.number;
+        delivery = after.delivery;
+        rightly = after.holds.0;
+        fits = after.holds.1;
+      }

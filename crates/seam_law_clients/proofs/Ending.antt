@@ -1,0 +1,281 @@
+-- Where a round's calls end a client fits its witness, also in what it was shown of others.
+use Rattle.std.proofs.Common.{◌≡◌, ℕ, ◌+◌, ◌≤◌, ◌⊎◌, Bool, true, false, cond, is_some, List, [], ◌∷◌, Option, None, Some, refl}
+use Rattle.std.proofs.Common.{sym, ap, ◌∙◌, subst, arith, inl, inr}
+use Rattle.std.specs.List.{AllByRecursion}
+use Rattle.std.specs.Ordering.{nat_cmp, eq_by_cmp}
+use Rattle.std.specs.Cmp.{nat_cmp_total}
+use Rattle.std.specs.FinMap as table
+use Rattle.seam_machine.specs.Nets.{happens, enabled, IsQuiet, LeadsTo}
+use Rattle.seam_machine.specs.declared.machines.Event.{Event}
+use Rattle.seam_machine.proofs.Occurring.{occurs}
+use Rattle.seam_net_runs.proofs.Runs.{leads_keeps}
+use Rattle.seam_law_flow.specs.Flows.{comes}
+use Rattle.seam_law_flow.proofs.Following.{slots_kept}
+use Rattle.seam_law_flow.proofs.TokenLemmas.{sole_here}
+use Rattle.seam_defs.specs.declared.types.TypeDef.{TypeDef}
+use Rattle.seam_defs.specs.Tests.{changes}
+use Rattle.seam_defs.specs.Types.{type_of}
+use Rattle.seam_call.specs.declared.call.Call.{Call}
+use Rattle.seam_call.specs.declared.order.Batch.{Batch}
+use Rattle.seam_call.specs.declared.shown.GhostCopy.{GhostCopy}
+use Rattle.seam_call.specs.declared.shown.Shown.{Shown}
+use Rattle.seam_call.specs.declared.shown.Shown.TheVariants.{Own, Enter, Set, Leave}
+use Rattle.seam_entity.specs.Executing.{public_after}
+use Rattle.seam_entity.specs.Reals.{RealView, WitnessView}
+use Rattle.seam_entity.specs.declared.message.Msg.{Msg}
+use Rattle.seam_node_steps.specs.Bases.{RouteView}
+use Rattle.seam_node_steps.specs.Loads.{loaded}
+use Rattle.seam_node_steps.specs.Nodes.{World, node_steps, node_has_work}
+use Rattle.seam_law_calls.specs.Frames.{Frame, here_at, IsInFrame}
+use Rattle.seam_law_calls.specs.Sights.{Has, AtBase, entity_flow}
+use Rattle.seam_law_calls.specs.BaseMoves as move
+use Rattle.seam_law_calls.specs.BaseMoves.{BaseMoves}
+use Rattle.seam_law_calls.specs.Moves.{Moves, at_a_cell, at_a_base}
+use Rattle.seam_law_calls.proofs.Classify.{event_moves, frame_happens}
+use Rattle.seam_law_calls.specs.Ones.{real_in, real_of, IsSpared, HasOne}
+use Rattle.seam_law_calls.specs.Replays.{Account, account_of, after_call, after_calls, Replays}
+use Rattle.seam_law_calls.proofs.OneReal.{one_leads, spared_happens}
+use Rattle.seam_law_rounds.specs.Between.{IsBetweenRounds, IsFitting, framed}
+use Rattle.seam_law_rounds.proofs.Going.{frame_loaded, settled_loaded, spared_loaded}
+use Rattle.seam_law_rounds.proofs.Shape.{Somewhere, Nowhere, search_real}
+use Rattle.seam_law_ghosts.specs.Truths.{IsTrue}
+use Rattle.seam_law_calls.specs.Strays.{IsBaseNumber}
+use Rattle.seam_law_calls.specs.BaseTurns.{home_of}
+use Rattle.seam_law_calls.specs.Clients.{shown_at, HasClient}
+use Rattle.seam_law_ghosts.specs.Copies.{present}
+use Rattle.seam_rule_clients.specs.Clients.{ClientReplica, after_shown, after_all_shown}
+use Rattle.seam_rule_clients.specs.Lines.{Truth, ShowsTruth}
+use Rattle.seam_law_clients.specs.Witnesses.{FitsWitness}
+use Rattle.seam_node_steps.proofs.Sorted.{tied_same}
+use Rattle.seam_law_calls.specs.Telling.{IsAbsent}
+use Rattle.seam_law_clients.specs.Fits.{FitsWithin}
+use Rattle.seam_law_clients.specs.Telling.{TellsRightly}
+use Rattle.seam_law_clients.specs.RoundTruths.{WasOther, true_between}
+use Rattle.seam_law_clients.proofs.Starts.{shown_rightly, fits_shown}
+use Rattle.seam_law_clients.proofs.RoundTruth.{absent_leads}
+
+-- ---- where a version shown is from
+
+module _ (t : Truth) where
+  -- it was shown before, or is that of a line
+  data IsFrom (c : ClientReplica) (x version : ℕ) : Type 0 where
+    was : table.get c.others.shown x ≡ Some version → IsFrom c x version
+    now : (d : GhostCopy) → t.other x d → d.version ≡ version → IsFrom c x version
+
+  copy_by : (c : ClientReplica) (e x version : ℕ) (d : GhostCopy) (b : Bool) → eq_by_cmp nat_cmp x e ≡ b → t.other e d →
+      cond b (Some d.version) (table.get c.others.shown x) ≡ Some version → IsFrom c x version
+  copy_by c e x version d true tied is_true is = now d (subst (λ y. t.other y d) (sym (tied_same x e tied)) is_true) (let z = is in cc)
+  copy_by c e x version d false tied is_true is = was is
+
+  copy_from : (c : ClientReplica) (e x version : ℕ) (d : GhostCopy) → t.other e d →
+      table.get (table.insert c.others.shown e d.version) x ≡ Some version → IsFrom c x version
+  copy_from c e x version d is_true is =
+      copy_by c e x version d (eq_by_cmp nat_cmp x e) refl is_true (sym (table.get-insert nat_cmp_total c.others.shown e d.version x) ∙ is)
+
+  line_from : (c : ClientReplica) (s : Shown) (x version : ℕ) → ShowsTruth t s →
+      table.get (after_shown c s).others.shown x ≡ Some version → IsFrom c x version
+  line_from c (Own n state) x version is_true is = was is
+  line_from c (Enter e d) x version is_true is = copy_from c e x version d is_true is
+  line_from c (Set e d) x version is_true is = copy_from c e x version d is_true is
+  line_from c (Leave e) x version is_true is = was is
+
+  lines_from : (ss : List Shown) (c : ClientReplica) (x version : ℕ) → AllByRecursion (ShowsTruth t) ss →
+      table.get (after_all_shown c ss).others.shown x ≡ Some version → IsFrom c x version
+  lines_from [] c x version all is = was is
+  lines_from (s ∷ ss) c x version all is = by (lines_from ss (after_shown c s) x version all.1 is)
+    where
+      by : IsFrom (after_shown c s) x version → IsFrom c x version
+      by (was h) = line_from c s x version all.0 h
+      by (now d is_true same) = now d is_true same
+
+-- ---- the public version never falls
+
+public_by : (b : Bool) (v p : ℕ) → p ≤ v → (p ≤ public_after b (v + 1) p) × (public_after b (v + 1) p ≤ v + 1)
+public_by true v p le = (omega (arith, le), omega (arith, le))
+public_by false v p le = (omega (arith, le), omega (arith, le))
+
+public_on : (t : TypeDef) (ks : List Call) (a : Account) → a.public ≤ a.version →
+    (a.public ≤ (after_calls t a ks).public) × ((after_calls t a ks).public ≤ (after_calls t a ks).version)
+public_on t [] a le = (omega (arith, le), le)
+public_on t (k ∷ ks) a le =
+    let one = public_by (changes t a.state k.deed) a.version a.public le in
+    let more = public_on t ks (after_call t a k) one.1 in
+    let first = one.0 in
+    let rest = more.0 in
+    (omega (arith, first, rest), more.1)
+
+public_rises : (f : Frame) (r q : RealView) → Replays f r q → r.public ≤ r.version → (r.public ≤ q.public) × (q.public ≤ q.version)
+public_rises f r q p le =
+    let on = public_on (type_of f.defs r.ty) p.further (account_of r) le in
+    let public = ap (λ (a : Account). a.public) p.account in
+    let version = ap (λ (a : Account). a.version) p.account in
+    let up = on.0 in
+    let low = on.1 in
+    (omega (arith, up, public), omega (arith, low, public, version))
+
+-- ---- a base node keeps a route
+
+module _ (f : Frame) (e k : ℕ) (s : Has) (i : Option Msg) (t : Has) (sent : List (ℕ × Msg)) (routed : is_some s.base.route ≡ true) where
+  abbrev Routed : Type 0
+  Routed = is_some t.base.route ≡ true
+
+  kept : (b : AtBase) → t.base ≡ b → b.route ≡ s.base.route → Routed
+  kept b a same = ap (λ (x : AtBase). is_some x.route) a ∙ (ap is_some same ∙ routed)
+
+  base_routed : (cells : ℕ) → BaseMoves (here_at f k) cells e s.base i t.base sent → Routed
+  base_routed cells (move.rests n a z) = kept s.base a refl
+  base_routed cells (move.strays m n b a z) = kept s.base a refl
+  base_routed cells (move.reroutes new r n has b a z) = ap is_some (ap (λ (x : AtBase). x.route) a)
+  base_routed cells (move.offers c p n own has may a z) = kept _ a refl
+  base_routed cells (move.updates u n own b a z) = kept _ a refl
+  base_routed cells (move.orders_call c os r n at own has a z) = kept _ a refl
+  base_routed cells (move.orders_base_call c os n at own b a z) = kept _ a refl
+  base_routed cells (move.offers_own c os p n at own b has may a z) = kept _ a refl
+  base_routed cells (move.orders_tick os n at a z) = kept _ a refl
+  base_routed cells (move.orders_reap os r n at has a z) = kept _ a refl
+  base_routed cells (move.stuck_order o os n at b a z) = kept s.base a refl
+  base_routed cells (move.executes p o c n has may at item a z) = kept _ a refl
+  base_routed cells (move.stuck_part p n has v may a z) = kept s.base a refl
+  base_routed cells (move.shows p n has v may a z) = kept _ a refl
+  base_routed cells (move.stuck_client p n has v may a z) = kept s.base a refl
+
+  still_routed : Moves f e k s i t sent → Routed
+  still_routed (at_a_cell low m is) = kept s.base is refl
+  still_routed (at_a_base high m is) = base_routed _ m
+
+module _ (f : Frame) (x : ℕ) (start : World) where
+  record RoutesStay (w : World) : Type 0 where
+    frame : IsInFrame f w
+    routes : (k : ℕ) → is_some ((entity_flow x start).slot k).base.route ≡ true → is_some ((entity_flow x w).slot k).base.route ≡ true
+
+  routes_more : (w : World) (v : Event) → RoutesStay w → enabled node_has_work w v ≡ true → RoutesStay (happens node_steps w v)
+  routes_more w v h on =
+      let o = occurs node_has_work w v on in
+      let g = event_moves f w v o h.frame x in
+      record {
+        frame = frame_happens f w v o h.frame;
+        routes =
+            slots_kept (λ k s. is_some ((entity_flow x start).slot k).base.route ≡ true → is_some s.base.route ≡ true) g h.routes
+            (λ was. still_routed f x g.k ((entity_flow x w).slot g.k) (comes g.input) ((entity_flow x (happens node_steps w v)).slot g.k)
+            g.moves.sent (h.routes g.k was) g.moves.moves);
+      }
+
+  pub routes_stay : (v : World) (es : List Event) → IsInFrame f start → LeadsTo node_has_work node_steps start es v → (k : ℕ) →
+      is_some ((entity_flow x start).slot k).base.route ≡ true → is_some ((entity_flow x v).slot k).base.route ≡ true
+  routes_stay v es frame run =
+      (leads_keeps node_has_work node_steps RoutesStay routes_more start v es (record { frame = frame; routes = λ k h. h }) run).routes
+
+module _ (f : Frame) (x : ℕ) where
+  record Spares (w : World) : Type 0 where
+    frame : IsInFrame f w
+    spared : IsSpared x w
+
+  spares_more : (w : World) (v : Event) → Spares w → enabled node_has_work w v ≡ true → Spares (happens node_steps w v)
+  spares_more w v h on =
+      let o = occurs node_has_work w v on in
+      record { frame = frame_happens f w v o h.frame; spared = spared_happens f x w v o h.frame h.spared }
+
+  spared_leads : (w v : World) (es : List Event) → IsInFrame f w → IsSpared x w → LeadsTo node_has_work node_steps w es v → IsSpared x v
+  spared_leads w v es frame spared run =
+      (leads_keeps node_has_work node_steps Spares spares_more w v es (record { frame = frame; spared = spared }) run).spared
+
+pub some_route : (o : Option RouteView) → is_some o ≡ true → (route : RouteView) × (o ≡ Some route)
+some_route None h = cc
+some_route (Some route) h = (route, refl)
+
+-- ---- where the calls end
+
+module _ (f : Frame) (w : World) (b : Batch) (between : IsBetweenRounds f w) (fits : IsFitting f w b)
+    (framed_ : IsInFrame (framed f b) (loaded w b))
+    (truths : (u : World) (us : List Event) → LeadsTo node_has_work node_steps (loaded w b) us u → (x k : ℕ) (r : RealView) →
+    real_in ((entity_flow x (loaded w b)).slot k) ≡ Some r → IsTrue (framed f b) x r.ty r (λ n. present (framed f b) r) u)
+    (absent : (x : ℕ) → Nowhere x (loaded w b) → IsAbsent x (loaded w b)) (v : World) (es : List Event)
+    (run : LeadsTo node_has_work node_steps (loaded w b) es v) where
+  abbrev g : Frame
+  g = framed f b
+
+  abbrev start : World
+  start = loaded w b
+
+  module _ (x j version : ℕ) (q : RealView) (here : real_in ((entity_flow x v).slot j) ≡ Some q) where
+    -- of what was shown in the round
+    in_round : (d : GhostCopy) → WasOther g start v x d → d.version ≤ q.public
+    in_round d o =
+        let its = truths o.world o.between.before o.between.from x o.home o.first o.at_first in
+        let settled = settled_loaded f w b between fits x o.home o.first o.at_first in
+        let spared = spared_leads g x start o.world o.between.before framed_ (spared_loaded f w b between fits x o.home o.first o.at_first)
+        o.between.from in
+        let has : HasOne g x o.first.ty o.world =
+        record { fits = its.one.has.fits; place = o.place; real = o.real; one = o.one } in
+        let end =
+        one_leads g (frame_loaded f w b between fits) x o.first.ty settled.type o.world v o.between.after has spared o.between.to in
+        let one : q ≡ end.has.real =
+        (sole_here real_in real_of (entity_flow x v) end.has.place end.has.real q j end.has.one here).1 in
+        let low = (public_rises g o.first o.real o.replays settled.public).1 in
+        let up = (public_rises g o.real end.has.real end.replays low).0 in
+        let public = ap (λ (y : RealView). y.public) one in
+        let same = ap (λ (y : GhostCopy). y.version) o.is in
+        let most = o.not_ahead in
+        omega (arith, up, public, same, most)
+
+    before_round : ((i : ℕ) (p : RealView) → real_in ((entity_flow x start).slot i) ≡ Some p → version ≤ p.public) →
+        Somewhere x start ⊎ Nowhere x start → version ≤ q.public
+    before_round least (inl p) =
+        let its = truths v es run x p.0 p.1 p.2 in
+        let settled = settled_loaded f w b between fits x p.0 p.1 p.2 in
+        let one : q ≡ its.one.has.real =
+        (sole_here real_in real_of (entity_flow x v) its.one.has.place its.one.has.real q j its.one.has.one here).1 in
+        let up = (public_rises g p.1 its.one.has.real its.one.replays settled.public).0 in
+        let public = ap (λ (y : RealView). y.public) one in
+        let low = least p.0 p.1 p.2 in
+        omega (arith, up, public, low)
+    before_round least (inr n) =
+        let blank = (absent_leads g x start v es framed_ (absent x n) run).cells j in
+        absurd (let z = sym blank.real ∙ here in cc)
+
+  module _ (e ty first : ℕ) (c : ClientReplica) (r : RealView) (x0 : WitnessView) (began : FitsWitness g start r x0 c)
+      (h : TellsRightly g e ty first (true_between g e start v) c v) (client : HasClient g e ty first v)
+      (quiet : IsQuiet node_has_work v) where
+    abbrev t : Truth
+    t = true_between g e start v
+
+    abbrev shown : List Shown
+    shown = shown_at ((entity_flow e v).slot (home_of g e))
+
+    now_fits : FitsWithin g h.one.real h.witness (after_all_shown c shown)
+    now_fits = fits_shown g e ty first t v c h client quiet
+
+    from : (x version : ℕ) → table.get h.witness.view.shown x ≡ Some version → IsFrom t c x version
+    from x version is =
+        lines_from t shown c x version (shown_rightly g e ty first t v c h).true_
+        (ap (λ y. table.get y.shown x) now_fits.others ∙ is)
+
+    not_ahead : (x j version : ℕ) (q : RealView) → IsFrom t c x version → real_in ((entity_flow x v).slot j) ≡ Some q →
+        version ≤ q.public
+    not_ahead x j version q (was is) here =
+        before_round x j version q here
+        (λ i p at. began.others_not_ahead x i version p (ap (λ y. table.get y.shown x) (sym began.others) ∙ is) at) (search_real x start)
+    not_ahead x j version q (now d is_true same) here =
+        let le = in_round x j version q here d is_true in omega (arith, le, same)
+
+    known : (x version : ℕ) → IsFrom t c x version → (k : ℕ) → IsBaseNumber g k →
+        (route : RouteView) × (((entity_flow x v).slot k).base.route ≡ Some route)
+    known x version (was is) k base =
+        let at = began.others_known x version (ap (λ y. table.get y.shown x) (sym began.others) ∙ is) k base in
+        some_route ((entity_flow x v).slot k).base.route (routes_stay g x start v es framed_ run k (ap is_some at.1))
+    known x version (now d o same) k base =
+        let at = (settled_loaded f w b between fits x o.home o.first o.at_first).routes k base.from base.below in
+        some_route ((entity_flow x v).slot k).base.route (routes_stay g x start v es framed_ run k (ap is_some at))
+
+    pub fits_then : FitsWitness g v h.one.real h.witness (after_all_shown c shown)
+    fits_then = record {
+      others = now_fits.others;
+      view = now_fits.view;
+      radius = now_fits.radius;
+      hysteresis = now_fits.hysteresis;
+      told = now_fits.told;
+      not_ahead = now_fits.not_ahead;
+      own = now_fits.own;
+      others_not_ahead = λ x j version q is here. not_ahead x j version q (from x version is) here;
+      others_known = λ x version is. known x version (from x version is);
+    }

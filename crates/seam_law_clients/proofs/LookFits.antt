@@ -1,0 +1,141 @@
+-- After the phase of looks each client, which was shown one look at the flat table, fits its witness again.
+use Rattle.std.proofs.Common.{◌≡◌, ℕ, Bool, true, false, List, Option, None, Some, refl, sym, ap, ◌∙◌, subst, arith}
+use Rattle.std.specs.Prelude.{option_map, slice_get}
+use Rattle.std.proofs.lemmas.Option.{slice_get-map}
+use Rattle.seam_machine.specs.Nets.{happens, enabled, IsQuiet, LeadsTo}
+use Rattle.seam_machine.specs.declared.machines.Event.{Event}
+use Rattle.seam_machine.proofs.Occurring.{occurs}
+use Rattle.seam_net_runs.proofs.Runs.{leads_keeps}
+use Rattle.seam_law_flow.specs.Flows.{comes, slot_at}
+use Rattle.seam_law_flow.proofs.Following.{slots_kept}
+use Rattle.seam_call.specs.declared.order.Order.TheVariants as order
+use Rattle.seam_entity.specs.Reals.{RealView, WitnessView}
+use Rattle.seam_node_steps.specs.Bases.{BaseView}
+use Rattle.seam_node_steps.specs.Cells.{CellView}
+use Rattle.seam_node_steps.specs.Nodes.{NodeView, World, node_steps, node_has_work}
+use Rattle.seam_node_steps.specs.Nodes.NodeView.{Cell, Base}
+use Rattle.seam_node_steps.specs.Loads.{order_if, ordered_at, look_loaded}
+use Rattle.seam_law_calls.specs.Frames.{Frame, IsInFrame}
+use Rattle.seam_law_calls.specs.Sights.{has_of, has_none, entity_flow}
+use Rattle.seam_law_calls.proofs.Classify.{event_moves, frame_happens}
+use Rattle.seam_law_calls.specs.Ones.{real_in}
+use Rattle.seam_law_rounds.specs.Between.{IsBetweenRounds}
+use Rattle.seam_law_rounds.proofs.Giving.{look_framed}
+use Rattle.seam_law_calls.proofs.RoutesKept.{HasRoute, route_moves}
+use Rattle.seam_law_ghosts.specs.RealPlaces.{WasThere}
+use Rattle.seam_rule_clients.specs.Clients.{ClientReplica, after_all_shown}
+use Rattle.seam_rule_clients.specs.Looks.{one_look}
+use Rattle.seam_law_clients.specs.Tables.{rows_of}
+use Rattle.seam_law_clients.specs.Witnesses.{FitsWitness, ClientsFit}
+use Rattle.seam_law_clients.specs.Phases.{witness_looked, looked_by, having_looked, HaveRoomToLook}
+use Rattle.seam_law_clients.proofs.LookRuns.{tick_order}
+use Rattle.seam_law_clients.proofs.LookEnds.{looked}
+
+-- ---- a route stays one
+
+module _ (f : Frame) (u : World) (x : ℕ) where
+  -- each node that had a route in u has one
+  record AreRouted (w : World) : Type 0 where
+    frame : IsInFrame f w
+    each : (k : ℕ) → HasRoute ((entity_flow x u).slot k).base → HasRoute ((entity_flow x w).slot k).base
+
+  routed_more : (w : World) (v : Event) → AreRouted w → enabled node_has_work w v ≡ true → AreRouted (happens node_steps w v)
+  routed_more w v h on =
+      let o = occurs node_has_work w v on in
+      let g = event_moves f w v o h.frame x in
+      record {
+        frame = frame_happens f w v o h.frame;
+        each =
+            slots_kept (λ k s. HasRoute ((entity_flow x u).slot k).base → HasRoute s.base) g h.each
+            (λ had. route_moves f x g.k ((entity_flow x w).slot g.k) (comes g.input) ((entity_flow x (happens node_steps w v)).slot g.k)
+            g.moves.sent g.moves.moves (h.each g.k had));
+      }
+
+  order_by : (b : BaseView) (t : Bool) → (has_of x (Base (order_if t b order.Tick))).base.route ≡ (has_of x (Base b)).base.route
+  order_by b true = refl
+  order_by b false = refl
+
+  loaded_by : (o : Option NodeView) →
+      (slot_at (has_of x) has_none (option_map (ordered_at tick_order) o)).base.route ≡ (slot_at (has_of x) has_none o).base.route
+  loaded_by None = refl
+  loaded_by (Some (Cell c)) = refl
+  loaded_by (Some (Base b)) = order_by b _
+
+  route_loaded : (k : ℕ) → ((entity_flow x (look_loaded u)).slot k).base.route ≡ ((entity_flow x u).slot k).base.route
+  route_loaded k =
+      ap (λ n. (slot_at (has_of x) has_none n).base.route) (slice_get-map (ordered_at tick_order) u.nodes k)
+      ∙ loaded_by (slice_get u.nodes k)
+
+  routes_lead : (v : World) (vs : List Event) → IsInFrame f u → LeadsTo node_has_work node_steps (look_loaded u) vs v → (k : ℕ) →
+      HasRoute ((entity_flow x u).slot k).base → HasRoute ((entity_flow x v).slot k).base
+  routes_lead v vs frame run =
+      (leads_keeps node_has_work node_steps AreRouted routed_more (look_loaded u) v vs (record {
+        frame = look_framed f u frame tick_order;
+        each = λ k had. (had.0, route_loaded k ∙ had.1);
+      }) run).each
+
+-- ---- the record of clients again
+
+module _ (f : Frame) (u : World) (between : IsBetweenRounds f u) (room : HaveRoomToLook u) (vs : List Event) (v : World)
+    (run : LeadsTo node_has_work node_steps (look_loaded u) vs v) (quiet : IsQuiet node_has_work v)
+    (was : (e k : ℕ) (q : RealView) → real_in ((entity_flow e v).slot k) ≡ Some q → WasThere e k q u) (clients : ℕ → ClientReplica)
+    (fit : ClientsFit f clients u) where
+  -- what each client shows after its look
+  abbrev pub shows : ℕ → ClientReplica
+  shows e = after_all_shown (clients e) (one_look (clients e) e (rows_of u))
+
+  carried : (r : RealView) (w : WitnessView) (c : ClientReplica) → FitsWitness f u r w c → FitsWitness f v r w c
+  carried r w c fits = record {
+    others = fits.others;
+    view = fits.view;
+    radius = fits.radius;
+    hysteresis = fits.hysteresis;
+    told = fits.told;
+    not_ahead = fits.not_ahead;
+    own = fits.own;
+    others_not_ahead = λ x j version q shown at.
+        let there = was x j q at in
+        let le = fits.others_not_ahead x j version there.real shown there.here in
+        let same = ap (λ (y : RealView). y.public) there.same in
+        omega (arith, le, same);
+    others_known = λ x version shown k base.
+        routes_lead f u x v vs between.nodes run k (fits.others_known x version shown k base);
+  }
+
+  module _ (again : (e k : ℕ) (r : RealView) → real_in ((entity_flow e u).slot k) ≡ Some r → (w : WitnessView) →
+      FitsWitness f u r w (clients e) → (cell : CellView) → slice_get u.nodes k ≡ Some (Cell cell) →
+      FitsWitness f u (record r { witness = Some (witness_looked cell e r w) }) (witness_looked cell e r w) (shows e)) where
+    cell_of : (e k : ℕ) (r : RealView) (o : Option NodeView) → slice_get u.nodes k ≡ o → real_in (slot_at (has_of e) has_none o) ≡ Some r →
+        (c : CellView) × (slice_get u.nodes k ≡ Some (Cell c))
+    cell_of e k r None at here = absurd (let z = here in cc)
+    cell_of e k r (Some (Cell c)) at here = (c, at)
+    cell_of e k r (Some (Base b)) at here = absurd (let z = here in cc)
+
+    fits_by : (e k : ℕ) (r q : RealView) (w : WitnessView) (cell : CellView) → real_in ((entity_flow e u).slot k) ≡ Some r →
+        slice_get u.nodes k ≡ Some (Cell cell) → q.witness ≡ Some w → (o : Option WitnessView) → r.witness ≡ o →
+        looked_by cell e r o ≡ q → FitsWitness f v q w (shows e)
+    fits_by e k r q w cell at node seen None has is =
+        absurd (let z = sym has ∙ ap (λ (y : RealView). y.witness) is ∙ seen in cc)
+    fits_by e k r q w cell at node seen (Some x) has is =
+        let now : FitsWitness f v (record r { witness = Some (witness_looked cell e r x) }) (witness_looked cell e r x) (shows e) =
+        carried (record r { witness = Some (witness_looked cell e r x) }) (witness_looked cell e r x) (shows e)
+        (again e k r at x (fit.each e k r at x has) cell node) in
+        let same : witness_looked cell e r x ≡ w = some_is (ap (λ (y : RealView). y.witness) is ∙ seen) in
+        subst (λ y. FitsWitness f v y w (shows e)) is
+        (subst (λ y. FitsWitness f v (record r { witness = Some (witness_looked cell e r x) }) y (shows e)) same now)
+      where
+        some_is : {a b : WitnessView} → Some a ≡ Some b → a ≡ b
+        some_is h = cc
+
+    pub fit_again : ClientsFit f shows v
+    fit_again = record {
+      each = λ e k q at w seen.
+          let there = was e k q at in
+          let cell = cell_of e k there.real (slice_get u.nodes k) refl there.here in
+          let same : having_looked cell.0 e there.real ≡ q =
+          some_real (sym (looked f u between room vs v run quiet e k there.real there.here cell.0 cell.1) ∙ at) in
+          fits_by e k there.real q w cell.0 there.here cell.1 seen there.real.witness refl same;
+    }
+      where
+        some_real : {a b : RealView} → Some a ≡ Some b → a ≡ b
+        some_real h = cc

@@ -1,0 +1,158 @@
+-- Reaps keep the record of clients: no witness tells anything, and the entities that are left are what they were.
+use Rattle.std.proofs.Common.{◌≡◌, ℕ, ◌≤◌, true, is_some, List, [], ◌∷◌, Option, None, Some, refl, sym, ap, ◌∙◌, subst, arith}
+use Rattle.std.specs.Prelude.{option_map, slice_get}
+use Rattle.std.specs.List.{AllByRecursion}
+use Rattle.std.proofs.lemmas.Option.{slice_get-map}
+use Rattle.seam_machine.specs.Nets.{happens, enabled, LeadsTo}
+use Rattle.seam_machine.specs.declared.machines.Event.{Event}
+use Rattle.seam_machine.proofs.Occurring.{occurs}
+use Rattle.seam_machine.proofs.Quiet.{quiet_links, quiet_tasks}
+use Rattle.seam_net_runs.proofs.Runs.{leads_keeps}
+use Rattle.seam_law_flow.specs.Flows.{slot_at, letters_of}
+use Rattle.seam_entity.specs.Reals.{RealView, WitnessView}
+use Rattle.seam_node_steps.specs.Nodes.{NodeView, World, node_steps, node_has_work}
+use Rattle.seam_node_steps.specs.Loads.{with_nodes, reap_ordered_at, reaps_loaded}
+use Rattle.seam_law_calls.specs.Frames.{Frame, IsInFrame}
+use Rattle.seam_law_calls.specs.Sights.{mine, has_of, has_none, entity_flow}
+use Rattle.seam_law_calls.specs.Ones.{real_in, real_of}
+use Rattle.seam_law_rounds.specs.Between.{IsBetweenRounds}
+use Rattle.seam_law_rounds.specs.Loaded.{each}
+use Rattle.seam_law_rounds.specs.LastPhases.{AreReapable}
+use Rattle.seam_law_rounds.proofs.Starting.{idle_orders}
+use Rattle.seam_law_rounds.proofs.Giving.{reaps_framed, reaps_given, reaps_cell, reals_stay}
+use Rattle.seam_law_rounds.proofs.Reaping as reaping
+use Rattle.seam_law_calls.specs.WitnessMoves.{sent_by}
+use Rattle.seam_law_calls.specs.Clients.{tick_in, EachReal, HasToldAtMost, HasNoLooks}
+use Rattle.seam_law_calls.proofs.NoLooks.{NoTicks, WithoutLooks, looks_lead}
+use Rattle.seam_law_calls.proofs.WitnessKept.{each_happens}
+use Rattle.seam_law_rounds.proofs.Calms.{reaps_without_ticks}
+use Rattle.seam_law_rounds.proofs.Ticking.{idle_looks}
+use Rattle.seam_law_ghosts.specs.RealPlaces.{WasThere}
+use Rattle.seam_law_ghosts.proofs.Ends.{reaps_leave}
+use Rattle.seam_rule_clients.specs.Clients.{ClientReplica}
+use Rattle.seam_law_clients.specs.Witnesses.{FitsWitness, ClientsFit}
+use Rattle.seam_law_clients.proofs.OneLook.{same_real}
+use Rattle.seam_law_clients.proofs.Ending.{some_route, routes_stay}
+
+-- ---- where no one looks a witness stays what it is
+
+module _ (f : Frame) (e n : ℕ) (witness : Option WitnessView) where
+  record IsUntold (w : World) : Type 0 where
+    without : WithoutLooks f e n w
+    same : EachReal e (λ r. r.witness ≡ witness) w
+
+  untold_more : (w : World) (v : Event) → IsUntold w → enabled node_has_work w v ≡ true → IsUntold (happens node_steps w v)
+  untold_more w v h on =
+      let o = occurs node_has_work w v on in
+      record {
+        without =
+            looks_lead f e n w (happens node_steps w v) (v ∷ []) h.without.frame h.without.looks h.without.told
+            (record { each = (on, tt); is_run = refl });
+        same =
+            each_happens (λ r. r.witness ≡ witness) (λ r q same is. same ∙ is) f e w v o h.without.frame
+            (λ k m r q x y shown at wit now sum is. let none = h.without.looks.cells k in absurd (omega (arith, at, none))) h.same;
+      }
+
+  pub untold_leads : (w v : World) (es : List Event) → IsInFrame f w → HasNoLooks e w → HasToldAtMost e n w →
+      EachReal e (λ r. r.witness ≡ witness) w → LeadsTo node_has_work node_steps w es v → EachReal e (λ r. r.witness ≡ witness) v
+  untold_leads w v es frame looks told same run =
+      (leads_keeps node_has_work node_steps IsUntold untold_more w v es (record {
+        without = record { frame = frame; looks = looks; told = told };
+        same = same;
+      }) run).same
+
+-- ---- the phase of reaps
+
+module _ (f : Frame) (u : World) (between : IsBetweenRounds f u) (es : List ℕ) (may : AreReapable u es) (vs : List Event) (v : World)
+    (run : LeadsTo node_has_work node_steps (reaps_loaded u es) vs v) where
+  abbrev turn : NodeView → NodeView
+  turn = each reap_ordered_at es
+
+  abbrev start : World
+  start = with_nodes u turn
+
+  turned : LeadsTo node_has_work node_steps start vs v
+  turned = subst (λ w. LeadsTo node_has_work node_steps w vs v) (reaping.loaded_is f u between es may) run
+
+  inside : IsInFrame f start
+  inside = reaps_framed f u between.nodes es
+
+  module _ (e : ℕ) where
+    slot_is : (k : ℕ) → (entity_flow e start).slot k ≡ slot_at (has_of e) has_none (option_map turn (slice_get u.nodes k))
+    slot_is k = ap (slot_at (has_of e) has_none) (slice_get-map turn u.nodes k)
+
+    no_mail : (a k : ℕ) → (entity_flow e start).mail a k ≡ []
+    no_mail a k = ap (letters_of (mine e)) (quiet_links node_has_work u between.nodes.sound.square between.quiet a k)
+
+    looks_by : (k : ℕ) (o : Option NodeView) → slice_get u.nodes k ≡ o →
+        ((slot_at (has_of e) has_none (option_map turn o)).cell.looks ≡ 0)
+        × NoTicks (slot_at (has_of e) has_none (option_map turn o)).base.orders
+    looks_by k None at = (refl, tt)
+    looks_by k (Some s) at =
+        let idle = quiet_tasks node_has_work u between.quiet k s at in (
+          ap (λ c. c.looks) (reaps_cell e es s) ∙ idle_looks e s idle,
+          reaps_without_ticks e es s (subst NoTicks (sym (idle_orders e s idle)) tt),
+        )
+
+    no_looks : HasNoLooks e start
+    no_looks = record {
+      cells = λ k. ap (λ s. s.cell.looks) (slot_is k) ∙ (looks_by k (slice_get u.nodes k) refl).0;
+      orders = λ k. subst (λ s. NoTicks s.base.orders) (sym (slot_is k)) (looks_by k (slice_get u.nodes k) refl).1;
+      letters = λ a k. subst (AllByRecursion (λ m. tick_in m ≡ None)) (sym (no_mail a k)) tt;
+    }
+
+    route_by : (k : ℕ) (o : Option NodeView) → slice_get u.nodes k ≡ o →
+        (slot_at (has_of e) has_none (option_map turn o)).base.route ≡ (slot_at (has_of e) has_none o).base.route
+    route_by k None at = refl
+    route_by k (Some s) at =
+        (reaps_given e f k es s (between.nodes.nodes k s at) (quiet_tasks node_has_work u between.quiet k s at)).route
+
+    route_is : (k : ℕ) → ((entity_flow e start).slot k).base.route ≡ ((entity_flow e u).slot k).base.route
+    route_is k = ap (λ s. s.base.route) (slot_is k) ∙ route_by k (slice_get u.nodes k) refl
+
+    -- each real is the one that was there
+    module _ (home : ℕ) (r : RealView) (here : real_in ((entity_flow e u).slot home) ≡ Some r) where
+      each_start : (P : RealView → Type 0) → P r → EachReal e P start
+      each_start P holds = record {
+        cells = λ k q at.
+            let same = same_real f u between e home k r q here (sym (reals_stay e turn (reaps_cell e es) u k) ∙ at) in
+            subst P (sym same.1) holds;
+        hands = λ a k. subst (AllByRecursion (λ m. (q : RealView) → real_of m ≡ Some q → P q)) (sym (no_mail a k)) tt;
+      }
+
+      same_witness : EachReal e (λ q. q.witness ≡ r.witness) v
+      same_witness =
+          untold_leads f e (sent_by r) r.witness start v vs inside no_looks
+          (each_start (λ q. sent_by q ≤ sent_by r) (omega arith)) (each_start (λ q. q.witness ≡ r.witness) refl) turned
+
+  -- a real that is left is what it was
+  pub stays : (e k : ℕ) (q : RealView) → real_in ((entity_flow e v).slot k) ≡ Some q → real_in ((entity_flow e u).slot k) ≡ Some q
+  stays e k q at =
+      let there : WasThere e k q u = reaps_leave f u between es may vs v run e k q at in
+      let witness = (same_witness e k there.real there.here).cells k q at in
+      let same : q ≡ there.real = there.same ∙ ap (λ x. let now : RealView = record there.real { witness = x } in now) witness in
+      there.here ∙ ap Some (sym same)
+
+  module _ (clients : ℕ → ClientReplica) (fit : ClientsFit f clients u) where
+    routed : (x k : ℕ) → is_some ((entity_flow x u).slot k).base.route ≡ true → is_some ((entity_flow x v).slot k).base.route ≡ true
+    routed x k is = routes_stay f x start v vs inside turned k (ap is_some (route_is x k) ∙ is)
+
+    still_fits : (r : RealView) (x : WitnessView) (c : ClientReplica) → FitsWitness f u r x c → FitsWitness f v r x c
+    still_fits r x c began = record {
+      others = began.others;
+      view = began.view;
+      radius = began.radius;
+      hysteresis = began.hysteresis;
+      told = began.told;
+      not_ahead = began.not_ahead;
+      own = began.own;
+      others_not_ahead = λ y j version q shown here. began.others_not_ahead y j version q shown (stays y j q here);
+      others_known = λ y version shown k is_base.
+          let route = began.others_known y version shown k is_base in
+          some_route ((entity_flow y v).slot k).base.route (routed y k (ap is_some route.1));
+    }
+
+    pub clients_fit_reaped : ClientsFit f clients v
+    clients_fit_reaped = record {
+      each = λ e k q at x has. still_fits q x (clients e) (fit.each e k q (stays e k q at) x has);
+    }

@@ -1,0 +1,55 @@
+-- In a world that keeps the record of base parts each witness has room to look.
+use Rattle.std.proofs.Common.{◌≡◌, ℕ, ◌+◌, ◌<◌, true, length, Some, sym, ap, ◌∙◌, arith, inl, inr}
+use Rattle.std.specs.Prelude.{slice_get}
+use Rattle.std.specs.FinMap as table
+use Rattle.std.proofs.lemmas.Bool.{cases_lt}
+use Rattle.std.proofs.lemmas.Bool.Decides.{nat_tests}
+use Rattle.seam_law_flow.specs.Flows.{slot_at}
+use Rattle.seam_ghosts.specs.Book.{copy_in}
+use Rattle.seam_call.specs.declared.shown.GhostCopy.{GhostCopy}
+use Rattle.seam_entity.specs.Numbers.{limit, is_small}
+use Rattle.seam_entity.specs.Reals.{RealView}
+use Rattle.seam_node_steps.specs.CellLooks.{shown_of}
+use Rattle.seam_node_steps.specs.Cells.{CellView, known_to}
+use Rattle.seam_node_steps.specs.Nodes.{World}
+use Rattle.seam_node_steps.specs.Nodes.NodeView.{Cell}
+use Rattle.seam_law_calls.specs.Frames.{Frame}
+use Rattle.seam_law_calls.specs.Sights.{has_of, has_none}
+use Rattle.seam_law_calls.specs.Ones.{real_in}
+use Rattle.seam_law_calls.specs.WitnessMoves.{sent_of}
+use Rattle.seam_law_calls.specs.Telling.{most_entities}
+use Rattle.seam_law_calls.proofs.Below.{known_to_few}
+use Rattle.seam_law_calls.proofs.Telling.{told_few}
+use Rattle.seam_law_rounds.specs.Parts.{HasPartsBetweenRounds, HasSmallNumbers}
+use Rattle.seam_law_clients.specs.Phases.{HaveRoomToLook}
+
+pub small_of : (n : ℕ) → n < limit → is_small n ≡ true
+small_of n lt = grind (arith, nat_tests, lt)
+
+module _ (f : Frame) (u : World) (parts : HasPartsBetweenRounds f u) (small : HasSmallNumbers f u) where
+  module _ (k : ℕ) (cell : CellView) (node : slice_get u.nodes k ≡ Some (Cell cell)) where
+    real_below : (x : ℕ) (r : RealView) → table.get cell.reals x ≡ Some r → x < most_entities
+    real_below x r has = elim (cases_lt x most_entities) [
+      | inl lt ↦ lt
+      | inr le ↦
+          let none = (parts.entities x le k).real in
+          absurd (let z = sym (ap (λ n. real_in (slot_at (has_of x) has_none n)) (sym node) ∙ none) ∙ has in cc)
+    ]
+
+    copy_below : (x : ℕ) (c : GhostCopy) → copy_in (table.get cell.ghosts x) ≡ Some c → x < most_entities
+    copy_below x c has = elim (cases_lt x most_entities) [
+      | inl lt ↦ lt
+      | inr le ↦
+          let none = (parts.entities x le k).copy in
+          absurd (let z = sym (ap (λ n. copy_in (slot_at (has_of x) has_none n).cell.slot.ghost) (sym node) ∙ none) ∙ has in cc)
+    ]
+
+  pub have_room : HaveRoomToLook u
+  have_room e k r here x seen cell node =
+      let had = parts.parts e k r here in
+      let lines = small.clients e k r here had.part had.here in
+      let sent = ap sent_of seen in
+      let few =
+      told_few cell.here r x (known_to cell e) (parts.views e k r here x seen)
+      (known_to_few cell (real_below k cell node) (copy_below k cell node) e) in
+      small_of (x.sent + length (shown_of cell.here r x (known_to cell e))) (omega (arith, lines, sent, few))

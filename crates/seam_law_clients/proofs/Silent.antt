@@ -1,0 +1,174 @@
+-- Where no entry of the look list is taken each real keeps its witness, and nothing is told; and what a step told is what its letters tell.
+use Rattle.std.proofs.Common.{◌≡◌, ℕ, ◌+◌, Bool, List, [], ◌∷◌, map, Option, None, Some, refl, sym, ap, ◌∙◌, subst, arith}
+use Rattle.std.specs.Prelude.{option_map}
+use Rattle.std.specs.List.{AllByRecursion}
+use Rattle.std.specs.FinSet as set
+use Rattle.std.proofs.lemmas.Bool.{eq-eqb}
+use Rattle.seam_machine.specs.Sends.{items_to}
+use Rattle.seam_law_flow.specs.Flows.{letters_of}
+use Rattle.seam_law_flow.specs.Sent.{IsSilent}
+use Rattle.seam_law_flow.proofs.Following.{all_append}
+use Rattle.seam_order.specs.Held.{OrderView}
+use Rattle.seam_law_flow.specs.Deliveries.{Passes, more_issued}
+use Rattle.seam_law_flow.specs.Deliveries as pass
+use Rattle.seam_law_flow.specs.Numbered.{number_from}
+use Rattle.seam_call.specs.declared.shown.Shown.{Shown}
+use Rattle.seam_entity.specs.Reals.{RealView, WitnessView}
+use Rattle.seam_entity.specs.declared.message.Msg.{Msg}
+use Rattle.seam_entity.specs.declared.message.Msg.TheVariants.{Hand}
+use Rattle.seam_entity.specs.Here.{base_numbers}
+use Rattle.seam_node_steps.specs.Slots.{SlotStep, slot_after}
+use Rattle.seam_node_steps.specs.Settle.{haunts_at, ghost_messages}
+use Rattle.seam_node_steps.specs.CellCases.{current_to}
+use Rattle.seam_node_steps.specs.CellLooks.{numbered}
+use Rattle.seam_law_calls.specs.Frames.{Frame, here_at}
+use Rattle.seam_law_calls.specs.Sights.{Has, AtCell}
+use Rattle.seam_law_calls.specs.CellMoves as move
+use Rattle.seam_law_calls.specs.CellMoves.{Does, Acts, surveys, calls, readies, CellMoves}
+use Rattle.seam_law_calls.specs.Moves.{Moves, at_a_cell, at_a_base}
+use Rattle.seam_law_calls.specs.Ones.{real_in, real_of}
+use Rattle.seam_law_calls.proofs.Plain.{SeesNoGhost, ghosts_silent, drops_silent, mapped_silent}
+use Rattle.seam_law_calls.specs.PartMoves.{update_in}
+use Rattle.seam_law_calls.specs.Clients.{with_number, tells}
+use Rattle.seam_law_calls.proofs.BaseSilent.{sees_no_update, sees_no_real, base_silent}
+use Rattle.seam_law_calls.proofs.WitnessKept.{OfReal, none_carried}
+use Rattle.seam_law_calls.proofs.Looking.{NotTaken, as_often, gone, ticked}
+
+no_update : SeesNoGhost update_in
+no_update = record { sets = λ e n c. refl; drops = λ e n. refl }
+
+no_real : SeesNoGhost real_of
+no_real = record { sets = λ e n c. refl; drops = λ e n. refl }
+
+abbrev witness_of : Option RealView → Option WitnessView
+witness_of None = None
+witness_of (Some r) = r.witness
+
+-- neither an update nor a real is sent
+abbrev SendsNeither : List (ℕ × Msg) → Type 0
+SendsNeither ps = IsSilent update_in ps × IsSilent real_of ps
+
+module _ (seen : Option WitnessView) where
+  abbrev pub HasSeen : RealView → Type 0
+  HasSeen r = r.witness ≡ seen
+
+  module _ (f : Frame) (e k : ℕ) (s : Has) (i : Option Msg) (t : Has) (sent : List (ℕ × Msg))
+      (here : (r : RealView) → real_in s ≡ Some r → HasSeen r) (comes : (r : RealView) → i ≡ Some (Hand r) → HasSeen r) where
+    -- each real has that witness afterwards, and nothing is told
+    pub record Holds : Type 0 where
+      pub slot : (r : RealView) → real_in t ≡ Some r → HasSeen r
+      pub sends : AllByRecursion (λ p. OfReal HasSeen p.1) sent
+      pub silent : IsSilent update_in sent
+
+    is_now : (x : SlotStep) (u : AtCell) → Does u x t.cell sent → real_in t ≡ (slot_after x.slot u.slot).real
+    is_now x u d = ap (λ a. a.slot.real) d.state
+
+    holds : ((r : RealView) → real_in t ≡ Some r → HasSeen r) → SendsNeither sent → Holds
+    holds slot z = record { slot = slot; sends = none_carried HasSeen sent z.1; silent = z.0 }
+
+    of : (x : SlotStep) (u : AtCell) → Does u x t.cell sent → ((r : RealView) → real_in t ≡ Some r → HasSeen r) → SendsNeither x.sent →
+        Holds
+    of x u d slot z = holds slot (subst SendsNeither (sym d.sends) z)
+
+    still : (x : SlotStep) (u : AtCell) → Does u x t.cell sent → (slot_after x.slot u.slot).real ≡ real_in s → SendsNeither x.sent → Holds
+    still x u d same z = of x u d (λ r now. here r (sym (is_now x u d ∙ same) ∙ now)) z
+
+    turned : (x : SlotStep) (u : AtCell) → Does u x t.cell sent → (r q : RealView) → real_in s ≡ Some r →
+        (slot_after x.slot u.slot).real ≡ Some q → q.witness ≡ r.witness → SendsNeither x.sent → Holds
+    turned x u d r q has is wit z =
+        of x u d (λ y now. let one : q ≡ y = let a = sym (is_now x u d ∙ is) ∙ now in cc in subst HasSeen one (wit ∙ here r has)) z
+
+    ghosts_neither : (q : RealView) (j : ℕ) (haunts : _) (changed : Bool) → SendsNeither (ghost_messages (here_at f k) q j haunts changed)
+    ghosts_neither q j haunts changed = (
+      ghosts_silent update_in no_update (here_at f k) q j haunts changed,
+      ghosts_silent real_of no_real (here_at f k) q j haunts changed,
+    )
+
+    acts_keep : (u : AtCell) (r q : RealView) (changed : Bool) → Acts (here_at f k) e s.cell i r u q changed → q.witness ≡ r.witness
+    acts_keep u r q changed (surveys n a b c) = refl
+    acts_keep u r q changed (calls c a x m d) = refl
+    acts_keep u r q changed (readies o c a m at item) = refl
+
+    -- a look takes the entry
+    takes_it : (n : ℕ) (q : RealView) → i ≡ None → s.cell.looks ≡ n + 1 → t.cell.looks ≡ n → real_in t ≡ Some q →
+        NotTaken s.cell i t.cell → ⊥
+    takes_it n q none at is now (as_often often) = omega (arith, at, is, often)
+    takes_it n q none at is now (gone none_now) = let z = sym none_now ∙ now in cc
+    takes_it n q none at is now (ticked fed) = let z = sym none ∙ fed in cc
+
+    cell_holds : NotTaken s.cell i t.cell → CellMoves (here_at f k) f.tree e s.cell i t.cell sent → Holds
+    cell_holds not (move.rests n d) = still _ s.cell d refl (tt, tt)
+    cell_holds not (move.strays m n b d) = still _ s.cell d refl (tt, tt)
+    cell_holds not (move.stays u r q changed has own acts at d) =
+        turned _ u d r _ has refl (acts_keep u r q changed acts)
+        (ghosts_neither q k (haunts_at (here_at f k) f.tree q.state.pos k q.haunts) changed)
+    cell_holds not (move.goes u r q changed j has own acts at n d) =
+        let haunts = haunts_at (here_at f k) f.tree q.state.pos j (set.insert q.haunts k) in
+        let none = ghosts_neither q j haunts changed in
+        record {
+          slot = λ x now. absurd (let z = sym (is_now _ u d) ∙ now in cc);
+          sends =
+              subst (AllByRecursion (λ p. OfReal HasSeen p.1)) (sym d.sends)
+              (all_append (λ p. OfReal HasSeen p.1) (ghost_messages (here_at f k) q j haunts changed) _ (none_carried HasSeen _ none.1) (
+                (λ x is. sym (ap witness_of is) ∙ (acts_keep u r q changed acts ∙ here r has)),
+                tt,
+              ));
+          silent =
+              subst (IsSilent update_in) (sym d.sends)
+              (all_append (λ p. update_in p.1 ≡ None) (ghost_messages (here_at f k) q j haunts changed) _ none.0 (refl, tt));
+        }
+    cell_holds not (move.late c r n has may lt d) = still _ s.cell d refl (tt, tt)
+    cell_holds not (move.holds c r n own has mine may lt d) = turned _ s.cell d r _ has refl refl (tt, tt)
+    cell_holds not (move.passes c p n own has at d) = still _ s.cell d refl ((refl, tt), (refl, tt))
+    cell_holds not (move.lands r n own has may d) =
+        of _ s.cell d (λ x now. let one : r ≡ x = let z = sym (is_now _ s.cell d) ∙ now in cc in subst HasSeen one (comes r n)) (
+          mapped_silent update_in (current_to (here_at f k) r) (λ b. refl) (base_numbers (here_at f k)),
+          mapped_silent real_of (current_to (here_at f k) r) (λ b. refl) (base_numbers (here_at f k)),
+        )
+    cell_holds not (move.hears_set n c h has d) = still _ s.cell d refl (tt, tt)
+    cell_holds not (move.ignores_set n c r h has d) = still _ s.cell d refl (tt, tt)
+    cell_holds not (move.hears_drop n h d) = still _ s.cell d refl (tt, tt)
+    cell_holds not (move.reaped r n has own may d) =
+        of _ s.cell d (λ x now. absurd (let z = sym (is_now _ s.cell d) ∙ now in cc))
+        (drops_silent update_in no_update r, drops_silent real_of no_real r)
+    cell_holds not (move.ticks n st z) =
+        holds (λ r now. here r (sym (ap (λ a. a.slot.real) st) ∙ now)) (subst SendsNeither (sym z) (tt, tt))
+    cell_holds not (move.unlists n h at b d) =
+        still _ (record { slot = s.cell.slot; survey = n; looks = s.cell.looks }) d refl (tt, tt)
+    cell_holds not (move.looks n r w known h at has own v small d) =
+        absurd (takes_it n _ h at (ap (λ a. a.looks) d.state) (ap (λ a. a.slot.real) d.state) not)
+    cell_holds not (move.overlooks n known h at b d) =
+        still _ (record { slot = s.cell.slot; survey = s.cell.survey; looks = n }) d refl (tt, tt)
+    cell_holds not (move.stuck r h has ready may d) = still _ s.cell d refl (tt, tt)
+
+    pub moves_hold : NotTaken s.cell i t.cell → Moves f e k s i t sent → Holds
+    moves_hold not (at_a_cell low m base) = cell_holds not m
+    moves_hold not (at_a_base high m cell) =
+        holds (λ r now. here r (sym (ap (λ c. c.slot.real) cell) ∙ now))
+        (base_silent update_in sees_no_update _ _ e _ i _ sent m, base_silent real_of sees_no_real _ _ e _ i _ sent m)
+
+pub untold : (ps : List (ℕ × Msg)) → IsSilent update_in ps → IsSilent tells ps
+untold [] z = tt
+untold (p ∷ ps) z = (ap (option_map with_number) z.0, untold ps z.1)
+
+-- what a look tells goes to the base node
+pub numbered_here : (b e n : ℕ) (ss : List Shown) → letters_of tells (items_to b (numbered b e n ss)) ≡ number_from (n + 1) ss
+numbered_here b e n [] = refl
+numbered_here b e n (s ∷ ss) = rw (eq-eqb b b refl) (ap (λ l. (n + 1, s) ∷ l) (numbered_here b e (n + 1) ss))
+
+-- ---- items by their numbers
+
+unnumbered : {U : Type 0} (n : ℕ) (us : List U) → map (λ p. p.1) (number_from n us) ≡ us
+unnumbered n [] = refl
+unnumbered n (u ∷ us) = ap (λ l. u ∷ l) (unnumbered (n + 1) us)
+
+pub same_items : {U : Type 0} (n : ℕ) (us vs : List U) → number_from n us ≡ number_from n vs → us ≡ vs
+same_items n us vs h = sym (unnumbered n us) ∙ (ap (map (λ p. p.1)) h ∙ unnumbered n vs)
+
+pub issued_is : {S L U : Type 0} (order : S → OrderView U) (delivered : S → List U) (brings : L → Option (ℕ × U)) (b number : ℕ) (s : S)
+    (i : Option L) (t : S) (out : ℕ → List L) (p : Passes order delivered brings b number s i t out) →
+    letters_of brings (out b) ≡ number_from number (more_issued p)
+issued_is order delivered brings b number s i t out (pass.rests eo es nh o) = o b
+issued_is order delivered brings b number s i t out (pass.issues us eo es nh o z few) = o
+issued_is order delivered brings b number s i t out (pass.offers n u c eo es o) = o b
+issued_is order delivered brings b number s i t out (pass.gives u a eo es c o) = o b

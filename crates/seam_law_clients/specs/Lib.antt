@@ -1,0 +1,9 @@
+pub mod Tables
+pub mod Witnesses
+pub mod Phases
+pub mod Fits
+pub mod Telling
+pub mod RoundTruths
+pub mod Clients
+pub mod BaseLines
+pub mod Crossing

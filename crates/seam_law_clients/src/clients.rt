@@ -1,0 +1,165 @@
+//! The clients of a whole round: the record of clients goes from record to record, each is shown its base part where that is due, and the
+//! client of an entity that dies is shown no more.
+//!
+//! `shown` has what clients are shown of cell parts in each phase of a round. Here stand the phases together, with the load and the
+//! reaps, which no client is shown anything of. `specs/Clients` has what clients show along a round, `specs/BaseLines` what a client is
+//! shown of its entity's base part.
+//!
+//! Of `proofs`, `Loading` (the load), `Reaping` (the reaps), `Reaped` (a part until it is gone), `Room` (of looks), `Round` (the phases
+//! together), `BaseLines` (what a part's client is shown over a list of events), `FirstLines` (where it is attached) and `Finding` (what an
+//! update finds) are for callers. `Crossing`, `CrossingLooks` and `ExampleCrossing` are a worked round, of which `specs/Crossing` has the
+//! worlds.
+
+ghost use Rattle.std.specs.Prelude.{◌≡◌, ℕ, ◌==◌, ◌≤◌, List, [], ◌∷◌, ◌++◌, Some, if◌then◌else◌};
+ghost use Rattle.std.specs.List.{AllByRecursion, list_any};
+ghost use Rattle.seam_machine.specs.Nets.{IsQuiet, LeadsTo};
+ghost use Rattle.seam_machine.specs.declared.machines.Event.{Event};
+ghost use Rattle.seam_law_flow.specs.Flows.{letters_of};
+ghost use Rattle.seam_defs.specs.declared.settings.Settings.{Settings};
+ghost use Rattle.seam_defs.specs.declared.types.TypeDef.{TypeDef};
+ghost use Rattle.seam_defs.specs.Settings.{GhostsReach, standard};
+ghost use Rattle.seam_call.specs.declared.order.Batch.{Batch};
+ghost use Rattle.seam_call.specs.declared.shown.Shown.TheVariants.{Enter};
+ghost use Rattle.seam_call.specs.declared.shown.Update.{Update as UpdateData};
+ghost use Rattle.seam_entity.specs.Reals.{RealView};
+ghost use Rattle.seam_entity.specs.declared.message.Msg.{Msg};
+ghost use Rattle.seam_entity.specs.declared.message.Msg.TheVariants.{Update};
+ghost use Rattle.seam_node_steps.specs.Bases.{PartView, ProxyView};
+ghost use Rattle.seam_node_steps.specs.Rows.{empty_world, lines_of_client};
+ghost use Rattle.seam_node_steps.specs.ViewRounds as view;
+ghost use Rattle.seam_node_steps.specs.Nodes.{World, node_steps, node_has_work};
+ghost use Rattle.seam_node_steps.specs.Loads.{opened, loaded, reaps_loaded, look_loaded};
+ghost use Rattle.seam_law_calls.specs.Frames.{Frame, here_at, IsInFrame};
+ghost use Rattle.seam_law_calls.specs.Sights.{entity_flow};
+ghost use Rattle.seam_law_calls.specs.Ones.{real_in, IsFrame, IsSpared};
+ghost use Rattle.seam_law_calls.specs.HandOverExample.{events_of};
+ghost use Rattle.seam_law_calls.specs.CellTurns.{from_sender};
+ghost use Rattle.seam_law_rounds.specs.Between.{IsBetweenRounds, framed};
+ghost use Rattle.seam_law_rounds.specs.LastPhases.{first_frame, AreReapable};
+ghost use Rattle.seam_law_calls.specs.BaseTurns.{home_of};
+ghost use Rattle.seam_law_calls.specs.Clients.{FindsClient};
+ghost use Rattle.seam_law_calls.specs.Reaps.{HasNoPart};
+ghost use Rattle.seam_law_calls.specs.Telling.{IsToldNothing};
+ghost use Rattle.seam_law_rounds.specs.Parts.{base_calls_of, HasPartsBetweenRounds, HasSmallNumbers, MayBeLoaded};
+ghost use Rattle.seam_law_rounds.specs.FirstBatchExample.{opening};
+ghost use Rattle.seam_law_ghosts.specs.Copies.{AreCopiesBetweenRounds};
+ghost use Rattle.seam_law_ghosts.specs.RealPlaces.{ArePlaced, GoesThroughRound};
+ghost use Rattle.seam_rule_clients.specs.Clients.{ClientReplica, new_client, after_all_shown};
+ghost use Rattle.seam_rule_clients.specs.Looks.{one_look};
+ghost use Rattle.seam_law_clients.specs.Tables.{rows_of};
+ghost use Rattle.seam_law_clients.specs.Witnesses.{ClientsFit};
+ghost use Rattle.seam_law_clients.specs.Phases.{HaveRoomToLook};
+ghost use Rattle.seam_law_clients.specs.Clients.{clients_loaded, clients_shown};
+ghost use Rattle.seam_law_clients.specs.Crossing as crossing;
+ghost use Rattle.seam_law_clients.specs.BaseLines.{base_lines, first_lines, ShowsItsPart};
+
+/// The record of clients holds of a world as it is opened, whatever clients show: there is none. It holds again of a loaded world, in which
+/// the batch's clients show nothing yet (`load`); where its calls leave the world quiet, of the clients that were shown what their proxies
+/// showed (`calls`); of the same clients where reaps do (`reaps`); and where looks do, of the clients that were shown one look (`looks`),
+/// for which each has room (`room`). So a whole round keeps it (`round`): where the world is quiet at the end, the clients, which were
+/// shown what their proxies showed in the round, fit their witnesses. All that a round needs is that the world keeps the records at its
+/// start, that the batch fits, and that ghosts reach as far as a witness sees.
+pub fn clients_go_from_record_to_record()
+    ensures opened { (defs : List TypeDef) (settings : Settings) → IsFrame (first_frame defs settings) → 1 ≤ settings.bases →
+        (clients : ℕ → ClientReplica) → ClientsFit (first_frame defs settings) clients (opened defs settings) }
+    ensures load { (f : Frame) (w : World) (b : Batch) → MayBeLoaded f w b → (clients : ℕ → ClientReplica) → ClientsFit f clients w →
+        ClientsFit (framed f b) (clients_loaded f b clients) (loaded w b) }
+    ensures calls { (f : Frame) (w : World) (b : Batch) → MayBeLoaded f w b → AreCopiesBetweenRounds f w → (clients : ℕ → ClientReplica) →
+        ClientsFit (framed f b) clients (loaded w b) → (v : World) (es : List Event) → LeadsTo node_has_work node_steps (loaded w b) es v →
+        IsQuiet node_has_work v → ClientsFit (framed f b) (clients_shown (framed f b) clients v) v }
+    ensures reaps { (f : Frame) (u : World) → IsBetweenRounds f u → (es : List ℕ) → AreReapable u es → (vs : List Event) (v : World) →
+        LeadsTo node_has_work node_steps (reaps_loaded u es) vs v → (clients : ℕ → ClientReplica) → ClientsFit f clients u →
+        ClientsFit f clients v }
+    ensures looks { (f : Frame) (u : World) → IsBetweenRounds f u → HasPartsBetweenRounds f u → HasSmallNumbers f u →
+        AreCopiesBetweenRounds f u → ArePlaced f u → GhostsReach f.settings → (clients : ℕ → ClientReplica) → ClientsFit f clients u →
+        (vs : List Event) (v : World) → LeadsTo node_has_work node_steps (look_loaded u) vs v → IsQuiet node_has_work v →
+        ClientsFit f (λ e. after_all_shown (clients e) (one_look (clients e) e (rows_of u))) v }
+    ensures room { (f : Frame) (u : World) → HasPartsBetweenRounds f u → HasSmallNumbers f u → HaveRoomToLook u }
+    ensures round { (f : Frame) (w : World) (b : Batch) → MayBeLoaded f w b → AreCopiesBetweenRounds f w → GhostsReach f.settings →
+        (clients : ℕ → ClientReplica) → ClientsFit f clients w → (v : World) → GoesThroughRound w b v → IsQuiet node_has_work v →
+        ClientsFit (framed f b) (clients_shown (framed f b) (clients_loaded f b clients) v) v }
+{
+    crate::looks::clients_of_an_opened_world_fit();
+    crate::looks::clients_fit_after_the_looks();
+    crate::shown::clients_of_a_round_are_shown_rightly();
+    crate::shown::each_client_is_shown_one_look();
+}
+
+/// Of its entity's base part a client is shown what its type has for clients: once as it is attached (`load`: a new one, and one that was
+/// there nothing), and then the part after each call that changed that, once, between its other lines, whose numbers follow one another;
+/// over every list of events in which the entity is not reaped (`along`), and so in a round (`round`). Where its calls leave the world
+/// quiet, these are all calls of the batch (`all`).
+pub fn the_base_part_is_shown_at_each_change()
+    ensures along { (f : Frame) (e : ℕ) (w v : World) (es : List Event) → IsInFrame f w → IsSpared e w →
+        LeadsTo node_has_work node_steps w es v → (k : ℕ) (p : PartView) (x : ProxyView) →
+        ((entity_flow e w).slot k).base.part ≡ Some p → p.proxy ≡ Some x →
+        ShowsItsPart (here_at f k) p x ((entity_flow e v).slot k).base.part }
+    ensures load { (f : Frame) (w : World) (b : Batch) → MayBeLoaded f w b → (e : ℕ) (p : PartView) (x : ProxyView) →
+        ((entity_flow e (loaded w b)).slot (home_of f e)).base.part ≡ Some p → p.proxy ≡ Some x →
+        base_lines x.lines ≡ (if list_any (λ q. q == e) b.clients then first_lines (here_at f (home_of f e)) p else []) }
+    ensures round { (f : Frame) (w : World) (b : Batch) → MayBeLoaded f w b → (e k : ℕ) (r : RealView) →
+        real_in ((entity_flow e (loaded w b)).slot k) ≡ Some r → (v : World) (es : List Event) →
+        LeadsTo node_has_work node_steps (loaded w b) es v → (p : PartView) (x : ProxyView) →
+        ((entity_flow e (loaded w b)).slot (home_of f e)).base.part ≡ Some p → p.proxy ≡ Some x →
+        ShowsItsPart (here_at f (home_of f e)) p x ((entity_flow e v).slot (home_of f e)).base.part }
+    ensures all { (f : Frame) (w : World) (b : Batch) → MayBeLoaded f w b → (e k : ℕ) (r : RealView) →
+        real_in ((entity_flow e (loaded w b)).slot k) ≡ Some r → (v : World) (es : List Event) →
+        LeadsTo node_has_work node_steps (loaded w b) es v → (p : PartView) (x : ProxyView) →
+        ((entity_flow e (loaded w b)).slot (home_of f e)).base.part ≡ Some p → p.proxy ≡ Some x → IsQuiet node_has_work v →
+        (h : ShowsItsPart (here_at f (home_of f e)) p x ((entity_flow e v).slot (home_of f e)).base.part) → (s : ℕ) →
+        letters_of (from_sender s) h.calls ≡ base_calls_of b e s }
+{}
+
+/// The client of an entity that dies in the round was shown its lines up to then: where entities are reaped, a base part that is there is
+/// what it was where the calls ended, with its client and the lines that this was shown (`until`). Where the world is quiet again the base
+/// parts of those that were reaped are gone, and their clients with them (`gone`).
+pub fn a_reaped_client_is_shown_no_more()
+    ensures until { (f : Frame) (u : World) → IsBetweenRounds f u → HasPartsBetweenRounds f u → (es : List ℕ) → AreReapable u es →
+        (vs : List Event) (v : World) → LeadsTo node_has_work node_steps (reaps_loaded u es) vs v → (e home : ℕ) (r : RealView) →
+        real_in ((entity_flow e u).slot home) ≡ Some r → (k : ℕ) (p : PartView) → ((entity_flow e v).slot k).base.part ≡ Some p →
+        ((entity_flow e u).slot k).base.part ≡ Some p }
+    ensures gone { (f : Frame) (u : World) → IsBetweenRounds f u → HasPartsBetweenRounds f u → (es : List ℕ) → AreReapable u es →
+        (vs : List Event) (v : World) → LeadsTo node_has_work node_steps (reaps_loaded u es) vs v → IsQuiet node_has_work v →
+        AllByRecursion (λ e. HasNoPart e v) es }
+{}
+
+/// An update without a client never comes: in a round, and where witnesses look, the first message of a link that is an update, about any
+/// entity, finds that entity's client at its base node, which may be offered it; and where entities are reaped no update is on its way.
+pub fn an_update_without_a_client_never_comes()
+    ensures round { (f : Frame) (w : World) (b : Batch) → MayBeLoaded f w b → (v : World) (es : List Event) →
+        LeadsTo node_has_work node_steps (loaded w b) es v → (e a k : ℕ) (u : UpdateData) (ms : List Msg) →
+        (entity_flow e v).mail a k ≡ Update u ∷ ms → FindsClient (framed f b) e k ((entity_flow e v).slot k).base u }
+    ensures reaps { (f : Frame) (u : World) → IsBetweenRounds f u → HasPartsBetweenRounds f u → (es : List ℕ) → AreReapable u es →
+        (vs : List Event) (v : World) → LeadsTo node_has_work node_steps (reaps_loaded u es) vs v → (e : ℕ) → IsToldNothing e v }
+    ensures looks { (f : Frame) (u : World) → IsBetweenRounds f u → HasPartsBetweenRounds f u → HasSmallNumbers f u →
+        (vs : List Event) (v : World) → LeadsTo node_has_work node_steps (look_loaded u) vs v → (e a k : ℕ) (m : UpdateData)
+        (ms : List Msg) → (entity_flow e v).mail a k ≡ Update m ∷ ms → FindsClient f e k ((entity_flow e v).slot k).base m }
+{
+    seam_law_rounds::an_update_finds_its_client();
+}
+
+/// What these laws, and those of `shown`, ask is true of an opened world and a batch that creates two witnesses, on either side of a
+/// boundary between two cells, and an entity near it: the batch fits, and the clients, which show nothing yet, fit their witnesses
+/// (`may`, `copies`, `reach`, `none`, `fits`). Over the events of its calls that entity crosses the boundary, and the world is quiet
+/// (`before`, `calls`, `quiet`, `after`). It goes through the whole round (`round`, `ended`), in which each client is shown its own entity,
+/// the other one over the boundary, and the one that crossed, which one of them sees over it (`shown_1`, `shown_2`).
+pub fn an_entity_crosses_between_two_witnesses()
+    ensures may { MayBeLoaded opening empty_world crossing.batch }
+    ensures copies { AreCopiesBetweenRounds opening empty_world }
+    ensures reach { GhostsReach standard }
+    ensures none { ClientsFit opening (λ e. new_client standard) empty_world }
+    ensures fits { ClientsFit (framed opening crossing.batch) (clients_loaded opening crossing.batch (λ e. new_client standard))
+        (loaded empty_world crossing.batch) }
+    ensures witnesses { (real_in ((entity_flow 1 (loaded empty_world crossing.batch)).slot 0) ≡ Some crossing.watcher_1)
+        × (real_in ((entity_flow 2 (loaded empty_world crossing.batch)).slot 1) ≡ Some crossing.watcher_2) }
+    ensures before { real_in ((entity_flow 3 (loaded empty_world crossing.batch)).slot 0) ≡ Some crossing.walker }
+    ensures calls { LeadsTo node_has_work node_steps (loaded empty_world crossing.batch) (events_of crossing.steps) crossing.world_9 }
+    ensures quiet { IsQuiet node_has_work crossing.world_9 }
+    ensures after { real_in ((entity_flow 3 crossing.world_9).slot 1) ≡ Some crossing.crossed }
+    ensures round { GoesThroughRound empty_world crossing.batch crossing.look_11 }
+    ensures ended { IsQuiet node_has_work crossing.look_11 }
+    ensures shown_1 { lines_of_client crossing.look_11 17 1 ≡ Some (view.base_line ∷ view.line 2 (crossing.own_at 4850)
+        ∷ view.line 3 (Enter 2 (view.other_at 0 5150)) ∷ view.line 4 (Enter 3 (view.other_at 1 5100)) ∷ []) }
+    ensures shown_2 { lines_of_client crossing.look_11 16 2 ≡ Some (view.base_line ∷ view.line 2 (crossing.own_at 5150)
+        ∷ view.line 3 (Enter 1 (view.other_at 0 4850)) ∷ view.line 4 (Enter 3 (view.other_at 1 5100)) ∷ []) }
+{}

@@ -1,0 +1,113 @@
+//! Quiet means shown: what one look of a witness tells its client in a world between rounds is one look at the flat table.
+//!
+//! `specs/Tables` has the flat table of a world, in which each entity is as its real is now, and `specs/Witnesses` the record of clients
+//! between rounds, beside those of reals (`seam_law_rounds`), base parts (`seam_law_rounds`), places and copies (`seam_law_ghosts`): each client
+//! shows what its witness remembers that it told. The look at a flat table and what lines leave of a client are those of `seam_rule_clients`. (After the witness and the area of interest of the BigWorld Server Overview: a cell knows whom a witness
+//! in it may see, by the real or by the ghost.)
+//!
+//! Crates above cite these modules of `proofs`: `Near` (a look at a flat table depends on those that are near), `Rows` (the rows of a
+//! world), `OneLook` (a look), `After` (what it leaves of a client), `LookCells`, `LookBases`, `LookRuns`, `LookEnds` and `LookFits` (the
+//! phase of looks: a cell, a base node, every list of events, its quiet end, and its clients).
+
+ghost use Rattle.std.specs.Prelude.{◌≡◌, ℕ, ◌≤◌, List, None, Some, slice_get};
+ghost use Rattle.seam_machine.specs.Nets.{IsQuiet, LeadsTo};
+ghost use Rattle.seam_machine.specs.declared.machines.Event.{Event};
+ghost use Rattle.seam_defs.specs.declared.settings.Settings.{Settings};
+ghost use Rattle.seam_defs.specs.declared.types.TypeDef.{TypeDef};
+ghost use Rattle.seam_defs.specs.Builtin.{builtin};
+ghost use Rattle.seam_defs.specs.Settings.{GhostsReach, standard};
+ghost use Rattle.seam_entity.specs.Reals.{RealView, WitnessView};
+ghost use Rattle.seam_node_steps.specs.Holders.{holders};
+ghost use Rattle.seam_node_steps.specs.CellLooks.{looks_of, shown_of, after_looking};
+ghost use Rattle.seam_node_steps.specs.Cells.{CellView, known_to};
+ghost use Rattle.seam_node_steps.specs.Nodes.{World, node_steps, node_has_work};
+ghost use Rattle.seam_node_steps.specs.Loads.{opened, look_loaded};
+ghost use Rattle.seam_node_steps.specs.Nodes.NodeView.{Cell};
+ghost use Rattle.seam_node_steps.specs.ViewRounds as view;
+ghost use Rattle.seam_law_calls.specs.Frames.{Frame, here_at};
+ghost use Rattle.seam_law_calls.specs.Sights.{entity_flow};
+ghost use Rattle.seam_law_calls.specs.Ones.{real_in, IsFrame};
+ghost use Rattle.seam_law_rounds.specs.Between.{IsBetweenRounds};
+ghost use Rattle.seam_law_rounds.specs.LastPhases.{first_frame};
+ghost use Rattle.seam_law_ghosts.specs.RealPlaces.{ArePlaced};
+ghost use Rattle.seam_law_ghosts.specs.Copies.{AreCopiesBetweenRounds};
+ghost use Rattle.seam_rule_clients.specs.Clients.{ClientReplica, new_client, after_all_shown};
+ghost use Rattle.seam_rule_clients.specs.Looks.{row_of, one_look};
+ghost use Rattle.seam_law_clients.specs.Tables.{row_of_real, rows_of};
+ghost use Rattle.seam_law_clients.specs.Witnesses.{FitsWitness, ClientsFit};
+ghost use Rattle.seam_law_clients.specs.Phases.{having_looked, HaveRoomToLook};
+
+/// The flat table of a world between rounds has the row of each real, and no row of an entity that has none.
+pub fn the_table_has_each_real()
+    ensures there { (f : Frame) (w : World) → IsBetweenRounds f w → (e k : ℕ) (r : RealView) →
+        real_in ((entity_flow e w).slot k) ≡ Some r → row_of (rows_of w) e ≡ Some (row_of_real (here_at f k) (e, r)) }
+    ensures none { (f : Frame) (w : World) → IsBetweenRounds f w → (e : ℕ) → holders w e ≡ 0 → row_of (rows_of w) e ≡ None }
+{}
+
+/// In a world between rounds, with its copies and its places, and where ghosts reach as far as a witness sees, what the witness of an
+/// entity tells in a look, by what its cell knows of others, is one look of its client at the flat table. Whoever is near is known there,
+/// by the real or by the present copy, and both show the same; nothing known is older than what was shown.
+pub fn a_look_is_one_look_at_the_table()
+    ensures { (f : Frame) (w : World) → IsBetweenRounds f w → AreCopiesBetweenRounds f w → ArePlaced f w → GhostsReach f.settings →
+        (e k : ℕ) (r : RealView) → real_in ((entity_flow e w).slot k) ≡ Some r → (v : WitnessView) → (c : ClientReplica) →
+        FitsWitness f w r v c → (cell : CellView) → slice_get w.nodes k ≡ Some (Cell cell) →
+        shown_of cell.here r v (known_to cell e) ≡ one_look c e (rows_of w) }
+{
+    seam_law_ghosts::who_may_be_seen_is_known();
+    seam_defs::laws::others_see_the_ghost();
+    seam_view::looks_are_plain();
+}
+
+/// After such a look the client, which was shown its lines one after another, fits its witness again, in the same world.
+pub fn a_client_fits_after_a_look()
+    ensures { (f : Frame) (w : World) → IsBetweenRounds f w → AreCopiesBetweenRounds f w → ArePlaced f w → GhostsReach f.settings →
+        (e k : ℕ) (r : RealView) → real_in ((entity_flow e w).slot k) ≡ Some r → (v : WitnessView) → (c : ClientReplica) →
+        FitsWitness f w r v c → (cell : CellView) → slice_get w.nodes k ≡ Some (Cell cell) → (after : WitnessView) →
+        after ≡ after_looking (known_to cell e) (looks_of r v (known_to cell e)) (shown_of cell.here r v (known_to cell e)) r v →
+        FitsWitness f w (record r { witness = Some after }) after (after_all_shown c (one_look c e (rows_of w))) }
+{
+    a_look_is_one_look_at_the_table();
+    seam_defs::laws::others_see_the_ghost();
+    seam_view::versions_shown_never_fall();
+}
+
+/// Where the witnesses of a world between rounds look, each has looked exactly once when the world is quiet again: each real is in the same
+/// cell, and is what one look makes of it by what the cell knew before the phase, whatever the order of the events.
+pub fn each_witness_looks_once()
+    ensures { (f : Frame) (u : World) → IsBetweenRounds f u → HaveRoomToLook u → (vs : List Event) (v : World) →
+        LeadsTo node_has_work node_steps (look_loaded u) vs v → IsQuiet node_has_work v → (e k : ℕ) (r : RealView) →
+        real_in ((entity_flow e u).slot k) ≡ Some r → (cell : CellView) → slice_get u.nodes k ≡ Some (Cell cell) →
+        real_in ((entity_flow e v).slot k) ≡ Some (having_looked cell e r) }
+{}
+
+/// And where each client fitted its witness before the phase, it fits it again at the quiet end, shown exactly one look at the flat table
+/// from before.
+pub fn clients_fit_after_the_looks()
+    ensures { (f : Frame) (u : World) → IsBetweenRounds f u → AreCopiesBetweenRounds f u → ArePlaced f u → GhostsReach f.settings →
+        HaveRoomToLook u → (clients : ℕ → ClientReplica) → ClientsFit f clients u → (vs : List Event) (v : World) →
+        LeadsTo node_has_work node_steps (look_loaded u) vs v → IsQuiet node_has_work v →
+        ClientsFit f (λ e. after_all_shown (clients e) (one_look (clients e) e (rows_of u))) v }
+{
+    seam_law_ghosts::the_last_phases_leave_places();
+    a_client_fits_after_a_look();
+}
+
+/// The record of clients holds of a world as it is opened, whatever clients show: none has a witness.
+pub fn clients_of_an_opened_world_fit()
+    ensures { (defs : List TypeDef) (settings : Settings) → IsFrame (first_frame defs settings) → 1 ≤ settings.bases →
+        (clients : ℕ → ClientReplica) → ClientsFit (first_frame defs settings) clients (opened defs settings) }
+{}
+
+/// What these laws ask is true of a worked world (`seam_node_steps`: "view hysteresis"), in which a batch created an entity with a client, which
+/// was shown nothing yet, and another one near it, and which is quiet.
+pub fn a_worked_client_fits_its_witness()
+    ensures between { IsBetweenRounds (first_frame builtin standard) view.first_2 }
+    ensures copies { AreCopiesBetweenRounds (first_frame builtin standard) view.first_2 }
+    ensures placed { ArePlaced (first_frame builtin standard) view.first_2 }
+    ensures reach { GhostsReach standard }
+    ensures real { real_in ((entity_flow 1 view.first_2).slot 0) ≡ Some (view.watcher view.blind) }
+    ensures fits { FitsWitness (first_frame builtin standard) view.first_2 (view.watcher view.blind) view.blind (new_client standard) }
+    ensures room { HaveRoomToLook view.first_2 }
+{
+    seam_law_ghosts::a_round_keeps_the_record_of_places();
+}

@@ -1,0 +1,200 @@
+//! Never had, never older: what a client is shown in a round, over every list of events.
+//!
+//! What a look tells depends on what the cell knows, which within a round may be old: but it is what each entity was at some version, and
+//! the view keeps out what is older than what was shown. So the client is shown rightly (*ShowsRightly* of `seam_rule_clients`): one line after
+//! another may come, and each is true. (After the witness and the area of interest of the BigWorld Server Overview.)
+//!
+//! `specs/Fits` has what a client and its witness agree on within a round, `specs/Telling` what a witness told over a list of events, and
+//! `specs/RoundTruths` what is true between two worlds: nothing of before the first.
+//!
+//! Crates above cite these modules of `proofs`: `Apart` (looks at different entities), `Lines` (what a look tells of others), `Looking` (a
+//! look), `Silent` (where none is taken), `Reals` (a real that goes on), `InTurn` (lines in parts), `Tells` (what is true of what a witness
+//! told, over every list of events), `Along` (that it is right), `Starts` (where a witness begins to tell, and where all was shown),
+//! `ShownOnce` (the phase of looks), `Further` and `FurtherLooks` (a further look, at what a view knows and at the flat table),
+//! `RoundTruth` (what cells know in a round), `Ending` (where the calls of a round end), `Joined` (the clients of a round), `ExampleShown`
+//! and `ExampleRound` (a worked world and a worked round).
+
+ghost use Rattle.std.specs.Prelude.{◌≡◌, ◌+◌, ℕ, List, [], ◌∷◌, ◌++◌, None, Some};
+ghost use Rattle.seam_view.specs.Replica.{IsView};
+ghost use Rattle.seam_defs.specs.Settings.{GhostsReach, standard};
+ghost use Rattle.seam_machine.specs.Nets.{IsQuiet, LeadsTo};
+ghost use Rattle.seam_machine.specs.declared.machines.Event.{Event};
+ghost use Rattle.seam_call.specs.declared.order.Batch.{Batch};
+ghost use Rattle.seam_call.specs.declared.shown.Shown.{Shown};
+ghost use Rattle.seam_entity.specs.Reals.{RealView, WitnessView};
+ghost use Rattle.seam_node_steps.specs.CellLooks.{looks_of, shown_of, after_looking};
+ghost use Rattle.seam_node_steps.specs.Cells.{CellView, known_to};
+ghost use Rattle.seam_node_steps.specs.Loads.{loaded, look_loaded};
+ghost use Rattle.seam_node_steps.specs.Nodes.{World, node_steps, node_has_work};
+ghost use Rattle.seam_node_steps.specs.Rows.{empty_world};
+ghost use Rattle.seam_node_steps.specs.ViewRounds as view;
+ghost use Rattle.seam_law_calls.specs.Frames.{Frame, here_at};
+ghost use Rattle.seam_law_calls.specs.Sights.{entity_flow};
+ghost use Rattle.seam_law_calls.specs.Ones.{real_in, IsSpared};
+ghost use Rattle.seam_law_calls.specs.HandOverExample.{frame, events_of};
+ghost use Rattle.seam_law_calls.specs.BaseCallsExample as example;
+ghost use Rattle.seam_law_calls.specs.BaseTurns.{home_of};
+ghost use Rattle.seam_law_calls.specs.Clients.{shown_at, HasClient, HasToldAtMost, HasRoomFor};
+ghost use Rattle.seam_law_rounds.specs.Between.{IsBetweenRounds, IsFitting, framed};
+ghost use Rattle.seam_law_rounds.specs.FirstBatchExample.{opening};
+ghost use Rattle.seam_law_ghosts.specs.Copies.{AreCopiesBetweenRounds};
+ghost use Rattle.seam_law_ghosts.specs.RealPlaces.{ArePlaced};
+ghost use Rattle.seam_law_rounds.specs.Parts.{MayBeLoaded, HasPartsBetweenRounds, HasSmallNumbers};
+ghost use Rattle.seam_rule_clients.specs.Clients.{ClientReplica, new_client, after_all_shown};
+ghost use Rattle.seam_rule_clients.specs.Lines.{ShowsRightly};
+ghost use Rattle.seam_rule_clients.specs.Looks.{one_look};
+ghost use Rattle.seam_law_clients.specs.Witnesses.{FitsWitness, ClientsFit};
+ghost use Rattle.seam_law_clients.specs.Phases.{HaveRoomToLook};
+ghost use Rattle.seam_law_clients.specs.Tables.{rows_of};
+ghost use Rattle.seam_law_clients.specs.Fits.{FitsWithin, truth_of_look};
+ghost use Rattle.seam_law_clients.specs.RoundTruths.{known_between, true_between};
+ghost use Rattle.seam_law_clients.specs.Telling.{ComesBetween, TellsRightly};
+
+/// Where a client fits the witness of its entity's real, the client is shown rightly what the witness tells in a look: one line after
+/// another may come, and shows what the real is now, or what the cell knows of another (`shows`). Once it is, it fits the witness again
+/// (`fits`). Nothing is asked of how new that is which the cell knows.
+pub fn a_look_is_shown_rightly()
+    ensures shows { (f : Frame) (k e : ℕ) (r : RealView) (v : WitnessView) (c : ClientReplica) (cell : CellView) →
+        cell.here ≡ here_at f k → FitsWithin f r v c →
+        ShowsRightly (truth_of_look f r cell e) e c (shown_of cell.here r v (known_to cell e)) }
+    ensures fits { (f : Frame) (k e : ℕ) (r : RealView) (v : WitnessView) (c : ClientReplica) (cell : CellView) →
+        cell.here ≡ here_at f k → FitsWithin f r v c → (after : WitnessView) →
+        after ≡ after_looking (known_to cell e) (looks_of r v (known_to cell e)) (shown_of cell.here r v (known_to cell e)) r v →
+        FitsWithin f (record r { witness = Some after }) after (after_all_shown c (shown_of cell.here r v (known_to cell e))) }
+{}
+
+/// A witness tells its client rightly over every list of events, of calls and of ticks, whatever the order in which copies come: each line
+/// may be shown when it is its turn. `starts`: where the client fits and the first number is
+/// the witness's next. `known`: each shows what the real
+/// was, or what a cell knew, in some world since. `round`: in a round, what entities were since its load, and nothing of before. No more
+/// is asked than that the witness's updates stay few, which `seam_law_calls` has.
+pub fn a_witness_tells_rightly()
+    ensures starts { (f : Frame) (e ty first : ℕ) (w v : World) → HasClient f e ty first w → (k : ℕ) (r : RealView) →
+        real_in ((entity_flow e w).slot k) ≡ Some r → (x : WitnessView) → r.witness ≡ Some x → x.sent + 1 ≡ first → (c : ClientReplica) →
+        FitsWithin f r x c →
+        TellsRightly f e ty first (known_between f e w v) c w × TellsRightly f e ty first (true_between f e w v) c w }
+    ensures known { (f : Frame) (e ty first n : ℕ) (w v : World) (es : List Event) (c : ClientReplica) →
+        TellsRightly f e ty first (known_between f e w v) c w → HasClient f e ty first w → IsSpared e w → HasRoomFor e n w →
+        ((u : World) → ComesBetween w v u → HasToldAtMost e n u) → LeadsTo node_has_work node_steps w es v →
+        TellsRightly f e ty first (known_between f e w v) c v }
+    ensures round { (f : Frame) (w : World) (b : Batch) → IsBetweenRounds f w → IsFitting f w b → AreCopiesBetweenRounds f w →
+        (e ty first n : ℕ) (v : World) (es : List Event) (c : ClientReplica) →
+        TellsRightly (framed f b) e ty first (true_between (framed f b) e (loaded w b) v) c (loaded w b) →
+        HasClient (framed f b) e ty first (loaded w b) → IsSpared e (loaded w b) → HasRoomFor e n (loaded w b) →
+        ((u : World) → ComesBetween (loaded w b) v u → HasToldAtMost e n u) → LeadsTo node_has_work node_steps (loaded w b) es v →
+        TellsRightly (framed f b) e ty first (true_between (framed f b) e (loaded w b) v) c v }
+{
+    seam_law_ghosts::ghosts_of_a_round_are_true();
+    seam_law_ghosts::copies_go_from_record_to_record();
+    seam_defs::laws::others_see_the_ghost();
+}
+
+/// What a client was shown is a first part of what its witness told, so it was shown rightly, too: no line is older than one before it, and
+/// none shows what was not so. Where the world is quiet it was shown all of it, and fits the witness.
+pub fn a_client_is_shown_rightly()
+    ensures known { (f : Frame) (e ty first : ℕ) (w v u : World) (c : ClientReplica) →
+        TellsRightly f e ty first (known_between f e w v) c u →
+        ShowsRightly (known_between f e w v) e c (shown_at ((entity_flow e u).slot (home_of f e))) }
+    ensures round { (f : Frame) (e ty first : ℕ) (w v u : World) (c : ClientReplica) →
+        TellsRightly f e ty first (true_between f e w v) c u →
+        ShowsRightly (true_between f e w v) e c (shown_at ((entity_flow e u).slot (home_of f e))) }
+    ensures quiet { (f : Frame) (e ty first : ℕ) (w v u : World) (c : ClientReplica) →
+        (h : TellsRightly f e ty first (true_between f e w v) c u) → HasClient f e ty first u → IsQuiet node_has_work u →
+        FitsWithin f h.one.real h.witness (after_all_shown c (shown_at ((entity_flow e u).slot (home_of f e)))) }
+{}
+
+/// Where a round's calls leave the world quiet, a client that fitted its witness at the load and was shown what that told since fits it
+/// again, also in what it was shown of others: nothing at a version above the public one, and each has a route at each base node. So the
+/// record of clients goes on to reaps and looks.
+pub fn a_client_fits_where_calls_end()
+    ensures { (f : Frame) (w : World) (b : Batch) → IsBetweenRounds f w → IsFitting f w b → AreCopiesBetweenRounds f w → (v : World)
+        (es : List Event) → LeadsTo node_has_work node_steps (loaded w b) es v → IsQuiet node_has_work v → (e ty first : ℕ)
+        (c : ClientReplica) (r : RealView) (x : WitnessView) → FitsWitness (framed f b) (loaded w b) r x c →
+        (h : TellsRightly (framed f b) e ty first (true_between (framed f b) e (loaded w b) v) c v) →
+        HasClient (framed f b) e ty first v → FitsWitness (framed f b) v h.one.real h.witness
+        (after_all_shown c (shown_at ((entity_flow e v).slot (home_of (framed f b) e)))) }
+{
+    seam_law_ghosts::ghosts_of_a_round_are_true();
+    seam_law_ghosts::copies_go_from_record_to_record();
+    seam_defs::laws::others_see_the_ghost();
+}
+
+/// Where the witnesses of a world between rounds look, each client is shown exactly one look, at the flat table from before, when the world
+/// is quiet again: its proxy showed those lines, in order, after what it had shown in the round, whatever the order of the events (`all`).
+/// At each moment until then it showed a first part of them (`until`).
+pub fn each_client_is_shown_one_look()
+    ensures until { (f : Frame) (u : World) → IsBetweenRounds f u → HasPartsBetweenRounds f u → HasSmallNumbers f u →
+        AreCopiesBetweenRounds f u → ArePlaced f u → GhostsReach f.settings → HaveRoomToLook u → (clients : ℕ → ClientReplica) →
+        ClientsFit f clients u → (vs : List Event) (v : World) → LeadsTo node_has_work node_steps (look_loaded u) vs v → (e k : ℕ)
+        (r : RealView) → real_in ((entity_flow e u).slot k) ≡ Some r → (x : WitnessView) → r.witness ≡ Some x →
+        (rest : List Shown) × (shown_at ((entity_flow e v).slot (home_of f e)) ++ rest
+        ≡ shown_at ((entity_flow e u).slot (home_of f e)) ++ one_look (clients e) e (rows_of u)) }
+    ensures all { (f : Frame) (u : World) → IsBetweenRounds f u → HasPartsBetweenRounds f u → HasSmallNumbers f u →
+        AreCopiesBetweenRounds f u → ArePlaced f u → GhostsReach f.settings → HaveRoomToLook u → (clients : ℕ → ClientReplica) →
+        ClientsFit f clients u → (vs : List Event) (v : World) → LeadsTo node_has_work node_steps (look_loaded u) vs v →
+        IsQuiet node_has_work v → (e k : ℕ) (r : RealView) → real_in ((entity_flow e u).slot k) ≡ Some r → (x : WitnessView) →
+        r.witness ≡ Some x → shown_at ((entity_flow e v).slot (home_of f e))
+        ≡ shown_at ((entity_flow e u).slot (home_of f e)) ++ one_look (clients e) e (rows_of u) }
+{
+    crate::looks::a_look_is_one_look_at_the_table();
+}
+
+/// Once it was shown one look, a client is shown nothing by a further one: at the flat table of any world (`same`), since none is in it
+/// twice; and so at that of the quiet end of the looks (`after`), which leave the table (`table`).
+pub fn a_further_look_shows_nothing()
+    ensures same { (w : World) (c : ClientReplica) → IsView c.others → (e : ℕ) →
+        one_look (after_all_shown c (one_look c e (rows_of w))) e (rows_of w) ≡ [] }
+    ensures table { (f : Frame) (u : World) → IsBetweenRounds f u → HaveRoomToLook u → (vs : List Event) (v : World) →
+        LeadsTo node_has_work node_steps (look_loaded u) vs v → IsQuiet node_has_work v → rows_of v ≡ rows_of u }
+    ensures after { (f : Frame) (u : World) → IsBetweenRounds f u → HaveRoomToLook u → (vs : List Event) (v : World) →
+        LeadsTo node_has_work node_steps (look_loaded u) vs v → IsQuiet node_has_work v → (c : ClientReplica) → IsView c.others → (e : ℕ) →
+        one_look (after_all_shown c (one_look c e (rows_of u))) e (rows_of v) ≡ [] }
+{
+    seam_law_ghosts::the_last_phases_leave_places();
+}
+
+/// What these laws ask is true of a loaded world with an entity that has a client, which was shown nothing of it yet (`starts`), and so
+/// they speak of every list of events from there (`runs`).
+pub fn a_worked_witness_tells_rightly()
+    ensures loads { loaded empty_world (example.batch_with (1 ∷ [])) ≡ example.world_shown }
+    ensures starts { (v : World) →
+        TellsRightly frame 1 0 1 (true_between frame 1 example.world_shown v) (new_client standard) example.world_shown }
+    ensures runs { (v : World) (es : List Event) → LeadsTo node_has_work node_steps example.world_shown es v →
+        TellsRightly frame 1 0 1 (known_between frame 1 example.world_shown v) (new_client standard) v }
+{}
+
+/// The clients of a whole round. Where a world keeps the records between rounds, a batch fits them, and each client fits its witness as the
+/// batch is loaded, each client is shown rightly, over every list of events, what its proxy showed since (`shown`); an entity without a
+/// witness is shown nothing (`bare`). Where the calls leave the world quiet, the clients, which were shown that, fit their witnesses again
+/// (`fits`): so the record of clients goes on to reaps and looks.
+pub fn clients_of_a_round_are_shown_rightly()
+    ensures shown { (f : Frame) (w : World) (b : Batch) → MayBeLoaded f w b → AreCopiesBetweenRounds f w → (clients : ℕ → ClientReplica) →
+        ClientsFit (framed f b) clients (loaded w b) → (v : World) (es : List Event) → LeadsTo node_has_work node_steps (loaded w b) es v →
+        (e k : ℕ) (r : RealView) → real_in ((entity_flow e (loaded w b)).slot k) ≡ Some r → (x : WitnessView) → r.witness ≡ Some x →
+        ShowsRightly (true_between (framed f b) e (loaded w b) v) e (clients e)
+        (shown_at ((entity_flow e v).slot (home_of (framed f b) e))) }
+    ensures bare { (f : Frame) (w : World) (b : Batch) → MayBeLoaded f w b → (v : World) (es : List Event) →
+        LeadsTo node_has_work node_steps (loaded w b) es v → (e k : ℕ) (r : RealView) →
+        real_in ((entity_flow e (loaded w b)).slot k) ≡ Some r → r.witness ≡ None →
+        shown_at ((entity_flow e v).slot (home_of (framed f b) e)) ≡ [] }
+    ensures fits { (f : Frame) (w : World) (b : Batch) → MayBeLoaded f w b → AreCopiesBetweenRounds f w → (clients : ℕ → ClientReplica) →
+        ClientsFit (framed f b) clients (loaded w b) → (v : World) (es : List Event) → LeadsTo node_has_work node_steps (loaded w b) es v →
+        IsQuiet node_has_work v →
+        ClientsFit (framed f b) (λ e. after_all_shown (clients e) (shown_at ((entity_flow e v).slot (home_of (framed f b) e)))) v }
+{
+    seam_law_ghosts::ghosts_of_a_round_are_true();
+    seam_law_ghosts::copies_go_from_record_to_record();
+    seam_defs::laws::others_see_the_ghost();
+    a_client_fits_where_calls_end();
+}
+
+/// What that law asks is true of a worked round (`seam_node_steps`: "view hysteresis"), of an opened world: the batch creates two entities, the
+/// first of them with a client that was shown nothing yet; and its calls end in a quiet world.
+pub fn a_worked_round_of_clients_is_such()
+    ensures may { MayBeLoaded opening empty_world view.batch_1 }
+    ensures copies { AreCopiesBetweenRounds opening empty_world }
+    ensures fits { ClientsFit (framed opening view.batch_1) (λ e. new_client standard) (loaded empty_world view.batch_1) }
+    ensures real { real_in ((entity_flow 1 (loaded empty_world view.batch_1)).slot 0) ≡ Some (view.watcher view.blind) }
+    ensures calls { LeadsTo node_has_work node_steps (loaded empty_world view.batch_1) (events_of view.first_steps) view.first_2 }
+    ensures quiet { IsQuiet node_has_work view.first_2 }
+{}

@@ -1,0 +1,14 @@
+pub mod Bridge
+pub mod Following
+pub mod Narrowing
+pub mod NewestLemmas
+pub mod SendLists
+pub mod TokenCounts
+pub mod TokenLemmas
+pub mod Delivering
+pub mod Lasting
+pub mod Lives
+pub mod Numbers
+pub mod Turning
+pub mod Steps
+pub mod Ends

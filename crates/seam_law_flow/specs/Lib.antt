@@ -1,0 +1,10 @@
+pub mod Flows
+pub mod Narrow
+pub mod Newest
+pub mod Sent
+pub mod Tokens
+pub mod Deliveries
+pub mod Lives
+pub mod Numbered
+pub mod Desks
+pub mod CallMoves

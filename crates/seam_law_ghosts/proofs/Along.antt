@@ -1,0 +1,216 @@
+-- The place of a real stays on its way after each event, and so after every list of events.
+use Rattle.std.proofs.Common.{◌≡◌, ℕ, ◌+◌, ◌<◌, ◌≤◌, true, List, [], ◌∷◌, ◌++◌, length, Option, Some, refl, sym, ap, ◌∙◌}
+use Rattle.std.proofs.Common.{subst, arith, inl, inr}
+use Rattle.std.proofs.lemmas.Bool.{cases_eq}
+use Rattle.seam_geo.specs.declared.pos.Pos.{Pos}
+use Rattle.seam_haunt.specs.Places.{Distances, Place, settled, last_of}
+use Rattle.seam_defs.specs.Deeds.{after}
+use Rattle.seam_defs.specs.Types.{type_of}
+use Rattle.seam_machine.specs.Nets.{happens, enabled, LeadsTo}
+use Rattle.seam_machine.specs.Events.{Occurs}
+use Rattle.seam_machine.specs.declared.machines.Event.{Event}
+use Rattle.seam_machine.proofs.Occurring.{occurs}
+use Rattle.seam_net_runs.specs.Sums.{weight_or}
+use Rattle.seam_net_runs.proofs.Runs.{leads_keeps}
+use Rattle.seam_law_flow.specs.Flows.{Flow, Goes, comes, letter_in}
+use Rattle.seam_law_flow.specs.Tokens.{In, On, Sole, Turned, still, turns, lands, leaves, relays, place_after, token_after}
+use Rattle.seam_law_flow.specs.Tokens as token
+use Rattle.seam_law_flow.proofs.TokenLemmas.{sole_here, sole_came, sole_goes, token_turns}
+use Rattle.seam_call.specs.declared.call.Call.{Call}
+use Rattle.seam_entity.specs.Reals.{RealView}
+use Rattle.seam_entity.specs.Numbers.{limit}
+use Rattle.seam_entity.specs.declared.message.Msg.{Msg}
+use Rattle.seam_entity.specs.declared.message.Msg.TheVariants.{Hand, Reap}
+use Rattle.seam_entity.specs.Executing.{may_settle}
+use Rattle.seam_node_steps.specs.Nodes.{World, node_steps, node_has_work}
+use Rattle.seam_law_calls.specs.Frames.{Frame}
+use Rattle.seam_law_calls.specs.Sights.{Has, mine, entity_flow}
+use Rattle.seam_law_calls.specs.Moves.{MovesTo}
+use Rattle.seam_law_calls.specs.Burdens.{real_burden}
+use Rattle.seam_law_calls.specs.Replays.{Replays}
+use Rattle.seam_law_calls.specs.Ones.{real_in, real_of, IsOne, IsSpared, AllFits, IsFrame, HasOne, OneFrom}
+use Rattle.seam_law_calls.proofs.Holds.{all_two, below_is}
+use Rattle.seam_law_calls.proofs.OneReal.{goes, room, one_happens, calm_of, spared_happens}
+use Rattle.seam_law_calls.proofs.Replaying.{replays_none, replays_on}
+use Rattle.seam_law_ghosts.proofs.Lasting.{slot_bound}
+use Rattle.seam_law_ghosts.specs.RealPlaces.{distances_of, place_of, path_of, home_of, IsDue, IsOnItsWay, waits, IsPlaced}
+use Rattle.seam_law_ghosts.proofs.Ways.{way_due, way_survey, way_call}
+use Rattle.seam_law_ghosts.proofs.Paths.{is_at_last, path_more, same_further, more_further}
+use Rattle.seam_law_ghosts.proofs.Placing.{Settles, by_survey, by_call, Does_it, PlacesBy, Placed, placed}
+
+module _ (f : Frame) (home : ℕ) (start : RealView) where
+  abbrev d : Distances
+  d = distances_of f.settings
+
+  -- a place is on the way of `start` after these calls
+  abbrev pub OnWay : List Call → Place → Type 0 → Type 0
+  OnWay calls place due = IsOnItsWay d f.tree (place_of home start) start.state.pos (path_of f start calls) place due
+
+  -- ---- the real r of cell k becomes q
+
+  module _ (k : ℕ) (r : RealView) (p : Replays f start r) (due : Type 0) (way : OnWay p.further (place_of k r) due) (q : RealView)
+      (n : Replays f start q) (then : Type 0) where
+    abbrev Way : List Pos → Place → Type 0
+    Way path place = IsOnItsWay d f.tree (place_of home start) start.state.pos path place then
+
+    same_way : (j : ℕ) → q.done ≡ r.done → q.haunts ≡ r.haunts → j ≡ k → (due → then) → OnWay n.further (place_of j q) then
+    same_way j done haunts at more =
+        let place : place_of j q ≡ place_of k r = ap (λ i. place_of i q) at
+        ∙ ap (λ s. let now : Place = record { home = k; ghosts = s } in now) haunts in
+        subst (λ cs. OnWay cs (place_of j q) then) (sym (same_further f start r p q n done))
+        (subst (λ x. OnWay p.further x then) (sym place)
+        (way_due d f.tree (place_of home start) start.state.pos (path_of f start p.further) (place_of k r) due then more way))
+
+    settles_way : (j : ℕ) → Settles f k j r q → OnWay n.further (place_of j q) then
+    settles_way j (by_survey done state is) =
+        let at : q.state.pos ≡ last_of start.state.pos (path_of f start p.further) = ap (λ s. s.pos) state ∙ is_at_last f start r p in
+        subst (λ cs. OnWay cs (place_of j q) then) (sym (same_further f start r p q n done))
+        (subst (λ x. OnWay p.further x then) (sym (is ∙ ap (settled d f.tree (place_of k r)) at))
+        (way_survey d f.tree (place_of home start) start.state.pos (path_of f start p.further) (place_of k r) due then way))
+    settles_way j (by_call c done state is) =
+        let at : Pos = (after (type_of f.defs r.ty) r.state c.deed).pos in
+        subst (λ cs. OnWay cs (place_of j q) then) (sym (more_further f start r p q n c done))
+        (subst (λ ps. Way ps (place_of j q)) (sym (path_more f start r p c))
+        (subst (Way (path_of f start p.further ++ at ∷ [])) (sym (is ∙ ap (λ s. settled d f.tree (place_of k r) s.pos) state))
+        (way_call d f.tree (place_of home start) start.state.pos (path_of f start p.further) (place_of k r) at due then way)))
+
+  -- ---- an event
+
+  module _ (frame : IsFrame f) (e ty : ℕ) (known : ty < length f.defs) where
+    module _ (w : World) (v : Event) (o : Occurs w v) (x : IsPlaced f e ty home start w)
+        (calm : letter_in (mine e) o.input ≡ Some (Reap e) → ⊥) where
+      abbrev has : HasOne f e ty w
+      has = x.one.has
+
+      abbrev next : World
+      next = happens node_steps w v
+
+      abbrev flow : Flow Has Msg
+      flow = entity_flow e w
+
+      abbrev Comes : Option Msg → Type 0
+      Comes i = ((r : RealView) → i ≡ Some (Hand r) → real_burden r < limit) × (i ≡ Some (Reap e) → ⊥)
+
+      abbrev g : Goes (λ k s i t out. MovesTo f e k s i t out × Comes i) flow (entity_flow e next)
+      g = goes f frame e ty known w v o has calm
+
+      may : (r : RealView) → real_in (flow.slot g.k) ≡ Some r → 1 ≤ (flow.slot g.k).cell.survey → may_settle r ≡ true
+      may r at some =
+          let a = slot_bound e w g.k in
+          let b = ap (weight_or real_burden) at in
+          let few = has.fits.room in
+          all_two _ _ (below_is (r.beat + 1) limit (omega (arith, a, b, few, some)))
+          (below_is (r.generation + 1) limit (omega (arith, a, b, few, some)))
+
+      abbrev Its : Type 0
+      Its = Does_it f frame.defs e ty g.k (flow.slot g.k) (comes g.input) ((entity_flow e next).slot g.k) g.moves.0.sent g.out
+          g.moves.0.items
+
+      what : Placed f frame.defs e ty g.k (flow.slot g.k) (comes g.input) ((entity_flow e next).slot g.k) g.moves.0.sent g.out
+          g.moves.0.items
+      what =
+          placed f frame.defs e ty g.k (flow.slot g.k) (comes g.input) ((entity_flow e next).slot g.k) g.moves.0.sent g.out
+          g.moves.0.items (room f frame e ty known w v o has calm) (λ r at. g.moves.1.1) may g.moves.0.moves
+
+      -- ---- the one real after it
+
+      turned : (q : RealView) → Turned (Replays f) has.real q → Replays f has.real q
+      turned q (inl same) = subst (Replays f has.real) (sym same) (replays_none f has.real)
+      turned q (inr a) = a
+
+      since : Replays f start (token_after what.0 has.real)
+      since =
+          replays_on f start has.real (token_after what.0 has.real) x.one.replays
+          (turned (token_after what.0 has.real) (token_turns real_in real_of (Replays f) g has.place has.real has.one what.0))
+
+      abbrev next_one : OneFrom f e ty start next
+      next_one = record {
+        has = record {
+          fits = (one_happens f frame e ty known w v o has calm).has.fits;
+          place = place_after g.k what.0 has.place;
+          real = token_after what.0 has.real;
+          one = sole_goes real_in real_of (Replays f) g has.place has.real has.one what.0;
+        };
+        replays = since;
+      }
+
+      -- ---- its place
+
+      -- the real is where it was, and the list too
+      due_then : (p : token.Place) → Sole real_in real_of flow p has.real → ((r : RealView) → real_in (flow.slot g.k) ≡ Some r →
+          1 ≤ (flow.slot g.k).cell.survey → 1 ≤ ((entity_flow e next).slot g.k).cell.survey) → IsDue e w p → IsDue e next p
+      due_then (In j) one stays on = elim (cases_eq j g.k) [
+        | inl is ↦
+            let there = stays has.real (ap (λ i. real_in (flow.slot i)) (sym is) ∙ one.here)
+            (subst (λ i. 1 ≤ (flow.slot i).cell.survey) is on) in
+            subst (λ i. 1 ≤ ((entity_flow e next).slot i).cell.survey) (sym is) there
+        | inr n ↦ subst (λ (h : Has). 1 ≤ h.cell.survey) (sym (g.others j n)) on
+      ]
+      due_then (On a b) one stays on = absurd on
+
+      -- the way of the real that acts
+      way_here : has.place ≡ In g.k → OnWay x.one.replays.further (place_of g.k has.real) (IsDue e w (In g.k))
+      way_here at = subst (λ p. OnWay x.one.replays.further (place_of (home_of p) has.real) (IsDue e w p)) at x.way
+
+      abbrev Then : token.Place → RealView → List Call → Type 0
+      Then p q calls = OnWay calls (place_of (home_of p) q) (IsDue e next p)
+
+      way_by : (m : Its) → PlacesBy f frame.defs e ty g.k (flow.slot g.k) (comes g.input) ((entity_flow e next).slot g.k)
+          g.moves.0.sent g.out g.moves.0.items m → (n : Replays f start (token_after m has.real)) →
+          Then (place_after g.k m has.place) (token_after m has.real) n.further
+      way_by (still a b c) stays n =
+          same_way (home_of has.place) has.real x.one.replays (IsDue e w has.place) x.way has.real n (IsDue e next has.place)
+          (home_of has.place) refl refl refl (due_then has.place has.one stays)
+      way_by (turns r q a b c y z) (inl (alike, stays)) n =
+          let at = sole_here real_in real_of flow has.place has.real r g.k has.one a in
+          subst (λ p. Then p q n.further) (sym at.0)
+          (same_way g.k has.real x.one.replays (IsDue e w (In g.k)) (way_here at.0) q n (IsDue e next (In g.k)) g.k
+          (alike.done ∙ ap (λ (i : RealView). i.done) at.1) (alike.haunts ∙ ap (λ (i : RealView). i.haunts) at.1) refl stays)
+      way_by (turns r q a b c y z) (inr settles) n =
+          let at = sole_here real_in real_of flow has.place has.real r g.k has.one a in
+          subst (λ p. Then p q n.further) (sym at.0)
+          (settles_way g.k has.real x.one.replays (IsDue e w (In g.k)) (way_here at.0) q n (IsDue e next (In g.k)) g.k
+          (subst (λ i. Settles f g.k g.k i q) at.1 settles))
+      way_by (lands r q a b c y) same n =
+          let at = sole_came real_in real_of g has.place has.real r has.one a in
+          let is = same ∙ at.2 in
+          same_way g.k has.real x.one.replays ⊥
+          (subst (λ p. OnWay x.one.replays.further (place_of (home_of p) has.real) (IsDue e w p)) at.1 x.way) q n
+          (IsDue e next (In g.k)) g.k (ap (λ (i : RealView). i.done) is) (ap (λ (i : RealView). i.haunts) is) refl (λ no. absurd no)
+      way_by (leaves r q to a b c y z) settles n =
+          let at = sole_here real_in real_of flow has.place has.real r g.k has.one a in
+          settles_way g.k has.real x.one.replays (IsDue e w (In g.k)) (way_here at.0) q n ⊥ to
+          (subst (λ i. Settles f g.k to i q) at.1 settles)
+      way_by (relays r q to a b c z) h n = absurd h
+
+      pub placed_happens : IsPlaced f e ty home start next
+      placed_happens = record { one = next_one; way = way_by what.0 what.1 since }
+
+    -- ---- every list of events
+
+    record IsPlacedSpared (w : World) : Type 0 where
+      is : IsPlaced f e ty home start w
+      spared : IsSpared e w
+
+    placed_more : (w : World) (v : Event) → IsPlacedSpared w → enabled node_has_work w v ≡ true → IsPlacedSpared (happens node_steps w v)
+    placed_more w v x on =
+        let o = occurs node_has_work w v on in
+        record {
+          is = placed_happens w v o x.is (calm_of f e w v o x.is.one.has.fits.frame x.spared);
+          spared = spared_happens f e w v o x.is.one.has.fits.frame x.spared;
+        }
+
+    pub placed_first : (w : World) → AllFits f e ty w → IsOne e w (In home) start → IsDue e w (In home) → IsPlaced f e ty home start w
+    placed_first w fits one due = record {
+      one = record {
+        has = record { fits = fits; place = In home; real = start; one = one };
+        replays = record { further = []; entity = refl; type = refl; account = refl };
+      };
+      way = waits refl refl due;
+    }
+
+    pub placed_leads : (w v : World) (es : List Event) → AllFits f e ty w → IsSpared e w → IsOne e w (In home) start →
+        IsDue e w (In home) → LeadsTo node_has_work node_steps w es v → IsPlaced f e ty home start v
+    placed_leads w v es fits spared one due run =
+        (leads_keeps node_has_work node_steps IsPlacedSpared placed_more w v es
+        (record { is = placed_first w fits one due; spared = spared }) run).is

@@ -1,0 +1,221 @@
+-- Where a loaded world is quiet again, each place is one that the rounds allow; and the last phases leave places.
+use Rattle.std.proofs.Common.{◌≡◌, ℕ, ◌≤◌, ◌⊎◌, Bool, false, List, [], ◌∷◌, ◌++◌, Some, refl, sym, ap, ◌∙◌, subst, arith}
+use Rattle.std.proofs.Common.{inl, inr}
+use Rattle.std.specs.List.{AllByRecursion}
+use Rattle.seam_tree.specs.Division.{leaf_at}
+use Rattle.seam_haunt.specs.Places.{Place, settled, IsPlaceAfter, last_of}
+use Rattle.seam_haunt.proofs.Settling.{after_settled}
+use Rattle.seam_machine.specs.Nets.{IsQuiet, LeadsTo}
+use Rattle.seam_machine.specs.declared.machines.Event.{Event}
+use Rattle.seam_machine.proofs.Quiet.{quiet_links, quiet_tasks}
+use Rattle.seam_law_flow.specs.Flows.{letters_of}
+use Rattle.seam_law_flow.specs.Tokens.{In}
+use Rattle.seam_law_flow.specs.Tokens as token
+use Rattle.seam_law_flow.proofs.TokenLemmas.{sole_here}
+use Rattle.seam_call.specs.declared.create.Create.{Create}
+use Rattle.seam_call.specs.declared.order.Batch.{Batch}
+use Rattle.seam_entity.specs.Reals.{RealView}
+use Rattle.seam_node_steps.specs.Holders.{holders}
+use Rattle.seam_node_steps.specs.Nodes.{NodeView, World, node_steps, node_has_work}
+use Rattle.seam_node_steps.specs.Nodes.NodeView.{Cell, Base}
+use Rattle.seam_node_steps.specs.Loads.{loaded, reaps_loaded, look_loaded}
+use Rattle.seam_law_calls.specs.Frames.{Frame}
+use Rattle.seam_law_calls.specs.Sights.{mine, times, has_of, entity_flow}
+use Rattle.seam_law_calls.specs.Ones.{real_in, real_of, HasOne}
+use Rattle.seam_law_calls.proofs.Counting.{counted_none, none_counts}
+use Rattle.seam_law_calls.proofs.ExampleMet.{slots}
+use Rattle.seam_law_calls.proofs.Gone.{gone_leads}
+use Rattle.seam_law_rounds.specs.Between.{IsBetweenRounds, IsFitting, framed}
+use Rattle.seam_law_rounds.proofs.Framing.{in_frame}
+use Rattle.seam_law_rounds.proofs.Loaded.{no_items, no_mail}
+use Rattle.seam_law_rounds.proofs.Ready.{one_at_home}
+use Rattle.seam_law_rounds.proofs.Going.{its, frame_loaded, settled_loaded, one_loaded, spared_loaded}
+use Rattle.seam_law_rounds.specs.LastPhases.{AreReapable}
+use Rattle.seam_law_rounds.proofs.Shape.{Somewhere, Nowhere, search_real}
+use Rattle.seam_law_rounds.proofs.Calm.{IsCalm}
+use Rattle.seam_law_rounds.proofs.Phases.{calm_leads}
+use Rattle.seam_law_rounds.proofs.Reaping as reaping
+use Rattle.seam_law_rounds.proofs.Looking as looking
+use Rattle.seam_law_ghosts.specs.RealPlaces.{distances_of, place_of, first_place, path_of, made_real, home_of, IsDue, IsPlaced, IsRightPlace}
+use Rattle.seam_law_ghosts.specs.RealPlaces.{BeginsAt, WasThere, ArePlaced}
+use Rattle.seam_law_ghosts.proofs.Ways.{way_ends}
+use Rattle.seam_law_ghosts.proofs.Paths.{further_done, is_at_last}
+use Rattle.seam_law_ghosts.proofs.Along.{placed_leads}
+use Rattle.seam_law_ghosts.proofs.Begun.{listed, was_begins, each_begins}
+
+-- ---- a quiet world has no one on a survey list
+
+survey_none : (e : ℕ) (s : NodeView) → node_has_work s ≡ false → (has_of e s).cell.survey ≡ 0
+survey_none e (Cell c) h = ap (times e) (no_items c.survey _ h)
+survey_none e (Base b) h = refl
+
+pub none_due : (e : ℕ) (v : World) → IsQuiet node_has_work v → (k : ℕ) → ((entity_flow e v).slot k).cell.survey ≡ 0
+none_due e v quiet k =
+    slots (λ j h. h.cell.survey ≡ 0) e v (λ j s at. survey_none e s (quiet_tasks node_has_work v quiet j s at)) (λ j. refl) k
+
+-- ---- a place at the end of its way
+
+module _ (f : Frame) (e ty home : ℕ) (start : RealView) (v : World) (x : IsPlaced f e ty home start v) (quiet : IsQuiet node_has_work v)
+    (k : ℕ) (q : RealView) (at : real_in ((entity_flow e v).slot k) ≡ Some q) where
+  abbrev has : HasOne f e ty v
+  has = x.one.has
+
+  found : (has.place ≡ In k) × (q ≡ has.real)
+  found = sole_here real_in real_of (entity_flow e v) has.place has.real q k has.one at
+
+  never : (p : token.Place) → p ≡ In k → IsDue e v p → ⊥
+  never p is due =
+      let none = none_due e v quiet k in
+      let some : 1 ≤ ((entity_flow e v).slot k).cell.survey = subst (IsDue e v) is due in
+      omega (arith, none, some)
+
+  ended : IsPlaceAfter (distances_of f.settings) f.tree (place_of home start) start.state.pos (path_of f start x.one.replays.further)
+      (place_of (home_of has.place) has.real)
+  ended =
+      way_ends (distances_of f.settings) f.tree (place_of home start) start.state.pos (path_of f start x.one.replays.further)
+      (place_of (home_of has.place) has.real) (IsDue e v has.place) (never has.place found.0) x.way
+
+  place_is : place_of (home_of has.place) has.real ≡ place_of k q
+  place_is = ap (λ p. place_of (home_of p) has.real) found.0 ∙ ap (place_of k) (sym found.1)
+
+  -- it is one that the rounds allow
+  pub right_place : start.done ≡ [] → IsRightPlace f f.tree (place_of home start) start k q
+  right_place idle =
+      let done : q.done ≡ x.one.replays.further =
+      ap (λ (r : RealView). r.done) found.1 ∙ (further_done f start has.real x.one.replays ∙ ap (λ ds. ds ++ x.one.replays.further) idle) in
+      subst (λ ds. IsPlaceAfter (distances_of f.settings) f.tree (place_of home start) start.state.pos (path_of f start ds) (place_of k q))
+      (sym done)
+      (subst (IsPlaceAfter (distances_of f.settings) f.tree (place_of home start) start.state.pos (path_of f start x.one.replays.further))
+      place_is ended)
+
+  -- it is settled where the entity is
+  pub settled_there : settled (distances_of f.settings) f.tree (place_of k q) q.state.pos ≡ place_of k q
+  settled_there =
+      let last : q.state.pos ≡ last_of start.state.pos (path_of f start x.one.replays.further) =
+      ap (λ (r : RealView). r.state.pos) found.1 ∙ is_at_last f start has.real x.one.replays in
+      ap (settled (distances_of f.settings) f.tree (place_of k q)) last
+      ∙ after_settled (distances_of f.settings) f.tree (place_of home start) start.state.pos (path_of f start x.one.replays.further)
+      (place_of k q)
+      (subst (IsPlaceAfter (distances_of f.settings) f.tree (place_of home start) start.state.pos (path_of f start x.one.replays.further))
+      place_is ended)
+
+-- ---- a loaded world
+
+module _ (f : Frame) (w : World) (b : Batch) (between : IsBetweenRounds f w) (fits : IsFitting f w b) where
+  module _ (v : World) (es : List Event) (run : LeadsTo node_has_work node_steps (loaded w b) es v) where
+    -- each place is on its way
+    pub placed_loaded : (e home : ℕ) (r : RealView) → real_in ((entity_flow e (loaded w b)).slot home) ≡ Some r →
+        IsPlaced (framed f b) e r.ty home r v
+    placed_loaded e home r here =
+        let settled = settled_loaded f w b between fits e home r here in
+        placed_leads (framed f b) home r (frame_loaded f w b between fits) e r.ty settled.type (loaded w b) v es
+        (one_loaded f w b between fits e home r here).fits (spared_loaded f w b between fits e home r here)
+        (one_at_home (framed f b) (loaded w b) e home r settled (no_mail f w b between fits e)) (listed e w b home r here) run
+
+    module _ (quiet : IsQuiet node_has_work v) where
+      pub right_loaded : (e home : ℕ) (r : RealView) → real_in ((entity_flow e (loaded w b)).slot home) ≡ Some r → (k : ℕ)
+          (q : RealView) → real_in ((entity_flow e v).slot k) ≡ Some q → IsRightPlace f b.tree (place_of home r) r k q
+      right_loaded e home r here k q at =
+          right_place (framed f b) e r.ty home r v (placed_loaded e home r here) quiet k q at (its f w b between fits e home r here).idle
+
+      -- of an entity that was there
+      pub right_kept : (e home : ℕ) (r : RealView) → real_in ((entity_flow e w).slot home) ≡ Some r → (k : ℕ) (q : RealView) →
+          real_in ((entity_flow e v).slot k) ≡ Some q → IsRightPlace f b.tree (place_of home r) r k q
+      right_kept e home r here k q at =
+          let begins = was_begins f w b between fits e home r here in
+          right_loaded e home _ begins.here k q at
+
+      -- of one that is created
+      abbrev pub MadeRight : Create → Type 0
+      MadeRight x = (k : ℕ) (q : RealView) → real_in ((entity_flow x.entity v).slot k) ≡ Some q →
+          IsRightPlace f b.tree (first_place b.tree x) (made_real f b.tree x) k q
+
+      made_by : (xs : List Create) → AllByRecursion (λ x. BeginsAt w b x.entity (leaf_at b.tree x.pos) (made_real f b.tree x)) xs →
+          AllByRecursion MadeRight xs
+      made_by [] h = tt
+      made_by (x ∷ xs) h = ((λ k q at. right_loaded x.entity (leaf_at b.tree x.pos) _ h.0.here k q at), made_by xs h.1)
+
+      pub right_made : AllByRecursion MadeRight b.creates
+      right_made = made_by b.creates (each_begins f w b between fits)
+
+      -- ---- the record of places
+
+      placed_by : (e k : ℕ) (q : RealView) → real_in ((entity_flow e v).slot k) ≡ Some q → Somewhere e (loaded w b) ⊎ Nowhere e
+          (loaded w b) → settled (distances_of f.settings) b.tree (place_of k q) q.state.pos ≡ place_of k q
+      placed_by e k q at (inl p) =
+          settled_there (framed f b) e p.1.ty p.0 p.1 v (placed_loaded e p.0 p.1 p.2) quiet k q at
+      placed_by e k q at (inr n) =
+          let gone = gone_leads (framed f b) (frame_loaded f w b between fits) e (loaded w b) v es (in_frame f w b between fits)
+          (record { slots = n; mail = λ x y. ap (letters_of real_of) (no_mail f w b between fits e x y) }) run in
+          absurd (let z = sym (gone.slots k) ∙ at in cc)
+
+      pub calls_place : ArePlaced (framed f b) v
+      calls_place = record {
+        space = fits.space;
+        settled = λ e k q at. placed_by e k q at (search_real e (loaded w b));
+      }
+
+-- ---- the last phases
+
+module _ (f : Frame) (u : World) (between : IsBetweenRounds f u) where
+  nobody_there : (e : ℕ) → Nowhere e u → holders u e ≡ 0
+  nobody_there e n =
+      none_counts u e (record {
+        slots = n;
+        mail = λ x y. ap (λ l. letters_of real_of (letters_of (mine e) l))
+            (quiet_links node_has_work u between.nodes.sound.square between.quiet x y);
+      })
+
+  -- a real of a calm entity was there
+  calm_was : (e home : ℕ) (r : RealView) → real_in ((entity_flow e u).slot home) ≡ Some r → (told : Bool) (v : World) →
+      IsCalm f e home r u told v → (k : ℕ) (q : RealView) → real_in ((entity_flow e v).slot k) ≡ Some q → WasThere e k q u
+  calm_was e home r here told v calm k q at =
+      let is = (calm.nodes k).real q at in
+      record {
+        real = r;
+        here = ap (λ j. real_in ((entity_flow e u).slot j)) is.0 ∙ here;
+        same = sym is.1.1 ∙ ap (λ x. let now : RealView = record r { witness = x } in now) (ap (λ (y : RealView). y.witness) is.1.1);
+      }
+
+  nowhere_then : (v : World) (e k : ℕ) (q : RealView) → real_in ((entity_flow e v).slot k) ≡ Some q → holders v e ≡ 0 → WasThere e k q u
+  nowhere_then v e k q at none = absurd (let z = sym ((counted_none v e none).slots k) ∙ at in cc)
+
+  module _ (es : List ℕ) (may : AreReapable u es) (vs : List Event) (v : World)
+      (run : LeadsTo node_has_work node_steps (reaps_loaded u es) vs v) where
+    reaps_by : (e k : ℕ) (q : RealView) → real_in ((entity_flow e v).slot k) ≡ Some q → Somewhere e u ⊎ Nowhere e u → WasThere e k q u
+    reaps_by e k q at (inl p) =
+        calm_was e p.0 p.1 p.2 (reaping.is_told e es) v
+        (calm_leads f between.frame u between e p.0 p.1 p.2 (reaping.is_told e es)
+        (reaping.small f u between es may e p.0 p.1 p.2) (reaps_loaded u es) v vs (reaping.calm f u between es may e p.0 p.1 p.2) run)
+        k q at
+    reaps_by e k q at (inr n) = nowhere_then v e k q at (reaping.none_come f u between es may vs v run e (nobody_there e n))
+
+    pub reaps_leave : (e k : ℕ) (q : RealView) → real_in ((entity_flow e v).slot k) ≡ Some q → WasThere e k q u
+    reaps_leave e k q at = reaps_by e k q at (search_real e u)
+
+  module _ (vs : List Event) (v : World) (run : LeadsTo node_has_work node_steps (look_loaded u) vs v) where
+    looks_by : (e k : ℕ) (q : RealView) → real_in ((entity_flow e v).slot k) ≡ Some q → Somewhere e u ⊎ Nowhere e u → WasThere e k q u
+    looks_by e k q at (inl p) =
+        calm_was e p.0 p.1 p.2 false v
+        (calm_leads f between.frame u between e p.0 p.1 p.2 false (looking.small f u between p.1) (look_loaded u) v vs
+        (looking.calm f u between e p.0 p.1 p.2) run) k q at
+    looks_by e k q at (inr n) = nowhere_then v e k q at (looking.look_makes_none f u between vs v run e (nobody_there e n))
+
+    pub looks_leave : (e k : ℕ) (q : RealView) → real_in ((entity_flow e v).slot k) ≡ Some q → WasThere e k q u
+    looks_leave e k q at = looks_by e k q at (search_real e u)
+
+-- a world whose reals were all there keeps the record of places
+pub stays_placed : (f : Frame) (u v : World) → ((e k : ℕ) (q : RealView) → real_in ((entity_flow e v).slot k) ≡ Some q → WasThere e k q u) →
+    ArePlaced f u → ArePlaced f v
+stays_placed f u v was placed = record {
+  space = placed.space;
+  settled = λ e k q at.
+      let there = was e k q at in
+      subst (λ (y : RealView). settled (distances_of f.settings) f.tree (place_of k y) y.state.pos ≡ place_of k y) (sym there.same)
+      (placed.settled e k there.real there.here);
+}
+
+-- and a place that was right stays so
+pub stays_right : (f : Frame) (b : Batch) (was : Place) (r : RealView) (e k : ℕ) (q : RealView) (u : World) (there : WasThere e k q u) →
+    IsRightPlace f b.tree was r k there.real → IsRightPlace f b.tree was r k q
+stays_right f b was r e k q u there is = subst (IsRightPlace f b.tree was r k) (sym there.same) is

@@ -1,0 +1,64 @@
+-- Where entities are reaped, and where witnesses look, no message to a cell is stray.
+use Rattle.std.proofs.Common.{◌≡◌, ℕ, ◌+◌, ◌<◌, ◌≤◌, Bool, true, false, not, List, [], ◌∷◌, Option, None, Some, refl, ap, ◌∙◌, subst}
+use Rattle.std.proofs.Common.{arith}
+use Rattle.std.specs.Prelude.{slice_get}
+use Rattle.std.specs.List.{AllByRecursion}
+use Rattle.std.proofs.lemmas.Bool.Decides.{nat_tests}
+use Rattle.seam_machine.specs.Nets.{link}
+use Rattle.seam_entity.specs.Reals.{RealView}
+use Rattle.seam_entity.specs.declared.message.Msg.{Msg}
+use Rattle.seam_entity.specs.declared.message.Msg.TheVariants.{Call, BaseCall, Hand, Current, GhostSet, GhostDrop, Tick, Reap, Update}
+use Rattle.seam_entity.specs.Numbers.{limit, is_small, may_rise}
+use Rattle.seam_entity.specs.Here.{cell_count}
+use Rattle.seam_node_steps.specs.CellCases.{about, is_stray, stray_reap}
+use Rattle.seam_node_steps.specs.Nodes.{NodeView, World}
+use Rattle.seam_law_calls.specs.Frames.{Frame, here_at}
+use Rattle.seam_law_calls.specs.Sights.{entity_flow}
+use Rattle.seam_law_calls.specs.Ones.{real_in}
+use Rattle.seam_law_rounds.proofs.Calm.{IsCalmTo, IsCalm}
+use Rattle.seam_law_rounds.proofs.CalmRuns.{found_home}
+use Rattle.seam_node_steps.specs.Bases.{RouteView}
+use Rattle.seam_entity.specs.Orders.{order_or}
+use Rattle.std.specs.FinMap as table
+use Rattle.seam_law_ghosts.proofs.Strays.{mine_is, seen_first, feeds}
+
+pub small_to : (n beat : ℕ) → n ≤ beat + 1 → may_rise beat ≡ true → is_small n ≡ true
+small_to n beat low h = let lt : beat + 1 < limit = grind (arith, nat_tests, h) in small_is n (omega (arith, low, lt))
+  where
+    small_is : (n : ℕ) → n < limit → is_small n ≡ true
+    small_is n lt = grind (arith, nat_tests)
+
+not_true : (b : Bool) → b ≡ true → not b ≡ false
+not_true true h = refl
+not_true false h = cc
+
+module _ (f : Frame) (e home : ℕ) (r : RealView) (cell : home < cell_count) (none : (s : ℕ) → (order_or (table.get r.orders s)).held ≡ [])
+    (was : World) (leads : (k : ℕ) (x : RouteView) → ((entity_flow e was).slot k).base.route ≡ Some x → x.cell ≡ home) (told : Bool)
+    (small : told ≡ true → may_rise r.beat ≡ true) (v : World) (calm : IsCalm f e home r was told v) (a k : ℕ) (s : NodeView)
+    (node : slice_get v.nodes k ≡ Some s) (low : k < cell_count) where
+  reap_by : (o : Option RealView) (q : RealView) → o ≡ Some q → may_rise q.beat ≡ true → stray_reap o ≡ false
+  reap_by None q is may = cc
+  reap_by (Some p) q is may =
+      let same : p ≡ q = cc in
+      not_true (may_rise p.beat) (ap (λ (y : RealView). may_rise y.beat) same ∙ may)
+
+  kind_by : (m : Msg) (ms : List Msg) → link v.rows a k ≡ m ∷ ms → about m ≡ Some e → IsCalmTo told home r k m →
+      is_stray (here_at f k) f.tree ((entity_flow e v).slot k).cell.slot m ≡ false
+  kind_by (Call c) ms at is h = absurd h
+  kind_by (BaseCall c) ms at is h = absurd h
+  kind_by (Hand q) ms at is h = absurd h
+  kind_by (Current x j g) ms at is h = absurd h
+  kind_by (GhostSet x n c) ms at is h = absurd h
+  kind_by (GhostDrop x n) ms at is h = not_true (is_small n) (small_to n r.beat h.1 (small h.0))
+  kind_by Tick ms at is h = refl
+  kind_by (Reap x) ms at is h =
+      let q = found_home f e home r cell none was leads told small v (record { node = k; from = Some a }) (feeds v a k s
+      (Reap x) ms node at)
+      calm x (mine_is e (Reap x) is) in
+      reap_by ((entity_flow e v).slot k).cell.slot.real q.0 (ap (λ j. real_in ((entity_flow e v).slot j)) h ∙ q.1) q.2
+  kind_by (Update u) ms at is h = absurd (omega (arith, h, low))
+
+  pub calm_free : (m : Msg) (ms : List Msg) → link v.rows a k ≡ m ∷ ms → about m ≡ Some e →
+      is_stray (here_at f k) f.tree ((entity_flow e v).slot k).cell.slot m ≡ false
+  calm_free m ms at is =
+      kind_by m ms at is (subst (AllByRecursion (IsCalmTo told home r k)) (seen_first e v a k m ms at is) (calm.mail a k)).0

@@ -1,0 +1,146 @@
+-- In a round no message to a cell is stray.
+use Rattle.std.proofs.Common.{◌≡◌, ℕ, ◌<◌, ◌≤◌, ◌⊎◌, false, List, ◌∷◌, None, Some, refl, sym}
+use Rattle.std.proofs.Common.{ap, ◌∙◌, subst, inl, inr}
+use Rattle.std.specs.Prelude.{slice_get}
+use Rattle.std.specs.List.{AllByRecursion}
+use Rattle.seam_machine.specs.Nets.{link, LeadsTo}
+use Rattle.seam_machine.specs.declared.machines.Event.{Event}
+use Rattle.seam_law_flow.specs.Flows.{letters_of, slot_at}
+use Rattle.seam_law_flow.specs.Tokens.{TokenPlace, In, On}
+use Rattle.seam_law_flow.proofs.TokenLemmas.{sole_here}
+use Rattle.seam_call.specs.declared.order.Batch.{Batch}
+use Rattle.seam_entity.specs.Reals.{RealView}
+use Rattle.seam_entity.specs.declared.message.Msg.{Msg}
+use Rattle.seam_entity.specs.declared.message.Msg.TheVariants.{Call, BaseCall, Hand, Current, GhostSet, GhostDrop, Tick, Reap, Update}
+use Rattle.seam_entity.specs.Numbers.{limit}
+use Rattle.seam_entity.specs.Here.{cell_count}
+use Rattle.seam_node_steps.specs.CellCases.{about, is_stray}
+use Rattle.seam_node_steps.specs.Cells.{CellView, slot_of}
+use Rattle.seam_node_steps.specs.Holders.{holders}
+use Rattle.seam_node_steps.specs.Nodes.{NodeView, World, node_steps, node_has_work}
+use Rattle.seam_node_steps.specs.Nodes.NodeView.{Cell}
+use Rattle.seam_node_steps.specs.Loads.{loaded}
+use Rattle.seam_law_calls.specs.Frames.{Frame, here_at}
+use Rattle.seam_law_calls.specs.Sights.{mine, has_of, has_none, entity_flow}
+use Rattle.seam_law_calls.specs.Fits.{RealFits, IsFitHand}
+use Rattle.seam_law_calls.specs.Burdens.{real_burden}
+use Rattle.seam_law_calls.specs.Ones.{real_in, real_of, IsOne, reaped_by}
+use Rattle.seam_law_calls.proofs.Counting.{none_counts}
+use Rattle.seam_law_calls.proofs.Easing.{came_small}
+use Rattle.seam_law_calls.proofs.Replaying.{replays_none}
+use Rattle.seam_law_calls.proofs.CellRuns.{finds}
+use Rattle.seam_law_rounds.specs.Between.{IsSettled, IsBetweenRounds, IsFitting, framed, calls_of, next_from}
+use Rattle.seam_law_rounds.proofs.Loaded.{no_mail}
+use Rattle.seam_law_rounds.proofs.Turns.{are_calls}
+use Rattle.seam_law_rounds.proofs.Going.{frame_loaded, settled_loaded, one_loaded, spared_loaded, kept_after}
+use Rattle.seam_law_rounds.proofs.Shape.{Somewhere, Nowhere}
+use Rattle.seam_law_ghosts.proofs.Sending.{FitsNode}
+use Rattle.seam_law_ghosts.proofs.Lasting.{IsFair, fair_leads}
+use Rattle.seam_law_ghosts.proofs.Unknown.{IsTick, IsUnknown, unknown_leads}
+use Rattle.seam_law_ghosts.proofs.Beginning.{unknown_loaded}
+use Rattle.seam_law_ghosts.proofs.Strays.{mine_is, seen_first, feeds, kind_fits}
+
+-- the first letter carries the one real, so no node has it
+free_by : (e : ℕ) (w : World) (p : TokenPlace) (r q : RealView) (a k : ℕ) (ms : List Msg) → IsOne e w p r →
+    (entity_flow e w).mail a k ≡ Hand q ∷ ms → (j : ℕ) → real_in ((entity_flow e w).slot j) ≡ None
+free_by e w (On x y) r q a k ms one at j = one.slots j
+free_by e w (In x) r q a k ms one at j =
+    let some = sym (ap (letters_of real_of) at) ∙ one.mail a k in
+    absurd (let z = some in cc)
+
+-- nothing but ticks comes
+no_tick : (e : ℕ) (m : Msg) → about m ≡ Some e → IsTick m → ⊥
+no_tick e (Call c) h t = t
+no_tick e (BaseCall c) h t = t
+no_tick e (Hand r) h t = t
+no_tick e (Current x j g) h t = t
+no_tick e (GhostSet x n c) h t = t
+no_tick e (GhostDrop x n) h t = t
+no_tick e Tick h t = cc
+no_tick e (Reap x) h t = t
+no_tick e (Update u) h t = t
+
+pub unknown_gets_none : (f : Frame) (e : ℕ) (w : World) → IsUnknown f e w → (a k : ℕ) (m : Msg) (ms : List Msg) →
+    link w.rows a k ≡ m ∷ ms → about m ≡ Some e → ⊥
+unknown_gets_none f e w h a k m ms at is =
+    no_tick e m is (subst (AllByRecursion IsTick) (seen_first e w a k m ms at is) (h.letters a k)).0
+
+module _ (f : Frame) (w : World) (b : Batch) (between : IsBetweenRounds f w) (fits : IsFitting f w b) (v : World) (es : List Event)
+    (run : LeadsTo node_has_work node_steps (loaded w b) es v) where
+  abbrev g : Frame
+  g = framed f b
+
+  module _ (e home : ℕ) (r : RealView) (here : real_in ((entity_flow e (loaded w b)).slot home) ≡ Some r) where
+    abbrev settled : IsSettled g e home r (loaded w b)
+    settled = settled_loaded f w b between fits e home r here
+
+    abbrev start : RealView
+    start = (one_loaded f w b between fits e home r here).real
+
+    start_is : r ≡ start
+    start_is =
+        let one = one_loaded f w b between fits e home r here in
+        (sole_here real_in real_of (entity_flow e (loaded w b)) one.place one.real r home one.one here).1
+
+    start_low : start.public ≤ start.version
+    start_low = subst (λ (x : RealView). x.public ≤ x.version) start_is settled.public
+
+    abbrev Fair : World → Type 0
+    Fair x = IsFair g (frame_loaded f w b between fits) e r.ty settled.type start start_low x
+
+    fair : Fair v
+    fair =
+        fair_leads g (frame_loaded f w b between fits) e r.ty settled.type start start_low (loaded w b) v es (record {
+          one = record { has = one_loaded f w b between fits e home r here; replays = replays_none g start };
+          spared = spared_loaded f w b between fits e home r here;
+          letters = λ a k. subst (AllByRecursion (FitsNode g k)) (sym (no_mail f w b between fits e a k)) tt;
+        }) run
+
+    module _ (a k : ℕ) (s : NodeView) (node : slice_get v.nodes k ≡ Some s) (low : k < cell_count) (m : Msg) (ms : List Msg)
+        (at : link v.rows a k ≡ m ∷ ms) (is : about m ≡ Some e) where
+      seen : (entity_flow e v).mail a k ≡ m ∷ letters_of (mine e) ms
+      seen = seen_first e v a k m ms at is
+
+      hand_fits : (q : RealView) → m ≡ Hand q →
+          (real_in ((entity_flow e v).slot k) ≡ None) × RealFits g e r.ty k q × (real_burden q < limit)
+      hand_fits q same =
+          let has = fair.one.has in
+          let there = seen ∙ ap (λ x. x ∷ letters_of (mine e) ms) same in (
+            free_by e v has.place has.real q a k (letters_of (mine e) ms) has.one there k,
+            (subst (AllByRecursion (IsFitHand g e r.ty k)) there (has.fits.hands a k)).0 q refl,
+            came_small g e v (record { node = k; from = Some a }) (feeds v a k s m ms node at) has.fits.frame has.fits.room q
+                (mine_is e m is ∙ ap Some same),
+          )
+
+      pub present_free : is_stray (here_at g k) g.tree ((entity_flow e v).slot k).cell.slot m ≡ false
+      present_free =
+          kind_fits g e r.ty k settled.type low ((entity_flow e v).slot k) m
+          (subst (AllByRecursion (FitsNode g k)) seen (fair.letters a k)).0
+          (subst (AllByRecursion (λ x. reaped_by x ≡ None)) seen (fair.spared.letters a k)).0
+          (λ c same.
+          finds g (frame_loaded f w b between fits) e r.ty settled.type (λ s. next_from s r) (calls_of b e)
+          (are_calls f w b between fits e home r here) v (kept_after f w b between fits e home r here v es run) a k c
+          (letters_of (mine e) ms) (seen ∙ ap (λ x. x ∷ letters_of (mine e) ms) same))
+          hand_fits
+
+  pub nobody : (e : ℕ) → Nowhere e (loaded w b) → holders (loaded w b) e ≡ 0
+  nobody e n =
+      none_counts (loaded w b) e
+      (record { slots = n; mail = λ x y. ap (letters_of real_of) (no_mail f w b between fits e x y) })
+
+  pub free_by_place : (a k : ℕ) (c : CellView) (m : Msg) (ms : List Msg) (e : ℕ) → slice_get v.nodes k ≡ Some (Cell c) →
+      link v.rows a k ≡ m ∷ ms → about m ≡ Some e → k < cell_count → Somewhere e (loaded w b) ⊎ Nowhere e (loaded w b) →
+      is_stray (here_at g k) g.tree ((entity_flow e v).slot k).cell.slot m ≡ false
+  free_by_place a k c m ms e node at is low (inl p) = present_free e p.0 p.1 p.2 a k (Cell c) node low m ms at is
+  free_by_place a k c m ms e node at is low (inr n) =
+      absurd (unknown_gets_none g e v (unknown_leads g e (loaded w b) v es (unknown_loaded f w b between fits e
+      (nobody e n)) run) a k m ms at is)
+
+-- what is said of a cell by its entity's flow, said of the cell
+pub of_cell : (g : Frame) (v : World) (k : ℕ) (c : CellView) (e : ℕ) (m : Msg) → slice_get v.nodes k ≡ Some (Cell c) →
+    c.here ≡ here_at g k → c.tree ≡ g.tree → is_stray (here_at g k) g.tree ((entity_flow e v).slot k).cell.slot m ≡ false →
+    is_stray c.here c.tree (slot_of c e) m ≡ false
+of_cell g v k c e m node here tree h =
+    ap (λ x. is_stray x c.tree (slot_of c e) m) here
+    ∙ (ap (λ x. is_stray (here_at g k) x (slot_of c e) m) tree
+    ∙ (sym (ap (λ o. is_stray (here_at g k) g.tree (slot_at (has_of e) has_none o).cell.slot m) node) ∙ h))

@@ -1,0 +1,262 @@
+-- What each move does with the place of the entity's real: it stays, settles in its cell, lands, or settles and leaves.
+use Rattle.std.proofs.Common.{◌≡◌, ℕ, ◌+◌, ◌≤◌, ◌⊎◌, Bool, true, List, [], ◌∷◌, ◌++◌, Option, None, Some, refl, sym, ap, ◌∙◌}
+use Rattle.std.proofs.Common.{subst, arith, inl, inr}
+use Rattle.std.specs.FinSet as set
+use Rattle.seam_geo.specs.declared.pos.Pos.{Pos}
+use Rattle.seam_tree.specs.Cells.{Cells}
+use Rattle.seam_haunt.specs.Places.{Place, settled}
+use Rattle.seam_haunt.proofs.Settling.{haunts_without_home}
+use Rattle.seam_defs.specs.Deeds.{after}
+use Rattle.seam_defs.specs.Types.{type_of, AreDefs}
+use Rattle.seam_machine.specs.Sends.{items_to}
+use Rattle.seam_law_flow.specs.Flows.{letters_of}
+use Rattle.seam_law_flow.specs.Tokens.{carried_in, Handles, still, turns, lands, leaves, relays}
+use Rattle.seam_law_flow.proofs.SendLists.{sees_none, sees_after_silent, sees_one_here, sees_one_there}
+use Rattle.seam_call.specs.declared.call.Call.{Call as CallData}
+use Rattle.seam_entity.specs.Reals.{RealView}
+use Rattle.seam_entity.specs.declared.message.Msg.{Msg}
+use Rattle.seam_entity.specs.declared.message.Msg.TheVariants.{Call, Hand, GhostSet, GhostDrop, Tick, Reap}
+use Rattle.seam_entity.specs.Here.{cell_count}
+use Rattle.seam_entity.specs.Executing.{may_settle, settled_to}
+use Rattle.seam_node_steps.specs.Slots.{SlotStep, slot_after}
+use Rattle.seam_node_steps.specs.Settle.{home_after, haunts_at, ghost_messages, beat_after}
+use Rattle.seam_node_steps.specs.Settle as settle
+use Rattle.seam_node_steps.specs.CellCases.{is_stray, may_come, stray_survey}
+use Rattle.seam_law_calls.specs.Frames.{Frame, here_at}
+use Rattle.seam_law_calls.specs.Sights.{Has, AtCell}
+use Rattle.seam_law_calls.specs.CellMoves as move
+use Rattle.seam_law_calls.specs.CellMoves.{Does, Acts, surveys, calls, readies, CellMoves}
+use Rattle.seam_law_calls.specs.Moves.{Moves, at_a_cell, at_a_base}
+use Rattle.seam_law_calls.specs.Replays.{Replays}
+use Rattle.seam_law_calls.specs.Ones.{real_in, real_of}
+use Rattle.seam_law_calls.proofs.Handling.{FindsRoom, reals_unseen, handled}
+use Rattle.seam_law_calls.proofs.Holds.{not_both}
+use Rattle.seam_law_calls.proofs.OneReal.{came_hand}
+use Rattle.seam_law_calls.proofs.Plain.{ghosts_silent}
+use Rattle.seam_law_calls.proofs.Replaying.{acts_replays}
+use Rattle.seam_law_ghosts.specs.RealPlaces.{distances_of, place_of}
+
+-- ---- what becomes of a real and its place
+
+-- it is at the same place, and executed nothing
+pub record IsAlike (r q : RealView) : Type 0 where
+  pub done : q.done ≡ r.done
+  pub state : q.state ≡ r.state
+  pub haunts : q.haunts ≡ r.haunts
+
+-- the real r of cell k settled, as q in cell j: it executed nothing before, or a call
+pub data Settles (f : Frame) (k j : ℕ) (r q : RealView) : Type 0 where
+  by_survey : q.done ≡ r.done → q.state ≡ r.state
+      → place_of j q ≡ settled (distances_of f.settings) f.tree (place_of k r) q.state.pos → Settles f k j r q
+  by_call : (c : CallData) → q.done ≡ r.done ++ c ∷ [] → q.state ≡ after (type_of f.defs r.ty) r.state c.deed
+      → place_of j q ≡ settled (distances_of f.settings) f.tree (place_of k r) q.state.pos → Settles f k j r q
+
+-- in cell j with the haunts `now`, the real that was in cell k with the haunts `old` is settled at that position
+abbrev AreSettled : Frame → ℕ → Pos → ℕ → Cells → Cells → Type 0
+AreSettled f k p j now old =
+    let place : Place = record { home = j; ghosts = now } in
+    place ≡ settled (distances_of f.settings) f.tree (record { home = k; ghosts = old }) p
+
+module _ (f : Frame) (k : ℕ) (p : Pos) where
+  abbrev haunts_in : ℕ → Cells → Cells
+  haunts_in j old = haunts_at (here_at f k) f.tree p j old
+
+  -- one that stays, and one that goes
+  stays_settled : (old : Cells) → home_after (here_at f k) f.tree p ≡ k → AreSettled f k p k (haunts_in k old) old
+  stays_settled old at =
+      ap (λ s. let place : Place = record { home = k; ghosts = s } in place) (sym (haunts_without_home p k f.tree f.settings.ghost_distance
+      (f.settings.ghost_distance + f.settings.ghost_hysteresis) old))
+      ∙ ap (λ j. let place : Place = record { home = j; ghosts = haunts_in j (set.insert old k) } in place) (sym at)
+
+  goes_settled : (old : Cells) (j : ℕ) → home_after (here_at f k) f.tree p ≡ j → AreSettled f k p j (haunts_in j (set.insert old k)) old
+  goes_settled old j at = ap (λ i. let place : Place = record { home = i; ghosts = haunts_in i (set.insert old k) } in place) (sym at)
+
+module _ (f : Frame) (defs : AreDefs f.defs) (e ty k : ℕ) (s : Has) (i : Option Msg) (t : Has) (sent : List (ℕ × Msg))
+    (out : ℕ → List Msg) (items : (j : ℕ) → out j ≡ items_to j sent) where
+  abbrev pub Does_it : Type 0
+  Does_it = Handles real_in real_of (Replays f) s i t out
+
+  -- the survey list still has the entity if it had it
+  abbrev pub StaysDue : Type 0
+  StaysDue = 1 ≤ s.cell.survey → 1 ≤ t.cell.survey
+
+  abbrev pub PlacesBy : Does_it → Type 0
+  PlacesBy (still a b c) = (r : RealView) → real_in s ≡ Some r → StaysDue
+  PlacesBy (turns r q a b c d o) = (IsAlike r q × StaysDue) ⊎ Settles f k k r q
+  PlacesBy (lands r q a b c o) = q ≡ r
+  PlacesBy (leaves r q to a b c d o) = Settles f k to r q
+  PlacesBy (relays r q to a b c o) = ⊥
+
+  abbrev pub Placed : Type 0
+  Placed = (m : Does_it) × PlacesBy m
+
+  -- ---- the real stays at its place
+
+  abbrev StaysAlike : Type 0
+  StaysAlike = (r : RealView) → real_in s ≡ Some r → (q : RealView) × (real_in t ≡ Some q) × IsAlike r q
+
+  alike : Does_it → carried_in real_of i ≡ None → StaysAlike → ((r : RealView) → real_in s ≡ Some r → StaysDue) → Placed
+  alike (still a b c) none stays due = (still a b c, due)
+  alike (turns r q a b c d o) none stays due =
+      let x = stays r a in
+      let same : x.0 ≡ q = let z = sym x.1 ∙ b in cc in
+      (turns r q a b c d o, inl (subst (IsAlike r) same x.2, due r a))
+  alike (lands r q a b c o) none stays due = absurd (let z = sym none ∙ a in cc)
+  alike (leaves r q to a b c d o) none stays due = let x = stays r a in absurd (let z = sym x.1 ∙ b in cc)
+  alike (relays r q to a b c o) none stays due = absurd (let z = sym none ∙ a in cc)
+
+  alike_one : (r q : RealView) → real_in s ≡ Some r → real_in t ≡ Some q → IsAlike r q → StaysAlike
+  alike_one r q has now is x at = let one : r ≡ x = let z = sym has ∙ at in cc in (q, now, subst (λ y. IsAlike y q) one is)
+
+  same : Does_it → carried_in real_of i ≡ None → real_in t ≡ real_in s → ((r : RealView) → real_in s ≡ Some r → StaysDue) → Placed
+  same m none is due = alike m none (λ r has. (r, is ∙ has, record { done = refl; state = refl; haunts = refl })) due
+
+  none_of : i ≡ None → carried_in real_of i ≡ None
+  none_of h = ap (carried_in real_of) h
+
+  came_none : (m : Msg) → i ≡ Some m → real_of m ≡ None → carried_in real_of i ≡ None
+  came_none m h n = ap (carried_in real_of) h ∙ n
+
+  -- ---- it lands
+
+  lands_by : Does_it → (r : RealView) → i ≡ Some (Hand r) → real_in s ≡ None → real_in t ≡ Some r → Placed
+  lands_by (still a b c) r is free at = absurd (let z = sym (ap (carried_in real_of) is) ∙ b in cc)
+  lands_by (turns x q a b c d o) r is free at = absurd (let z = sym free ∙ a in cc)
+  lands_by (lands x q a b c o) r is free at =
+      let was : r ≡ x = let z = sym (ap (carried_in real_of) is) ∙ a in cc in
+      let now : r ≡ q = let z = sym at ∙ b in cc in
+      (lands x q a b c o, sym now ∙ was)
+  lands_by (leaves x q to a b c d o) r is free at = absurd (let z = sym free ∙ a in cc)
+  lands_by (relays x q to a b c o) r is free at = absurd (let z = sym at ∙ (b ∙ free) in cc)
+
+  -- ---- it settles
+
+  acts_none : (u : AtCell) (r q : RealView) (changed : Bool) → Acts (here_at f k) e s.cell i r u q changed → carried_in real_of i ≡ None
+  acts_none u r q changed (surveys n a b c) = none_of a
+  acts_none u r q changed (calls c a b d g) = came_none (Call c) a refl
+  acts_none u r q changed (readies o c a b d g) = none_of a
+
+  acts_settle : (u : AtCell) (r q : RealView) (changed : Bool) → Acts (here_at f k) e s.cell i r u q changed → (j : ℕ) (haunts : Cells)
+      (beat generation : ℕ) → AreSettled f k q.state.pos j haunts q.haunts → Settles f k j r (settled_to q haunts beat generation)
+  acts_settle u r q changed (surveys n a b c) j haunts beat generation is = by_survey refl refl is
+  acts_settle u r q changed (calls c a b d g) j haunts beat generation is = by_call c refl refl is
+  acts_settle u r q changed (readies o c a b d g) j haunts beat generation is = by_call c refl refl is
+
+  settled_replays : (u : AtCell) (r q : RealView) (changed : Bool) (haunts : Cells) (beat generation : ℕ) →
+      Acts (here_at f k) e s.cell i r u q changed → Replays f r (settled_to q haunts beat generation)
+  settled_replays u r q changed haunts beat generation a =
+      let x = acts_replays f k e s.cell u i r q changed a in
+      record { further = x.further; entity = x.entity; type = x.type; account = x.account }
+
+  module _ (x : SlotStep) (u : AtCell) (d : Does u x t.cell sent) where
+    real_is : real_in t ≡ (slot_after x.slot u.slot).real
+    real_is = ap (λ a. a.slot.real) d.state
+
+    due_is : t.cell.survey ≡ move.unlisted_if x.unlisted u.survey
+    due_is = ap (λ a. a.survey) d.state
+
+  still_due : t.cell.survey ≡ s.cell.survey → (r : RealView) → real_in s ≡ Some r → StaysDue
+  still_due is r has some = omega (arith, is, some)
+
+  stays_placed : (u : AtCell) (r q : RealView) (changed : Bool) → real_in s ≡ Some r → Acts (here_at f k) e s.cell i r u q changed →
+      home_after (here_at f k) f.tree q.state.pos ≡ k → Does u (settle.stays (here_at f k) f.tree s.cell.slot q changed) t.cell sent →
+      Placed
+  stays_placed u r q changed has acts at d =
+      let haunts = haunts_at (here_at f k) f.tree q.state.pos k q.haunts in
+      let told = ghost_messages (here_at f k) q k haunts changed in
+      let beat = beat_after told q.beat in (
+        turns r (settled_to q haunts beat q.generation) has
+            (real_is (settle.stays (here_at f k) f.tree s.cell.slot q changed) u d)
+            (inr (settled_replays u r q changed haunts beat q.generation acts)) (acts_none u r q changed acts)
+            (λ j.
+            ap (letters_of real_of) (items j ∙ ap (items_to j) d.sends)
+            ∙ sees_none real_of j told (ghosts_silent real_of reals_unseen (here_at f k) q k haunts changed)),
+        inr (acts_settle u r q changed acts k haunts beat q.generation (stays_settled f k q.state.pos q.haunts at)),
+      )
+
+  goes_placed : (u : AtCell) (r q : RealView) (changed : Bool) (j : ℕ) → real_in s ≡ Some r →
+      Acts (here_at f k) e s.cell i r u q changed → home_after (here_at f k) f.tree q.state.pos ≡ j →
+      Does u (settle.goes (here_at f k) f.tree s.cell.slot q changed j) t.cell sent → Placed
+  goes_placed u r q changed j has acts at d =
+      let haunts = haunts_at (here_at f k) f.tree q.state.pos j (set.insert q.haunts k) in
+      let told = ghost_messages (here_at f k) q j haunts changed in
+      let gone = settled_to q haunts (q.beat + 1) (q.generation + 1) in
+      let silent = ghosts_silent real_of reals_unseen (here_at f k) q j haunts changed in (
+        leaves r gone j has (real_is (settle.goes (here_at f k) f.tree s.cell.slot q changed j) u d)
+            (inr (settled_replays u r q changed haunts (q.beat + 1) (q.generation + 1) acts)) (acts_none u r q changed acts)
+            (record {
+              here =
+                  ap (letters_of real_of) (items j ∙ ap (items_to j) d.sends)
+                  ∙ (sees_after_silent real_of j told ((j, Hand gone) ∷ []) silent ∙ sees_one_here real_of j (Hand gone));
+              others = λ x n.
+                  ap (letters_of real_of) (items x ∙ ap (items_to x) d.sends)
+                  ∙ (sees_after_silent real_of x told ((j, Hand gone) ∷ []) silent ∙ sees_one_there real_of j x (Hand gone) n);
+            }),
+        acts_settle u r q changed acts j haunts (q.beat + 1) (q.generation + 1) (goes_settled f k q.state.pos q.haunts j at),
+      )
+
+  -- ---- every move
+
+  module _ (room : (r : RealView) → i ≡ Some (Hand r) → FindsRoom f k s r)
+      (spared : (r : RealView) → real_in s ≡ Some r → i ≡ Some (Reap e) → ⊥)
+      (may : (r : RealView) → real_in s ≡ Some r → 1 ≤ s.cell.survey → may_settle r ≡ true) where
+    -- a hand-over that comes is not stray
+    stray_none : (m : Msg) → i ≡ Some m → is_stray (here_at f k) f.tree s.cell.slot m ≡ true → (o : Option RealView) →
+        carried_in real_of i ≡ o → carried_in real_of i ≡ None
+    stray_none m h b None is = is
+    stray_none m h b (Some r) is =
+        let p = room r (came_hand i r is) in
+        let same : m ≡ Hand r = let z = sym h ∙ came_hand i r is in cc in
+        absurd (not_both (may_come (here_at f k) f.tree r) p.may
+        (sym (ap (λ o. is_stray (here_at f k) f.tree (record { real = o; next = s.cell.slot.next; ghost = s.cell.slot.ghost }) (Hand r))
+        p.free) ∙ (ap (is_stray (here_at f k) f.tree s.cell.slot) (sym same) ∙ b)))
+
+    -- a real that may settle is not taken off the list unsettled
+    not_unlisted : (n : ℕ) → s.cell.survey ≡ n + 1 → stray_survey s.cell.slot.real ≡ true → (r : RealView) → real_in s ≡ Some r → ⊥
+    not_unlisted n at b r has =
+        not_both (may_settle r) (may r has (omega (arith, at))) (sym (ap stray_survey has) ∙ b)
+
+    cell_placed : Does_it → CellMoves (here_at f k) f.tree e s.cell i t.cell sent → Placed
+    cell_placed m (move.rests n d) = same m (none_of n) (real_is _ s.cell d) (still_due (due_is _ s.cell d))
+    cell_placed m (move.strays x n b d) =
+        same m (stray_none x n b (carried_in real_of i) refl) (real_is _ s.cell d) (still_due (due_is _ s.cell d))
+    cell_placed m (move.stays u r q changed has own acts at d) = stays_placed u r q changed has acts at d
+    cell_placed m (move.goes u r q changed j has own acts at n d) = goes_placed u r q changed j has acts at d
+    cell_placed m (move.late c r n has may lt d) =
+        same m (came_none (Call c) n refl) (real_is _ s.cell d) (still_due (due_is _ s.cell d))
+    cell_placed m (move.holds c r n is has own may lt d) =
+        alike m (came_none (Call c) n refl)
+        (alike_one r _ has (real_is _ s.cell d) (record { done = refl; state = refl; haunts = refl }))
+        (still_due (due_is _ s.cell d))
+    cell_placed m (move.passes c p n is has at d) =
+        same m (came_none (Call c) n refl) (real_is _ s.cell d) (still_due (due_is _ s.cell d))
+    cell_placed m (move.lands r n is has may d) = lands_by m r n has (real_is _ s.cell d)
+    cell_placed m (move.hears_set n c h has d) =
+        same m (came_none (GhostSet e n c) h refl) (real_is _ s.cell d) (still_due (due_is _ s.cell d))
+    cell_placed m (move.ignores_set n c r h has d) =
+        same m (came_none (GhostSet e n c) h refl) (real_is _ s.cell d) (still_due (due_is _ s.cell d))
+    cell_placed m (move.hears_drop n h d) =
+        same m (came_none (GhostDrop e n) h refl) (real_is _ s.cell d) (still_due (due_is _ s.cell d))
+    cell_placed m (move.reaped r n has own may d) = absurd (spared r has n)
+    cell_placed m (move.ticks n st se) =
+        same m (came_none Tick n refl) (ap (λ a. a.slot.real) st) (still_due (ap (λ a. a.survey) st))
+    cell_placed m (move.unlists n h at b d) =
+        same m (none_of h) (real_is _ _ d) (λ r has. absurd (not_unlisted n at b r has))
+    cell_placed m (move.looks n r w known h at has own is small d) =
+        alike m (none_of h) (alike_one r _ has (real_is _ _ d) (record { done = refl; state = refl; haunts = refl }))
+        (still_due (due_is _ _ d))
+    cell_placed m (move.overlooks n known h at b d) = same m (none_of h) (real_is _ _ d) (still_due (due_is _ _ d))
+    cell_placed m (move.stuck r h has ready may d) = same m (none_of h) (real_is _ s.cell d) (still_due (due_is _ s.cell d))
+
+    -- a base node is fed no real
+    base_none : cell_count ≤ k → (o : Option RealView) → carried_in real_of i ≡ o → o ≡ None
+    base_none high None is = refl
+    base_none high (Some r) is = let low = (room r (came_hand i r is)).cell in absurd (omega (arith, low, high))
+
+    pub placed : Moves f e k s i t sent → Placed
+    placed moves = placed_by moves (handled f defs e ty k s i t sent out items room spared moves).0
+      where
+        placed_by : Moves f e k s i t sent → Does_it → Placed
+        placed_by (at_a_cell low x is) m = cell_placed m x
+        placed_by (at_a_base high x is) m =
+            same m (base_none high (carried_in real_of i) refl) (ap (λ c. c.slot.real) is) (still_due (ap (λ c. c.survey) is))

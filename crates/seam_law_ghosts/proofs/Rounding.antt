@@ -1,0 +1,204 @@
+-- A loaded world, and a round's calls: each cell is told what the real wants, and has it where the world is quiet again.
+use Rattle.std.proofs.Common.{◌≡◌, ℕ, ◌<◌, ◌≤◌, ◌⊎◌, true, List, [], ◌∷◌, None, Some, refl, sym, ap, ◌∙◌}
+use Rattle.std.proofs.Common.{subst, arith, inl, inr}
+use Rattle.seam_machine.specs.Nets.{happens, enabled, IsQuiet, LeadsTo}
+use Rattle.seam_machine.specs.declared.machines.Event.{Event}
+use Rattle.seam_machine.proofs.Occurring.{occurs}
+use Rattle.seam_net_runs.proofs.Runs.{leads_keeps}
+use Rattle.seam_law_flow.specs.Flows.{comes, letters_of}
+use Rattle.seam_law_flow.specs.Tokens.{TokenPlace, In}
+use Rattle.seam_law_flow.proofs.Following.{came}
+use Rattle.seam_law_flow.proofs.TokenLemmas.{sole_here}
+use Rattle.seam_call.specs.declared.order.Batch.{Batch}
+use Rattle.seam_call.specs.declared.shown.GhostCopy.{GhostCopy}
+use Rattle.seam_entity.specs.Reals.{RealView}
+use Rattle.seam_entity.specs.declared.message.Msg.{Msg}
+use Rattle.seam_entity.specs.declared.message.Msg.TheVariants.{Call, BaseCall, Hand, Current, GhostSet, GhostDrop, Tick, Reap, Update}
+use Rattle.seam_entity.specs.Here.{cell_count}
+use Rattle.seam_node_steps.specs.Holders.{holders}
+use Rattle.seam_node_steps.specs.Nodes.{World, node_steps, node_has_work}
+use Rattle.seam_node_steps.specs.Loads.{loaded}
+use Rattle.seam_law_calls.specs.Frames.{Frame}
+use Rattle.seam_law_calls.specs.Sights.{entity_flow}
+use Rattle.seam_law_calls.proofs.Classify.{event_moves}
+use Rattle.seam_law_calls.specs.Ones.{real_in, real_of, IsOne, HasOne}
+use Rattle.seam_law_calls.proofs.Gone.{gone_leads}
+use Rattle.seam_law_rounds.specs.Between.{IsSettled, IsBetweenRounds, IsFitting, framed}
+use Rattle.seam_law_rounds.proofs.Framing.{in_frame}
+use Rattle.seam_law_rounds.proofs.Loaded.{no_mail, holds_kept}
+use Rattle.seam_law_rounds.proofs.Ready.{one_holder}
+use Rattle.seam_law_rounds.proofs.Going.{frame_loaded, settled_loaded, one_loaded, spared_loaded, one_after}
+use Rattle.seam_law_rounds.proofs.Shape.{Somewhere, Nowhere, search_real, frame_leads}
+use Rattle.seam_law_ghosts.proofs.Unknown.{IsTick, IsUnknown, unknown_leads}
+use Rattle.seam_law_ghosts.proofs.Beginning.{unknown_loaded}
+use Rattle.seam_law_ghosts.proofs.InRound.{nobody}
+use Rattle.seam_law_ghosts.specs.Entries.{Entry, brings}
+use Rattle.seam_law_ghosts.specs.Truths.{IsTrue, IsHushed}
+use Rattle.seam_law_ghosts.proofs.Steps.{ghost_moves}
+use Rattle.seam_law_ghosts.specs.Copies.{present, copy_at, AreTold, IsForgotten, AreSettled, AreCopiesBetweenRounds}
+use Rattle.seam_law_ghosts.proofs.Moving.{still_forgotten}
+use Rattle.seam_law_ghosts.proofs.Still.{quiet_mail, nowhere_counts, forgotten_still, none_still, settled_still}
+use Rattle.seam_law_ghosts.proofs.Running.{IsInformed, informed_from, told_of, hushed_of, later_of}
+use Rattle.seam_law_ghosts.proofs.Loading.{books_loaded, copies_loaded, home_loaded}
+
+-- ---- an entity that is nowhere: nothing comes to its books
+
+tick_brings : (m : Msg) (x : Entry) → IsTick m → brings m ≡ Some x → ⊥
+tick_brings (Call c) x t is = t
+tick_brings (BaseCall c) x t is = t
+tick_brings (Hand r) x t is = t
+tick_brings (Current e j g) x t is = t
+tick_brings (GhostSet e n c) x t is = t
+tick_brings (GhostDrop e n) x t is = t
+tick_brings Tick x t is = cc
+tick_brings (Reap e) x t is = t
+tick_brings (Update u) x t is = t
+
+module _ (f : Frame) (e : ℕ) where
+  record IsLost (w : World) : Type 0 where
+    unknown : IsUnknown f e w
+    forgotten : IsForgotten e w
+
+  lost_more : (w : World) (v : Event) → IsLost w → enabled node_has_work w v ≡ true → IsLost (happens node_steps w v)
+  lost_more w v x on =
+      let o = occurs node_has_work w v on in
+      let next = happens node_steps w v in
+      let g = event_moves f w v o x.unknown.frame e in
+      let ticks : (m : Msg) → comes g.input ≡ Some m → IsTick m = λ m is. (came (λ a k m. IsTick m) g m is x.unknown.letters).1 in
+      let free = (x.unknown.slots g.k).real in
+      record {
+        unknown = unknown_leads f e w next (v ∷ []) x.unknown (record { each = (on, tt); is_run = refl });
+        forgotten =
+            still_forgotten f e w next g g.moves.sent g.moves.items free (λ r is. ticks (Hand r) is) x.forgotten
+            (λ m y is cell brought none stray. tick_brings m y (ticks m is) brought)
+            (ghost_moves f e 0 g.k ((entity_flow e w).slot g.k) (comes g.input) ((entity_flow e next).slot g.k) g.moves.sent
+            (λ r is. absurd (ticks (Hand r) is)) (λ r at. absurd (let z = sym free ∙ at in cc)) g.moves.moves);
+      }
+
+  pub lost_leads : (w v : World) (es : List Event) → IsUnknown f e w → IsForgotten e w → LeadsTo node_has_work node_steps w es v →
+      IsForgotten e v
+  lost_leads w v es unknown forgotten run =
+      (leads_keeps node_has_work node_steps IsLost lost_more w v es (record { unknown = unknown; forgotten = forgotten }) run).forgotten
+
+-- ---- a loaded world
+
+module _ (f : Frame) (w : World) (b : Batch) (between : IsBetweenRounds f w) (fits : IsFitting f w b)
+    (copies : AreCopiesBetweenRounds f w) where
+  none_before : (e : ℕ) → holders (loaded w b) e ≡ 0 → Somewhere e w ⊎ Nowhere e w → holders w e ≡ 0
+  none_before e zero (inr none) = nowhere_counts f w between e none
+  none_before e zero (inl p) =
+      let one = holds_kept f w b between fits e
+      (one_holder f w e p.0 p.1 (between.settled e p.0 p.1 p.2) (quiet_mail f w between.nodes between.quiet e)) in
+      absurd (omega (arith, one, zero))
+
+  none_loaded : (e : ℕ) → holders (loaded w b) e ≡ 0 → (k : ℕ) → k < cell_count → copy_at e (loaded w b) k ≡ None
+  none_loaded e zero k low =
+      ap (λ p. p.1) (books_loaded e w b k) ∙ copies.none e (none_before e zero (search_real e w)) k low
+
+  pub loaded_copied : AreCopiesBetweenRounds (framed f b) (loaded w b)
+  loaded_copied = record { settled = copies_loaded f w b fits copies; none = none_loaded }
+
+-- ---- a round
+
+module _ (f : Frame) (w : World) (b : Batch) (between : IsBetweenRounds f w) (fits : IsFitting f w b)
+    (copies : AreCopiesBetweenRounds f w) (v : World) (es : List Event) (run : LeadsTo node_has_work node_steps (loaded w b) es v) where
+  abbrev g : Frame
+  g = framed f b
+
+  abbrev start : World
+  start = loaded w b
+
+  module _ (e home : ℕ) (r : RealView) (here : real_in ((entity_flow e start).slot home) ≡ Some r) where
+    abbrev settled : IsSettled g e home r start
+    settled = settled_loaded f w b between fits e home r here
+
+    abbrev one : HasOne g e r.ty start
+    one = one_loaded f w b between fits e home r here
+
+    pub real_is : r ≡ one.real
+    real_is = (sole_here real_in real_of (entity_flow e start) one.place one.real r home one.one here).1
+
+    pub start_low : one.real.public ≤ one.real.version
+    start_low = subst (λ (x : RealView). x.public ≤ x.version) real_is settled.public
+
+    abbrev Informed : World → Type 0
+    Informed =
+        IsInformed g (frame_loaded f w b between fits) e r.ty settled.type one.real start_low (λ n. present g one.real)
+
+    at_home : real_in ((entity_flow e start).slot home) ≡ Some one.real
+    at_home = here ∙ ap Some real_is
+
+    copied : AreSettled g e home one.real start
+    copied = subst (λ x. AreSettled g e home x start) real_is (copies_loaded f w b fits copies e home r here)
+
+    pub informed : Informed v
+    informed =
+        informed_from g (frame_loaded f w b between fits) e r.ty settled.type start one (spared_loaded f w b between fits e home r here)
+        start_low (no_mail f w b between fits e) home at_home copied v es run
+
+    told_then : (p : TokenPlace) (q : RealView) → IsOne e v p q → AreTold g e v p q
+    told_then =
+        told_of g (frame_loaded f w b between fits) e r.ty settled.type start one (spared_loaded f w b between fits e home r here)
+        start_low (no_mail f w b between fits e) home at_home copied v es run
+
+    hushed_then : (k : ℕ) (q : RealView) → real_in ((entity_flow e v).slot k) ≡ Some q → IsHushed e v (In k)
+    hushed_then =
+        hushed_of g (frame_loaded f w b between fits) e r.ty settled.type start one (spared_loaded f w b between fits e home r here)
+        start_low (no_mail f w b between fits e) home at_home copied v es run
+
+    later_then : (u : World) (gs : List Event) → LeadsTo node_has_work node_steps v gs u → (k : ℕ) (c d : GhostCopy) →
+        copy_at e v k ≡ Some c → copy_at e u k ≡ Some d → c.version ≤ d.version
+    later_then u gs more =
+        later_of g (frame_loaded f w b between fits) e r.ty settled.type start one (spared_loaded f w b between fits e home r here)
+        start_low (no_mail f w b between fits e) home at_home copied v u es gs run more
+
+    pub true_then : IsTrue g e r.ty r (λ n. present g r) v
+    true_then = subst (λ x. IsTrue g e r.ty x (λ n. present g x) v) (sym real_is) informed.quelled.is
+
+  pub told_each : (e : ℕ) → holders start e ≡ 1 → (p : TokenPlace) (q : RealView) → IsOne e v p q → AreTold g e v p q
+  told_each e one = let h = home_loaded f w b between fits e one in told_then e h.0 h.1 h.2
+
+  pub hushed_each : (e : ℕ) → holders start e ≡ 1 → (k : ℕ) (q : RealView) → real_in ((entity_flow e v).slot k) ≡ Some q →
+      IsHushed e v (In k)
+  hushed_each e one = let h = home_loaded f w b between fits e one in hushed_then e h.0 h.1 h.2
+
+  pub later_each : (u : World) (gs : List Event) → LeadsTo node_has_work node_steps v gs u → (e : ℕ) → holders start e ≡ 1 →
+      (k : ℕ) (c d : GhostCopy) → copy_at e v k ≡ Some c → copy_at e u k ≡ Some d → c.version ≤ d.version
+  later_each u gs more e one = let h = home_loaded f w b between fits e one in later_then e h.0 h.1 h.2 u gs more
+
+  -- ---- an entity that is not there
+
+  pub lost_then : (e : ℕ) → holders start e ≡ 0 → IsForgotten e v
+  lost_then e zero =
+      lost_leads g e start v es (unknown_loaded f w b between fits e zero)
+      (forgotten_still g e start (no_mail f w b between fits e) (none_loaded f w b between fits copies e zero)) run
+
+  -- ---- where it is quiet
+
+  module _ (quiet : IsQuiet node_has_work v) where
+    still : (e x y : ℕ) → (entity_flow e v).mail x y ≡ []
+    still = quiet_mail g v (frame_leads g start v es (in_frame f w b between fits) run) quiet
+
+    settled_by : (e k : ℕ) (q : RealView) → real_in ((entity_flow e v).slot k) ≡ Some q → Somewhere e start ⊎ Nowhere e start →
+        AreSettled g e k q v
+    settled_by e k q at (inl p) =
+        let has = (informed e p.0 p.1 p.2).quelled.is.one.has in
+        let same = sole_here real_in real_of (entity_flow e v) has.place has.real q k has.one at in
+        settled_still g e v (still e) k q
+        (told_then e p.0 p.1 p.2 (In k) q (subst (λ x. IsOne e v x q) same.0 (subst (IsOne e v has.place) (sym same.1) has.one)))
+    settled_by e k q at (inr n) =
+        let gone = gone_leads g (frame_loaded f w b between fits) e start v es (in_frame f w b between fits)
+        (record { slots = n; mail = λ x y. ap (letters_of real_of) (no_mail f w b between fits e x y) }) run in
+        absurd (let z = sym (gone.slots k) ∙ at in cc)
+
+    none_by : (e : ℕ) → holders v e ≡ 0 → (k : ℕ) → k < cell_count → Somewhere e start ⊎ Nowhere e start → copy_at e v k ≡ None
+    none_by e zero k low (inl p) =
+        let one = one_after f w b between fits e p.0 p.1 p.2 v es run in
+        absurd (omega (arith, one, zero))
+    none_by e zero k low (inr n) = none_still g e v (still e) (lost_then e (nobody f w b between fits v es run e n)) k low
+
+    pub calls_end_copied : AreCopiesBetweenRounds g v
+    calls_end_copied = record {
+      settled = λ e k q at. settled_by e k q at (search_real e start);
+      none = λ e zero k low. none_by e zero k low (search_real e start);
+    }

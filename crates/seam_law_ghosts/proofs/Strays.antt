@@ -1,0 +1,91 @@
+-- A message to a cell is never stray, nor a task of one: for an entity that no one reaps, in a round.
+use Rattle.std.proofs.Common.{◌≡◌, ℕ, ◌<◌, ◌⊎◌, Bool, true, false, not, ◌&&◌, ◌||◌, is_some, List, ◌∷◌, length, Option}
+use Rattle.std.proofs.Common.{None, Some, refl, ap, ◌∙◌, arith, inl, inr}
+use Rattle.std.specs.Prelude.{slice_get}
+use Rattle.std.proofs.lemmas.Bool.{eq-eqb}
+use Rattle.seam_machine.specs.Nets.{link, letter}
+use Rattle.seam_machine.specs.Events.{Occurs}
+use Rattle.seam_machine.specs.declared.machines.Input.TheVariants.{From}
+use Rattle.seam_law_flow.specs.Flows.{letters_of, more_letter}
+use Rattle.seam_call.specs.declared.call.Call.{Call as CallData}
+use Rattle.seam_entity.specs.Reals.{RealView}
+use Rattle.seam_entity.specs.declared.message.Msg.{Msg}
+use Rattle.seam_entity.specs.declared.message.Msg.TheVariants.{Call, BaseCall, Hand, Current, GhostSet, GhostDrop, Tick, Reap, Update}
+use Rattle.seam_entity.specs.Numbers.{limit, is_small}
+use Rattle.seam_entity.specs.Here.{cell_count}
+use Rattle.seam_entity.specs.Executing.{fits_copy, may_call}
+use Rattle.seam_node_steps.specs.Slots.{NextPlace}
+use Rattle.seam_node_steps.specs.CellCases.{about, is_stray, stray_call, stray_hand, may_come}
+use Rattle.seam_node_steps.specs.Nodes.{NodeView, World}
+use Rattle.seam_law_calls.specs.Frames.{Frame, here_at}
+use Rattle.seam_law_calls.specs.Sights.{Has, concerned, kept_if, mine, entity_flow}
+use Rattle.seam_law_calls.specs.Fits.{RealFits}
+use Rattle.seam_law_calls.specs.Burdens.{real_burden}
+use Rattle.seam_law_calls.specs.Ones.{real_in, reaped_by}
+use Rattle.seam_law_calls.proofs.Holds.{all_two}
+use Rattle.seam_law_calls.proofs.OneReal.{may_land}
+use Rattle.seam_law_calls.specs.CellTurns.{FindsTurn}
+use Rattle.seam_law_ghosts.proofs.Sending.{FitsNode}
+
+-- ---- a message on a link, as its entity sees it
+
+kept_by : (o : Option ℕ) (e : ℕ) (m : Msg) → o ≡ Some e → kept_if (concerned e o) m ≡ Some m
+kept_by None e m h = cc
+kept_by (Some x) e m h =
+    let same : x ≡ e = cc in
+    ap (λ b. kept_if b m) (eq-eqb x e same)
+
+pub mine_is : (e : ℕ) (m : Msg) → about m ≡ Some e → mine e m ≡ Some m
+mine_is e m h = kept_by (about m) e m h
+
+pub seen_first : (e : ℕ) (w : World) (a k : ℕ) (m : Msg) (ms : List Msg) → link w.rows a k ≡ m ∷ ms → about m ≡ Some e →
+    (entity_flow e w).mail a k ≡ m ∷ letters_of (mine e) ms
+seen_first e w a k m ms at h = ap (letters_of (mine e)) at ∙ ap (λ o. more_letter o (letters_of (mine e) ms)) (mine_is e m h)
+
+-- the event that feeds it
+abbrev pub feeds : (w : World) (a k : ℕ) (s : NodeView) (m : Msg) (ms : List Msg) → slice_get w.nodes k ≡ Some s →
+    link w.rows a k ≡ m ∷ ms →
+    Occurs w (record { node = k; from = Some a })
+feeds w a k s m ms node at =
+    record { node = s; input = From a m; is_node = node; is_fed = ap (letter a) at }
+
+-- ---- by kinds
+
+not_true : (b : Bool) → b ≡ true → not b ≡ false
+not_true true h = refl
+not_true false h = cc
+
+module _ (f : Frame) (e ty k : ℕ) (known : ty < length f.defs) (low : k < cell_count) (s : Has) where
+  call_by : (c : CallData) (r : Option RealView) (n : Option NextPlace) → (is_some r ≡ true) ⊎ (is_some n ≡ true) →
+      ((q : RealView) → r ≡ Some q → may_call (here_at f k) q c ≡ true) → stray_call (here_at f k) c r n ≡ false
+  call_by c (Some q) n place may = not_true (may_call (here_at f k) q c) (may q refl)
+  call_by c None (Some n) place may = refl
+  call_by c None None (inl h) may = cc
+  call_by c None None (inr h) may = cc
+
+  either : (a b : Bool) → (a || b) ≡ true → (a ≡ true) ⊎ (b ≡ true)
+  either true b h = inl refl
+  either false b h = inr h
+
+  hand_by : (r : RealView) (o : Option RealView) → o ≡ None → may_come (here_at f k) f.tree r ≡ true →
+      stray_hand (here_at f k) f.tree r o ≡ false
+  hand_by r None is may = not_true (may_come (here_at f k) f.tree r) may
+  hand_by r (Some q) is may = cc
+
+  pub kind_fits : (m : Msg) → FitsNode f k m → reaped_by m ≡ None → ((c : CallData) → m ≡ Call c → FindsTurn f k s c) →
+      ((r : RealView) → m ≡ Hand r → (real_in s ≡ None) × RealFits f e ty k r × (real_burden r < limit)) →
+      is_stray (here_at f k) f.tree s.cell.slot m ≡ false
+  kind_fits (Call c) fits spared turn hand =
+      let t = turn c refl in
+      call_by c s.cell.slot.real s.cell.slot.next (either (is_some s.cell.slot.real) (is_some s.cell.slot.next) t.place) t.may
+  kind_fits (BaseCall c) fits spared turn hand = absurd (omega (arith, fits, low))
+  kind_fits (Hand r) fits spared turn hand =
+      let h = hand r refl in
+      hand_by r s.cell.slot.real h.0 (may_land f e ty k r known h.1 h.2)
+  kind_fits (Current x j g) fits spared turn hand = absurd (omega (arith, fits, low))
+  kind_fits (GhostSet x n c) fits spared turn hand =
+      not_true (is_small n && (is_small c.version && fits_copy (here_at f k) c)) (all_two _ _ fits.0 (all_two _ _ fits.1 fits.2))
+  kind_fits (GhostDrop x n) fits spared turn hand = not_true (is_small n) fits
+  kind_fits Tick fits spared turn hand = refl
+  kind_fits (Reap x) fits spared turn hand = cc
+  kind_fits (Update u) fits spared turn hand = absurd (omega (arith, fits, low))

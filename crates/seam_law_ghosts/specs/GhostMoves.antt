@@ -1,0 +1,102 @@
+-- What a step does with what ghosts are told: the moves of a node with all else left out.
+use Rattle.std.specs.Prelude.{◌≡◌, ℕ, ◌+◌, ◌≤◌, ◌⊎◌, Bool, true, false, List, [], ◌∷◌, ◌++◌, Option, None, Some}
+use Rattle.std.specs.FinSet as set
+use Rattle.seam_tree.specs.Cells.{Cells}
+use Rattle.seam_defs.specs.declared.flags.Part.TheVariants as part
+use Rattle.seam_defs.specs.Deeds.{part_of_deed}
+use Rattle.seam_defs.specs.Tests.{changes}
+use Rattle.seam_defs.specs.Types.{type_of}
+use Rattle.seam_law_flow.specs.Newest.{entry_in, greater_entry}
+use Rattle.seam_law_flow.specs.Sent.{IsSilent}
+use Rattle.seam_law_flow.specs.Tokens.{carried_in}
+use Rattle.seam_call.specs.declared.call.Call.{Call as CallData}
+use Rattle.seam_call.specs.declared.shown.GhostCopy.{GhostCopy}
+use Rattle.seam_entity.specs.Reals.{RealView}
+use Rattle.seam_entity.specs.declared.message.Msg.{Msg}
+use Rattle.seam_entity.specs.declared.message.Msg.TheVariants.{Hand, GhostSet, Reap}
+use Rattle.seam_entity.specs.Here.{cell_count}
+use Rattle.seam_entity.specs.Executing.{copy_of_real, settled_to}
+use Rattle.seam_node_steps.specs.Settle.{haunts_at, ghost_messages, beat_after, copy_if}
+use Rattle.seam_node_steps.specs.CellCases.{is_stray, drops}
+use Rattle.seam_law_calls.specs.Frames.{Frame, here_at}
+use Rattle.seam_law_calls.specs.Sights.{Has}
+use Rattle.seam_law_calls.specs.Replays.{account_of, after_call}
+use Rattle.seam_law_calls.specs.Ones.{real_in, real_of}
+use Rattle.seam_law_ghosts.specs.Entries.{Entry, brings, book_entry}
+
+-- q is the same entity's real as r, with the same haunts, beat and generation
+pub record IsPlacedAlike (r q : RealView) : Type 0 where
+  pub entity : q.entity ≡ r.entity
+  pub type : q.ty ≡ r.ty
+  pub haunts : q.haunts ≡ r.haunts
+  pub beat : q.beat ≡ r.beat
+  pub generation : q.generation ≡ r.generation
+
+-- the real r is q when it settles: it executed nothing, or a call of its cell part; and whether others may see a change
+pub data Executes (f : Frame) (r q : RealView) (changed : Bool) : Type 0 where
+  nothing : q ≡ r → changed ≡ false → Executes f r q changed
+  executes : (c : CallData) → IsPlacedAlike r q → part_of_deed (type_of f.defs r.ty) c.deed ≡ part.Cell
+      → account_of q ≡ after_call (type_of f.defs r.ty) (account_of r) c
+      → changed ≡ changes (type_of f.defs r.ty) r.state c.deed → Executes f r q changed
+
+-- the haunts of the real q that settles in cell k, and stays
+abbrev pub haunts_staying : Frame → ℕ → RealView → Cells
+haunts_staying f k q = haunts_at (here_at f k) f.tree q.state.pos k q.haunts
+
+-- the haunts of the real q that settles in cell k, and goes to cell j
+abbrev pub haunts_going : Frame → ℕ → ℕ → RealView → Cells
+haunts_going f k j q = haunts_at (here_at f k) f.tree q.state.pos j (set.insert q.haunts k)
+
+-- what cells are told of it
+abbrev pub told_staying : Frame → ℕ → RealView → Bool → List (ℕ × Msg)
+told_staying f k q changed = ghost_messages (here_at f k) q k (haunts_staying f k q) changed
+
+abbrev pub told_going : Frame → ℕ → ℕ → RealView → Bool → List (ℕ × Msg)
+told_going f k j q changed = ghost_messages (here_at f k) q j (haunts_going f k j q) changed
+
+-- the real after it
+abbrev pub staying : Frame → ℕ → RealView → Bool → RealView
+staying f k q changed = settled_to q (haunts_staying f k q) (beat_after (told_staying f k q changed) q.beat) q.generation
+
+abbrev pub going : Frame → ℕ → ℕ → RealView → RealView
+going f k j q = settled_to q (haunts_going f k j q) (q.beat + 1) (q.generation + 1)
+
+-- what the book of the cell that it leaves is told
+abbrev pub left_entry : Frame → ℕ → ℕ → RealView → Entry
+left_entry f k j q = (q.beat + 1, copy_if (set.contains (haunts_going f k j q) k) (copy_of_real (here_at f k) q))
+
+-- a ghost message that a base node, or a cell where it is stray, does not take
+abbrev pub IsMissed : Frame → ℕ → Has → Msg → Type 0
+IsMissed f k s m = (cell_count ≤ k) ⊎ (is_stray (here_at f k) f.tree s.cell.slot m ≡ true)
+
+-- node k, which has s of entity e, is fed i, has t afterwards and sends this about e
+pub data GhostMoves (f : Frame) (e k : ℕ) (s : Has) (i : Option Msg) (t : Has) (sent : List (ℕ × Msg)) : Type 0 where
+  -- nothing
+  rests : entry_in brings i ≡ None → real_in t ≡ real_in s → book_entry t ≡ book_entry s → IsSilent brings sent
+      → GhostMoves f e k s i t sent
+  -- the real has other calls or another witness than before
+  touches : (r q : RealView) → entry_in brings i ≡ None → real_in s ≡ Some r → real_in t ≡ Some q → IsPlacedAlike r q
+      → account_of q ≡ account_of r → book_entry t ≡ book_entry s → IsSilent brings sent → GhostMoves f e k s i t sent
+  -- a ghost message comes and is stray
+  misses : (m : Msg) → i ≡ Some m → real_of m ≡ None → IsMissed f k s m → real_in t ≡ real_in s → book_entry t ≡ book_entry s
+      → IsSilent brings sent → GhostMoves f e k s i t sent
+  -- a copy comes where the real is
+  ignores : (n : ℕ) (c : GhostCopy) (r : RealView) → i ≡ Some (GhostSet e n c) → real_in s ≡ Some r → real_in t ≡ real_in s
+      → book_entry t ≡ book_entry s → IsSilent brings sent → GhostMoves f e k s i t sent
+  -- a set or a drop comes to the book
+  hears : (p : Entry) → entry_in brings i ≡ Some p → carried_in real_of i ≡ None → real_in t ≡ real_in s
+      → book_entry t ≡ greater_entry (book_entry s) (Some p) → IsSilent brings sent → GhostMoves f e k s i t sent
+  -- a hand-over comes
+  lands : (r : RealView) → i ≡ Some (Hand r) → real_in s ≡ None → real_in t ≡ Some r
+      → book_entry t ≡ greater_entry (book_entry s) (Some (r.beat, None)) → IsSilent brings sent → GhostMoves f e k s i t sent
+  -- the real settles, and stays
+  stays : (r q : RealView) (changed : Bool) → entry_in brings i ≡ None → real_in s ≡ Some r → Executes f r q changed
+      → real_in t ≡ Some (staying f k q changed) → book_entry t ≡ book_entry s → sent ≡ told_staying f k q changed
+      → GhostMoves f e k s i t sent
+  -- the real settles, and goes to cell j
+  goes : (r q : RealView) (changed : Bool) (j : ℕ) → (j ≡ k → ⊥) → entry_in brings i ≡ None → real_in s ≡ Some r
+      → Executes f r q changed → real_in t ≡ None → book_entry t ≡ greater_entry (book_entry s) (Some (left_entry f k j q))
+      → sent ≡ told_going f k j q changed ++ (j, Hand (going f k j q)) ∷ [] → GhostMoves f e k s i t sent
+  -- the entity leaves the world
+  reaped : (r : RealView) → i ≡ Some (Reap e) → real_in s ≡ Some r → real_in t ≡ None
+      → book_entry t ≡ greater_entry (book_entry s) (Some (r.beat + 1, None)) → sent ≡ drops r → GhostMoves f e k s i t sent

@@ -1,0 +1,6 @@
+pub mod Tasks
+pub mod Entries
+pub mod GhostMoves
+pub mod Truths
+pub mod RealPlaces
+pub mod Copies

@@ -1,0 +1,29 @@
+// SPDX-License-Identifier: MIT
+
+//! Ghosts and places, over every list of events.
+//!
+//! `stray_messages` says that no input of a cell is stray; `truths`, that each copy is what its entity was at the copy's version; `places`,
+//! where entities and their haunts are; `newest`, that copies are what their reals want once the world is quiet. Each law is a clause of a
+//! function that does nothing. The head of each module says which modules of `proofs` crates above cite.
+#![tactic(auto)]
+
+mod newest;
+mod places;
+mod stray_messages;
+mod truths;
+
+pub use newest::{
+    a_worked_round_keeps_the_records, copies_go_from_record_to_record,
+    each_cell_is_told_what_the_real_wants, ghosts_of_a_round_are_true, near_entities_are_known,
+    no_cell_keeps_a_copy_of_the_reaped, quiet_means_settled, the_newest_route_leads_to_the_real,
+};
+pub use places::{
+    a_load_begins_at_former_places, a_round_keeps_the_record_of_places,
+    a_round_leaves_right_places, a_worked_world_places_its_entity, places_are_near,
+    places_are_on_their_way, places_are_right, the_last_phases_leave_places,
+    who_may_be_seen_is_known,
+};
+pub use stray_messages::{no_message_to_a_cell_is_stray, no_task_of_a_cell_is_stray};
+pub use truths::{
+    a_loaded_world_has_a_table, copies_never_grow_older, ghosts_are_true, no_news_comes_to_the_real,
+};

@@ -1,0 +1,144 @@
+//! Where entities are: their places along a round, and at its end.
+//!
+//! A place is a home and the haunts, the cells with a ghost (`seam_haunt`). A batch puts each entity on the survey list of its cell, and
+//! its real settles where the survey comes and after each call that it executes (BigWorld Server Overview: offloading, ghost distance).
+//! These laws say, over every list of events, that its place is on its way, and that a round leaves it at a right one, whatever the order
+//! of the events. `specs/RealPlaces` has the way, what a right place is, and the record of places that a world keeps between rounds.
+//!
+//! Crates above cite these modules of `proofs`: `Begun` (a load), `Placing` (what each move does with a place), `Along` (an event, and
+//! every list of events), `Ends` (a quiet world, and the last phases), `NearKnown` (which cells are near, and who is known in them).
+
+ghost use Rattle.std.specs.Prelude.{◌≡◌, ℕ, ◌+◌, ◌<◌, ◌≤◌, ◌⊎◌, true, List, length, Some};
+ghost use Rattle.std.specs.List.{AllByRecursion};
+ghost use Rattle.std.specs.FinSet as set;
+ghost use Rattle.seam_geo.specs.Pos.{distance};
+ghost use Rattle.seam_haunt.specs.Haunts.{distance_to_cell};
+ghost use Rattle.seam_defs.specs.Settings.{GhostsReach};
+ghost use Rattle.seam_defs.specs.declared.settings.Settings.{Settings};
+ghost use Rattle.seam_defs.specs.declared.types.TypeDef.{TypeDef};
+ghost use Rattle.seam_tree.specs.Division.{cells_of, leaf_at};
+ghost use Rattle.seam_machine.specs.Nets.{IsQuiet, LeadsTo};
+ghost use Rattle.seam_machine.specs.declared.machines.Event.{Event};
+ghost use Rattle.seam_law_flow.specs.Tokens.{In};
+ghost use Rattle.seam_call.specs.declared.order.Batch.{Batch};
+ghost use Rattle.seam_entity.specs.Reals.{RealView};
+ghost use Rattle.seam_node_steps.specs.EarlyCall as early;
+ghost use Rattle.seam_node_steps.specs.Nodes.{World, node_steps, node_has_work};
+ghost use Rattle.seam_node_steps.specs.Loads.{opened, loaded, reaps_loaded, look_loaded};
+ghost use Rattle.seam_law_calls.specs.Frames.{Frame};
+ghost use Rattle.seam_law_calls.specs.Sights.{entity_flow};
+ghost use Rattle.seam_law_calls.specs.HandOverExample.{frame};
+ghost use Rattle.seam_law_calls.specs.Ones.{real_in, IsOne, IsSpared, AllFits, IsFrame};
+ghost use Rattle.seam_law_rounds.specs.Between.{IsBetweenRounds, IsFitting, framed};
+ghost use Rattle.seam_law_rounds.specs.LastPhases.{first_frame, AreReapable};
+ghost use Rattle.seam_law_ghosts.specs.RealPlaces.{place_of, first_place, made_real, BeginsAt, IsDue, IsPlaced, IsRightPlace};
+ghost use Rattle.seam_law_ghosts.specs.RealPlaces.{WasThere, GoesThroughRound, ArePlaced};
+
+/// Where a batch is loaded, each real that was there is in the same cell with the same haunts, and each that is created is in its leaf; and
+/// the survey list of each real's cell has its entity.
+pub fn a_load_begins_at_former_places()
+    ensures kept { (f : Frame) (w : World) (b : Batch) → IsBetweenRounds f w → IsFitting f w b → (e home : ℕ) (r : RealView) →
+        real_in ((entity_flow e w).slot home) ≡ Some r → BeginsAt w b e home r }
+    ensures made { (f : Frame) (w : World) (b : Batch) → IsBetweenRounds f w → IsFitting f w b →
+        AllByRecursion (λ x. BeginsAt w b x.entity (leaf_at b.tree x.pos) (made_real f b.tree x)) b.creates }
+    ensures due { (w : World) (b : Batch) (e k : ℕ) (r : RealView) → real_in ((entity_flow e (loaded w b)).slot k) ≡ Some r →
+        IsDue e (loaded w b) (In k) }
+{}
+
+/// Where an entity is in a cell, on that cell's survey list, and no one reaps it, its place is on its way after every list of events. So it
+/// is for each entity of a loaded world, also one that the batch creates.
+pub fn places_are_on_their_way()
+    ensures way { (f : Frame) (e ty : ℕ) (w v : World) (es : List Event) → IsFrame f → ty < length f.defs → AllFits f e ty w →
+        IsSpared e w → (home : ℕ) (r : RealView) → IsOne e w (In home) r → IsDue e w (In home) →
+        LeadsTo node_has_work node_steps w es v → IsPlaced f e ty home r v }
+    ensures loaded { (f : Frame) (w : World) (b : Batch) → IsBetweenRounds f w → IsFitting f w b → (v : World) (es : List Event) →
+        LeadsTo node_has_work node_steps (loaded w b) es v → (e home : ℕ) (r : RealView) →
+        real_in ((entity_flow e (loaded w b)).slot home) ≡ Some r → IsPlaced (framed f b) e r.ty home r v }
+{}
+
+/// Where a loaded world is quiet again, the place of each entity is one that the rounds allow for its former place, which for one that the
+/// batch creates is the leaf of its position by the batch's tree.
+pub fn places_are_right()
+    ensures kept { (f : Frame) (w : World) (b : Batch) → IsBetweenRounds f w → IsFitting f w b → (v : World) (es : List Event) →
+        LeadsTo node_has_work node_steps (loaded w b) es v → IsQuiet node_has_work v → (e home : ℕ) (r : RealView) →
+        real_in ((entity_flow e w).slot home) ≡ Some r → (k : ℕ) (q : RealView) → real_in ((entity_flow e v).slot k) ≡ Some q →
+        IsRightPlace f b.tree (place_of home r) r k q }
+    ensures made { (f : Frame) (w : World) (b : Batch) → IsBetweenRounds f w → IsFitting f w b → (v : World) (es : List Event) →
+        LeadsTo node_has_work node_steps (loaded w b) es v → IsQuiet node_has_work v →
+        AllByRecursion (λ x. (k : ℕ) (q : RealView) → real_in ((entity_flow x.entity v).slot k) ≡ Some q →
+        IsRightPlace f b.tree (first_place b.tree x) (made_real f b.tree x) k q) b.creates }
+{}
+
+/// Reaps and looks leave places: each real that is there after any of their events was in the same cell before, and is the same but for its
+/// witness.
+pub fn the_last_phases_leave_places()
+    ensures reaps { (f : Frame) (u : World) → IsBetweenRounds f u → (es : List ℕ) → AreReapable u es → (vs : List Event) (v : World) →
+        LeadsTo node_has_work node_steps (reaps_loaded u es) vs v → (e k : ℕ) (q : RealView) →
+        real_in ((entity_flow e v).slot k) ≡ Some q → WasThere e k q u }
+    ensures looks { (f : Frame) (u : World) → IsBetweenRounds f u → (vs : List Event) (v : World) →
+        LeadsTo node_has_work node_steps (look_loaded u) vs v → (e k : ℕ) (q : RealView) →
+        real_in ((entity_flow e v).slot k) ≡ Some q → WasThere e k q u }
+{}
+
+/// So the places of those that are left are right after the whole round too.
+pub fn a_round_leaves_right_places()
+    ensures kept { (f : Frame) (w : World) (b : Batch) → IsBetweenRounds f w → IsFitting f w b → (v : World) → GoesThroughRound w b v →
+        (e home : ℕ) (r : RealView) → real_in ((entity_flow e w).slot home) ≡ Some r → (k : ℕ) (q : RealView) →
+        real_in ((entity_flow e v).slot k) ≡ Some q → IsRightPlace f b.tree (place_of home r) r k q }
+    ensures made { (f : Frame) (w : World) (b : Batch) → IsBetweenRounds f w → IsFitting f w b → (v : World) → GoesThroughRound w b v →
+        AllByRecursion (λ x. (k : ℕ) (q : RealView) → real_in ((entity_flow x.entity v).slot k) ≡ Some q →
+        IsRightPlace f b.tree (first_place b.tree x) (made_real f b.tree x) k q) b.creates }
+{}
+
+/// The record of places holds of a world as it is opened. It holds where a batch leaves the world quiet, now by the batch's tree, and the
+/// reaps and the looks keep it; so a whole round does.
+pub fn a_round_keeps_the_record_of_places()
+    ensures opened { (defs : List TypeDef) (settings : Settings) → IsFrame (first_frame defs settings) → 1 ≤ settings.bases →
+        ArePlaced (first_frame defs settings) (opened defs settings) }
+    ensures calls { (f : Frame) (w : World) (b : Batch) → IsBetweenRounds f w → IsFitting f w b → (v : World) (es : List Event) →
+        LeadsTo node_has_work node_steps (loaded w b) es v → IsQuiet node_has_work v →
+        ArePlaced (framed f b) v }
+    ensures reaps { (f : Frame) (u : World) → IsBetweenRounds f u → (es : List ℕ) → AreReapable u es → (vs : List Event) (v : World) →
+        LeadsTo node_has_work node_steps (reaps_loaded u es) vs v → ArePlaced f u → ArePlaced f v }
+    ensures looks { (f : Frame) (u : World) → IsBetweenRounds f u → (vs : List Event) (v : World) →
+        LeadsTo node_has_work node_steps (look_loaded u) vs v → ArePlaced f u → ArePlaced f v }
+    ensures round { (f : Frame) (w : World) (b : Batch) → IsBetweenRounds f w → IsFitting f w b → (v : World) → GoesThroughRound w b v →
+        ArePlaced (framed f b) v }
+{}
+
+/// In a world that keeps both records each entity is within the offload hysteresis of its cell, each other cell within the ghost distance
+/// is a haunt of it, and none beyond that and the ghost hysteresis is one.
+pub fn places_are_near()
+    ensures home { (f : Frame) (w : World) → IsBetweenRounds f w → ArePlaced f w → (e k : ℕ) (r : RealView) →
+        real_in ((entity_flow e w).slot k) ≡ Some r → distance_to_cell f.tree k r.state.pos ≤ f.settings.offload_hysteresis }
+    ensures near { (f : Frame) (w : World) → IsBetweenRounds f w → ArePlaced f w → (e k : ℕ) (r : RealView) →
+        real_in ((entity_flow e w).slot k) ≡ Some r → (j : ℕ) → (j ≡ k → ⊥) → j < cells_of f.tree →
+        distance_to_cell f.tree j r.state.pos ≤ f.settings.ghost_distance → set.contains r.haunts j ≡ true }
+    ensures far { (f : Frame) (w : World) → IsBetweenRounds f w → ArePlaced f w → (e k : ℕ) (r : RealView) →
+        real_in ((entity_flow e w).slot k) ≡ Some r → (j : ℕ) → set.contains r.haunts j ≡ true →
+        distance_to_cell f.tree j r.state.pos ≤ f.settings.ghost_distance + f.settings.ghost_hysteresis }
+{}
+
+/// And a client may see only those that its cell knows: of an entity x within the view's radius and hysteresis of an entity e, the cell of
+/// e is the home or a haunt. (That a haunt has the present copy is a law of copies.)
+pub fn who_may_be_seen_is_known()
+    ensures { (f : Frame) (w : World) → IsBetweenRounds f w → ArePlaced f w → GhostsReach f.settings → (e i : ℕ) (r : RealView) →
+        real_in ((entity_flow e w).slot i) ≡ Some r → (x j : ℕ) (q : RealView) → real_in ((entity_flow x w).slot j) ≡ Some q →
+        distance q.state.pos r.state.pos ≤ f.settings.view_radius + f.settings.view_hysteresis →
+        (i ≡ j) ⊎ (set.contains q.haunts i ≡ true) }
+{
+    seam_geo::triangle_inequality();
+}
+
+/// What these laws ask of a world is true of one that a load made, of two cells. At the end of its run, which hands the entity over, its
+/// place is right, and would not be in its former cell; the world keeps the record of places. What the laws ask of settings is true as
+/// well.
+pub fn a_worked_world_places_its_entity()
+    ensures one { IsOne 1 early.world_0 (In 0) early.made }
+    ensures due { IsDue 1 early.world_0 (In 0) }
+    ensures there { real_in ((entity_flow 1 early.world_12).slot 1) ≡ Some early.hit_twice }
+    ensures right { IsRightPlace frame early.two_cells (place_of 0 early.made) early.made 1 early.hit_twice }
+    ensures wrong { IsRightPlace frame early.two_cells (place_of 0 early.made) early.made 0 early.hit_twice → ⊥ }
+    ensures placed { ArePlaced frame early.world_12 }
+    ensures reach { GhostsReach frame.settings }
+{}

@@ -1,0 +1,55 @@
+//! No input of a cell is stray, in any phase of a round, over every list of events.
+//!
+//! A cell's step tests each input first, and does nothing where a test fails (`seam_node_steps`: *is_stray*, *stray_survey*,
+//! *stray_ready_call*). In a world that keeps the record between rounds, and that was given a fitting batch, entities to reap, or a look,
+//! no test ever fails: each message finds what it is for, fits, and brings small numbers, and each entity in a list has its real there.
+//!
+//! A copy that comes where the real is changes nothing; that its beat is not greater is left to the laws of ghosts, and that the updates of
+//! a look have numbers to those of what clients are shown.
+//!
+//! Crates above cite these modules of `proofs`: `Sending` (what is sent fits), `Lasting` (lists and letters over every list of events),
+//! `Unknown` (an entity that is nowhere), `Beginning` (what a loaded world has of one), `InRound`, `InPhases` and `NoStrays` (each phase).
+
+ghost use Rattle.std.specs.Prelude.{◌≡◌, ℕ, false, List, ◌∷◌, Some, slice_get};
+ghost use Rattle.seam_machine.specs.Nets.{link, LeadsTo};
+ghost use Rattle.seam_machine.specs.declared.machines.Event.{Event};
+ghost use Rattle.seam_call.specs.declared.order.Batch.{Batch};
+ghost use Rattle.seam_entity.specs.declared.message.Msg.{Msg};
+ghost use Rattle.seam_node_steps.specs.CellCases.{about, is_stray};
+ghost use Rattle.seam_node_steps.specs.Cells.{CellView, slot_of};
+ghost use Rattle.seam_node_steps.specs.Nodes.{World, node_steps, node_has_work};
+ghost use Rattle.seam_node_steps.specs.Nodes.NodeView.{Cell};
+ghost use Rattle.seam_node_steps.specs.Loads.{loaded, reaps_loaded, look_loaded};
+ghost use Rattle.seam_law_calls.specs.Frames.{Frame};
+ghost use Rattle.seam_law_rounds.specs.Between.{IsBetweenRounds, IsFitting};
+ghost use Rattle.seam_law_rounds.specs.LastPhases.{AreReapable};
+ghost use Rattle.seam_law_ghosts.specs.Tasks.{HasNoStrayTask};
+
+/// A message that is the first of its link to a cell is not stray there: in a round, where entities are reaped, and where witnesses look.
+pub fn no_message_to_a_cell_is_stray()
+    ensures round { (f : Frame) (w : World) (b : Batch) → IsBetweenRounds f w → IsFitting f w b → (v : World) (es : List Event) →
+        LeadsTo node_has_work node_steps (loaded w b) es v → (a k : ℕ) (c : CellView) (m : Msg) (ms : List Msg) (e : ℕ) →
+        slice_get v.nodes k ≡ Some (Cell c) → link v.rows a k ≡ m ∷ ms → about m ≡ Some e →
+        is_stray c.here c.tree (slot_of c e) m ≡ false }
+    ensures reaps { (f : Frame) (u : World) → IsBetweenRounds f u → (es : List ℕ) → AreReapable u es → (vs : List Event) (v : World) →
+        LeadsTo node_has_work node_steps (reaps_loaded u es) vs v → (a k : ℕ) (c : CellView) (m : Msg) (ms : List Msg) (e : ℕ) →
+        slice_get v.nodes k ≡ Some (Cell c) → link v.rows a k ≡ m ∷ ms → about m ≡ Some e →
+        is_stray c.here c.tree (slot_of c e) m ≡ false }
+    ensures looks { (f : Frame) (u : World) → IsBetweenRounds f u → (vs : List Event) (v : World) →
+        LeadsTo node_has_work node_steps (look_loaded u) vs v → (a k : ℕ) (c : CellView) (m : Msg) (ms : List Msg) (e : ℕ) →
+        slice_get v.nodes k ≡ Some (Cell c) → link v.rows a k ≡ m ∷ ms → about m ≡ Some e →
+        is_stray c.here c.tree (slot_of c e) m ≡ false }
+{}
+
+/// Nor is a task of a cell.
+pub fn no_task_of_a_cell_is_stray()
+    ensures round { (f : Frame) (w : World) (b : Batch) → IsBetweenRounds f w → IsFitting f w b → (v : World) (es : List Event) →
+        LeadsTo node_has_work node_steps (loaded w b) es v → (k : ℕ) (c : CellView) → slice_get v.nodes k ≡ Some (Cell c) →
+        HasNoStrayTask c }
+    ensures reaps { (f : Frame) (u : World) → IsBetweenRounds f u → (es : List ℕ) → AreReapable u es → (vs : List Event) (v : World) →
+        LeadsTo node_has_work node_steps (reaps_loaded u es) vs v → (k : ℕ) (c : CellView) → slice_get v.nodes k ≡ Some (Cell c) →
+        HasNoStrayTask c }
+    ensures looks { (f : Frame) (u : World) → IsBetweenRounds f u → (vs : List Event) (v : World) →
+        LeadsTo node_has_work node_steps (look_loaded u) vs v → (k : ℕ) (c : CellView) → slice_get v.nodes k ≡ Some (Cell c) →
+        HasNoStrayTask c }
+{}

@@ -1,0 +1,63 @@
+//! Ghosts are true, over every list of events.
+//!
+//! Each copy of an entity, in a cell's book or on its way there, is what others may see of the state that the entity's real had at the
+//! copy's version (BigWorld Server Overview: a ghost is a copy of the relevant data of an entity from a nearby cell). What was told is a
+//! table from beats to copies, which only grows at its end along the events; copies that were there at the start keep their places in it.
+//!
+//! Crates above cite these modules of `proofs`: `Steps` (each move is one of those of what ghosts are told), `Making` (what a move makes
+//! of the real, and what it writes and sends), `Present` (what others may see now), `Telling` (an event, and every list of events), `Books`
+//! (the beats of books), `Hushing` (what comes to the cell of the real).
+//!
+//! That the newest entry of a cell is the one that the real wants, so that a quiet world is settled, is said in `newest`.
+
+ghost use Rattle.std.specs.Prelude.{◌≡◌, ℕ, ◌<◌, ◌≤◌, List, length, Some};
+ghost use Rattle.seam_machine.specs.Nets.{LeadsTo};
+ghost use Rattle.seam_machine.specs.declared.machines.Event.{Event};
+ghost use Rattle.seam_law_flow.specs.Tokens.{In};
+ghost use Rattle.seam_call.specs.declared.shown.GhostCopy.{GhostCopy};
+ghost use Rattle.seam_entity.specs.Reals.{RealView};
+ghost use Rattle.seam_node_steps.specs.Nodes.{World, node_steps, node_has_work};
+ghost use Rattle.seam_node_steps.specs.EarlyCall as early;
+ghost use Rattle.seam_law_calls.specs.Frames.{Frame};
+ghost use Rattle.seam_law_calls.specs.Sights.{entity_flow};
+ghost use Rattle.seam_law_calls.specs.Ones.{real_in, IsFrame, IsSpared, HasOne};
+ghost use Rattle.seam_law_ghosts.specs.Entries.{book_entry};
+ghost use Rattle.seam_law_ghosts.specs.Truths.{IsTable, IsTrue, IsHushed};
+
+/// Where the copies of an entity are those of a table at the start, they are those of one after every list of events. It is the same for
+/// the beats of the start; for each later one it has what others may see of the state that the real had at the copy's version.
+pub fn ghosts_are_true()
+    ensures { (f : Frame) (e ty : ℕ) (w v : World) (es : List Event) → IsFrame f → ty < length f.defs → (h : HasOne f e ty w) →
+        IsSpared e w → h.real.public ≤ h.real.version → (first : ℕ → GhostCopy) → IsTable e w h.real first →
+        LeadsTo node_has_work node_steps w es v → IsTrue f e ty h.real first v }
+{}
+
+/// A book's beat of an entity never falls, over drops of the copy too; so of two copies of it in a cell the later one is never of an older
+/// version. The world after the events has a table again, by `ghosts_are_true`.
+pub fn copies_never_grow_older()
+    ensures beats { (f : Frame) (e ty : ℕ) (w v : World) (es : List Event) → IsFrame f → ty < length f.defs → (h : HasOne f e ty w) →
+        IsSpared e w → h.real.public ≤ h.real.version → (first : ℕ → GhostCopy) → IsTable e w h.real first →
+        LeadsTo node_has_work node_steps w es v → (k : ℕ) →
+        (book_entry ((entity_flow e w).slot k)).0 ≤ (book_entry ((entity_flow e v).slot k)).0 }
+    ensures versions { (f : Frame) (e ty : ℕ) (w v : World) (es : List Event) → IsFrame f → ty < length f.defs → (h : HasOne f e ty w) →
+        IsSpared e w → h.real.public ≤ h.real.version → (first : ℕ → GhostCopy) → IsTable e w h.real first →
+        LeadsTo node_has_work node_steps w es v → (k : ℕ) (c d : GhostCopy) → (book_entry ((entity_flow e w).slot k)).1 ≡ Some c →
+        (book_entry ((entity_flow e v).slot k)).1 ≡ Some d → c.version ≤ d.version }
+{}
+
+/// What comes to the cell where the real is has no newer beat than the book there, so that a copy that comes there may be ignored. It is so
+/// after every list of events where it is so at the start, as it is where nothing is on its way.
+pub fn no_news_comes_to_the_real()
+    ensures { (f : Frame) (e ty : ℕ) (w v : World) (es : List Event) → IsFrame f → ty < length f.defs → (h : HasOne f e ty w) →
+        IsSpared e w → h.real.public ≤ h.real.version → (first : ℕ → GhostCopy) → IsTable e w h.real first → IsHushed e w h.place →
+        LeadsTo node_has_work node_steps w es v → (k : ℕ) (r : RealView) → real_in ((entity_flow e v).slot k) ≡ Some r →
+        IsHushed e v (In k) }
+{}
+
+/// What these laws ask is true of the loaded world of two cells of `seam_law_calls`, whose entity is handed over: no cell has a copy, and
+/// nothing is on its way. Each table whose first copy has version 0 is one of it.
+pub fn a_loaded_world_has_a_table()
+    ensures table { (table : ℕ → GhostCopy) → (table 0).version ≤ 0 → IsTable 1 early.world_0 early.made table }
+    ensures public { early.made.public ≤ early.made.version }
+    ensures hushed { IsHushed 1 early.world_0 (In 0) }
+{}

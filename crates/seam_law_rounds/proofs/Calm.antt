@@ -1,0 +1,87 @@
+-- A calm entity: its real stays where it is until its Reap comes, and no one calls it.
+use Rattle.std.proofs.Common.{◌≡◌, ℕ, ◌+◌, ◌≤◌, Bool, cond, Option, None, Some, true}
+use Rattle.std.specs.List.{AllByRecursion}
+use Rattle.seam_machine.specs.Totals.{total}
+use Rattle.seam_net_runs.specs.Sums.{weight_or}
+use Rattle.seam_net_runs.specs.Weights.{weight}
+use Rattle.seam_call.specs.declared.order.Order.{Order}
+use Rattle.seam_call.specs.declared.order.Order.TheVariants as order
+use Rattle.seam_entity.specs.Reals.{RealView, WitnessView}
+use Rattle.seam_entity.specs.declared.message.Msg.{Msg}
+use Rattle.seam_entity.specs.declared.message.Msg.TheVariants.{Call, BaseCall, Hand, Current, GhostSet, GhostDrop, Tick, Reap, Update}
+use Rattle.seam_entity.specs.Here.{cell_count}
+use Rattle.seam_node_steps.specs.Nodes.{NodeView, World}
+use Rattle.seam_law_calls.specs.Frames.{Frame, IsInFrame}
+use Rattle.seam_law_calls.specs.Sights.{Has, mine, has_of, entity_flow}
+use Rattle.seam_law_calls.specs.Ones.{real_in}
+
+-- the real q is r but for its witness
+abbrev pub IsSame : RealView → RealView → Type 0
+IsSame r q = (x : Option WitnessView) × (record r { witness = x } ≡ q)
+
+abbrev pub IsCalmOrder : ℕ → Order → Type 0
+IsCalmOrder e (order.Cell c) = ⊥
+IsCalmOrder e (order.Base c) = ⊥
+IsCalmOrder e order.Tick = Unit {0}
+IsCalmOrder e (order.Reap x) = x ≡ e
+
+-- what node k has of the entity, whose real was r in cell `home` of world u
+pub record IsCalmAt (e home : ℕ) (r : RealView) (u : World) (k : ℕ) (h : Has) : Type 0 where
+  pub survey : h.cell.survey ≡ 0
+  pub real : (q : RealView) → real_in h ≡ Some q → (k ≡ home) × IsSame r q
+  pub orders : AllByRecursion (IsCalmOrder e) h.base.orders
+  pub route : h.base.route ≡ ((entity_flow e u).slot k).base.route
+
+-- what is on its way to node k
+abbrev pub IsCalmTo : Bool → ℕ → RealView → ℕ → Msg → Type 0
+IsCalmTo told home r k (Call c) = ⊥
+IsCalmTo told home r k (BaseCall c) = ⊥
+IsCalmTo told home r k (Hand q) = ⊥
+IsCalmTo told home r k (Current e j g) = ⊥
+IsCalmTo told home r k (GhostSet e n c) = ⊥
+IsCalmTo told home r k (GhostDrop e n) = (told ≡ true) × (n ≤ r.beat + 1)
+IsCalmTo told home r k Tick = Unit {0}
+IsCalmTo told home r k (Reap e) = k ≡ home
+IsCalmTo told home r k (Update u) = cell_count ≤ k
+
+-- ---- how many reaps of it wait
+
+abbrev pub order_reaps : Order → ℕ
+order_reaps (order.Cell c) = 0
+order_reaps (order.Base c) = 0
+order_reaps order.Tick = 0
+order_reaps (order.Reap e) = 1
+
+abbrev pub letter_reaps : Msg → ℕ
+letter_reaps (Call c) = 0
+letter_reaps (BaseCall c) = 0
+letter_reaps (Hand r) = 0
+letter_reaps (Current e j g) = 0
+letter_reaps (GhostSet e n c) = 0
+letter_reaps (GhostDrop e n) = 0
+letter_reaps Tick = 0
+letter_reaps (Reap e) = 1
+letter_reaps (Update u) = 0
+
+abbrev pub has_reaps : Has → ℕ
+has_reaps h = total order_reaps h.base.orders
+
+abbrev pub node_reaps : ℕ → NodeView → ℕ
+node_reaps e s = has_reaps (has_of e s)
+
+abbrev pub mine_reaps : ℕ → ℕ → Msg → ℕ
+mine_reaps e k m = weight_or letter_reaps (mine e m)
+
+abbrev pub reaps_of : ℕ → World → ℕ
+reaps_of e w = weight (node_reaps e) (mine_reaps e) w
+
+abbrev pub one_if : Option RealView → ℕ
+one_if None = 0
+one_if (Some r) = 1
+
+-- a world in which the entity is calm; its Reap waits as long as its real is there, where it was told to be reaped
+pub record IsCalm (f : Frame) (e home : ℕ) (r : RealView) (u : World) (is_told : Bool) (w : World) : Type 0 where
+  pub frame : IsInFrame f w
+  pub nodes : (k : ℕ) → IsCalmAt e home r u k ((entity_flow e w).slot k)
+  pub mail : (a k : ℕ) → AllByRecursion (IsCalmTo is_told home r k) ((entity_flow e w).mail a k)
+  pub reaps : reaps_of e w ≡ cond is_told (one_if (real_in ((entity_flow e w).slot home))) 0

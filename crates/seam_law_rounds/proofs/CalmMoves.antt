@@ -1,0 +1,314 @@
+-- What a move does with a calm entity.
+use Rattle.std.proofs.Common.{◌≡◌, ℕ, ◌+◌, ◌<◌, ◌≤◌, Bool, true, false, not, List, [], ◌∷◌, map, filter_map, Option, None, Some, refl, sym}
+use Rattle.std.proofs.Common.{ap, ◌∙◌, subst, arith}
+use Rattle.std.specs.List.{AllByRecursion, range_with_len}
+use Rattle.std.specs.FinMap as table
+use Rattle.std.specs.FinSet as set
+use Rattle.seam_table.proofs.Found.{found}
+use Rattle.seam_machine.specs.Totals.{total}
+use Rattle.seam_order.specs.Held.{OrderView}
+use Rattle.seam_order.specs.Offers.{next_item}
+use Rattle.seam_call.specs.declared.call.Call.{Call as CallData}
+use Rattle.seam_call.specs.declared.order.Order.{Order}
+use Rattle.seam_call.specs.declared.order.Order.TheVariants as order
+use Rattle.seam_call.specs.declared.shown.Shown.{Shown}
+use Rattle.seam_entity.specs.Orders.{Orders, order_or}
+use Rattle.seam_entity.specs.Reals.{RealView, WitnessView}
+use Rattle.seam_entity.specs.declared.message.Msg.{Msg}
+use Rattle.seam_entity.specs.declared.message.Msg.TheVariants.{Call, BaseCall, Hand, Current, GhostSet, GhostDrop, Tick, Reap, Update}
+use Rattle.seam_entity.specs.Numbers.{may_rise}
+use Rattle.seam_entity.specs.Here.{cell_count, cell_numbers, base_of}
+use Rattle.seam_entity.specs.Calls.{order_is_ready, ready_order}
+use Rattle.seam_node_steps.specs.Slots.{SlotStep, slot_after}
+use Rattle.seam_node_steps.specs.CellCases.{is_stray, drop_at}
+use Rattle.seam_node_steps.specs.BaseCases.{tick_to}
+use Rattle.seam_node_steps.specs.Bases.{RouteView}
+use Rattle.seam_node_steps.specs.CellLooks.{numbered, shown_of, looks_with}
+use Rattle.seam_law_calls.specs.Frames.{Frame, here_at}
+use Rattle.seam_node_steps.specs.Nodes.{World}
+use Rattle.seam_law_calls.specs.Sights.{Has, AtCell, AtBase, entity_flow}
+use Rattle.seam_law_calls.specs.CellMoves as move
+use Rattle.seam_law_calls.specs.CellMoves.{unlisted_if, Does, Acts, surveys, calls, readies, CellMoves}
+use Rattle.seam_law_calls.specs.BaseMoves as base_move
+use Rattle.seam_law_calls.specs.BaseMoves.{BaseMoves}
+use Rattle.seam_law_calls.specs.Moves.{Moves, at_a_cell, at_a_base}
+use Rattle.seam_law_calls.specs.Ones.{real_in}
+use Rattle.seam_law_rounds.proofs.Calm.{IsSame, IsCalmOrder, IsCalmAt, IsCalmTo, order_reaps, letter_reaps, has_reaps, one_if}
+
+not_yes : (b : Bool) → b ≡ true → not b ≡ true → ⊥
+not_yes true h k = cc
+not_yes false h k = cc
+
+-- where no call is held, none is ready
+pub none_ready : (os : Orders) → ((s : ℕ) → (order_or (table.get os s)).held ≡ []) → (o : ℕ × OrderView CallData) (c : CallData) →
+    ready_order os ≡ Some o → next_item o.1 ≡ Some c → ⊥
+none_ready os none o c at item =
+    let two = found order_is_ready os o at in
+    let empty = sym (ap (λ x. (order_or x).held) two.0) ∙ none o.0 in
+    let no = ap (λ x. next_item {T = CallData} (record { next = o.1.next; held = x })) empty in
+    let z = sym item ∙ no in
+    cc
+
+abbrev pub sent_reaps : List (ℕ × Msg) → ℕ
+sent_reaps ps = total (λ p. letter_reaps p.1) ps
+
+-- what comes to node k, which has s of the entity, is calm, and a Reap finds the real
+pub record Comes (told : Bool) (home : ℕ) (r : RealView) (k : ℕ) (s : Has) (i : Option Msg) : Type 0 where
+  pub letter : (m : Msg) → i ≡ Some m → IsCalmTo told home r k m
+  pub found : (x : ℕ) → i ≡ Some (Reap x) → (q : RealView) × (real_in s ≡ Some q) × (may_rise q.beat ≡ true) × (told ≡ true)
+
+module _ (f : Frame) (e home : ℕ) (r : RealView) (was : World) (none : (s : ℕ) → (order_or (table.get r.orders s)).held ≡ [])
+    (leads : (k : ℕ) (x : RouteView) → ((entity_flow e was).slot k).base.route ≡ Some x → x.cell ≡ home) (told : Bool) (k : ℕ) (s : Has)
+    (i : Option Msg) (t : Has) (sent : List (ℕ × Msg)) where
+  abbrev To : ℕ × Msg → Type 0
+  To p = IsCalmTo told home r p.0 p.1
+
+  -- the entity is calm at the node afterwards, what is sent is calm, and what waits of reaps waits still, but for one that came
+  pub record Stays : Type 0 where
+    pub at : IsCalmAt e home r was k t
+    pub calm : AllByRecursion To sent
+    pub reaps : has_reaps t + sent_reaps sent ≡ has_reaps s
+    pub real : one_if (real_in t) ≡ one_if (real_in s)
+
+  -- and where a Reap came, the real is gone
+  pub record Ends : Type 0 where
+    pub at : IsCalmAt e home r was k t
+    pub calm : AllByRecursion To sent
+    pub reaps : has_reaps t + sent_reaps sent ≡ has_reaps s
+    pub real : real_in t ≡ None
+
+  pub data Calmed : Type 0 where
+    stays : (i ≡ Some (Reap e) → ⊥) → Stays → Calmed
+    ends : i ≡ Some (Reap e) → Ends → Calmed
+
+  module _ (here : IsCalmAt e home r was k s) (come : Comes told home r k s i) where
+    -- ---- at a cell
+
+    no_letter : (m : Msg) → i ≡ Some m → (IsCalmTo told home r k m → ⊥) → ⊥
+    no_letter m is n = n (come.letter m is)
+
+    none_reaps : i ≡ None → i ≡ Some (Reap e) → ⊥
+    none_reaps n is = let z = sym n ∙ is in cc
+
+    other_reaps : (m : Msg) → i ≡ Some m → (m ≡ Reap e → ⊥) → i ≡ Some (Reap e) → ⊥
+    other_reaps m at n is = n (let z = sym at ∙ is in cc)
+
+    -- the cell has the same real, and what it has of surveys
+    same_at : real_in t ≡ real_in s → t.cell.survey ≡ 0 → t.base ≡ s.base → IsCalmAt e home r was k t
+    same_at same survey base = record {
+      survey = survey;
+      real = λ q h. here.real q (sym same ∙ h);
+      orders = subst (λ (b : AtBase). AllByRecursion (IsCalmOrder e) b.orders) (sym base) here.orders;
+      route = ap (λ (b : AtBase). b.route) base ∙ here.route;
+    }
+
+    same_reaps : t.base ≡ s.base → sent_reaps sent ≡ 0 → has_reaps t + sent_reaps sent ≡ has_reaps s
+    same_reaps base light = let a = ap (λ (b : AtBase). total order_reaps b.orders) base in omega (arith, a, light)
+
+    unchanged : (i ≡ Some (Reap e) → ⊥) → real_in t ≡ real_in s → t.cell.survey ≡ 0 → t.base ≡ s.base → sent ≡ [] → Calmed
+    unchanged n same survey base z =
+        stays n (record {
+          at = same_at same survey base;
+          calm = subst (AllByRecursion To) (sym z) tt;
+          reaps = same_reaps base (ap sent_reaps z);
+          real = ap one_if same;
+        })
+
+    acts_never : (u : AtCell) (p q : RealView) (changed : Bool) → real_in s ≡ Some p → Acts (here_at f k) e s.cell i p u q changed → ⊥
+    acts_never u p q changed has (surveys n a b c) = let zero = here.survey in omega (arith, b, zero)
+    acts_never u p q changed has (calls c a b d g) = come.letter (Call c) a
+    acts_never u p q changed has (readies o c a b d g) =
+        let same = (here.real p has).1 in
+        none_ready p.orders (subst (λ (x : RealView). (s : ℕ) → (order_or (table.get x.orders s)).held ≡ []) same.1 none) o c d g
+
+    stray_reap : (x : ℕ) → i ≡ Some (Reap x) → is_stray (here_at f k) f.tree s.cell.slot (Reap x) ≡ true → ⊥
+    stray_reap x is stray =
+        let q = come.found x is in
+        not_yes (may_rise q.0.beat) q.2
+        (sym (ap (λ o. is_stray (here_at f k) f.tree (record { real = o; next = s.cell.slot.next; ghost = s.cell.slot.ghost })
+        (Reap x)) q.1)
+        ∙ stray)
+
+    stray_by : (m : Msg) → i ≡ Some m → is_stray (here_at f k) f.tree s.cell.slot m ≡ true → real_in t ≡ real_in s → t.cell.survey ≡ 0 →
+        t.base ≡ s.base → sent ≡ [] → Calmed
+    stray_by (Call c) is b same survey base z = absurd (come.letter (Call c) is)
+    stray_by (BaseCall c) is b same survey base z = absurd (come.letter (BaseCall c) is)
+    stray_by (Hand q) is b same survey base z = absurd (come.letter (Hand q) is)
+    stray_by (Current x j g) is b same survey base z = absurd (come.letter (Current x j g) is)
+    stray_by (GhostSet x n c) is b same survey base z = absurd (come.letter (GhostSet x n c) is)
+    stray_by (GhostDrop x n) is b same survey base z = unchanged (other_reaps (GhostDrop x n) is (λ h. cc)) same survey base z
+    stray_by Tick is b same survey base z = unchanged (other_reaps Tick is (λ h. cc)) same survey base z
+    stray_by (Reap x) is b same survey base z = absurd (stray_reap x is b)
+    stray_by (Update u) is b same survey base z = unchanged (other_reaps (Update u) is (λ h. cc)) same survey base z
+
+    drop_by : told ≡ true → (q : RealView) (j : ℕ) (b : Bool) (js : List ℕ) → q.beat ≡ r.beat →
+        AllByRecursion To (filter_map (drop_at q) js) × (sent_reaps (filter_map (drop_at q) js) ≡ 0) →
+        set.contains q.haunts j ≡ b → AllByRecursion To (filter_map (drop_at q) (j ∷ js)) × (sent_reaps (filter_map (drop_at q)
+        (j ∷ js)) ≡ 0)
+    drop_by it q j true js beat more is = let none = more.1 in rw is (((it, omega (arith, beat)), more.0), omega (arith, none))
+    drop_by it q j false js beat more is = rw is more
+
+    drops_calm : told ≡ true → (q : RealView) (js : List ℕ) → q.beat ≡ r.beat →
+        AllByRecursion To (filter_map (drop_at q) js) × (sent_reaps (filter_map (drop_at q) js) ≡ 0)
+    drops_calm is q [] beat = (tt, refl)
+    drops_calm is q (j ∷ js) beat = drop_by is q j (set.contains q.haunts j) js beat (drops_calm is q js beat) refl
+
+    updates_calm : (b x n : ℕ) (ss : List Shown) → cell_count ≤ b → AllByRecursion To (numbered b x n ss) × (sent_reaps
+        (numbered b x n ss) ≡ 0)
+    updates_calm b x n [] high = (tt, refl)
+    updates_calm b x n (y ∷ ys) high = let more = updates_calm b x (n + 1) ys high in let none = more.1 in (
+      (high, more.0),
+      omega
+          (arith, none),
+    )
+
+    real_after : (x : SlotStep) (u : AtCell) → Does u x t.cell sent → (slot_after x.slot u.slot).real ≡ real_in s → real_in t ≡ real_in s
+    real_after x u d is = ap (λ a. a.slot.real) d.state ∙ is
+
+    survey_after : (x : SlotStep) (u : AtCell) → Does u x t.cell sent → unlisted_if x.unlisted u.survey ≡ 0 → t.cell.survey ≡ 0
+    survey_after x u d is = ap (λ a. a.survey) d.state ∙ is
+
+    -- a step of the slot that changes nothing but what it has of the lists
+    idles : (i ≡ Some (Reap e) → ⊥) → (x : SlotStep) (u : AtCell) → Does u x t.cell sent → t.base ≡ s.base →
+        (slot_after x.slot u.slot).real ≡ real_in s → unlisted_if x.unlisted u.survey ≡ 0 → x.sent ≡ [] → Calmed
+    idles n x u d base real survey z =
+        unchanged n (real_after x u d real) (survey_after x u d survey) base (d.sends ∙ z)
+
+    looked : (q p : RealView) → IsSame r q → (x : Option WitnessView) → Some (record q { witness = x }) ≡ Some p → IsSame r p
+    looked q p same x at =
+        let is : record q { witness = x } ≡ p = cc in
+        (x, ap (λ (z : RealView). let y : RealView = record z { witness = x } in y) same.1 ∙ is)
+
+    cell_calmed : t.base ≡ s.base → CellMoves (here_at f k) f.tree e s.cell i t.cell sent → Calmed
+    cell_calmed base (move.rests n d) = idles (none_reaps n) _ s.cell d base refl here.survey refl
+    cell_calmed base (move.strays m n b d) =
+        stray_by m n b (real_after _ s.cell d refl) (survey_after _ s.cell d here.survey) base d.sends
+    cell_calmed base (move.stays u p q changed has own acts at d) = absurd (acts_never u p q changed has acts)
+    cell_calmed base (move.goes u p q changed j has own acts at n d) = absurd (acts_never u p q changed has acts)
+    cell_calmed base (move.late c p n has may lt d) = absurd (come.letter (Call c) n)
+    cell_calmed base (move.holds c p n is has own may lt d) = absurd (come.letter (Call c) n)
+    cell_calmed base (move.passes c p n is has at d) = absurd (come.letter (Call c) n)
+    cell_calmed base (move.lands p n own has may d) = absurd (come.letter (Hand p) n)
+    cell_calmed base (move.hears_set n c h has d) = absurd (come.letter (GhostSet e n c) h)
+    cell_calmed base (move.ignores_set n c p h has d) = absurd (come.letter (GhostSet e n c) h)
+    cell_calmed base (move.hears_drop n h d) =
+        idles (other_reaps (GhostDrop e n) h (λ z. cc)) _ s.cell d base refl here.survey refl
+    cell_calmed base (move.reaped q n has own may d) =
+        let same = (here.real q has).1 in
+        let beat : q.beat ≡ r.beat = sym (ap (λ (y : RealView). y.beat) same.1) in
+        let gone = drops_calm (come.found e n).3 q cell_numbers beat in
+        ends n (record {
+          at = record {
+            survey = survey_after _ s.cell d refl;
+            real = λ p h. absurd (let z = sym (ap (λ a. a.slot.real) d.state) ∙ h in cc);
+            orders = subst (λ (b : AtBase). AllByRecursion (IsCalmOrder e) b.orders) (sym base) here.orders;
+            route = ap (λ (b : AtBase). b.route) base ∙ here.route;
+          };
+          calm = subst (AllByRecursion To) (sym d.sends) gone.0;
+          reaps = same_reaps base (ap sent_reaps d.sends ∙ gone.1);
+          real = ap (λ a. a.slot.real) d.state;
+        })
+    cell_calmed base (move.ticks n st z) =
+        unchanged (other_reaps Tick n (λ h. cc)) (ap (λ a. a.slot.real) st) (ap (λ a. a.survey) st ∙ here.survey) base z
+    cell_calmed base (move.unlists n h at b d) = absurd (let zero = here.survey in omega (arith, at, zero))
+    cell_calmed base (move.looks n q w known h at has own is small d) =
+        let step = looks_with (here_at f k) s.cell.slot q w known (shown_of (here_at f k) q w known) in
+        let new = updates_calm (base_of (here_at f k) q.entity) q.entity w.sent (shown_of (here_at f k) q w known) (omega arith) in
+        let same = here.real q has in
+        stays (none_reaps h) (record {
+          at = record {
+            survey = survey_after step _ d here.survey;
+            real = λ p there.
+                let one = sym (ap (λ a. a.slot.real) d.state) ∙ there in
+                (same.0, looked q p same.1 _ one);
+            orders = subst (λ (b : AtBase). AllByRecursion (IsCalmOrder e) b.orders) (sym base) here.orders;
+            route = ap (λ (b : AtBase). b.route) base ∙ here.route;
+          };
+          calm = subst (AllByRecursion To) (sym d.sends) new.0;
+          reaps = same_reaps base (ap sent_reaps d.sends ∙ new.1);
+          real = ap (λ a. one_if a.slot.real) d.state ∙ sym (ap one_if has);
+        })
+    cell_calmed base (move.overlooks n known h at b d) = idles (none_reaps h) _ _ d base refl here.survey refl
+    cell_calmed base (move.stuck p h has ready may d) = idles (none_reaps h) _ s.cell d base refl here.survey refl
+
+    -- ---- at a base node
+
+    -- the node has the same orders and, where it has one, the same route
+    base_at : t.cell ≡ s.cell → t.base.orders ≡ s.base.orders → t.base.route ≡ s.base.route → IsCalmAt e home r was k t
+    base_at cell orders route = record {
+      survey = ap (λ (c : AtCell). c.survey) cell ∙ here.survey;
+      real = λ q h. here.real q (sym (ap (λ (c : AtCell). c.slot.real) cell) ∙ h);
+      orders = subst (AllByRecursion (IsCalmOrder e)) (sym orders) here.orders;
+      route = route ∙ here.route;
+    }
+
+    keeps : (i ≡ Some (Reap e) → ⊥) → t.cell ≡ s.cell → (b : AtBase) → t.base ≡ b → b.orders ≡ s.base.orders → b.route ≡ s.base.route →
+        sent ≡ [] → Calmed
+    keeps n cell b a orders route z =
+        stays n (record {
+          at = base_at cell (ap (λ (x : AtBase). x.orders) a ∙ orders) (ap (λ (x : AtBase). x.route) a ∙ route);
+          calm = subst (AllByRecursion To) (sym z) tt;
+          reaps =
+              let one = ap (λ (x : AtBase). total order_reaps x.orders) a ∙ ap (total order_reaps) orders in
+              let light = ap sent_reaps z in
+              omega (arith, one, light);
+          real = ap (λ (c : AtCell). one_if c.slot.real) cell;
+        })
+
+    tail_of : (o : Order) (os : List Order) → s.base.orders ≡ o ∷ os → AllByRecursion (IsCalmOrder e) (o ∷ os)
+    tail_of o os at = subst (AllByRecursion (IsCalmOrder e)) at here.orders
+
+    -- the first order is taken
+    takes : (i ≡ Some (Reap e) → ⊥) → t.cell ≡ s.cell → (o : Order) (os : List Order) → s.base.orders ≡ o ∷ os → (b : AtBase) → t.base ≡ b →
+        b.orders ≡ os → b.route ≡ s.base.route → AllByRecursion To sent → sent_reaps sent ≡ order_reaps o → Calmed
+    takes n cell o os at b a orders route calm weigh =
+        stays n (record {
+          at = record {
+            survey = ap (λ (c : AtCell). c.survey) cell ∙ here.survey;
+            real = λ q h. here.real q (sym (ap (λ (c : AtCell). c.slot.real) cell) ∙ h);
+            orders =
+                subst (AllByRecursion (IsCalmOrder e)) (sym (ap (λ (x : AtBase). x.orders) a ∙ orders)) (tail_of o os at).1;
+            route = ap (λ (x : AtBase). x.route) a ∙ (route ∙ here.route);
+          };
+          calm = calm;
+          reaps =
+              let one = ap (λ (x : AtBase). total order_reaps x.orders) a ∙ ap (total order_reaps) orders in
+              let had = ap (total order_reaps) at in
+              omega (arith, one, had, weigh);
+          real = ap (λ (c : AtCell). one_if c.slot.real) cell;
+        })
+
+    ticks_calm : (js : List ℕ) → AllByRecursion To (map tick_to js) × (sent_reaps (map tick_to js) ≡ 0)
+    ticks_calm [] = (tt, refl)
+    ticks_calm (j ∷ js) = let more = ticks_calm js in let none = more.1 in ((tt, more.0), omega (arith, none))
+
+    base_calmed : home < cell_count → cell_count ≤ k → (cells : ℕ) → t.cell ≡ s.cell →
+        BaseMoves (here_at f k) cells e s.base i t.base sent → Calmed
+    base_calmed low high cells cell (base_move.rests n a z) = keeps (none_reaps n) cell s.base a refl refl z
+    base_calmed low high cells cell (base_move.strays m n b a z) =
+        keeps (λ is. let at = come.letter (Reap e) is in omega (arith, at, low, high)) cell s.base a refl refl z
+    base_calmed low high cells cell (base_move.reroutes new x n has b a z) = absurd (come.letter _ n)
+    base_calmed low high cells cell (base_move.offers c p n is has may a z) = absurd (come.letter (BaseCall c) n)
+    base_calmed low high cells cell (base_move.updates u n is b a z) = keeps (other_reaps (Update u) n (λ h. cc)) cell _ a refl refl z
+    base_calmed low high cells cell (base_move.orders_call c os x n at is has a z) = absurd (tail_of (order.Cell c) os at).0
+    base_calmed low high cells cell (base_move.orders_base_call c os n at is b a z) = absurd (tail_of (order.Base c) os at).0
+    base_calmed low high cells cell (base_move.offers_own c os p n at is b has may a z) = absurd (tail_of (order.Base c) os at).0
+    base_calmed low high cells cell (base_move.orders_tick os n at a z) =
+        let all = ticks_calm (range_with_len 0 cells) in
+        takes (none_reaps n) cell order.Tick os at _ a refl refl (subst (AllByRecursion To) (sym z) all.0) (ap sent_reaps z ∙ all.1)
+    base_calmed low high cells cell (base_move.orders_reap os x n at has a z) =
+        takes (none_reaps n) cell (order.Reap e) os at _ a refl refl (subst (AllByRecursion To) (sym z) (
+          leads k x (sym here.route
+              ∙ has),
+          tt,
+        ))
+        (ap sent_reaps z)
+    base_calmed low high cells cell (base_move.stuck_order o os n at b a z) = keeps (none_reaps n) cell s.base a refl refl z
+    base_calmed low high cells cell (base_move.executes p o c n has may at item a z) = keeps (none_reaps n) cell _ a refl refl z
+    base_calmed low high cells cell (base_move.stuck_part p n has is may a z) = keeps (none_reaps n) cell s.base a refl refl z
+    base_calmed low high cells cell (base_move.shows p n has is may a z) = keeps (none_reaps n) cell _ a refl refl z
+    base_calmed low high cells cell (base_move.stuck_client p n has is may a z) = keeps (none_reaps n) cell s.base a refl refl z
+
+    pub calmed : home < cell_count → Moves f e k s i t sent → Calmed
+    calmed low (at_a_cell in_cell m same) = cell_calmed same m
+    calmed low (at_a_base high m same) = base_calmed low high _ same m

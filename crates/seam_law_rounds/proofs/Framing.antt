@@ -1,0 +1,223 @@
+-- A loaded world goes by the batch's tree.
+use Rattle.std.proofs.Common.{◌≡◌, ℕ, ◌+◌, ◌<◌, Bool, true, false, List, length, Option, None, Some, refl, sym, ap, ◌∙◌, subst}
+use Rattle.std.proofs.Common.{arith}
+use Rattle.std.specs.Prelude.{option_map, slice_get, slice_index_or}
+use Rattle.std.specs.List.{All}
+use Rattle.std.specs.Ordering.{nat_cmp}
+use Rattle.std.specs.FinMap as table
+use Rattle.std.proofs.lemmas.List.{length-map}
+use Rattle.std.proofs.lemmas.List.Elements.{All-map}
+use Rattle.std.proofs.lemmas.Option.{slice_get-map, slice_get-get_or}
+use Rattle.seam_tree.specs.Division.{leaf_at, cells_of, IsTree}
+use Rattle.seam_tree.proofs.Leaves.{leaf_is_cell}
+use Rattle.seam_machine.specs.Nets.{IsSquare, ArePeers}
+use Rattle.seam_call.specs.declared.create.Create.{Create}
+use Rattle.seam_call.specs.declared.order.Order.{Order}
+use Rattle.seam_call.specs.declared.order.Batch.{Batch}
+use Rattle.seam_entity.specs.Reals.{RealView}
+use Rattle.seam_entity.specs.Here.{Here, cell_count}
+use Rattle.seam_node_steps.specs.Cells.{CellView}
+use Rattle.seam_node_steps.specs.Bases.{BaseView, RouteView}
+use Rattle.seam_node_steps.specs.Nodes.{NodeView, World, node_peers}
+use Rattle.seam_node_steps.specs.Nodes.NodeView.{Cell, Base}
+use Rattle.seam_entity.specs.Executing.{created, real_begins}
+use Rattle.seam_node_steps.specs.Loads.{with_nodes, real_if, part_if, with_route, created_at, with_witness, attached, cell_round}
+use Rattle.seam_node_steps.specs.Loads.{base_round, order_if, ordered_at, loaded}
+use Rattle.seam_node_steps.specs.Valid.{IsCell, IsBase, IsNode}
+use Rattle.seam_law_calls.specs.Frames.{Frame, here_at, IsBaseAt, IsAt, IsInFrame}
+use Rattle.seam_law_rounds.specs.Between.{IsBetweenRounds, IsFitting, framed}
+use Rattle.seam_law_rounds.specs.Loaded.{each, made, node_loaded}
+use Rattle.seam_law_rounds.proofs.Loading.{each_keeps, Any, any, loaded_is, node_there, set_keeps, get-each_value}
+
+abbrev IsUnder : ℕ → RealView → Type 0
+IsUnder e r = r.entity ≡ e
+
+new_entity : (h : Here) (x : Create) (r : RealView) → Some (created h x.entity x.ty x.pos) ≡ Some r → r.entity ≡ x.entity
+new_entity h x r at = let same : created h x.entity x.ty x.pos ≡ r = cc in ap (λ y. y.entity) (sym same)
+
+same_entity : (g : RealView → RealView) → ((r : RealView) → (g r).entity ≡ r.entity) → (e : ℕ) (o : Option RealView) →
+    ((r : RealView) → o ≡ Some r → r.entity ≡ e) → (r : RealView) → option_map g o ≡ Some r → r.entity ≡ e
+same_entity g same e None h r at = absurd (let z = at in cc)
+same_entity g same e (Some x) h r at = let is : g x ≡ r = cc in ap (λ y. y.entity) (sym is) ∙ (same x ∙ h x refl)
+
+module _ (f : Frame) (b : Batch) (tree : IsTree b.tree) (k : ℕ) where
+  -- while a batch is loaded, base nodes go by the new tree already, and cells by none
+  pub record CellWhile (c : CellView) : Type 0 where
+    pub is : IsCell c
+    pub low : k < cell_count
+    pub here : c.here ≡ here_at f k
+
+  pub record BaseWhile (n : BaseView) : Type 0 where
+    pub is : IsBase n
+    pub at : IsBaseAt (framed f b) k n
+
+  abbrev pub While : NodeView → Type 0
+  While (Cell c) = CellWhile c
+  While (Base n) = BaseWhile n
+
+  begins : (s : NodeView) → IsNode s → IsAt f k s → While (base_round (cells_of b.tree) s)
+  begins (Cell c) is at = record { is = is; low = at.low; here = at.here }
+  begins (Base n) is at = record {
+    is = record { bases = is.bases; cells = tree.cells_to; routes = is.routes };
+    at = record { high = at.high; here = at.here; cells = refl };
+  }
+
+  real_more : (d : Bool) (c : CellView) (x : Create) → CellWhile c → CellWhile (real_if d c x)
+  real_more true c x h =
+      record {
+        is = record {
+          me_in = h.is.me_in;
+          bases = h.is.bases;
+          tree = h.is.tree;
+          nexts = h.is.nexts;
+          keys =
+              set_keeps IsUnder c.reals x.entity (Some (created c.here x.entity x.ty x.pos)) h.is.keys
+              (λ r at. new_entity c.here x r at);
+        };
+        low = h.low;
+        here = h.here;
+      }
+  real_more false c x h = h
+
+  part_more : (d : Bool) (n : BaseView) (x : Create) → BaseWhile n → BaseWhile (part_if d n x)
+  part_more true n x h = record {
+    is = record { bases = h.is.bases; cells = h.is.cells; routes = h.is.routes };
+    at = record { high = h.at.high; here = h.at.here; cells = h.at.cells };
+  }
+  part_more false n x h = h
+
+  route_more : (n : BaseView) (e cell : ℕ) → cell < cell_count → BaseWhile n → BaseWhile (with_route n e cell)
+  route_more n e cell low h = record {
+    is = record {
+      bases = h.is.bases;
+      cells = h.is.cells;
+      routes = set_keeps (λ q r. r.cell < cell_count) n.routes e (Some (record { cell = cell; generation = 0 })) h.is.routes
+          (λ r at. new r at);
+    };
+    at = record { high = h.at.high; here = h.at.here; cells = h.at.cells };
+  }
+    where
+      new : (r : RouteView) → Some (record { cell = cell; generation = 0 }) ≡ Some r → r.cell < cell_count
+      new r at =
+          let same : record { cell = cell; generation = 0 } ≡ r = cc in
+          subst (λ (y : RouteView). y.cell < cell_count) same low
+
+  leaf_low : (x : Create) → leaf_at b.tree x.pos < cell_count
+  leaf_low x = let low = leaf_is_cell b.tree x.pos in let most = tree.cells_to in omega (arith, low, most)
+
+  creates : (x : Create) (s : NodeView) → Any x → While s → While (created_at b.tree x s)
+  creates x (Cell c) any h = real_more _ c x h
+  creates x (Base n) any h = part_more _ (with_route n x.entity (leaf_at b.tree x.pos)) x (route_more n x.entity _ (leaf_low x) h)
+
+  joins : (e : ℕ) (s : NodeView) → Any e → While s → While (attached e s)
+  joins e (Cell c) any h = record {
+    is = record {
+      me_in = h.is.me_in;
+      bases = h.is.bases;
+      tree = h.is.tree;
+      nexts = h.is.nexts;
+      keys =
+          set_keeps IsUnder c.reals e (option_map (with_witness c.here) (table.get c.reals e)) h.is.keys
+          (same_entity (with_witness c.here) (λ r. refl) e (table.get c.reals e) (h.is.keys e));
+    };
+    low = h.low;
+    here = h.here;
+  }
+  joins e (Base n) any h = record {
+    is = record { bases = h.is.bases; cells = h.is.cells; routes = h.is.routes };
+    at = record { high = h.at.high; here = h.at.here; cells = h.at.cells };
+  }
+
+  abbrev pub Goes : NodeView → Type 0
+  Goes s = IsNode s × IsAt (framed f b) k s
+
+  rounds : (s : NodeView) → While s → Goes (cell_round b.tree s)
+  rounds (Cell c) h = (
+    record {
+      me_in = h.is.me_in;
+      bases = h.is.bases;
+      tree = tree;
+      nexts = λ e n at. absurd (let none = sym (table.get-empty nat_cmp e) ∙ at in cc);
+      keys = λ e r at.
+          same_entity real_begins (λ r. refl) e (table.get c.reals e) (h.is.keys e) r (sym (get-each_value real_begins c.reals e) ∙ at);
+    },
+    record { low = h.low; here = h.here; tree = refl },
+  )
+  rounds (Base n) h = (h.is, h.at)
+
+  order_more : (d : Bool) (n : BaseView) (o : Order) → IsBase n × IsBaseAt (framed f b) k n →
+      IsBase (order_if d n o) × IsBaseAt (framed f b) k (order_if d n o)
+  order_more true n o h = (
+    record { bases = h.0.bases; cells = h.0.cells; routes = h.0.routes },
+    record { high = h.1.high; here = h.1.here; cells = h.1.cells },
+  )
+  order_more false n o h = h
+
+  orders : (o : ℕ × Order) (s : NodeView) → Any o → Goes s → Goes (ordered_at o s)
+  orders o (Cell c) any h = h
+  orders o (Base n) any h = order_more _ n o.1 h
+
+  -- while entities are created
+  pub while_created : (xs : List Create) (s : NodeView) → IsNode s → IsAt f k s →
+      While (each (created_at b.tree) xs (base_round (cells_of b.tree) s))
+  while_created xs s is at =
+      each_keeps (created_at b.tree) While Any creates xs (any xs) (base_round (cells_of b.tree) s) (begins s is at)
+
+  -- before the orders
+  pub node_begun : (s : NodeView) → IsNode s → IsAt f k s → Goes (cell_round b.tree (made b s))
+  node_begun s is at =
+      rounds (made b s)
+      (each_keeps attached While Any joins b.clients (any b.clients) (each (created_at b.tree) b.creates (base_round (cells_of b.tree) s))
+      (while_created b.creates s is at))
+
+  pub node_goes : (s : NodeView) → IsNode s → IsAt f k s → Goes (node_loaded b s)
+  node_goes s is at =
+      each_keeps ordered_at Goes Any orders b.orders (any b.orders) (cell_round b.tree (made b s)) (node_begun s is at)
+
+-- ---- the world
+
+pub peers_at : (f : Frame) (k : ℕ) (s : NodeView) → IsAt f k s → node_peers s ≡ cell_count + f.settings.bases
+peers_at f k (Cell c) h = ap (λ x. cell_count + x.settings.bases) h.here
+peers_at f k (Base n) h = ap (λ x. cell_count + x.settings.bases) h.here
+
+pub many_loaded : (f : Frame) (w : World) (b : Batch) → IsBetweenRounds f w →
+    length (loaded w b).nodes ≡ cell_count + f.settings.bases
+many_loaded f w b r = ap (λ v. length v.nodes) (loaded_is w b) ∙ (length-map w.nodes (node_loaded b) ∙ r.many)
+
+-- a world whose nodes all change by themselves, each into one of the other frame
+module _ (f g : Frame) (bases : g.settings.bases ≡ f.settings.bases) (turn : NodeView → NodeView)
+    (turns : (k : ℕ) (s : NodeView) → IsNode s → IsAt f k s → IsNode (turn s) × IsAt g k (turn s)) (w : World) (q : IsInFrame f w) where
+  goes_at : (k : ℕ) (t : NodeView) → slice_get (with_nodes w turn).nodes k ≡ Some t → IsNode t × IsAt g k t
+  goes_at k t at =
+      let n = node_there (slice_get w.nodes k) turn t (sym (slice_get-map turn w.nodes k) ∙ at) in
+      subst (λ s. IsNode s × IsAt g k s) n.2 (turns k n.0 (q.sound.states k n.0 n.1) (q.nodes k n.0 n.1))
+
+  many : length (with_nodes w turn).nodes ≡ length w.nodes
+  many = length-map w.nodes turn
+
+  square : IsSquare (with_nodes w turn)
+  square = record {
+    rows = q.sound.square.rows ∙ sym many;
+    links = subst (λ n. All (λ l. length l ≡ n) w.rows) (sym many) q.sound.square.links;
+  }
+
+  peers_of_each : (s : NodeView) (k : ℕ) → slice_get w.nodes k ≡ Some s → node_peers (turn s) ≡ node_peers s
+  peers_of_each s k at =
+      peers_at g k (turn s) (turns k s (q.sound.states k s at) (q.nodes k s at)).1
+      ∙ (ap (λ n. cell_count + n) bases ∙ sym (peers_at f k s (q.nodes k s at)))
+
+  peers : ArePeers node_peers (with_nodes w turn)
+  peers =
+      All-map (λ s. node_peers s ≡ length (with_nodes w turn).nodes) turn w.nodes
+      (λ k d lt. peers_of_each (slice_index_or w.nodes k d) k (slice_get-get_or w.nodes k d lt) ∙ q.sound.peers k d lt ∙ sym many)
+
+  pub frame_turns : IsInFrame g (with_nodes w turn)
+  frame_turns = record {
+    sound = record { square = square; peers = peers; states = λ k t at. (goes_at k t at).0 };
+    nodes = λ k t at. (goes_at k t at).1;
+  }
+
+pub in_frame : (f : Frame) (w : World) (b : Batch) → IsBetweenRounds f w → IsFitting f w b → IsInFrame (framed f b) (loaded w b)
+in_frame f w b r fits =
+    subst (IsInFrame (framed f b)) (sym (loaded_is w b))
+    (frame_turns f (framed f b) refl (node_loaded b) (node_goes f b fits.tree) w r.nodes)

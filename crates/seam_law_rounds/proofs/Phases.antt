@@ -1,0 +1,210 @@
+-- What the phase of reaps and the phase of looks keep.
+use Rattle.std.proofs.Common.{◌≡◌, ℕ, ◌<◌, ◌⊎◌, Bool, true, false, cond, eqb, ◌&&◌, ◌||◌, is_some, List, [], ◌∷◌, length, Option}
+use Rattle.std.proofs.Common.{None, Some, refl, sym, ap, ◌∙◌, arith, inl, inr}
+use Rattle.std.proofs.lemmas.Bool.{eqb-true}
+use Rattle.seam_machine.specs.Nets.{input_from, happens, enabled, run, AllEnabled, IsQuiet, LeadsTo}
+use Rattle.seam_machine.specs.Events.{Occurs}
+use Rattle.seam_machine.specs.Totals.{total}
+use Rattle.seam_machine.specs.declared.machines.Input.{Input}
+use Rattle.seam_machine.specs.declared.machines.Input.TheVariants.{Task, From}
+use Rattle.seam_machine.specs.declared.machines.Event.{Event}
+use Rattle.seam_machine.proofs.Occurring.{occurs}
+use Rattle.seam_machine.proofs.Quiet.{quiet_links, quiet_tasks}
+use Rattle.seam_net_runs.proofs.Runs.{leads_keeps}
+use Rattle.seam_law_flow.specs.Flows.{letter_in, letters_of}
+use Rattle.seam_law_flow.specs.Tokens.{In, Nobody}
+use Rattle.seam_entity.specs.Reals.{RealView}
+use Rattle.seam_entity.specs.declared.message.Msg.{Msg}
+use Rattle.seam_entity.specs.declared.message.Msg.TheVariants.{Call, BaseCall, Hand, Current, GhostSet, GhostDrop, Tick, Reap, Update}
+use Rattle.seam_entity.specs.Numbers.{may_rise}
+use Rattle.seam_entity.specs.Here.{cell_count}
+use Rattle.seam_node_steps.specs.Bases.{RouteView}
+use Rattle.seam_node_steps.specs.Holders.{holders}
+use Rattle.seam_node_steps.specs.Nodes.{World, node_steps, node_has_work}
+use Rattle.seam_law_calls.specs.Frames.{Frame, IsInFrame}
+use Rattle.seam_law_calls.specs.Sights.{concerns, kept_if, mine, entity_flow}
+use Rattle.seam_law_calls.specs.Ones.{real_in, real_of, reaped_by, reaps, IsFrame}
+use Rattle.seam_law_calls.proofs.Counting.{one_counts, none_counts}
+use Rattle.seam_law_calls.proofs.Gone.{gone_leads}
+use Rattle.seam_law_rounds.specs.Between.{IsSettled, IsBetweenRounds}
+use Rattle.seam_law_rounds.proofs.Room.{rows_none}
+use Rattle.seam_law_rounds.proofs.Ready.{route_leads}
+use Rattle.seam_law_rounds.specs.LastPhases.{reap_comes}
+use Rattle.seam_law_rounds.proofs.Shape.{Somewhere, Nowhere, search_real, frame_leads, many_leads}
+use Rattle.seam_law_rounds.proofs.Calm.{order_reaps, node_reaps, mine_reaps, reaps_of, one_if, IsCalm}
+use Rattle.seam_law_rounds.proofs.CalmRuns.{Left, alive, dead, told_by, left, calm_happens}
+use Rattle.seam_law_rounds.proofs.Starting.{none_weighs, idle_orders}
+use Rattle.seam_law_rounds.proofs.Ending.{calm_one, calm_none, still_settled}
+
+-- ---- which input is a Reap
+
+reaps_by : (e x : ℕ) (b : Bool) → (kept_if b (Reap x) ≡ Some (Reap e) → ⊥) → eqb x e ≡ b → b ≡ false
+reaps_by e x true n is = absurd (n (ap (λ y. Some (Reap y)) (eqb-true x e is)))
+reaps_by e x false n is = refl
+
+no_reap_fed : (e : ℕ) (i : Input Msg) → (letter_in (mine e) i ≡ Some (Reap e) → ⊥) → reaps e (Some i) ≡ false
+no_reap_fed e Task n = refl
+no_reap_fed e (From a (Call c)) n = refl
+no_reap_fed e (From a (BaseCall c)) n = refl
+no_reap_fed e (From a (Hand r)) n = refl
+no_reap_fed e (From a (Current x j g)) n = refl
+no_reap_fed e (From a (GhostSet x b c)) n = refl
+no_reap_fed e (From a (GhostDrop x b)) n = refl
+no_reap_fed e (From a Tick) n = refl
+no_reap_fed e (From a (Reap x)) n = reaps_by e x (eqb x e) n refl
+no_reap_fed e (From a (Update u)) n = refl
+
+kept_is : (m x : Msg) (b : Bool) → kept_if b m ≡ Some x → (b ≡ true) × (m ≡ x)
+kept_is m x true h = (refl, (let z = h in cc))
+kept_is m x false h = cc
+
+reap_fed : (e : ℕ) (i : Input Msg) → letter_in (mine e) i ≡ Some (Reap e) → reaps e (Some i) ≡ true
+reap_fed e Task h = cc
+reap_fed e (From a m) h =
+    let two = kept_is m (Reap e) (concerns e m) h in
+    ap (λ x. is_some (reaped_by x) && concerns e m) two.1 ∙ two.0
+
+-- ---- a calm entity, over every list of events
+
+module _ (f : Frame) (frame : IsFrame f) (u : World) (between : IsBetweenRounds f u) (e home : ℕ) (r : RealView)
+    (here : real_in ((entity_flow e u).slot home) ≡ Some r) (told : Bool) (small : told ≡ true → may_rise r.beat ≡ true) where
+  pub settled : IsSettled f e home r u
+  settled = between.settled e home r here
+
+  pub low : home < cell_count
+  low = let a = settled.fits.home in let b = frame.tree.cells_to in omega (arith, a, b)
+
+  pub leads : (k : ℕ) (x : RouteView) → ((entity_flow e u).slot k).base.route ≡ Some x → x.cell ≡ home
+  leads =
+      route_leads f u e home r settled (λ x y. ap (letters_of (mine e))
+      (quiet_links node_has_work u between.nodes.sound.square between.quiet x y))
+      between.nodes between.many
+
+  abbrev Calm : World → Type 0
+  Calm w = IsCalm f e home r u told w
+
+  calm_more : (w : World) (v : Event) → Calm w → enabled node_has_work w v ≡ true → Calm (happens node_steps w v)
+  calm_more w v c on = calm_happens f e home r low settled.none_held u leads told small w v (occurs node_has_work w v on) c
+
+  pub calm_leads : (w v : World) (es : List Event) → Calm w → LeadsTo node_has_work node_steps w es v → Calm v
+  calm_leads w v es c run = leads_keeps node_has_work node_steps Calm calm_more w v es c run
+
+  abbrev at_home : World → Option RealView
+  at_home w = real_in ((entity_flow e w).slot home)
+
+  some_of : (o : Option RealView) → one_if o ≡ 1 → (q : RealView) × (o ≡ Some q)
+  some_of None is = absurd (omega (arith, is))
+  some_of (Some q) is = (q, refl)
+
+  pub alive_counts : (w : World) → Calm w → one_if (at_home w) ≡ 1 → holders w e ≡ 1
+  alive_counts w c is =
+      let q = some_of (at_home w) is in
+      one_counts w e (In home) q.0 (calm_one f e home r u settled told w c q.0 q.1)
+
+  pub dead_counts : (w : World) → Calm w → at_home w ≡ None → holders w e ≡ 0
+  dead_counts w c is = none_counts w e (calm_none f e home r u settled told w c is)
+
+  counted_by : (es : List Event) (w : World) (v : Event) (o : Occurs w v) (c : Calm w) → Calm (happens node_steps w v) →
+      one_if (at_home w) ≡ 1 → AllEnabled node_has_work node_steps (happens node_steps w v) es →
+      (one_if (at_home (happens node_steps w v)) ≡ 1 →
+      holders (run node_steps (happens node_steps w v) es) e ≡ cond (reap_comes e (happens node_steps w v) es) 0 1) →
+      Left f e home r low settled.none_held u leads told small w v o c →
+      holders (run node_steps (happens node_steps w v) es) e
+      ≡ cond (reaps e (input_from w.rows v.node v.from) || reap_comes e (happens node_steps w v) es) 0 1
+  counted_by es w v o c next is on more (alive n same) =
+      let none = ap (reaps e) o.is_fed ∙ no_reap_fed e o.input n in
+      more (same ∙ is) ∙ ap (λ b. cond {A = ℕ} (b || reap_comes e (happens node_steps w v) es) 0 1) (sym none)
+  counted_by es w v o c next is on more (dead fed gone) =
+      let one = ap (reaps e) o.is_fed ∙ reap_fed e o.input fed in
+      let none = calm_none f e home r u settled told (happens node_steps w v) next gone in
+      let after = gone_leads f frame e (happens node_steps w v) (run node_steps (happens node_steps w v) es) es next.frame none
+      (record { each = on; is_run = refl }) in
+      none_counts (run node_steps (happens node_steps w v) es) e after
+      ∙ ap (λ b. cond {A = ℕ} (b || reap_comes e (happens node_steps w v) es) 0 1) (sym one)
+
+  -- one holder until the Reap comes, and none from then on
+  pub counted_until : (es : List Event) (w : World) → Calm w → one_if (at_home w) ≡ 1 → AllEnabled node_has_work node_steps w es →
+      holders (run node_steps w es) e ≡ cond (reap_comes e w es) 0 1
+  counted_until [] w c is on = alive_counts w c is
+  counted_until (v ∷ es) w c is on =
+      let o = occurs node_has_work w v on.0 in
+      let next = calm_happens f e home r low settled.none_held u leads told small w v o c in
+      counted_by es w v o c next is on.1 (λ more. counted_until es (happens node_steps w v) next more on.1)
+      (left f e home r low settled.none_held u leads told small w v o c)
+
+  -- one that was not told stays
+  record Alive (w : World) : Type 0 where
+    calm : Calm w
+    is : one_if (at_home w) ≡ 1
+
+  alive_by : (w : World) (v : Event) (o : Occurs w v) → told ≡ false → (a : Alive w) →
+      Left f e home r low settled.none_held u leads told small w v o a.calm → one_if (at_home (happens node_steps w v)) ≡ 1
+  alive_by w v o never a (alive n same) = same ∙ a.is
+  alive_by w v o never a (dead fed gone) =
+      absurd (let z = sym (told_by f e home r low settled.none_held u leads told small w v o a.calm e fed) ∙ never in cc)
+
+  alive_more : told ≡ false → (w : World) (v : Event) → Alive w → enabled node_has_work w v ≡ true → Alive (happens node_steps w v)
+  alive_more never w v a on =
+      let o = occurs node_has_work w v on in
+      record {
+        calm = calm_more w v a.calm on;
+        is = alive_by w v o never a (left f e home r low settled.none_held u leads told small w v o a.calm);
+      }
+
+  pub stays_alive : told ≡ false → (w v : World) (es : List Event) → Calm w → one_if (at_home w) ≡ 1 →
+      LeadsTo node_has_work node_steps w es v → holders v e ≡ 1
+  stays_alive never w v es c is run =
+      let a = leads_keeps node_has_work node_steps Alive (alive_more never) w v es (record { calm = c; is = is }) run in
+      alive_counts v a.calm a.is
+
+  -- where nothing waits, one that was told is gone
+  pub quiet_reaps : (w : World) → Calm w → IsQuiet node_has_work w → reaps_of e w ≡ 0
+  quiet_reaps w c quiet =
+      let links = rows_none (mine_reaps e) w.rows (quiet_links node_has_work w c.frame.sound.square quiet) in
+      let nodes = none_weighs (node_reaps e) w.nodes
+      (λ k s at. ap (total order_reaps) (idle_orders e s (quiet_tasks node_has_work w quiet k s at))) in
+      omega (arith, links, nodes)
+
+  none_of : (o : Option RealView) → one_if o ≡ 0 → o ≡ None
+  none_of None is = refl
+  none_of (Some q) is = absurd (omega (arith, is))
+
+  pub told_is_gone : (w : World) → Calm w → IsQuiet node_has_work w → told ≡ true → holders w e ≡ 0
+  told_is_gone w c quiet is =
+      let a = c.reaps ∙ ap (λ b. cond {A = ℕ} b (one_if (at_home w)) 0) is in
+      let zero = quiet_reaps w c quiet in
+      dead_counts w c (none_of (at_home w) (omega (arith, a, zero)))
+
+-- ---- the record holds again, where each entity that was there is calm
+
+module _ (f : Frame) (u : World) (between : IsBetweenRounds f u) (w : World) (frame : IsInFrame f w)
+    (many : length w.nodes ≡ length u.nodes)
+    (none : (e : ℕ) → Nobody real_in real_of (entity_flow e u) → Nobody real_in real_of (entity_flow e w))
+    (told : (e : ℕ) → Bool)
+    (calm : (e home : ℕ) (r : RealView) → real_in ((entity_flow e u).slot home) ≡ Some r → IsCalm f e home r u (told e) w)
+    (small : (e k : ℕ) (r : RealView) → real_in ((entity_flow e u).slot k) ≡ Some r → told e ≡ true → may_rise r.beat ≡ true)
+    (v : World) (es : List Event)
+    (run : LeadsTo node_has_work node_steps w es v) (quiet : IsQuiet node_has_work v) where
+  nobody : (e : ℕ) → Nowhere e u → Nobody real_in real_of (entity_flow e u)
+  nobody e n = record {
+    slots = n;
+    mail = λ x y.
+        ap (λ l. letters_of real_of (letters_of (mine e) l)) (quiet_links node_has_work u between.nodes.sound.square between.quiet x y);
+  }
+
+  settled_by : (e k : ℕ) (q : RealView) → real_in ((entity_flow e v).slot k) ≡ Some q → Somewhere e u ⊎ Nowhere e u → IsSettled f e k q v
+  settled_by e k q at (inl p) =
+      still_settled f e p.0 p.1 u (between.settled e p.0 p.1 p.2) (told e) v
+      (calm_leads f between.frame u between e p.0 p.1 p.2 (told e) (small e p.0 p.1 p.2) w v es (calm e p.0 p.1 p.2) run) k q at
+  settled_by e k q at (inr n) =
+      let gone = gone_leads f between.frame e w v es frame (none e (nobody e n)) run in
+      absurd (let z = sym (gone.slots k) ∙ at in cc)
+
+  pub between_again : IsBetweenRounds f v
+  between_again = record {
+    frame = between.frame;
+    nodes = frame_leads f w v es frame run;
+    many = many_leads w v es run ∙ (many ∙ between.many);
+    quiet = quiet;
+    settled = λ e k q at. settled_by e k q at (search_real e u);
+  }

@@ -1,0 +1,36 @@
+-- The last phases of a round: entities are reaped, and witnesses look.
+use Rattle.std.specs.Prelude.{◌≡◌, ℕ, Bool, true, false, eqb, ◌||◌, List, [], ◌∷◌, None, Some}
+use Rattle.std.specs.List.{AllByRecursion, IsDistinct}
+use Rattle.seam_machine.specs.Nets.{input_from, happens}
+use Rattle.seam_machine.specs.declared.machines.Event.{Event}
+use Rattle.seam_law_flow.specs.Desks.{WaitsOnce}
+use Rattle.seam_defs.specs.declared.settings.Settings.{Settings}
+use Rattle.seam_defs.specs.declared.types.TypeDef.{TypeDef}
+use Rattle.seam_entity.specs.Reals.{RealView}
+use Rattle.seam_entity.specs.Numbers.{may_rise}
+use Rattle.seam_node_steps.specs.Holders.{holders}
+use Rattle.seam_node_steps.specs.Nodes.{World, node_steps}
+use Rattle.seam_node_steps.specs.Loads.{one_cell}
+use Rattle.seam_law_calls.specs.Frames.{Frame}
+use Rattle.seam_law_calls.specs.Sights.{entity_flow}
+use Rattle.seam_law_calls.specs.Ones.{real_in, reaps}
+use Rattle.seam_law_calls.specs.CellTurns.{as_sender}
+
+-- what the nodes of a world go by as it is opened: the tree of one cell
+abbrev pub first_frame : List TypeDef → Settings → Frame
+first_frame defs settings = record { defs = defs; settings = settings; tree = one_cell settings.size }
+
+-- entities that a quiet world may be told to reap: each is there, is once in the list, and its beat may rise
+pub record AreReapable (w : World) (es : List ℕ) : Type 0 where
+  pub there : AllByRecursion (λ e. holders w e ≡ 1) es
+  pub once : IsDistinct eqb es
+  pub small : (e k : ℕ) (r : RealView) → real_in ((entity_flow e w).slot k) ≡ Some r → may_rise r.beat ≡ true
+
+-- one of the events feeds the entity's Reap to a node
+abbrev pub reap_comes : ℕ → World → List Event → Bool
+reap_comes e w [] = false
+reap_comes e w (v ∷ es) = reaps e (input_from w.rows v.node v.from) || reap_comes e (happens node_steps w v) es
+
+-- no sender has a call to the entity's cell part waiting, of any number, anywhere
+abbrev pub HasNoCalls : ℕ → World → Type 0
+HasNoCalls e w = (s n : ℕ) → WaitsOnce (as_sender s (entity_flow e w)) n None

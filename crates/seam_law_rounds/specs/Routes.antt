@@ -1,0 +1,38 @@
+-- Routes: what a base node has, and what is on its way to it, of where an entity's real is.
+use Rattle.std.specs.Prelude.{ℕ, ◌<◌, Option, None, Some}
+use Rattle.seam_law_flow.specs.Flows.{Flow}
+use Rattle.seam_law_flow.specs.Newest.{Newest}
+use Rattle.seam_law_flow.specs.Tokens.{TokenPlace, In, On}
+use Rattle.seam_entity.specs.Reals.{RealView}
+use Rattle.seam_entity.specs.declared.message.Msg.{Msg}
+use Rattle.seam_entity.specs.declared.message.Msg.TheVariants.{Call, BaseCall, Hand, Current, GhostSet, GhostDrop, Tick, Reap, Update}
+use Rattle.seam_node_steps.specs.Bases.{RouteView}
+use Rattle.seam_law_calls.specs.Sights.{Has}
+
+-- the generation and the cell of a route, both 0 where there is none
+abbrev pub as_entry : Option RouteView → ℕ × ℕ
+as_entry None = (0, 0)
+as_entry (Some r) = (r.generation, r.cell)
+
+-- those of the route that a base node has
+abbrev pub route_entry : Has → ℕ × ℕ
+route_entry h = as_entry h.base.route
+
+-- those that a message brings
+abbrev pub brings_route : Msg → Option (ℕ × ℕ)
+brings_route (Call c) = None
+brings_route (BaseCall c) = None
+brings_route (Hand r) = None
+brings_route (Current e j g) = Some (g, j)
+brings_route (GhostSet e n c) = None
+brings_route (GhostDrop e n) = None
+brings_route Tick = None
+brings_route (Reap e) = None
+brings_route (Update u) = None
+
+-- Of the route that base node b has and those on their way there, the newest has the generation of the real and the cell where it is;
+-- while the real is on its way, each is of a smaller generation than the real that is handed over.
+abbrev pub IsKnownAt : TokenPlace → RealView → Flow Has Msg → ℕ → Type 0
+IsKnownAt (In k) r w b = Newest route_entry brings_route w b r.generation k
+IsKnownAt (On a k) r w b =
+    (generation : ℕ) × (cell : ℕ) × (generation < r.generation) × Newest route_entry brings_route w b generation cell

@@ -1,0 +1,101 @@
+//! Worlds between rounds: what the laws of the core ask of a loaded world is true of each that a fitting batch makes of one that keeps
+//! the record.
+//!
+//! `specs/Between` has the record, a sentence for each of its fields, and what a fitting batch is; `specs/Loaded` has what a load makes
+//! of each node. These laws speak of each entity of the loaded world, whether it was there before or the batch creates it.
+//!
+//! Crates above cite these modules of `proofs`: `Loading` (a load node by node), `Framing` (the frame), `Staying` (what a load leaves of
+//! an entity at a node), `Making` (what it makes of one that the batch creates), `Loaded` (and in the world), `Ready` (what the laws ask of
+//! a settled entity), `Turns` (its calls), `Room` (room in its numbers, and sums over nodes), `Going` (every list of events),
+//! `ExampleBetween` (the worked world).
+
+ghost use Rattle.std.specs.Prelude.{◌≡◌, ℕ, ◌+◌, ◌<◌, List, Some};
+ghost use Rattle.std.specs.List.{AllByRecursion};
+ghost use Rattle.seam_machine.specs.Nets.{IsQuiet, LeadsTo};
+ghost use Rattle.seam_machine.specs.declared.machines.Event.{Event};
+ghost use Rattle.seam_law_flow.specs.Flows.{letters_of};
+ghost use Rattle.seam_call.specs.declared.order.Batch.{Batch};
+ghost use Rattle.seam_entity.specs.Reals.{RealView};
+ghost use Rattle.seam_node_steps.specs.Holders.{holders};
+ghost use Rattle.seam_node_steps.specs.Nodes.{World, node_steps, node_has_work};
+ghost use Rattle.seam_node_steps.specs.Loads.{loaded};
+ghost use Rattle.seam_law_calls.specs.Frames.{Frame, IsInFrame};
+ghost use Rattle.seam_law_calls.specs.Sights.{entity_flow};
+ghost use Rattle.seam_entity.specs.Numbers.{limit};
+ghost use Rattle.seam_law_calls.specs.Burdens.{burden};
+ghost use Rattle.seam_law_calls.specs.Ones.{real_in, IsFrame, IsSpared, HasOne};
+ghost use Rattle.seam_node_steps.specs.EarlyCall as early;
+ghost use Rattle.seam_law_calls.specs.HandOverExample.{frame};
+ghost use Rattle.seam_law_calls.specs.Ways.{AllLead};
+ghost use Rattle.seam_law_calls.specs.CellTurns.{from_sender, AreCallsOf, CellCallsInTurn};
+ghost use Rattle.seam_law_rounds.specs.NextBatchExample.{next_batch, skipping_batch};
+ghost use Rattle.seam_law_rounds.specs.Between.{IsSettled, IsBetweenRounds, IsFitting, framed, calls_of, next_from};
+
+/// A world between rounds that was given a fitting batch goes by the batch's tree.
+pub fn a_loaded_world_goes_by_its_tree()
+    ensures frame { (f : Frame) (w : World) (b : Batch) → IsBetweenRounds f w → IsFitting f w b → IsFrame (framed f b) }
+    ensures nodes { (f : Frame) (w : World) (b : Batch) → IsBetweenRounds f w → IsFitting f w b → IsInFrame (framed f b) (loaded w b) }
+{}
+
+/// Each entity that had one holder has one in it, and so has each that the batch creates; no other has one.
+pub fn a_load_keeps_reals_and_makes_new_ones()
+    ensures kept { (f : Frame) (w : World) (b : Batch) → IsBetweenRounds f w → IsFitting f w b → (e : ℕ) → holders w e ≡ 1 →
+        holders (loaded w b) e ≡ 1 }
+    ensures made { (f : Frame) (w : World) (b : Batch) → IsBetweenRounds f w → IsFitting f w b →
+        AllByRecursion (λ x. holders (loaded w b) x.entity ≡ 1) b.creates }
+    ensures none { (f : Frame) (w : World) (b : Batch) → IsBetweenRounds f w → IsFitting f w b → (e : ℕ) → holders w e ≡ 0 →
+        AllByRecursion (λ x. x.entity ≡ e → ⊥) b.creates → holders (loaded w b) e ≡ 0 }
+{}
+
+/// Each real of a loaded world is its entity's one real, fits, and is where the routes go, and it has no call left of the last round; no
+/// one reaps it, whatever leads to a cell leads to it, and its numbers have room for all that is to be done.
+pub fn an_entity_of_a_loaded_world_is_ready()
+    ensures settled { (f : Frame) (w : World) (b : Batch) → IsBetweenRounds f w → IsFitting f w b → (e k : ℕ) (r : RealView) →
+        real_in ((entity_flow e (loaded w b)).slot k) ≡ Some r → IsSettled (framed f b) e k r (loaded w b) }
+    ensures one { (f : Frame) (w : World) (b : Batch) → IsBetweenRounds f w → IsFitting f w b → (e k : ℕ) (r : RealView) →
+        real_in ((entity_flow e (loaded w b)).slot k) ≡ Some r → HasOne (framed f b) e r.ty (loaded w b) }
+    ensures spared { (f : Frame) (w : World) (b : Batch) → IsBetweenRounds f w → IsFitting f w b → (e k : ℕ) (r : RealView) →
+        real_in ((entity_flow e (loaded w b)).slot k) ≡ Some r → IsSpared e (loaded w b) }
+    ensures lead { (f : Frame) (w : World) (b : Batch) → IsBetweenRounds f w → IsFitting f w b → (e k : ℕ) (r : RealView) →
+        real_in ((entity_flow e (loaded w b)).slot k) ≡ Some r → AllLead (entity_flow e (loaded w b)) }
+    ensures room { (f : Frame) (w : World) (b : Batch) → IsBetweenRounds f w → IsFitting f w b → (e k : ℕ) (r : RealView) →
+        real_in ((entity_flow e (loaded w b)).slot k) ≡ Some r → burden e (loaded w b) + 1 < limit }
+{}
+
+/// Each sender's calls of the batch to its cell part are its own, fit, and are in turn, numbered from the sender's next number on: from 1
+/// on where the batch creates it.
+pub fn calls_of_a_batch_are_in_turn()
+    ensures ours { (f : Frame) (w : World) (b : Batch) → IsBetweenRounds f w → IsFitting f w b → (e k : ℕ) (r : RealView) →
+        real_in ((entity_flow e (loaded w b)).slot k) ≡ Some r → AreCallsOf (framed f b) e r.ty (calls_of b e) }
+    ensures turns { (f : Frame) (w : World) (b : Batch) → IsBetweenRounds f w → IsFitting f w b → (e k : ℕ) (r : RealView) →
+        real_in ((entity_flow e (loaded w b)).slot k) ≡ Some r → CellCallsInTurn e (λ s. next_from s r) (calls_of b e) (loaded w b) }
+{}
+
+/// So over every list of events after the load each entity has its one real, and its calls find their way.
+pub fn an_entity_keeps_one_real()
+    ensures one { (f : Frame) (w : World) (b : Batch) → IsBetweenRounds f w → IsFitting f w b → (e : ℕ) → holders (loaded w b) e ≡ 1 →
+        (v : World) (es : List Event) → LeadsTo node_has_work node_steps (loaded w b) es v → holders v e ≡ 1 }
+    ensures lead { (f : Frame) (w : World) (b : Batch) → IsBetweenRounds f w → IsFitting f w b → (e : ℕ) → holders (loaded w b) e ≡ 1 →
+        (v : World) (es : List Event) → LeadsTo node_has_work node_steps (loaded w b) es v → AllLead (entity_flow e v) }
+{}
+
+/// And each call of the batch to its cell part waits once, until it is executed; where the world is quiet again, all were executed, each
+/// sender's in the order of their numbers.
+pub fn calls_of_a_batch_are_executed_once()
+    ensures once { (f : Frame) (w : World) (b : Batch) → IsBetweenRounds f w → IsFitting f w b → (e k : ℕ) (r : RealView) →
+        real_in ((entity_flow e (loaded w b)).slot k) ≡ Some r → (v : World) (es : List Event) →
+        LeadsTo node_has_work node_steps (loaded w b) es v → CellCallsInTurn e (λ s. next_from s r) (calls_of b e) v }
+    ensures executed { (f : Frame) (w : World) (b : Batch) → IsBetweenRounds f w → IsFitting f w b → (e k : ℕ) (r : RealView) →
+        real_in ((entity_flow e (loaded w b)).slot k) ≡ Some r → (v : World) (es : List Event) →
+        LeadsTo node_has_work node_steps (loaded w b) es v → IsQuiet node_has_work v → (j : ℕ) (q : RealView) →
+        real_in ((entity_flow e v).slot j) ≡ Some q → (s : ℕ) → letters_of (from_sender s) q.done ≡ calls_of b e s }
+{}
+
+/// A world keeps the record at the end of a run: that of two cells of `seam_law_calls`, whose entity was handed over and executed three calls
+/// of two senders. A batch with one more call fits it, and one whose call leaves a number out does not.
+pub fn a_run_ends_between_rounds()
+    ensures between { IsBetweenRounds frame early.world_12 }
+    ensures fits { IsFitting frame early.world_12 next_batch }
+    ensures skipping { IsFitting frame early.world_12 skipping_batch → ⊥ }
+    ensures one { holders early.world_12 1 ≡ 1 }
+{}

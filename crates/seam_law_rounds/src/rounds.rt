@@ -1,0 +1,76 @@
+//! A round's last phases, and the record between rounds again at the end of each phase.
+//!
+//! A round is loaded and runs until the world is quiet; then entities are reaped, and then witnesses look, each with a load and a run of
+//! its own. In the last two no call is made and no real is handed over: an entity is calm, and its real stays where it is until its Reap
+//! comes.
+//!
+//! Crates above cite these modules of `proofs`: `Shape` (the frame and the nodes stay; where a real is; what is sent, by node), `Publics`
+//! (public versions), `Calm`, `CalmMoves` and `CalmRuns` (a calm entity), `Starting` and `Giving` (what a load gives it), `Phases` and
+//! `Ending` (calm over every list of events, and at its end), `Reaping`, `Looking`, `RoadMoves` and `RoadRuns` (generations and routes),
+//! `CallsEnd` (where a round's calls end), `Opened` (an opened world).
+
+ghost use Rattle.std.specs.Prelude.{◌≡◌, ℕ, ◌≤◌, List, [], ◌∷◌, if◌then◌else◌};
+ghost use Rattle.std.specs.List.{AllByRecursion};
+ghost use Rattle.seam_machine.specs.Nets.{IsQuiet, LeadsTo};
+ghost use Rattle.seam_machine.specs.declared.machines.Event.{Event};
+ghost use Rattle.seam_defs.specs.declared.settings.Settings.{Settings};
+ghost use Rattle.seam_defs.specs.declared.types.TypeDef.{TypeDef};
+ghost use Rattle.seam_call.specs.declared.order.Batch.{Batch};
+ghost use Rattle.seam_node_steps.specs.EarlyCall as early;
+ghost use Rattle.seam_node_steps.specs.Holders.{holders};
+ghost use Rattle.seam_node_steps.specs.Nodes.{World, node_steps, node_has_work};
+ghost use Rattle.seam_node_steps.specs.Loads.{opened, loaded, reaps_loaded, look_loaded};
+ghost use Rattle.seam_law_calls.specs.Frames.{Frame};
+ghost use Rattle.seam_law_rounds.specs.Between.{IsBetweenRounds, IsFitting, framed};
+ghost use Rattle.seam_law_calls.specs.Ones.{IsFrame};
+ghost use Rattle.seam_law_rounds.specs.LastPhases.{first_frame, AreReapable, reap_comes, HasNoCalls};
+
+/// Where a world between rounds is told to reap entities, each entity that was there has one holder until its Reap comes and none from then
+/// on. Those that are not to be reaped keep theirs, and no other gets one. Where the world is quiet again, all are reaped.
+pub fn reaps_end_reals()
+    ensures counts { (f : Frame) (u : World) → IsBetweenRounds f u → (es : List ℕ) → AreReapable u es → (vs : List Event) (v : World) →
+        LeadsTo node_has_work node_steps (reaps_loaded u es) vs v → (e : ℕ) → holders u e ≡ 1 →
+        holders v e ≡ (if reap_comes e (reaps_loaded u es) vs then 0 else 1) }
+    ensures others { (f : Frame) (u : World) → IsBetweenRounds f u → (es : List ℕ) → AreReapable u es → (vs : List Event) (v : World) →
+        LeadsTo node_has_work node_steps (reaps_loaded u es) vs v → (e : ℕ) → holders u e ≡ 1 → AllByRecursion (λ x. x ≡ e → ⊥) es →
+        holders v e ≡ 1 }
+    ensures none { (f : Frame) (u : World) → IsBetweenRounds f u → (es : List ℕ) → AreReapable u es → (vs : List Event) (v : World) →
+        LeadsTo node_has_work node_steps (reaps_loaded u es) vs v → (e : ℕ) → holders u e ≡ 0 → holders v e ≡ 0 }
+    ensures ended { (f : Frame) (u : World) → IsBetweenRounds f u → (es : List ℕ) → AreReapable u es → (vs : List Event) (v : World) →
+        LeadsTo node_has_work node_steps (reaps_loaded u es) vs v → IsQuiet node_has_work v → AllByRecursion (λ e. holders v e ≡ 0) es }
+{}
+
+/// Meanwhile no call to the entity waits: no order, no message, and none that its real holds; nor after its Reap.
+pub fn no_call_waits_for_the_reaped()
+    ensures { (f : Frame) (u : World) → IsBetweenRounds f u → (es : List ℕ) → AreReapable u es → (vs : List Event) (v : World) →
+        LeadsTo node_has_work node_steps (reaps_loaded u es) vs v → (e : ℕ) → holders u e ≡ 1 → HasNoCalls e v }
+{}
+
+/// Where the witnesses of a world between rounds look, each entity keeps its holder, no other gets one, and no call waits.
+pub fn looks_keep_reals()
+    ensures counts { (f : Frame) (u : World) → IsBetweenRounds f u → (vs : List Event) (v : World) →
+        LeadsTo node_has_work node_steps (look_loaded u) vs v → (e : ℕ) → holders u e ≡ 1 → holders v e ≡ 1 }
+    ensures none { (f : Frame) (u : World) → IsBetweenRounds f u → (vs : List Event) (v : World) →
+        LeadsTo node_has_work node_steps (look_loaded u) vs v → (e : ℕ) → holders u e ≡ 0 → holders v e ≡ 0 }
+    ensures calls { (f : Frame) (u : World) → IsBetweenRounds f u → (vs : List Event) (v : World) →
+        LeadsTo node_has_work node_steps (look_loaded u) vs v → (e : ℕ) → holders u e ≡ 1 → HasNoCalls e v }
+{}
+
+/// The record between rounds holds of a world as it is opened, with definitions and a space that are such and a base node. It holds again
+/// where a round's calls leave the world quiet, now by the batch's tree, then where the reaps do, and then where the looks do. (What it
+/// says is of entities and their cell parts; clients and base parts are not in it.)
+pub fn a_round_goes_from_record_to_record()
+    ensures opened { (defs : List TypeDef) (settings : Settings) → IsFrame (first_frame defs settings) → 1 ≤ settings.bases →
+        IsBetweenRounds (first_frame defs settings) (opened defs settings) }
+    ensures calls { (f : Frame) (w : World) (b : Batch) → IsBetweenRounds f w → IsFitting f w b → (v : World) (es : List Event) →
+        LeadsTo node_has_work node_steps (loaded w b) es v → IsQuiet node_has_work v → IsBetweenRounds (framed f b) v }
+    ensures reaps { (f : Frame) (u : World) → IsBetweenRounds f u → (es : List ℕ) → AreReapable u es → (vs : List Event) (v : World) →
+        LeadsTo node_has_work node_steps (reaps_loaded u es) vs v → IsQuiet node_has_work v → IsBetweenRounds f v }
+    ensures looks { (f : Frame) (u : World) → IsBetweenRounds f u → (vs : List Event) (v : World) →
+        LeadsTo node_has_work node_steps (look_loaded u) vs v → IsQuiet node_has_work v → IsBetweenRounds f v }
+{}
+
+/// What the laws of reaps ask is true of the world at the end of the worked run of `between` and its entity.
+pub fn the_worked_entity_may_be_reaped()
+    ensures { AreReapable early.world_12 (1 ∷ []) }
+{}

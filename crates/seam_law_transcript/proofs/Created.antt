@@ -1,0 +1,70 @@
+-- Lines create no more entities than there may be.
+use Rattle.std.proofs.Common.{ℕ, ◌+◌, ◌<◌, ◌≤◌, [], ◌∷◌, length, refl, sym, ap, ◌∙◌, arith}
+use Rattle.std.proofs.Common.{inl, inr, append_assoc, append-nil, length-append}
+use Rattle.std.proofs.lemmas.Bool.{cases_lt}
+use Rattle.std.proofs.lemmas.List.Elements.{filter_map-append}
+use Rattle.seam_io.specs.Lines.{Line, Content, Long}
+use Rattle.seam_call.specs.declared.create.Create.{Create}
+use Rattle.seam_toml.specs.declared.header.Header.{Header}
+use Rattle.seam_rule_lines.specs.Language as language
+use Rattle.seam_rule_lines.specs.Book.{Book, entries, created, creates_of}
+use Rattle.seam_rule_lines.specs.Judging.{Adds, HoldsAgainst, Holds, Spells}
+use Rattle.seam_rule_lines.specs.declared.limits.TheConstants.{MOST_ENTITIES}
+use Rattle.seam_rule_lines.specs.declared.verdict.Entry.{Entry}
+use Rattle.seam_rule_lines.specs.declared.verdict.Entry.TheVariants as entry
+use Rattle.seam_rule_lines.specs.declared.verdict.Cause.{Cause}
+use Rattle.seam_rule_lines.specs.declared.verdict.Cause.TheVariants as cause
+use Rattle.seam_law_book.specs.Books.{IsAccepted, IsOfLines, empty, accepts, ends, balances}
+
+below_of : (m n : ℕ) → ¬ (n ≤ m) → m < n
+below_of m n not = elim (cases_lt m n) [ inl lt ↦ lt | inr ge ↦ absurd (not ge) ]
+
+module _ (h : Header) (b : Book) where
+  abbrev many : ℕ
+  many = length (creates_of (entries b))
+
+  -- only a `create` adds an entity, and no more than there may be
+  not_full : (c : Create) (k : language.Command) → Adds h b k (entry.Created c) → ¬ (HoldsAgainst h b k cause.Full) → many < MOST_ENTITIES
+  not_full c (language.Create e n x z) adds none = below_of many MOST_ENTITIES none
+  not_full c (language.Call s e m args) (call, names, is) none = absurd (let z = is in cc)
+  not_full c (language.Move s e x z) (call, names, is) none = absurd (let z = is in cc)
+  not_full c language.Sync adds none = absurd adds
+  not_full c (language.Client e) (n, spells, is) none = absurd (let z = is in cc)
+  not_full c language.Tick is none = absurd (let z = is in cc)
+  not_full c (language.Cut w a at) (cell, by, number, bound, is) none = absurd (let z = is in cc)
+  not_full c (language.Shift w at) (k, place, number, placed, is) none = absurd (let z = is in cc)
+  not_full c language.Balance is none = absurd (let z = is in cc)
+  not_full c (language.Destroy w) (e, spells, is) none = absurd (let z = is in cc)
+
+  line_not_full : (line : Line) (k : language.Command) (c : Create) → Spells line k → Adds h b k (entry.Created c) →
+      ((k : Cause) → ¬ (Holds h b line k)) → many < MOST_ENTITIES
+  line_not_full Long k c spells adds none = absurd spells
+  line_not_full (Content content) k c spells adds none =
+      not_full c k adds (λ full. none cause.Full (content, language.words_of k, refl, spells, (k, refl, full)))
+
+  one_more : (x : Entry) → IsAccepted h b x → many ≤ MOST_ENTITIES → many + length (creates_of (x ∷ [])) ≤ MOST_ENTITIES
+  one_more (entry.Created c) (line, (some, none, k, spells, adds)) few =
+      let below = line_not_full line k c spells adds none in omega (arith, below)
+  one_more (entry.Called c) accepted few = omega (arith, few)
+  one_more (entry.Joined e) accepted few = omega (arith, few)
+  one_more entry.Ticked accepted few = omega (arith, few)
+  one_more (entry.Divided u) accepted few = omega (arith, few)
+  one_more entry.Balanced accepted few = omega (arith, few)
+  one_more (entry.Destroyed e) accepted few = omega (arith, few)
+
+pub few_created : (h : Header) (b : Book) → IsOfLines h b → length (creates_of (entries b)) ≤ MOST_ENTITIES
+few_created h b empty = omega arith
+few_created h b (accepts before x lines accepted) =
+    let few = one_more h before x accepted (few_created h before lines) in
+    let is = ap length (ap creates_of (sym (append_assoc before.past before.current (x ∷ [])))
+    ∙ filter_map-append created (entries before) (x ∷ [])) in
+    let both = length-append (creates_of (entries before)) (creates_of (x ∷ [])) in
+    omega (arith, few, is, both)
+few_created h b (ends before lines) =
+    let few = few_created h before lines in
+    let is = ap (λ xs. length (creates_of xs)) (append-nil (entries before)) in
+    omega (arith, few, is)
+few_created h b (balances before t lines may) =
+    let few = few_created h before lines in
+    let is = ap (λ xs. length (creates_of xs)) (append-nil (entries before)) in
+    omega (arith, few, is)

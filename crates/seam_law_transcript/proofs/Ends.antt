@@ -1,0 +1,49 @@
+-- The numbers of a world after a round, by the entries and rounds before it.
+use Rattle.std.proofs.Common.{◌≡◌, ℕ, ◌+◌, ◌*◌, ◌≤◌, length, arith, length-append}
+use Rattle.std.proofs.Math.Nat.{mul-le-mul_left}
+use Rattle.seam_toml.specs.declared.header.Header.{Header}
+use Rattle.seam_accept.specs.Batches.{batch_of, ordered}
+use Rattle.seam_node_steps.specs.Nodes.{World}
+use Rattle.seam_law_rounds.specs.Between.{numbers_of}
+use Rattle.seam_law_calls.specs.WitnessMoves.{sent_by}
+use Rattle.seam_law_calls.proofs.Below.{mapped_few}
+use Rattle.seam_rule_rounds.specs.Standing.{Standing}
+use Rattle.seam_law_bounds.specs.Most.{AreAtMost}
+use Rattle.seam_rule_lines.specs.Book.{entries}
+use Rattle.seam_law_transcript.specs.Counts.{most_told}
+
+-- a product of lesser numbers is less
+product : (a c m k : ℕ) → a ≤ c → m ≤ k → a * m ≤ c * k
+product a c m k first second =
+    let x = mul-le-mul_left m first in
+    let y = mul-le-mul_left c second in
+    omega (arith, x, y)
+
+module _ (h : Header) (s : Standing) where
+  abbrev orders : ℕ
+  orders = length (batch_of h s.book).orders
+
+  few_orders : orders ≤ length s.book.current
+  few_orders = mapped_few (ordered h) s.book.current
+
+  both : length (entries s.book) ≡ length s.book.past + length s.book.current
+  both = length-append s.book.past s.book.current
+
+  pub reals_after : (v : World) → AreAtMost numbers_of (3 * length s.book.past + 2 * s.rounds + (3 * orders + 2)) v →
+      AreAtMost numbers_of (3 * length (entries s.book) + 2 * (s.rounds + 1)) v
+  reals_after v low e k r at =
+      let its = low e k r at in
+      let few = few_orders in
+      let all = both in
+      omega (arith, its, few, all)
+
+  pub told_after : (v : World) (lines : ℕ) → lines ≤ most_told →
+      AreAtMost sent_by (most_told * (16 * length s.book.past + s.rounds) + lines * (16 * orders + 1)) v →
+      AreAtMost sent_by (most_told * (16 * length (entries s.book) + (s.rounds + 1))) v
+  told_after v lines le low e k r at =
+      let its = low e k r at in
+      let few = few_orders in
+      let all = both in
+      let few_looks : 16 * orders + 1 ≤ 16 * length s.book.current + 1 = omega (arith, few) in
+      let more = product lines most_told (16 * orders + 1) (16 * length s.book.current + 1) le few_looks in
+      omega (arith, its, more, all)

@@ -1,0 +1,56 @@
+-- What clients show is what they were told in all.
+use Rattle.std.proofs.Common.{◌≡◌, ℕ, Bool, true, false, List, [], ◌∷◌, ◌++◌, Some, refl, sym, ap, ◌∙◌, subst}
+use Rattle.std.specs.Prelude.{IsTrue, is_some, not, ◌&&◌, if◌then◌else◌}
+use Rattle.std.specs.List.{list_any}
+use Rattle.std.proofs.lemmas.List.Elements.{filter_map-append}
+use Rattle.std.proofs.lemmas.List.Sums.{fold-append}
+use Rattle.seam_law_flow.specs.Flows.{letters_of}
+use Rattle.seam_call.specs.declared.create.Create.{Create}
+use Rattle.seam_call.specs.declared.shown.Line.{Line}
+use Rattle.seam_call.specs.declared.shown.ClientText.{ClientText}
+use Rattle.seam_call.specs.declared.shown.ClientText.TheVariants as text
+use Rattle.seam_rule_lines.specs.Book.{Book, entries, created_as, joins, destroys, is_shown}
+use Rattle.seam_entity.specs.Reals.{RealView, WitnessView}
+use Rattle.seam_node_steps.specs.Nodes.{World}
+use Rattle.seam_law_calls.specs.Frames.{Frame}
+use Rattle.seam_law_calls.specs.Sights.{entity_flow}
+use Rattle.seam_law_calls.specs.Ones.{real_in}
+use Rattle.seam_law_calls.specs.Clients.{shown_in}
+use Rattle.seam_rule_clients.specs.Clients.{ClientReplica, after_shown, after_all_shown, after_lines, shown_by, shown_by_lines}
+use Rattle.seam_law_clients.specs.Witnesses.{FitsWitness, ClientsFit}
+
+-- the two ways to read what lines show of cell parts
+pub shown_is : (ls : List Line) → shown_by_lines ls ≡ letters_of shown_in ls
+shown_is [] = refl
+shown_is (l ∷ ls) = by l.text (shown_is ls)
+  where
+    by : (t : ClientText) → shown_by_lines ls ≡ letters_of shown_in ls →
+        shown_by_lines (record l { text = t } ∷ ls) ≡ letters_of shown_in (record l { text = t } ∷ ls)
+    by (text.Shown x) rest = ap (λ r. x ∷ r) rest
+    by (text.Base v props) rest = rest
+
+-- after some lines and more
+pub after_more : (c : ClientReplica) (xs ys : List Line) →
+    after_lines c (xs ++ ys) ≡ after_all_shown (after_lines c xs) (letters_of shown_in ys)
+after_more c xs ys =
+    ap (after_all_shown c) (filter_map-append (λ l. shown_by l.text) xs ys)
+    ∙ fold-append after_shown c (shown_by_lines xs) (shown_by_lines ys)
+    ∙ ap (after_all_shown (after_lines c xs)) (shown_is ys)
+
+-- clients fit by what those show that have a witness
+pub fit_by : (f : Frame) (old now : ℕ → ClientReplica) (w : World) → ClientsFit f old w →
+    ((e k : ℕ) (r : RealView) → real_in ((entity_flow e w).slot k) ≡ Some r → (x : WitnessView) → r.witness ≡ Some x → old e ≡ now e) →
+    ClientsFit f now w
+fit_by f old now w fit same = record {
+  each = λ e k r at x has. subst (FitsWitness f w r x) (same e k r at x has) (fit.each e k r at x has);
+}
+
+-- an entity that lives and was given a client has one in the round
+pub is_shown_by : (b : Book) (e : ℕ) (c : Create) → created_as b e ≡ Some c → list_any (joins e) (entries b) ≡ true →
+    list_any (destroys e) b.past ≡ false → IsTrue (is_shown b e)
+is_shown_by b e c made joined alive = (λ i. (is_some (made i) && joined i) && not (alive i))
+
+-- as a batch is loaded, a client shows what it did, also a new one, which was told nothing
+pub begun_by : (new : Bool) (fresh was : ClientReplica) → (new ≡ true → was ≡ fresh) → (if new then fresh else was) ≡ was
+begun_by true fresh was same = sym (same refl)
+begun_by false fresh was same = refl

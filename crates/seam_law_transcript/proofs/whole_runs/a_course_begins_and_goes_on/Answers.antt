@@ -1,0 +1,60 @@
+use Rattle.std.proofs.Common.{◌≡◌, ℕ, [], ◌∷◌, ◌++◌, sym, ap, ◌∙◌, arith, length-append}
+use Rattle.std.proofs.lemmas.Option.{none-some}
+use Rattle.seam_law_book.specs.Books.{empty, accepts}
+use Rattle.seam_law_book.proofs.Untouched.{one_cell_tree}
+use Rattle.seam_node_steps.specs.Loads.{opened}
+use Rattle.seam_law_calls.specs.Sights.{has_none, entity_flow}
+use Rattle.seam_law_calls.specs.Ones.{real_in, IsFrame}
+use Rattle.seam_law_rounds.specs.LastPhases.{first_frame}
+use Rattle.seam_law_rounds.proofs.Opened.{opened_is_new}
+use Rattle.seam_rule_rounds.specs.Standing.{with_line}
+use Rattle.seam_law_transcript.proofs.whole_runs.a_course_begins_and_goes_on.Goals as goal
+
+pub returns-clause-opened : goal.returns-clause-opened
+returns-clause-opened c h count legal defs =
+    let frame : IsFrame (first_frame h.defs h.settings) = record { defs = defs; tree = one_cell_tree h legal } in
+    let bounded = c.a_round_keeps_what_bounds_it.ensures.opened h.defs h.settings frame legal.in_range.some_bases in
+    let new : (e k : ℕ) → (entity_flow e (opened h.defs h.settings)).slot k ≡ has_none =
+    opened_is_new h.defs h.settings frame legal.in_range.some_bases in
+    record {
+      legal = legal;
+      of_lines = empty;
+      between = c.a_standing_goes_with_a_world_before_its_round.ensures.opened h count legal defs;
+      bounded = record { nothing = bounded.0; sees = bounded.1 };
+      counted = record { entries_ = omega arith; rounds = omega arith };
+      few = record {
+        reals = λ e k r at. absurd (none-some r (sym (ap real_in (new e k)) ∙ at));
+        told = λ e k r at. absurd (none-some r (sym (ap real_in (new e k)) ∙ at));
+      };
+    }
+
+pub returns-clause-line : goal.returns-clause-line
+returns-clause-line c h s tree w g =
+    let entries_ = g.counted.entries_ in
+    let rounds = g.counted.rounds in
+    record {
+      legal = g.legal;
+      of_lines = g.of_lines;
+      between = c.a_standing_goes_with_a_world_before_its_round.ensures.line h s tree w g.between;
+      bounded = g.bounded;
+      counted = record { entries_ = omega (arith, entries_); rounds = omega (arith, rounds) };
+      few = record { reals = g.few.reals; told = g.few.told };
+    }
+
+pub returns-clause-entry : goal.returns-clause-entry
+returns-clause-entry c h s tree w x g accepted =
+    let b = s.book in
+    let entries_ = g.counted.entries_ in
+    let rounds = g.counted.rounds in
+    let all = length-append b.past (b.current ++ x ∷ []) in
+    let were = length-append b.past b.current in
+    let more = length-append b.current (x ∷ []) in
+    record {
+      legal = g.legal;
+      of_lines = accepts b x g.of_lines accepted;
+      between = c.a_standing_goes_with_a_world_before_its_round.ensures.entry h (with_line s) tree w x
+          (c.a_standing_goes_with_a_world_before_its_round.ensures.line h s tree w g.between);
+      bounded = g.bounded;
+      counted = record { entries_ = omega (arith, entries_, all, were, more); rounds = omega (arith, rounds, more) };
+      few = record { reals = g.few.reals; told = g.few.told };
+    }

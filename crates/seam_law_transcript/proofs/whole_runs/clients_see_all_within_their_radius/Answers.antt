@@ -1,0 +1,11 @@
+use Rattle.std.proofs.Common.{ap, sym, ◌∙◌}
+use Rattle.seam_rule_clients.specs.Looks.{rows_but, look_by}
+use Rattle.seam_rule_rounds.specs.FlatTable.{rows_of}
+use Rattle.seam_rule_rounds.specs.Standing.{replica_of}
+use Rattle.seam_law_transcript.proofs.whole_runs.clients_see_all_within_their_radius.Goals as goal
+
+pub returns : goal.returns
+returns c h s r t legal e own shown is =
+    let others = rows_but e (rows_of h t.orders legal.live) in
+    c.look_shows_the_table.ensures (replica_of h t e) own others
+    (sym (ap (λ o. look_by (replica_of h t e) o others) is) ∙ legal.looked.nothing_left e shown)

@@ -1,0 +1,25 @@
+-- A standing beside a world, from the header to the last line.
+use Rattle.seam_tree.specs.Division.{Division}
+use Rattle.seam_defs.specs.Settings.{AreLegal}
+use Rattle.seam_toml.specs.declared.header.Header.{Header}
+use Rattle.seam_law_book.specs.Books.{IsOfLines}
+use Rattle.seam_node_steps.specs.Nodes.{World}
+use Rattle.seam_law_bounds.specs.Records.{IsBounded}
+use Rattle.seam_rule_rounds.specs.Standing.{Standing}
+use Rattle.seam_law_transcript.specs.Beside.{GoesBetween}
+use Rattle.seam_law_transcript.specs.Counts.{IsCounted, HasFewNumbers}
+
+-- The standing, with whatever lines its open round has so far, goes with the world w between two rounds, whose nodes have the tree `tree`;
+-- and each round that may end from there may be run.
+pub record GoesOn (h : Header) (s : Standing) (tree : Division) (w : World) : Type 0 where
+  -- lines made the book, after a header with legal settings
+  pub legal : AreLegal h.settings
+  pub of_lines : IsOfLines h s.book
+  -- it goes with the world
+  pub between : GoesBetween h s tree w
+  -- what bounds the phases of a round holds
+  pub bounded : IsBounded w
+  -- lines were counted
+  pub counted : IsCounted s
+  -- and the numbers of the world are few
+  pub few : HasFewNumbers s w

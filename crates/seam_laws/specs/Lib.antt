@@ -1,4 +1,0 @@
-pub mod Records
-pub mod Calls
-pub mod Reaps
-pub mod Looks

@@ -1,4 +1,0 @@
-pub mod Going
-pub mod Rounds
-pub mod Standings
-pub mod Playing

@@ -1,5 +1,0 @@
-use Rattle.seam_measure.proofs.NetWeights.{longest_is_quiet}
-use Rattle.seam_measure.proofs.measure.a_longest_run_is_quiet.Goals as goal
-
-pub returns : goal.returns
-returns c = longest_is_quiet

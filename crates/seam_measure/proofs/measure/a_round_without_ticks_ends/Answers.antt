@@ -1,5 +1,0 @@
-use Rattle.seam_measure.proofs.Tickless.{tickless_ends}
-use Rattle.seam_measure.proofs.measure.a_round_without_ticks_ends.Goals as goal
-
-pub returns : goal.returns
-returns c = λ f w b may none no_ticks v es run n. tickless_ends f w b may none no_ticks v es run n

@@ -1,5 +1,0 @@
-use Rattle.seam_measure.proofs.NetWeights.{event_lowers}
-use Rattle.seam_measure.proofs.measure.an_event_lowers_the_weight.Goals as goal
-
-pub returns : goal.returns
-returns c = event_lowers

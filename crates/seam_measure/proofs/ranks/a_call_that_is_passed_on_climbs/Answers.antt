@@ -1,5 +1,0 @@
-use Rattle.seam_measure.proofs.Climbing.{passed_climbs}
-use Rattle.seam_measure.proofs.ranks.a_call_that_is_passed_on_climbs.Goals as goal
-
-pub returns : goal.returns
-returns c = passed_climbs

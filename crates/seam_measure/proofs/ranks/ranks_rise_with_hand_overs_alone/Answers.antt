@@ -1,5 +1,0 @@
-use Rattle.seam_measure.proofs.Climbing.{each_event_climbs}
-use Rattle.seam_measure.proofs.ranks.ranks_rise_with_hand_overs_alone.Goals as goal
-
-pub returns : goal.returns
-returns c = each_event_climbs

@@ -1,6 +1,0 @@
-pub mod Ranks
-pub mod Passes
-pub mod Weights
-pub mod Events
-pub mod Looking
-pub mod Phases

@@ -1,3 +1,0 @@
-pub mod Moves
-mod Runs
-pub mod Whole

@@ -1,0 +1,38 @@
+// SPDX-License-Identifier: MIT
+
+//! The small machine that shows how nets of machines and their laws are used: counters in a ring that pass numbers on.
+//!
+//! A counter that was given a number passes it to the next counter. A number that comes is passed on, lowered by one, and is gone
+//! once it is 0. So each event lowers what is left to do by one, and every run ends.
+//!
+//! Tests of links, of logs, and of the ring of counters as a net and run by workers in threads: what no clause says of them is tested
+//! here, since a crate with tests of its own is proved twice.
+#![tactic(auto)]
+
+mod counter;
+mod laws;
+
+pub use counter::Counter;
+pub use laws::{
+    a_ring_stays_a_ring, counters_are_seen_alone, one_number_stays_one, runs_of_a_ring_end,
+    small_numbers_are_seen, small_numbers_stay_small,
+};
+
+#[cfg(test)]
+mod links;
+#[cfg(test)]
+mod logs;
+#[cfg(test)]
+mod rings;
+#[cfg(test)]
+mod workers;
+
+ghost use Rattle.std.specs.Prelude.{◌≡◌};
+
+// What may go from one thread to another.
+#[cfg(test)]
+fn sent<T: Send>(value: T) -> T
+    ensures { result ≡ value }
+{
+    value
+}

@@ -1,0 +1,236 @@
+//! Workers in real threads: they get on, two of them are inside their steps at once, and what they return is a run. And a node
+//! without a task and a letter makes no step.
+
+ghost use Rattle.std.specs.Prelude.{◌≡◌, ◌≤◌, IfOk, Some, length, slice_get};
+ghost use Rattle.seam_machine.specs.Nets.{ArePeers};
+
+use crate::Counter;
+use seam_link::link;
+use seam_logged::{Ends, Logged, Naming, Try};
+use seam_machine::{Event, Input, Machine, Net, NetParts, Out};
+use seam_workers::{Crew, Gate, OpenGate, run_workers};
+use std::alloc::{AllocError, Global};
+use std::marker::Brand;
+use std::sync::Wait;
+use std::sync::atomic::{AtomicU64, Ordering};
+use std::test::Fail;
+use std::thread;
+use std::thread::Threads;
+
+// How often a node that is held looks for the other one before it gives up: seconds, on a machine with nothing else to do.
+const MOST_LOOKS: u32 = 20_000_000;
+
+// Holds each of the nodes 0 and 1 until both were inside.
+#[derive(Drop)]
+struct BothInside {
+    inside: AtomicU64,
+    given_up: AtomicU64,
+}
+
+impl Gate for BothInside {
+    fn at_step<R: Threads + Wait + Sync>(&self, _rt: &R, node: u8) {
+        let mine = if node == 0 { 1 } else { 2 };
+        self.inside.fetch_or(mine, Ordering::SeqCst);
+        for _look in 0..MOST_LOOKS {
+            if self.inside.load(Ordering::SeqCst) == 3 {
+                return;
+            }
+            thread::yield_now();
+        }
+        self.given_up.store(1, Ordering::SeqCst);
+    }
+}
+
+// Three counters, each before the next; the first one is to pass on the number.
+fn ring(alloc: Global, number: Option<u64>) -> Result<Net<Counter>, AllocError>
+    ensures { IfOk result (λ w. ArePeers (λ c. c.peers) w) }
+{
+    let nodes = Vec::from_array(
+        alloc,
+        [
+            Counter::new(1, 3, number),
+            Counter::new(2, 3, Some(5)),
+            Counter::new(0, 3, None),
+        ],
+    )?;
+    Net::new(alloc, nodes)
+}
+
+// Three counters, each before the next, of which one alone has something to do at any time.
+fn lone(alloc: Global) -> Result<Net<Counter>, AllocError>
+    ensures { IfOk result (λ w. ArePeers (λ c. c.peers) w) }
+{
+    let nodes = Vec::from_array(
+        alloc,
+        [
+            Counter::new(1, 3, None),
+            Counter::new(2, 3, Some(20)),
+            Counter::new(0, 3, None),
+        ],
+    )?;
+    Net::new(alloc, nodes)
+}
+
+// Two counters that pass a number each to the other.
+fn pair(alloc: Global) -> Result<Net<Counter>, AllocError>
+    ensures { IfOk result (λ w. ArePeers (λ c. c.peers) w) }
+{
+    let nodes = Vec::from_array(
+        alloc,
+        [Counter::new(1, 2, Some(3)), Counter::new(0, 2, Some(3))],
+    )?;
+    Net::new(alloc, nodes)
+}
+
+// Whether so many workers leave the ring quiet, and how many events they make.
+fn left_quiet<R: Threads + Wait + Sync>(
+    rt: &R,
+    alloc: Global,
+    workers: u32,
+) -> Result<(bool, usize), AllocError>
+    requires { (1 ≤ workers) × (workers ≤ 16) }
+{
+    let crew = Crew {
+        workers,
+        turns: 1000,
+    };
+    let (net, events) = run_workers(rt, alloc, ring(alloc, Some(20))?, crew, &OpenGate)?;
+    Ok((net.is_quiet(), events.len()))
+}
+
+#[test]
+fn workers_leave_the_ring_quiet(rt: HostRuntime) -> Result<(), Fail> {
+    assert_eq!(rt; left_quiet(&rt, rt.alloc(), 1)?, (true, 29));
+    assert_eq!(rt; left_quiet(&rt, rt.alloc(), 2)?, (true, 29));
+    assert_eq!(rt; left_quiet(&rt, rt.alloc(), 4)?, (true, 29));
+    Ok(())
+}
+
+#[test]
+fn workers_leave_a_ring_with_one_number_quiet(rt: HostRuntime) -> Result<(), Fail> {
+    let crew = Crew {
+        workers: 4,
+        turns: 1000,
+    };
+    let (net, events) = run_workers(&rt, rt.alloc(), lone(rt.alloc())?, crew, &OpenGate)?;
+    assert_eq!(rt; (net.is_quiet(), events.len()), (true, 22));
+    let few = Crew {
+        workers: 4,
+        turns: 5,
+    };
+    let (net, events) = run_workers(&rt, rt.alloc(), lone(rt.alloc())?, few, &OpenGate)?;
+    assert!(rt; !net.is_quiet() && events.len() >= 5);
+    Ok(())
+}
+
+#[test]
+fn two_workers_are_inside_at_once(rt: HostRuntime) -> Result<(), Fail> {
+    let gate = BothInside {
+        inside: AtomicU64::new(0),
+        given_up: AtomicU64::new(0),
+    };
+    let crew = Crew {
+        workers: 2,
+        turns: 2,
+    };
+    let (_net, events) = run_workers(&rt, rt.alloc(), pair(rt.alloc())?, crew, &gate)?;
+    assert!(rt; events.len() >= 2);
+    assert_eq!(rt; gate.inside.load(Ordering::SeqCst), 3);
+    assert_eq!(rt; gate.given_up.load(Ordering::SeqCst), 0);
+    Ok(())
+}
+
+// Lets the events happen one by one. False at the first one that is not enabled.
+fn replayed(alloc: Global, net: &mut Net<Counter>, events: &Vec<Event>) -> Result<bool, AllocError>
+    requires { ArePeers (λ c. c.peers) net.old }
+{
+    for event in events.iter() {
+        if !net.enabled(*event) {
+            return Ok(false);
+        }
+        net.step(alloc, *event)?;
+    }
+    Ok(true)
+}
+
+// What a net holds: what each counter sends at its task, if it has one, and for the number 1; and the numbers in the links.
+fn held(alloc: Global, net: Net<Counter>) -> Result<(Vec<(u8, u64)>, Vec<Vec<u64>>), AllocError> {
+    let NetParts { nodes, links } = net.apart(alloc)?;
+    let mut out = Out::new(alloc);
+    for mut node in nodes {
+        if node.has_task() {
+            node.step(alloc, &mut Input::Task, &mut out)?;
+        }
+        node.step(alloc, &mut Input::From(0, 1), &mut out)?;
+    }
+    let mut sends = Vec::new(alloc);
+    while let Some(sent) = out.take() {
+        sends.push(sent)?;
+    }
+    Ok((sends, links))
+}
+
+// Two workers have so many turns each at the ring. Whether their events, on the ring made anew, all happen and leave what the
+// workers left, and whether that is quiet.
+fn replay_agrees<R: Threads + Wait + Sync>(
+    rt: &R,
+    alloc: Global,
+    turns: u32,
+) -> Result<(bool, bool), AllocError>
+    requires { 1 ≤ turns }
+{
+    let crew = Crew { workers: 2, turns };
+    let (net, events) = run_workers(rt, alloc, ring(alloc, Some(20))?, crew, &OpenGate)?;
+    let mut again = ring(alloc, Some(20))?;
+    let happened = replayed(alloc, &mut again, &events)?;
+    let quiet = net.is_quiet();
+    let as_quiet = again.is_quiet() == quiet;
+    let (sends, links) = held(alloc, net)?;
+    let (sends_again, links_again) = held(alloc, again)?;
+    let same = sends == sends_again && links == links_again;
+    Ok((happened && as_quiet && same, quiet))
+}
+
+#[test]
+fn the_events_replayed_leave_the_same_net(rt: HostRuntime) -> Result<(), Fail> {
+    assert_eq!(rt; replay_agrees(&rt, rt.alloc(), 1000)?, (true, true));
+    assert_eq!(rt; replay_agrees(&rt, rt.alloc(), 2)?, (true, false));
+    Ok(())
+}
+
+// The only counter of a ring, and its link to itself.
+#[derive(Drop)]
+struct Alone {
+    node: Counter,
+    ends: Ends<u64>,
+}
+
+// The first try of the node in the run J, and how many steps are in its log after it.
+fn tried<J: Naming<Counter, u64>>(alloc: Global, alone: Alone) -> (Try, usize)
+    requires ins { length alone.ends.ins ≡ alone.node.peers }
+    requires outs { length alone.ends.outs ≡ alone.node.peers }
+    requires named { slice_get J.roots 0 ≡ Some (record { start = alone.node; first = alone.ends }) }
+{
+    let Alone { node, ends } = alone;
+    let mut logged: Logged<Counter, J> = Logged::new(alloc, node, 0, ends);
+    let tried = logged.try_step(alloc);
+    (tried, logged.apart().log.len())
+}
+
+// The same for a counter that is alone in its ring and is to pass on the given number.
+fn tried_alone(alloc: Global, given: Option<u64>) -> Result<(Try, usize), AllocError> {
+    let (out, end) = link(alloc, 1)?;
+    let ends = Ends {
+        ins: Vec::from_array(alloc, [end])?,
+        outs: Vec::from_array(alloc, [out])?,
+    };
+    let node = Counter::new(0, 1, given);
+    Ok(tried::<Brand>(alloc, Alone { node, ends }))
+}
+
+#[test]
+fn a_try_without_a_task_is_idle(rt: HostRuntime) -> Result<(), Fail> {
+    assert_eq!(rt; tried_alone(rt.alloc(), None)?, (Try::Idle, 0));
+    assert_eq!(rt; tried_alone(rt.alloc(), Some(5))?, (Try::Stepped, 1));
+    Ok(())
+}

@@ -1,0 +1,15 @@
+use Rattle.std.proofs.Common.{rules}
+use Rattle.seam_net_runs.proofs.Runs.{leads_extend}
+use Rattle.seam_net_runs.proofs.finishing.begin.Goals as goal
+
+pub loop-turn-preserved : goal.loop-turn-preserved
+loop-turn-preserved g c =
+    let K = g.M.Machine in
+    let inv = c.loop-turn.invariant in
+    let e = c.in-Some.event in
+    let events = c.loop-turn.events.items in
+    let more = leads_extend K.has_work K.steps c.args.net c.loop-turn.net events e inv.0 c.in-Some.ensures.enabled in (
+      rw (c.in_ok-push.ensures.items, c.in_ok-step.ensures.happens) more,
+      c.step.ensures.peers,
+      search rules,
+    )

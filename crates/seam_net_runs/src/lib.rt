@@ -1,0 +1,28 @@
+// SPDX-License-Identifier: MIT
+
+//! Runs of a net of machines: what every enabled event keeps, lowers or leaves exactly, and so what every list of events does.
+//!
+//! An event is one step of one node (Lamport, "Time, Clocks, and the Ordering of Events in a Distributed System", 1978). A law over
+//! all runs is an induction over the list of events: what is proved here of one event holds after every run.
+//!
+//! Crates above cite these modules of `proofs`: `Runs` (join, part and extend runs; what they keep; how long they are), `Keeping`
+//! (each node, each link, each link exactly), `Weighing` (the weight of a net, by the node to which a message goes), `MapSums` (sums
+//! over finite maps), `Soundness` (a net of machines stays one), `Seeing` (a net through a function on its nodes).
+//!
+//! Nets that come to rest: their events happen one after the other, on one thread, until no node has anything left to do.
+//!
+//! Which event is next is settled, so the same net takes the same events each time. That a net comes to rest at all is for the caller
+//! to know: every list of its events is no longer than some number.
+//!
+//! Of `proofs`, `Firsts` (one event more, of a net whose events are each the first) is for callers with a loop of their own.
+#![tactic(auto)]
+
+mod finishing;
+mod laws;
+
+pub use finishing::{begin, finish};
+pub use laws::{
+    LinkFact, NetFact, NetMeasure, NodeFact, a_map_weighs_its_values, chosen_sends_are_bounded,
+    each_link_is_kept, each_node_is_kept, links_are_exact, nets_are_seen, runs_end, runs_extend,
+    runs_join, runs_keep, soundness_is_kept, weights_move,
+};

@@ -1,0 +1,14 @@
+pub mod Slots
+pub mod Stray
+pub mod Targets
+pub mod Keys
+pub mod ValidCells
+pub mod ValidBases
+pub mod Peers
+pub mod Tables
+pub mod Quiet
+pub mod Early
+pub mod Late
+pub mod Views
+pub mod Sorted
+pub mod Knowing

@@ -1,9 +1,0 @@
-use seam_memory::NoMemoryFor;
-
-#[test]
-fn the_item_comes_back() {
-    let refused = NoMemoryFor { item: 'a' };
-    prove!(refused == NoMemoryFor { item: 'a' });
-    let NoMemoryFor { item } = refused;
-    prove!(item == 'a');
-}

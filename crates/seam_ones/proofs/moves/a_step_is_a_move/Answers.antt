@@ -1,5 +1,0 @@
-use Rattle.seam_ones.proofs.Classify.{node_moves}
-use Rattle.seam_ones.proofs.moves.a_step_is_a_move.Goals as goal
-
-pub returns : goal.returns
-returns c = node_moves

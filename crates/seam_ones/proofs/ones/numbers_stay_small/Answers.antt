@@ -1,5 +1,0 @@
-use Rattle.seam_ones.proofs.Easing.{burden_leads}
-use Rattle.seam_ones.proofs.ones.numbers_stay_small.Goals as goal
-
-pub returns : goal.returns
-returns c = burden_leads

@@ -1,8 +1,0 @@
-use Rattle.std.proofs.Common.{None}
-use Rattle.seam_parts.proofs.SpotLemmas.{noted_after}
-use Rattle.seam_parts.proofs.spots.forget_kept.Goals as goal
-
-pub returns : goal.returns
-returns c before after are changed =
-    noted_after c.args.spots.now.list _ c.args.spots.now.out c.still_out-spots.result c.args.e None before after c.still_out-spots.ensures
-    c.remove.ensures are changed

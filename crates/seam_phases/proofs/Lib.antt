@@ -1,3 +1,0 @@
-pub mod Viewed
-pub mod Seen
-pub mod Bounds

@@ -1,7 +1,0 @@
-use Rattle.std.proofs.Common.{◌≡◌, take, map}
-use Rattle.seam_rules.specs.Clients.{base_shown}
-use Rattle.seam_round.specs.Standings.{standing_of}
-use Rattle.seam_plain_looks.proofs.base.base_texts.Given as goal
-
-abbrev pub invariant-loop-version : goal.invariant-loop-version
-invariant-loop-version l = l.texts.items ≡ map (base_shown l.header (standing_of l.after) l.create) (take l.version-index l.version-items)

@@ -1,9 +1,0 @@
-use Rattle.std.proofs.Common.{◌≡◌, take, map}
-use Rattle.seam_replica.specs.Clients.{after_all_shown}
-use Rattle.seam_plain_looks.specs.Replicas.{empty_client, last_own}
-use Rattle.seam_plain_looks.proofs.replica.Replica.last_own.Given as goal
-
-abbrev pub invariant-loop-x : goal.invariant-loop-x
-invariant-loop-x l =
-    l.own
-    ≡ last_own (after_all_shown (empty_client l.self.radius l.self.hysteresis) (map (λ x. x.now) (take l.x-index l.self.shown.items)))

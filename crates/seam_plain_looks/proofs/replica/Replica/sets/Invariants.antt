@@ -1,8 +1,0 @@
-use Rattle.std.proofs.Common.{◌≡◌, take}
-use Rattle.std.specs.List.{filter_map}
-use Rattle.seam_plain_looks.specs.Replicas.{client_of}
-use Rattle.seam_plain_looks.specs.Looks.{set_of}
-use Rattle.seam_plain_looks.proofs.replica.Replica.sets.Given as goal
-
-abbrev pub invariant-loop-entry : goal.invariant-loop-entry
-invariant-loop-entry l = l.lines.items ≡ filter_map (set_of (client_of l.self) l.own l.others) (take l.entry-index l.entries)

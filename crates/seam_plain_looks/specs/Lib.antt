@@ -1,2 +1,0 @@
-pub mod Replicas
-pub mod Looks

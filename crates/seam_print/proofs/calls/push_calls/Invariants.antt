@@ -1,9 +1,0 @@
-use Rattle.std.proofs.Common.{◌≡◌, ◌++◌, take}
-use Rattle.std.specs.List.{flat_map}
-use Rattle.seam_transcript.specs.Texts.{done_text}
-use Rattle.seam_print.specs.Texts.{done_of_type}
-use Rattle.seam_print.proofs.calls.push_calls.Given as goal
-
-abbrev pub invariant-loop-call : goal.invariant-loop-call
-invariant-loop-call l =
-    l.out.items ≡ l.initial.out.items ++ flat_map (done_text l.word l.defs) (done_of_type l.ty (take l.call-index l.calls))

@@ -1,9 +1,0 @@
-use Rattle.std.proofs.Common.{◌≡◌, ◌++◌}
-use Rattle.std.specs.List.{flat_map}
-use Rattle.seam_print.specs.Texts.{base_of}
-use Rattle.seam_print.proofs.ends.push_bases.Given as goal
-
-abbrev pub invariant-loop-resident : goal.invariant-loop-resident
-invariant-loop-resident l =
-    l.out.items ++ flat_map (λ e. base_of l.defs l.world e.1) l.resident-iterator
-    ≡ l.initial.out.items ++ flat_map (λ e. base_of l.defs l.world e.1) l.residents.entries

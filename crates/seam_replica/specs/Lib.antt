@@ -1,4 +1,0 @@
-pub mod Clients
-pub mod Looks
-pub mod Lines
-pub mod Example

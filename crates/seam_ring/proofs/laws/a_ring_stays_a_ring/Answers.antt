@@ -1,5 +1,0 @@
-use Rattle.seam_ring.proofs.RingLemmas.{ring_leads}
-use Rattle.seam_ring.proofs.laws.a_ring_stays_a_ring.Goals as goal
-
-pub returns : goal.returns
-returns c = λ after w v es r a. ring_leads after w v es r a

@@ -1,5 +1,0 @@
-pub mod Between
-pub mod Loaded
-pub mod Example
-pub mod Rounds
-pub mod Routes

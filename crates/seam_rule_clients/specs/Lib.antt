@@ -1,0 +1,4 @@
+pub mod Clients
+pub mod Looks
+pub mod Lines
+pub mod WalkOutExample

@@ -1,0 +1,10 @@
+pub mod FlatTable
+pub mod Standing
+pub mod RoundPlaces
+pub mod Lines
+pub mod Clients
+pub mod Round
+pub mod Texts
+pub mod Transcript
+pub mod TwoChests
+pub mod Summary

@@ -1,9 +1,0 @@
-pub mod FlatTable
-pub mod Standing
-pub mod Places
-pub mod Lines
-pub mod Clients
-pub mod Round
-pub mod Texts
-pub mod Transcript
-pub mod Example

@@ -1,5 +1,0 @@
-use Rattle.seam_runs.proofs.MapSums.{sent_of_chosen}
-use Rattle.seam_runs.proofs.laws.chosen_sends_are_bounded.Goals as goal
-
-pub returns : goal.returns
-returns g c = λ h f most from len low. sent_of_chosen h f most from len low

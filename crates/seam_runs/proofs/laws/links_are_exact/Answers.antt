@@ -1,5 +1,0 @@
-use Rattle.seam_runs.proofs.Keeping.{link_is_exact}
-use Rattle.seam_runs.proofs.laws.links_are_exact.Goals as goal
-
-pub returns : goal.returns
-returns g c = λ steps w e o q b x y. link_is_exact steps w e o q b x y

@@ -1,5 +1,0 @@
-use Rattle.seam_runs.proofs.Runs.{leads_extend}
-use Rattle.seam_runs.proofs.laws.runs_extend.Goals as goal
-
-pub returns-clause-more : goal.returns-clause-more
-returns-clause-more g c = λ has_work steps w v es e a h. leads_extend has_work steps w v es e a h

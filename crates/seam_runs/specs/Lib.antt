@@ -1,5 +1,0 @@
-pub mod Kept
-pub mod Seen
-pub mod Sound
-pub mod Sums
-pub mod Weights

@@ -1,8 +1,0 @@
-use Rattle.std.proofs.Common.{sym, ◌∙◌}
-use Rattle.seam_rounds.proofs.Opened.{opened_has_none}
-use Rattle.seam_shown.proofs.looks.clients_of_an_opened_world_fit.Goals as goal
-
-pub returns : goal.returns
-returns c defs settings frame some clients = record {
-  each = λ e k r at v seen. absurd (let z = sym (opened_has_none defs settings frame some e k) ∙ at in cc);
-}

@@ -1,9 +1,0 @@
-pub mod Tables
-pub mod Witnesses
-pub mod Phases
-pub mod Fits
-pub mod Telling
-pub mod Rounds
-pub mod Clients
-pub mod BaseLines
-pub mod Crossing

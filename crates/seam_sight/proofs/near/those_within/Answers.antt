@@ -1,9 +1,0 @@
-use Rattle.std.proofs.Common.{rules}
-use Rattle.std.proofs.lemmas.Fn.{filter_same}
-use Rattle.seam_range.specs.Places.{is_within}
-use Rattle.seam_sight.proofs.near.those_within.Goals as goal
-
-pub returns : goal.returns
-returns c =
-    filter_same _ (λ x. is_within c.args.p c.args.d x.1) _ (λ x b g call. search rules) c.args.places.items _
-    c.retain.ensures.filtered

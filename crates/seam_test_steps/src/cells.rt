@@ -1,0 +1,350 @@
+// The cases of a cell's step.
+ghost use Rattle.std.specs.Prelude.{◌≡◌, IfOk};
+ghost use Rattle.seam_node_steps.specs.Loads.{one_cell};
+
+use crate::feeding::{AVATAR, Fed, PLACE, builtin, feed};
+use crate::told::{Told, are_sent};
+use seam_cell::{Cell, Making};
+use seam_defs::Settings;
+use seam_machine::Machine;
+use seam_tree::{Axis, Tree};
+use std::alloc::{AllocError, Global};
+use std::process::Abort;
+use std::test::Fail;
+
+// What a cell has then: whether the real of entity 1, the version of a copy of it, and whether a task.
+#[derive(Clone, Copy, PartialEq, Eq)]
+struct Seen {
+    real: bool,
+    copy: Option<u64>,
+    task: bool,
+}
+
+const HERE: Seen = Seen {
+    real: true,
+    copy: None,
+    task: false,
+};
+
+const BUSY: Seen = Seen {
+    real: true,
+    copy: None,
+    task: true,
+};
+
+const NONE: Seen = Seen {
+    real: false,
+    copy: None,
+    task: false,
+};
+
+const COPIED: Seen = Seen {
+    real: false,
+    copy: Some(2),
+    task: false,
+};
+
+// What a cell is fed, what it sends, and what it has then.
+#[derive(Clone, Copy)]
+struct Row<'a>(Fed, &'a [(u8, Told)], Seen);
+
+// Cell 0, without entities, in a space that it has alone.
+fn empty(alloc: Global) -> Result<Cell, AllocError>
+    ensures tree { IfOk result (λ c. c.tree ≡ one_cell 10000) }
+    ensures size { IfOk result (λ c. c.here.settings.size ≡ 10000) }
+{
+    Ok(Cell::new(alloc, 0, builtin(alloc)?, Settings::standard()))
+}
+
+// A round begins in it, in a space of two cells, whose boundary is at x = 5000.
+fn begin(cell: &mut Cell, alloc: Global) -> Result<(), AllocError>
+    requires { cell.old.here.settings.size ≡ 10000 }
+{
+    let mut tree = Tree::one(10_000);
+    let _cut = tree.cut(0, Axis::X, 5_000);
+    cell.start_round(alloc, tree)
+}
+
+fn avatar(entity: u32) -> Making {
+    Making {
+        entity,
+        ty: AVATAR,
+        pos: PLACE,
+    }
+}
+
+// A real is made in it, where it has none of the entity yet and the place lies in its space.
+fn make(cell: &mut Cell, alloc: Global, making: Making, space: &Tree) -> Result<(), AllocError>
+    requires { cell.old.tree ≡ space.now }
+    ensures tree { cell.new.tree ≡ cell.old.tree }
+    ensures here { cell.new.here ≡ cell.old.here }
+{
+    if cell.has_real(making.entity) {
+        return Ok(());
+    }
+    if !space.holds(making.pos) {
+        return Ok(());
+    }
+    cell.add_entity(alloc, making)
+}
+
+// Entities 1 and 2 are made in it, and a round begins.
+fn load(cell: &mut Cell, alloc: Global, space: &Tree) -> Result<(), AllocError>
+    requires tree { cell.old.tree ≡ space.now }
+    requires size { cell.old.here.settings.size ≡ 10000 }
+{
+    make(cell, alloc, avatar(1), space)?;
+    make(cell, alloc, avatar(2), space)?;
+    begin(cell, alloc)
+}
+
+// What cell 0 of two has before its rows: nothing, or entities 1 and 2, which are to settle, and a client of entity 1.
+#[derive(Clone, Copy)]
+enum Before {
+    Nothing,
+    Entities,
+}
+
+fn start(cell: &mut Cell, alloc: Global, before: Before) -> Result<(), AllocError>
+    requires tree { cell.old.tree ≡ one_cell 10000 }
+    requires size { cell.old.here.settings.size ≡ 10000 }
+{
+    match before {
+        Before::Nothing => begin(cell, alloc),
+        Before::Entities => {
+            load(cell, alloc, &Tree::one(10_000))?;
+            cell.attach(alloc, 1)
+        }
+    }
+}
+
+fn seen_in(cell: &Cell) -> Seen {
+    let copy = match cell.copies().get(1) {
+        Some(copy) => Some(copy.version),
+        None => None,
+    };
+    Seen {
+        real: cell.has_real(1),
+        copy,
+        task: cell.has_task(),
+    }
+}
+
+fn play(rt: &impl Abort, alloc: Global, cell: &mut Cell, rows: &[Row]) -> Result<(), Fail> {
+    let mut number = 0u32;
+    for row in rows {
+        let Row(fed, sent, then) = *row;
+        number = number.saturating_add(1);
+        let mut out = feed(cell, alloc, fed)?;
+        assert!(rt; are_sent(&mut out, sent), "sent in row {number}");
+        assert!(rt; seen_in(cell) == then, "after row {number}");
+    }
+    Ok(())
+}
+
+fn play_all(
+    rt: &impl Abort,
+    alloc: Global,
+    cell: &mut Cell,
+    before: Before,
+    parts: &[&[Row]],
+) -> Result<(), Fail>
+    requires tree { cell.old.tree ≡ one_cell 10000 }
+    requires size { cell.old.here.settings.size ≡ 10000 }
+{
+    start(cell, alloc, before)?;
+    for rows in parts {
+        play(rt, alloc, cell, rows)?;
+    }
+    Ok(())
+}
+
+// The cell is owned here alone, and not by each test: a drop of all its parts is long to prove.
+fn play_after(
+    rt: &impl Abort,
+    alloc: Global,
+    before: Before,
+    parts: &[&[Row]],
+) -> Result<(), Fail> {
+    let mut cell = empty(alloc)?;
+    play_all(rt, alloc, &mut cell, before, parts)
+}
+
+// Survey task, of each real in rising number: cell 1, which is near, gets copies. Then the client is told of itself and of entity 2.
+const SURVEYS: &[Row] = &[
+    Row(Fed::Task, &[(1, Told::Set(1, 1, 0))], BUSY),
+    Row(Fed::Task, &[(1, Told::Set(1, 2, 0))], HERE),
+    Row(Fed::Tick, &[], BUSY),
+    Row(
+        Fed::Task,
+        &[(17, Told::Own(1, 0)), (17, Told::Enter(2, 2, 0))],
+        HERE,
+    ),
+];
+
+#[test]
+fn reals_settle_in_rising_number(rt: HostRuntime) -> Result<(), Fail> {
+    play_after(&rt, rt.alloc(), Before::Entities, &[SURVEYS])
+}
+
+// Reap, of the first entity of the survey list: the other one is still to settle, and then nothing is to be done.
+const DUE_REAPS: &[Row] = &[
+    Row(
+        Fed::Reap(1),
+        &[],
+        Seen {
+            real: false,
+            copy: None,
+            task: true,
+        },
+    ),
+    Row(Fed::Task, &[(1, Told::Set(1, 2, 0))], NONE),
+];
+
+#[test]
+fn a_reaped_entity_does_not_settle(rt: HostRuntime) -> Result<(), Fail> {
+    play_after(&rt, rt.alloc(), Before::Entities, &[DUE_REAPS])
+}
+
+// Hand-over comes: the base nodes are told.
+const COMES: Row = Row(
+    Fed::Hand(1, 1, 1),
+    &[(16, Told::Current(1, 0, 1)), (17, Told::Current(1, 0, 1))],
+    HERE,
+);
+
+// Call, real here: held, executed, and late.
+const CALLS: &[Row] = &[
+    COMES,
+    Row(Fed::Walk(1, 2, 5_100), &[], HERE),
+    Row(Fed::Walk(1, 1, 4_950), &[(1, Told::Set(2, 1, 1))], BUSY),
+    Row(Fed::Walk(1, 1, 4_960), &[], BUSY),
+];
+
+// Ready-call task, after which the real goes, and call, next place. When the real comes back, the copy goes.
+const LEAVES: &[Row] = &[
+    Row(Fed::Task, &[(1, Told::Hand(1, 3, 2))], COPIED),
+    Row(Fed::Walk(1, 3, 5_200), &[(1, Told::Call(1, 3))], COPIED),
+    Row(
+        Fed::Hand(1, 4, 3),
+        &[(16, Told::Current(1, 0, 3)), (17, Told::Current(1, 0, 3))],
+        HERE,
+    ),
+];
+
+// Reap, after which there is no next place any more; its beat is kept.
+const REAPS: &[Row] = &[
+    Row(Fed::Reap(1), &[], NONE),
+    Row(Fed::Walk(1, 4, 4_900), &[], NONE),
+    Row(Fed::Set(5, 1, 2), &[], NONE),
+    Row(Fed::Set(6, 1, 2), &[], COPIED),
+];
+
+#[test]
+fn calls_are_executed_in_turn_where_the_real_is(rt: HostRuntime) -> Result<(), Fail> {
+    play_after(&rt, rt.alloc(), Before::Nothing, &[CALLS, LEAVES, REAPS])
+}
+
+// Ghost set and ghost drop, each of a greater beat and the same one, and a set of a lesser one.
+const GHOSTS: &[Row] = &[
+    Row(Fed::Set(2, 1, 2), &[], COPIED),
+    Row(Fed::Set(2, 1, 5), &[], COPIED),
+    Row(Fed::Drop(2, 1), &[], COPIED),
+    Row(Fed::Drop(4, 1), &[], NONE),
+    Row(Fed::Set(3, 1, 2), &[], NONE),
+];
+
+#[test]
+fn the_greatest_beat_tells_of_a_ghost(rt: HostRuntime) -> Result<(), Fail> {
+    play_after(&rt, rt.alloc(), Before::Nothing, &[GHOSTS])
+}
+
+// Ghost set, where the real is: nothing is kept of it, as is seen when the real is gone.
+const IGNORED: &[Row] = &[
+    COMES,
+    Row(Fed::Set(8, 1, 5), &[], HERE),
+    Row(Fed::Reap(1), &[], NONE),
+    Row(Fed::Set(3, 1, 2), &[], COPIED),
+];
+
+#[test]
+fn a_ghost_of_a_real_is_ignored(rt: HostRuntime) -> Result<(), Fail> {
+    play_after(&rt, rt.alloc(), Before::Nothing, &[IGNORED])
+}
+
+const WATCHER_COMES: Row = Row(
+    Fed::Watcher(1, 1, 1),
+    &[(16, Told::Current(1, 0, 1)), (17, Told::Current(1, 0, 1))],
+    HERE,
+);
+
+const OTHER_COMES: Row = Row(
+    Fed::Hand(2, 0, 0),
+    &[(16, Told::Current(2, 0, 0)), (17, Told::Current(2, 0, 0))],
+    HERE,
+);
+
+// Tick and look task: the client is told its own state and who is there.
+const LOOKS: &[Row] = &[
+    WATCHER_COMES,
+    OTHER_COMES,
+    Row(Fed::Tick, &[], BUSY),
+    Row(
+        Fed::Task,
+        &[(17, Told::Own(1, 0)), (17, Told::Enter(2, 2, 0))],
+        HERE,
+    ),
+];
+
+// Tick and look task: the client is told its own change, and who was reaped.
+const CHANGES: &[Row] = &[
+    Row(Fed::Walk(1, 1, 4_950), &[(1, Told::Set(2, 1, 1))], HERE),
+    Row(Fed::Reap(2), &[], HERE),
+    Row(Fed::Tick, &[], BUSY),
+    Row(
+        Fed::Task,
+        &[(17, Told::Own(3, 1)), (17, Told::Leave(4, 2))],
+        HERE,
+    ),
+    Row(Fed::Tick, &[], BUSY),
+];
+
+// Look task of a client that knows all; and reap, from the look list too: the cell with a copy is told.
+const LAST_LOOKS: &[Row] = &[
+    Row(Fed::Task, &[], HERE),
+    Row(Fed::Tick, &[], BUSY),
+    Row(Fed::Reap(1), &[(1, Told::Drop(3, 1))], NONE),
+];
+
+#[test]
+fn a_witness_looks(rt: HostRuntime) -> Result<(), Fail> {
+    play_after(
+        &rt,
+        rt.alloc(),
+        Before::Nothing,
+        &[LOOKS, CHANGES, LAST_LOOKS],
+    )
+}
+
+// Stray input at a cell: calls of number 0 and to a place outside the space, a real that is here, and a reap of one that is not.
+const STRAYS: &[Row] = &[
+    COMES,
+    Row(Fed::Walk(1, 0, 4_960), &[], HERE),
+    Row(Fed::Walk(1, 1, 10_000), &[], HERE),
+    Row(Fed::Hand(1, 9, 9), &[], HERE),
+    Row(Fed::Reap(3), &[], HERE),
+];
+
+// A call for an entity of which the cell knows nothing, and what is for base nodes. Then the first call is executed, at the next beat.
+const OTHERS: &[Row] = &[
+    Row(Fed::Walk(3, 1, 4_960), &[], HERE),
+    Row(Fed::BaseCall(1, 1), &[], HERE),
+    Row(Fed::Current(1, 1, 9), &[], HERE),
+    Row(Fed::Update(1, 1), &[], HERE),
+    Row(Fed::Walk(1, 1, 4_940), &[(1, Told::Set(2, 1, 1))], HERE),
+];
+
+#[test]
+fn stray_input_changes_nothing(rt: HostRuntime) -> Result<(), Fail> {
+    play_after(&rt, rt.alloc(), Before::Nothing, &[STRAYS, OTHERS])
+}

@@ -1,5 +1,0 @@
-use Rattle.seam_transcript.proofs.CommandWords.{command_is_one}
-use Rattle.seam_transcript.proofs.laws.command_is_one.Goals as goal
-
-pub returns : goal.returns
-returns c = command_is_one

@@ -1,5 +1,0 @@
-use Rattle.seam_transcript.proofs.Verdicts.{verdict_is_one_of}
-use Rattle.seam_transcript.proofs.laws.verdict_is_one.Goals as goal
-
-pub returns : goal.returns
-returns c = verdict_is_one_of

@@ -1,0 +1,15 @@
+use Rattle.std.proofs.Common.{◌≡◌, ◌++◌}
+use Rattle.std.specs.List.{All, flat_map}
+use Rattle.seam_report.specs.Spelled.{Versions, GoesBy}
+use Rattle.seam_world_text.specs.Texts.{shown_of}
+use Rattle.seam_world_text.specs.Told.{ShowOf, told_by}
+use Rattle.seam_world_text.proofs.ends.push_clients.Given as goal
+
+abbrev pub invariant-loop-resident : goal.invariant-loop-resident
+invariant-loop-resident l = record {
+  types : l.spellings.defs ≡ l.defs;
+  told : (vs : Versions) → All (λ e. ShowOf vs (told_by l.kept l.world e.1)) l.residents.entries →
+      All (λ e. ShowOf vs (told_by l.kept l.world e.1)) l.resident-iterator × GoesBy vs l.spellings
+      × (l.out.items ++ flat_map (λ e. shown_of l.defs l.kept l.world e.1) l.resident-iterator
+      ≡ l.initial.out.items ++ flat_map (λ e. shown_of l.defs l.kept l.world e.1) l.residents.entries);
+}
