@@ -14,8 +14,7 @@ use Rattle.std.specs.FinMap as table
 use Rattle.std.specs.FinMap.Entries.{is_sorted, below_all, find as key_find}
 use Rattle.std.proofs.lemmas.Bool.Decides.{nat_tests}
 use Rattle.seam_table.proofs.Found.{found}
-use Rattle.seam_node_steps.specs.Maps.{Map, number_of, set_at}
-use Rattle.seam_node_steps.specs.Bases.{PartView}
+use Rattle.seam_node_steps.specs.Prelude.{Map, number_of, set_at, PartView}
 use Rattle.seam_node_steps.proofs.Slots.{set_at-same}
 use Rattle.seam_base.specs.Parts.{changed_at}
 use Rattle.seam_base.specs.Marks.{passes, AreMarked, PassAlike, marked, bare, marks_of, any_mark, passes_in, least}

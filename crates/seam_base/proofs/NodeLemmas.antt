@@ -4,13 +4,11 @@ use Rattle.std.specs.Prelude.{if◌then◌else◌, option_map}
 use Rattle.std.specs.FinMap as table
 use Rattle.std.proofs.lemmas.List.{append-nil}
 use Rattle.seam_table.proofs.Found.{found}
-use Rattle.seam_call.specs.declared.order.Order.{Order}
-use Rattle.seam_entity.specs.declared.message.Msg.{Msg}
+use Rattle.seam_node_steps.specs.Prelude.{Order, Msg, Map, number_of, BaseView, PartView, ProxyView, RouteView, with_part, sends_none}
+use Rattle.seam_node_steps.specs.Prelude.{stray_update, update, updated_proxy}
 use Rattle.seam_call.specs.declared.shown.Update.{Update}
-use Rattle.seam_node_steps.specs.Maps.{Map, number_of}
-use Rattle.seam_node_steps.specs.Bases.{BaseView, PartView, ProxyView, RouteView, with_part}
 use Rattle.seam_node_steps.specs.BaseCases
-use Rattle.seam_node_steps.specs.BaseCases.{unless_stray, sends_none, stray_update, update, updated_proxy}
+use Rattle.seam_node_steps.specs.BaseCases.{unless_stray}
 use Rattle.seam_base.specs.declared.context.BaseContext.{BaseContext}
 use Rattle.seam_base.specs.Nodes.{node_of, has_call, has_update}
 use Rattle.seam_base.specs.Marks.{passes_in, least}

@@ -3,32 +3,22 @@ use Rattle.std.proofs.Common.{◌≡◌, ℕ, ◌≤◌, ◌+◌, subst, Result,
 use Rattle.std.proofs.Common.{true, false, ◌&&◌, not, find, is_some, if◌then◌else◌, Option, None, Some, refl, sym, ap, ◌∙◌, arith}
 use Rattle.std.specs.Prelude.{option_map, cond, ◌||◌}
 use Rattle.std.specs.List.{list_any, filter}
-use Rattle.seam_node_steps.specs.Maps.{has_any}
+use Rattle.seam_node_steps.specs.Prelude.{has_any, after, client_of, changes, TypeDef, order_of, State, Call, ClientText, Here, type_at}
+use Rattle.seam_node_steps.specs.Prelude.{properties, PartView, ProxyView, line_if, base_text, shown_to_client, order_is_ready, may_offer}
+use Rattle.seam_node_steps.specs.Prelude.{ready_order, ready_call, OrderView, next_item, proxy_is_ready, after_showing, with_deed, offered}
+use Rattle.seam_node_steps.specs.Prelude.{new_part, new_proxy, with_proxy, properties_of}
 use Rattle.std.specs.declared.cmp.Ordering.{Ordering}
 use Rattle.std.specs.declared.cmp.Ordering.TheVariants.{Less, Equal, Greater}
-use Rattle.seam_defs.specs.Deeds.{after, client_of}
-use Rattle.seam_defs.specs.Tests.{changes}
-use Rattle.seam_defs.specs.declared.types.TypeDef.{TypeDef}
 use Rattle.seam_call.specs.declared.shown.ClientText.TheVariants as text
 use Rattle.std.specs.Ordering.{nat_cmp}
 use Rattle.std.proofs.lemmas.Bool.Decides.{nat_tests}
-use Rattle.seam_entity.specs.Orders.{order_of}
-use Rattle.seam_defs.specs.declared.states.State.{State}
-use Rattle.seam_call.specs.declared.call.Call.{Call}
-use Rattle.seam_call.specs.declared.shown.ClientText.{ClientText}
-use Rattle.seam_entity.specs.Here.{Here, type_at, properties}
-use Rattle.seam_node_steps.specs.Bases.{PartView, ProxyView, line_if, base_text, shown_to_client}
-use Rattle.seam_entity.specs.Calls.{order_is_ready, may_offer, ready_order, ready_call, call_in, after_order, after_ready}
-use Rattle.seam_order.specs.Held.{OrderView}
-use Rattle.seam_order.specs.Offers.{next_item}
+use Rattle.seam_entity.specs.Calls.{call_in, after_order, after_ready}
 use Rattle.seam_node_steps.proofs.Tables.{entries_empty}
 use Rattle.seam_node_steps.specs.BaseCases
-use Rattle.seam_node_steps.specs.BaseCases.{proxy_is_ready, after_showing, with_deed, with_offer, executed, offered}
+use Rattle.seam_node_steps.specs.BaseCases.{with_offer, executed}
 use Rattle.seam_base.specs.Parts.{told, with_state, with_orders, with_call, with_ready_call, with_shown}
 use Rattle.seam_base.specs.Nodes.{has_call, has_update, has_client}
 use Rattle.seam_base.specs.Marks.{passes}
-use Rattle.seam_node_steps.specs.Loads.{new_part, new_proxy, with_proxy}
-use Rattle.seam_defs.specs.Deeds.{properties_of}
 use Rattle.seam_defs.specs.declared.flags.Group.TheVariants as group
 
 -- the text that is due for a client that is there is what the part shows it

@@ -4,13 +4,9 @@ use Rattle.std.specs.Ordering.{nat_cmp}
 use Rattle.std.specs.declared.cmp.Ordering.{Ordering}
 use Rattle.std.specs.declared.cmp.Ordering.TheVariants.{Less, Equal, Greater}
 use Rattle.std.proofs.lemmas.Bool.Decides.{nat_tests}
-use Rattle.seam_order.specs.Held.{item_at}
+use Rattle.seam_node_steps.specs.Prelude.{item_at, may_offer, is_ready, may_rise, ProxyView, offered_update}
 use Rattle.seam_order.proofs.OrderLaws.{item_at_with_item}
 use Rattle.seam_call.specs.declared.shown.Update.{Update}
-use Rattle.seam_entity.specs.Calls.{may_offer, is_ready}
-use Rattle.seam_entity.specs.Numbers.{may_rise}
-use Rattle.seam_node_steps.specs.Bases.{ProxyView}
-use Rattle.seam_node_steps.specs.BaseCases.{offered_update}
 use Rattle.seam_base.specs.Parts.{client_with_update}
 
 module _ (x : ProxyView) (u : Update) (may : may_offer x.updates u.number ≡ true) where

@@ -3,10 +3,7 @@ use Rattle.std.proofs.Common.{◌≡◌, Bool, Option, None, Some, refl, sym, ap
 use Rattle.std.specs.Prelude.{option_map}
 use Rattle.std.specs.FinMap as table
 use Rattle.seam_table.proofs.Changed.{got_changed}
-use Rattle.seam_node_steps.specs.Maps.{Map, each_value}
-use Rattle.seam_node_steps.specs.Bases.{PartView, ProxyView}
-use Rattle.seam_node_steps.specs.BaseCases.{proxy_is_ready}
-use Rattle.seam_node_steps.specs.Loads.{proxy_begins, part_begins}
+use Rattle.seam_node_steps.specs.Prelude.{Map, each_value, PartView, ProxyView, proxy_is_ready, proxy_begins, part_begins}
 use Rattle.seam_base.specs.Nodes.{has_call, has_update}
 use Rattle.seam_base.specs.Marks.{passes, AreMarked}
 

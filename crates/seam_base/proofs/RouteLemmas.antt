@@ -5,12 +5,9 @@ use Rattle.std.specs.Ordering.{nat_cmp, eq_by_cmp}
 use Rattle.std.specs.Cmp.{nat_cmp_total}
 use Rattle.std.specs.FinMap as table
 use Rattle.std.proofs.lemmas.Bool.Decides.{nat_tests}
-use Rattle.seam_entity.specs.Here.{cell_count}
-use Rattle.seam_entity.specs.Numbers.{is_small}
-use Rattle.seam_node_steps.specs.Maps.{Map}
-use Rattle.seam_node_steps.specs.Bases.{BaseView, RouteView}
-use Rattle.seam_node_steps.specs.BaseCases.{current, newer_route, sends_none, stray_current, unless_stray}
-use Rattle.seam_node_steps.specs.Valid.{RoutesAreCells}
+use Rattle.seam_node_steps.specs.Prelude.{cell_count, is_small, Map, BaseView, RouteView, current, newer_route, sends_none, stray_current}
+use Rattle.seam_node_steps.specs.Prelude.{RoutesAreCells}
+use Rattle.seam_node_steps.specs.BaseCases.{unless_stray}
 use Rattle.seam_base.specs.Routes.{gives_way}
 
 pub no_routes : RoutesAreCells table.empty

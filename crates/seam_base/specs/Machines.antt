@@ -1,13 +1,6 @@
 -- What a machine has to say of its steps, of a base node: it is said of every node.
 use Rattle.std.specs.Prelude.{◌≡◌, ℕ}
-use Rattle.seam_machine.specs.Sends.{AllBelow}
-use Rattle.seam_machine.specs.declared.machines.Input.{Input}
-use Rattle.seam_entity.specs.declared.message.Msg.{Msg}
-use Rattle.seam_entity.specs.Here.{peers_of}
-use Rattle.seam_node_steps.specs.Bases.{BaseView}
-use Rattle.seam_node_steps.specs.BaseCases.{base_steps}
-use Rattle.seam_node_steps.specs.Nodes.NodeView.{Base}
-use Rattle.seam_node_steps.specs.Valid.{IsBase}
+use Rattle.seam_node_steps.specs.Prelude.{AllBelow, Input, Msg, peers_of, BaseView, base_steps, Base, IsBase}
 use Rattle.seam_node_steps.proofs.Targets.{node_targets}
 use Rattle.seam_node_steps.proofs.Peers.{peers_stay, node_stays_valid}
 

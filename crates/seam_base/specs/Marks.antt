@@ -1,8 +1,7 @@
 -- Which base parts are marked, so that the next one is found without a search of all.
 use Rattle.std.specs.Prelude.{◌≡◌, ℕ, Bool, true, false, is_some, List, Option, None, Some, find, option_map, map as each}
 use Rattle.std.specs.FinMap as table
-use Rattle.seam_node_steps.specs.Maps.{Map, number_of}
-use Rattle.seam_node_steps.specs.Bases.{PartView}
+use Rattle.seam_node_steps.specs.Prelude.{Map, number_of, PartView}
 
 -- there is a part, and it passes the test
 abbrev pub passes : (PartView → Bool) → Option PartView → Bool

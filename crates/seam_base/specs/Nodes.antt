@@ -1,13 +1,7 @@
 -- What contracts see of the pieces of a base node.
 use Rattle.std.specs.Prelude.{◌≤◌, Bool, is_some, List}
-use Rattle.seam_call.specs.declared.order.Order.{Order}
-use Rattle.seam_entity.specs.Here.{Here}
-use Rattle.seam_entity.specs.Calls.{has_ready}
-use Rattle.seam_node_steps.specs.Maps.{Map}
-use Rattle.seam_node_steps.specs.Bases.{BaseView, PartView, RouteView}
-use Rattle.seam_node_steps.specs.BaseCases.{proxy_is_ready, may_show}
-use Rattle.seam_defs.specs.declared.limits.TheConstants.{MOST_BASE_NODES}
-use Rattle.seam_node_steps.specs.Valid.{IsBase}
+use Rattle.seam_node_steps.specs.Prelude.{Order, Here, has_ready, Map, BaseView, PartView, RouteView, proxy_is_ready, may_show}
+use Rattle.seam_node_steps.specs.Prelude.{MOST_BASE_NODES, IsBase}
 use Rattle.seam_base.specs.declared.context.BaseContext.{BaseContext}
 
 -- what the node knows beside its entities

@@ -3,17 +3,9 @@ use Rattle.std.specs.Prelude.{◌≡◌, if◌then◌else◌, ℕ, ◌+◌, ◌<
 use Rattle.std.specs.Ordering.{nat_cmp}
 use Rattle.std.specs.FinMap as table
 use Rattle.std.specs.FinSet as set
-use Rattle.seam_defs.specs.declared.states.State.{State}
-use Rattle.seam_call.specs.declared.call.Call.{Call}
-use Rattle.seam_call.specs.declared.shown.Line.{Line}
-use Rattle.seam_call.specs.declared.shown.ClientText.{ClientText}
+use Rattle.seam_node_steps.specs.Prelude.{State, Call, Line, ClientText, Here, Orders, order_of, ready_order, Map, set_at, PartView}
+use Rattle.seam_node_steps.specs.Prelude.{ProxyView, with_line, stray_update, offered, offered_update, after_ready, after_showing}
 use Rattle.seam_call.specs.declared.shown.Update.{Update}
-use Rattle.seam_entity.specs.Here.{Here}
-use Rattle.seam_entity.specs.Orders.{Orders, order_of}
-use Rattle.seam_entity.specs.Calls.{ready_order}
-use Rattle.seam_node_steps.specs.Maps.{Map, set_at}
-use Rattle.seam_node_steps.specs.Bases.{PartView, ProxyView, with_line}
-use Rattle.seam_node_steps.specs.BaseCases.{stray_update, offered, offered_update, after_ready, after_showing}
 use Rattle.std.specs.declared.boxed.Box.{Box}
 use Rattle.seam_base.specs.declared.part.Proxy.{Proxy}
 use Rattle.seam_base.specs.declared.part.Body.{Body}

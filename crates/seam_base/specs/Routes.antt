@@ -1,8 +1,6 @@
 -- Routes: which give way to a new one.
 use Rattle.std.specs.Prelude.{Bool, false, ◌&&◌, nat_lt, Option, None, Some}
-use Rattle.seam_entity.specs.Here.{cell_count}
-use Rattle.seam_entity.specs.Numbers.{is_small}
-use Rattle.seam_node_steps.specs.Bases.{RouteView}
+use Rattle.seam_node_steps.specs.Prelude.{cell_count, is_small, RouteView}
 
 -- there is a route, the new one goes to a cell, and its generation is small and greater
 abbrev pub gives_way : Option RouteView → RouteView → Bool

@@ -3,17 +3,12 @@
 ghost use Rattle.std.specs.Prelude.{◌≡◌, ◌<◌, ◌≤◌, ◌^◌, ◌&&◌, ℕ, IfOk, IfErr, OnOk};
 ghost use Rattle.std.specs.Prelude.{OnErr, true, false, is_some, option_map, Some, None, if◌then◌else◌, vec_len, vec_capacity};
 ghost use Rattle.std.specs.FinSet as set;
-ghost use Rattle.seam_defs.specs.Deeds.{client_of};
-ghost use Rattle.seam_defs.specs.declared.settings.Settings.{Settings as AllSettings};
-ghost use Rattle.seam_order.specs.Held.{item_at};
-ghost use Rattle.seam_call.specs.Senders.{rank_of};
+ghost use Rattle.seam_node_steps.specs.Prelude.{client_of, Settings as AllSettings, item_at, rank_of, order_of, may_offer, ready_call};
+ghost use Rattle.seam_node_steps.specs.Prelude.{Call as AnyCall, node_with, may_show, with_deed};
 ghost use Rattle.seam_call.specs.declared.shown.ClientText.TheVariants as text;
-ghost use Rattle.seam_entity.specs.Orders.{order_of};
-ghost use Rattle.seam_entity.specs.Calls.{may_offer, ready_call, after_ready};
-ghost use Rattle.seam_call.specs.declared.call.Call.{Call as AnyCall};
+ghost use Rattle.seam_entity.specs.Calls.{after_ready};
 ghost use Rattle.seam_base.specs.Nodes.{has_call};
-ghost use Rattle.seam_entity.specs.Preparing.{node_with};
-ghost use Rattle.seam_node_steps.specs.BaseCases.{may_show, may_execute, with_deed, with_offer, executed};
+ghost use Rattle.seam_node_steps.specs.BaseCases.{may_execute, with_offer, executed};
 ghost use Rattle.seam_base.specs.Parts.{part_of, client_in, shows, told, with_state};
 ghost use Rattle.seam_base.specs.Parts.{with_orders, with_call, with_ready_call, HasLine, HasRoom};
 

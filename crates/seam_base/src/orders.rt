@@ -3,11 +3,10 @@
 ghost use Rattle.std.specs.Prelude.{◌≡◌, ◌≤◌, ◌++◌, ◌∷◌, [], ◌&&◌, ℕ, List, true, false, OnOk, OnErr, IfErr, is_none, map, if◌then◌else◌};
 ghost use Rattle.std.specs.List.{range_with_len};
 ghost use Rattle.std.specs.FinMap as table;
-ghost use Rattle.seam_call.specs.declared.order.Order.{Order as AnyOrder};
+ghost use Rattle.seam_node_steps.specs.Prelude.{Order as AnyOrder, base_of, on_route, tick_to, is_base_node_of, stray_base_call};
+ghost use Rattle.seam_node_steps.specs.Prelude.{stray_order, order_of_node};
 ghost use Rattle.seam_call.specs.declared.order.Order.TheVariants as order;
 ghost use Rattle.seam_entity.specs.declared.message.Msg.TheVariants as message;
-ghost use Rattle.seam_entity.specs.Here.{base_of};
-ghost use Rattle.seam_node_steps.specs.BaseCases.{on_route, tick_to, is_base_node_of, stray_base_call, stray_order, order_of_node};
 ghost use Rattle.seam_base.specs.Nodes.{here_in, node_of};
 ghost use Rattle.seam_base.specs.Parts.{changed_at, with_call};
 

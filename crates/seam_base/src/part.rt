@@ -1,15 +1,9 @@
 //! The base part of an entity.
 
 ghost use Rattle.std.specs.Prelude.{◌≡◌, ◌<◌, ◌↔◌, ℕ, IfOk, OnOk, IsTrue, true, false, is_some, Some, vec_len, vec_capacity};
-ghost use Rattle.seam_defs.specs.declared.settings.Settings.{Settings as AllSettings};
-ghost use Rattle.seam_entity.specs.Numbers.{may_rise as number_may_rise};
-ghost use Rattle.seam_node_steps.specs.Bases.{with_line};
-ghost use Rattle.seam_entity.specs.Orders.{order_of};
-ghost use Rattle.seam_entity.specs.Calls.{may_offer};
-ghost use Rattle.seam_entity.specs.Preparing.{node_with};
-ghost use Rattle.seam_node_steps.specs.Loads.{new_part, part_begins};
+ghost use Rattle.seam_node_steps.specs.Prelude.{Settings as AllSettings, may_rise as number_may_rise, with_line, order_of, may_offer};
+ghost use Rattle.seam_node_steps.specs.Prelude.{node_with, new_part, part_begins, may_show as client_may_show, fits_base_part};
 ghost use Rattle.seam_node_steps.specs.BaseCases.{may_call as part_may_call, may_execute as part_may_execute};
-ghost use Rattle.seam_node_steps.specs.BaseCases.{may_show as client_may_show, fits_base_part};
 ghost use Rattle.seam_base.specs.Nodes.{has_client as part_has_client};
 ghost use Rattle.seam_base.specs.Parts.{part_of, proxy_of, lines_of, next_update_of};
 

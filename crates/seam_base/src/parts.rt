@@ -3,12 +3,9 @@
 ghost use Rattle.std.specs.Prelude.{◌≡◌, ◌≤◌, if◌then◌else◌, ℕ, true};
 ghost use Rattle.std.specs.Prelude.{false, OnOk, OnErr, IfErr, Some, option_copied};
 ghost use Rattle.std.specs.FinMap as table;
-ghost use Rattle.seam_node_steps.specs.Maps.{Map, each_value};
-ghost use Rattle.seam_node_steps.specs.Bases.{PartView};
-ghost use Rattle.seam_defs.specs.declared.settings.Settings.{Settings as AllSettings};
-ghost use Rattle.seam_entity.specs.Preparing.{node_with};
-ghost use Rattle.seam_node_steps.specs.Loads.{with_proxy, new_part, part_begins};
-ghost use Rattle.seam_node_steps.specs.BaseCases.{stray_base_call, stray_proxy_update, may_execute, is_base_node_of};
+ghost use Rattle.seam_node_steps.specs.Prelude.{Map, each_value, PartView, Settings as AllSettings, node_with, with_proxy, new_part};
+ghost use Rattle.seam_node_steps.specs.Prelude.{part_begins, stray_base_call, stray_proxy_update, is_base_node_of};
+ghost use Rattle.seam_node_steps.specs.BaseCases.{may_execute};
 ghost use Rattle.seam_base.specs.Nodes.{here_in, has_call, has_update, has_client, may_be_shown};
 ghost use Rattle.seam_base.specs.Parts.{changed_at, with_call, with_ready_call, with_update, parts_with_update, with_shown};
 ghost use Rattle.seam_base.specs.Marks.{AreMarked, PassAlike, passes, marked, least};

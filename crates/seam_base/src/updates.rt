@@ -3,17 +3,10 @@
 ghost use Rattle.std.specs.Prelude.{◌≡◌, ◌↔◌, ◌&&◌, ℕ, IsTrue, IfErr, OnOk, OnErr, true, false, Some, None};
 ghost use Rattle.std.specs.Ordering.{nat_cmp};
 ghost use Rattle.std.specs.List.{list_any};
-ghost use Rattle.seam_defs.specs.Groups.{in_group};
-ghost use Rattle.seam_defs.specs.Deeds.{properties_of};
+ghost use Rattle.seam_node_steps.specs.Prelude.{in_group, properties_of, Settings as AllSettings, next_item, may_offer, is_ready, may_rise};
+ghost use Rattle.seam_node_steps.specs.Prelude.{node_with, has_any, with_proxy, part_begins, new_proxy as empty_proxy, offered_update};
+ghost use Rattle.seam_node_steps.specs.Prelude.{shows_next, stray_proxy_update, proxy_is_ready, may_show};
 ghost use Rattle.seam_defs.specs.declared.flags.Group.TheVariants as group;
-ghost use Rattle.seam_defs.specs.declared.settings.Settings.{Settings as AllSettings};
-ghost use Rattle.seam_order.specs.Offers.{next_item};
-ghost use Rattle.seam_entity.specs.Calls.{may_offer, is_ready};
-ghost use Rattle.seam_entity.specs.Numbers.{may_rise};
-ghost use Rattle.seam_entity.specs.Preparing.{node_with};
-ghost use Rattle.seam_node_steps.specs.Maps.{has_any};
-ghost use Rattle.seam_node_steps.specs.Loads.{with_proxy, part_begins, new_proxy as empty_proxy};
-ghost use Rattle.seam_node_steps.specs.BaseCases.{offered_update, shows_next, stray_proxy_update, proxy_is_ready, may_show};
 ghost use Rattle.seam_base.specs.Nodes.{has_update};
 ghost use Rattle.seam_base.specs.Parts.{proxy_of, client_with_update, with_update, with_shown};
 

@@ -5,22 +5,13 @@ use Rattle.std.proofs.Common.{◌∙◌, arith, map, is_some}
 use Rattle.std.specs.List.{filter}
 use Rattle.std.specs.Ordering.{nat_cmp}
 use Rattle.std.specs.FinMap as table
-use Rattle.seam_tree.specs.Division.{IsTree}
-use Rattle.seam_ghosts.specs.declared.Ghost.{Ghost}
-use Rattle.seam_ghosts.specs.Book.{ghost_after}
-use Rattle.seam_machine.specs.declared.machines.Input.TheVariants.{From}
-use Rattle.seam_call.specs.declared.call.Call.{Call as CallData}
-use Rattle.seam_call.specs.declared.shown.GhostCopy.{GhostCopy}
-use Rattle.seam_entity.specs.Reals.{RealView}
-use Rattle.seam_entity.specs.declared.message.Msg.TheVariants.{GhostSet, GhostDrop, Call as CallTo}
-use Rattle.seam_entity.specs.Numbers.{is_small}
-use Rattle.seam_entity.specs.Here.{cell_count}
-use Rattle.seam_node_steps.specs.Maps.{Map, set_at, number_of}
-use Rattle.seam_node_steps.specs.Slots.{NextPlace, SlotStep, unless_stray}
-use Rattle.seam_node_steps.specs.CellCases.{ghost_set, ghost_drop, stray_ghost_set, stray_call, call, call_next_place, slot_steps}
-use Rattle.seam_node_steps.specs.Cells.{CellView, slot_of, stepped, cell_steps, real_is_ready, has_witness}
+use Rattle.seam_node_steps.specs.Prelude.{IsTree, Ghost, ghost_after, From, Call as CallData, GhostCopy, RealView, GhostSet, GhostDrop}
+use Rattle.seam_node_steps.specs.Prelude.{is_small, cell_count, Map, set_at, number_of, NextPlace, SlotStep, unless_stray, ghost_set}
+use Rattle.seam_node_steps.specs.Prelude.{ghost_drop, stray_ghost_set, stray_call, call_next_place, slot_steps, CellView, slot_of, stepped}
+use Rattle.seam_node_steps.specs.Prelude.{cell_steps, real_is_ready, has_witness, AreLegal}
+use Rattle.seam_entity.specs.declared.message.Msg.TheVariants.{Call as CallTo}
+use Rattle.seam_node_steps.specs.CellCases.{call}
 use Rattle.seam_node_steps.proofs.Slots.{set_at-same}
-use Rattle.seam_defs.specs.Settings.{AreLegal}
 use Rattle.seam_cell_parts.specs.declared.context.CellContext.{CellContext}
 use Rattle.seam_cell_parts.specs.declared.reals.Reals.{Reals}
 use Rattle.seam_cell_parts.specs.declared.places.Places.{Places}

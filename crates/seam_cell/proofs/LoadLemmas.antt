@@ -6,17 +6,9 @@ use Rattle.std.specs.List.{list_all}
 use Rattle.std.specs.Ordering.{nat_cmp, eq_by_cmp}
 use Rattle.std.specs.FinMap as table
 use Rattle.std.proofs.lemmas.Bool.Decides.{nat_tests}
-use Rattle.seam_geo.specs.declared.pos.Pos.{Pos}
-use Rattle.seam_tree.specs.Division.{Division, IsInSpace, IsTree}
-use Rattle.seam_entity.specs.Here.{Here}
-use Rattle.seam_entity.specs.Reals.{RealView}
-use Rattle.seam_entity.specs.Calls.{order_passes}
-use Rattle.seam_entity.specs.Executing.{created, fits_cell_part, real_begins}
+use Rattle.seam_node_steps.specs.Prelude.{Pos, Division, IsInSpace, IsTree, Here, RealView, order_passes, created, fits_cell_part}
+use Rattle.seam_node_steps.specs.Prelude.{real_begins, Map, set_at, each_value, NextPlace, NextsAreCells, CellView}
 use Rattle.seam_entity.specs.WitnessLooks.{with_witness}
-use Rattle.seam_node_steps.specs.Maps.{Map, set_at, each_value}
-use Rattle.seam_node_steps.specs.Slots.{NextPlace}
-use Rattle.seam_node_steps.specs.Valid.{NextsAreCells}
-use Rattle.seam_node_steps.specs.Cells.{CellView}
 use Rattle.seam_node_steps.proofs.Slots.{get-set_at}
 use Rattle.seam_cell_parts.specs.declared.context.CellContext.{CellContext}
 use Rattle.seam_cell_parts.specs.declared.reals.Reals.{Reals}

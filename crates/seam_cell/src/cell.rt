@@ -3,24 +3,12 @@
 ghost use Rattle.std.specs.Prelude.{◌≡◌, ℕ, ◌<◌, ◌≤◌, OnOk, OnErr, IfErr, [], ◌++◌, Some, None, true, false, is_some, option_copied};
 ghost use Rattle.std.specs.FinMap as table;
 ghost use Rattle.std.specs.FinSet as set;
-ghost use Rattle.seam_ghosts.specs.Book.{ghost_after};
-ghost use Rattle.seam_machine.specs.declared.machines.Input.TheVariants.{Task, From};
+ghost use Rattle.seam_node_steps.specs.Prelude.{ghost_after, Task, From, AreLegal, cell_count, stray_ghost_set, cell_steps, ready_entity};
+ghost use Rattle.seam_node_steps.specs.Prelude.{cell_has_work, IsCell, IsInSpace, empty_cell, real_if, attached, cell_begins, set_at};
+ghost use Rattle.seam_node_steps.specs.Prelude.{has_any, Cell as CellNode, node_with, Call as AnyCall, GhostCopy as AnyCopy, RealView};
 ghost use Rattle.seam_entity.specs.declared.message.Msg.TheVariants as msg;
-ghost use Rattle.seam_defs.specs.Settings.{AreLegal};
-ghost use Rattle.seam_entity.specs.Here.{cell_count};
-ghost use Rattle.seam_node_steps.specs.CellCases.{stray_ghost_set};
-ghost use Rattle.seam_node_steps.specs.Cells.{cell_steps, ready_entity, cell_has_work};
-ghost use Rattle.seam_node_steps.specs.Valid.{IsCell};
 ghost use Rattle.seam_cell.specs.Machines.{cell_peers, cell_targets, cell_keeps_peers, cell_stays_valid};
-ghost use Rattle.seam_tree.specs.Division.{IsInSpace};
-ghost use Rattle.seam_node_steps.specs.Loads.{empty_cell, real_if, attached, cell_begins};
-ghost use Rattle.seam_node_steps.specs.Maps.{set_at, has_any};
-ghost use Rattle.seam_node_steps.specs.Nodes.NodeView.{Cell as CellNode};
-ghost use Rattle.seam_entity.specs.Preparing.{node_with};
 ghost use Rattle.seam_cell_cases.specs.Calling.{is_called, IsTurn, may_run};
-ghost use Rattle.seam_call.specs.declared.call.Call.{Call as AnyCall};
-ghost use Rattle.seam_call.specs.declared.shown.GhostCopy.{GhostCopy as AnyCopy};
-ghost use Rattle.seam_entity.specs.Reals.{RealView};
 
 use seam_call::{Call, GhostCopy};
 use seam_cell_cases::{

@@ -10,19 +10,9 @@ use Rattle.std.specs.FinSet as set
 use Rattle.std.proofs.lemmas.Bool.Decides.{nat_tests}
 use Rattle.std.proofs.lemmas.List.Folds.{list_all-append, list_all_at}
 use Rattle.std.proofs.lemmas.List.FromFn.{length-range_with_len, get_or-range_with_len}
-use Rattle.seam_tree.specs.Cells.{Cells}
-use Rattle.seam_tree.specs.Division.{Division, cells_of}
-use Rattle.seam_ghosts.specs.declared.Ghost.{Ghost}
-use Rattle.seam_ghosts.specs.Book.{ghost_after}
-use Rattle.seam_machine.specs.declared.machines.Input.TheVariants.{From}
-use Rattle.seam_call.specs.declared.shown.GhostCopy.{GhostCopy}
-use Rattle.seam_entity.specs.Numbers.{may_rise}
-use Rattle.seam_entity.specs.Reals.{RealView}
-use Rattle.seam_entity.specs.declared.message.Msg.TheVariants.{Hand, Reap}
-use Rattle.seam_node_steps.specs.Maps.{Map, set_at}
-use Rattle.seam_node_steps.specs.Slots.{NextPlace, unless_stray}
-use Rattle.seam_node_steps.specs.CellCases.{is_cell_if, stray_reap, reap, may_come, stray_hand, hand_over_comes, currents, drops}
-use Rattle.seam_node_steps.specs.Cells.{CellView, slot_of, stepped, cell_steps, without}
+use Rattle.seam_node_steps.specs.Prelude.{Cells, Division, cells_of, Ghost, ghost_after, From, GhostCopy, may_rise, RealView, Hand, Reap}
+use Rattle.seam_node_steps.specs.Prelude.{Map, set_at, NextPlace, unless_stray, is_cell_if, stray_reap, reap, may_come, stray_hand}
+use Rattle.seam_node_steps.specs.Prelude.{hand_over_comes, currents, drops, CellView, slot_of, stepped, cell_steps, without}
 use Rattle.seam_node_steps.proofs.Slots.{set_at-same}
 use Rattle.seam_cell_parts.proofs.NewsLemmas.{range_more}
 use Rattle.seam_cell_cases.specs.Arriving.{is_cell_in}

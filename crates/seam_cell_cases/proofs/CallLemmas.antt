@@ -2,16 +2,9 @@
 use Rattle.std.proofs.Common.{◌≡◌, ◌+◌, ◌<◌, ◌≤◌, ◌^◌, ℕ, Bool, true, false, not, ◌&&◌, nat_lt, is_some, refl, ap, sym, subst, ◌∙◌, arith}
 use Rattle.std.proofs.lemmas.Bool.Decides.{nat_tests}
 use Rattle.seam_defs.specs.declared.states.Later.{Later}
-use Rattle.seam_defs.specs.Deeds.{with_later}
-use Rattle.seam_order.specs.Held.{item_at}
-use Rattle.seam_call.specs.declared.call.Call.{Call as CallData}
-use Rattle.seam_entity.specs.Here.{Here}
-use Rattle.seam_entity.specs.Numbers.{may_rise}
-use Rattle.seam_entity.specs.Orders.{order_of}
-use Rattle.seam_entity.specs.Reals.{RealView}
-use Rattle.seam_entity.specs.Calls.{may_offer}
-use Rattle.seam_entity.specs.Executing.{fits_cell_part, may_settle, may_execute, may_call}
-use Rattle.seam_entity.specs.Executing.{public_after, with_deed, executed, shows}
+use Rattle.seam_node_steps.specs.Prelude.{with_later, item_at, Call as CallData, Here, may_rise, order_of, RealView, may_offer}
+use Rattle.seam_node_steps.specs.Prelude.{fits_cell_part, may_settle, may_execute, may_call, public_after, executed, shows}
+use Rattle.seam_entity.specs.Executing.{with_deed}
 use Rattle.seam_entity.specs.Preparing.{with_after}
 use Rattle.seam_cell_parts.specs.Stepping.{IsLater}
 use Rattle.seam_entity.proofs.HeldLemmas.{both}

@@ -6,44 +6,22 @@ use Rattle.std.specs.declared.cmp.Ordering.{Ordering}
 use Rattle.std.specs.declared.cmp.Ordering.TheVariants.{Less, Equal, Greater}
 use Rattle.std.specs.FinMap as table
 use Rattle.std.proofs.lemmas.Bool.Decides.{nat_tests}
-use Rattle.seam_geo.specs.declared.pos.Pos.{Pos}
-use Rattle.seam_tree.specs.Division.{Division, IsInSpace}
+use Rattle.seam_node_steps.specs.Prelude.{Pos, Division, IsInSpace, OrderView, next_item, TypeDef, State, Deed, Move, Method, after}
+use Rattle.seam_node_steps.specs.Prelude.{part_of_deed, AreLegal, fits_deed, are_of_group, Input, Task, From, Call as CallData, GhostCopy}
+use Rattle.seam_node_steps.specs.Prelude.{is_for, rank_of, order_of, RealView, WitnessView, Msg, BaseCall, Hand, Current, GhostSet}
+use Rattle.seam_node_steps.specs.Prelude.{GhostDrop, Tick, Reap, Update, is_inside, stays_inside, can_do, Here, type_at, properties}
+use Rattle.seam_node_steps.specs.Prelude.{all_held, order_is_ready, ready_order, may_offer, fits_cell_part, fits_real, may_execute}
+use Rattle.seam_node_steps.specs.Prelude.{may_call, executed, executed_ready, with_offer, shows, Slot, NextPlace, SlotStep, unless_stray}
+use Rattle.seam_node_steps.specs.Prelude.{home_after, settled_by, settled, about, slot_steps, Known, look_by, look_task, CellView, slot_of}
+use Rattle.seam_node_steps.specs.Prelude.{after_slot, unlisted_by, stepped, cell_steps, cell_task, ready_next, look_next, cell_hears}
+use Rattle.seam_node_steps.specs.Prelude.{known_to, ready_entity, surveys, calls_ready, looks_around, Map, set_at}
 use Rattle.seam_table.proofs.Found.{found}
-use Rattle.seam_order.specs.Held.{OrderView}
-use Rattle.seam_order.specs.Offers.{next_item}
-use Rattle.seam_defs.specs.declared.types.TypeDef.{TypeDef}
 use Rattle.seam_defs.specs.declared.flags.Part.TheVariants as part
 use Rattle.seam_defs.specs.declared.flags.Group.TheVariants as group
-use Rattle.seam_defs.specs.declared.states.State.{State}
-use Rattle.seam_defs.specs.declared.states.Deed.{Deed}
-use Rattle.seam_defs.specs.declared.states.Deed.TheVariants.{Move, Method}
-use Rattle.seam_defs.specs.Deeds.{after, part_of_deed}
-use Rattle.seam_defs.specs.Settings.{AreLegal}
-use Rattle.seam_defs.specs.Tests.{fits_deed, same_part, are_of_group}
-use Rattle.seam_machine.specs.declared.machines.Input.{Input}
-use Rattle.seam_machine.specs.declared.machines.Input.TheVariants.{Task, From}
-use Rattle.seam_call.specs.declared.call.Call.{Call as CallData}
-use Rattle.seam_call.specs.declared.shown.GhostCopy.{GhostCopy}
-use Rattle.seam_call.specs.Calls.{is_for}
-use Rattle.seam_call.specs.Senders.{rank_of}
-use Rattle.seam_entity.specs.Orders.{order_of}
-use Rattle.seam_entity.specs.Reals.{RealView, WitnessView}
-use Rattle.seam_entity.specs.declared.message.Msg.{Msg}
-use Rattle.seam_entity.specs.declared.message.Msg.TheVariants.{Call, BaseCall, Hand, Current, GhostSet, GhostDrop, Tick, Reap, Update}
-use Rattle.seam_entity.specs.Fitting.{is_inside, stays_inside, can_do}
-use Rattle.seam_entity.specs.Here.{Here, type_at, properties}
-use Rattle.seam_entity.specs.Calls.{all_held, order_is_ready, ready_order, may_offer}
-use Rattle.seam_entity.specs.Executing.{fits_cell_part, fits_real, may_execute, may_call, executed, executed_ready, with_offer, shows}
-use Rattle.seam_node_steps.specs.Slots.{Slot, NextPlace, SlotStep, unless_stray}
-use Rattle.seam_node_steps.specs.Settle.{home_after, settled_by, settled}
+use Rattle.seam_defs.specs.Tests.{same_part}
+use Rattle.seam_entity.specs.declared.message.Msg.TheVariants.{Call}
 use Rattle.seam_node_steps.specs.CellCases
-use Rattle.seam_node_steps.specs.CellCases.{about, slot_steps}
 use Rattle.seam_node_steps.specs.CellLooks
-use Rattle.seam_node_steps.specs.CellLooks.{Known, look_by, look_task}
-use Rattle.seam_node_steps.specs.Cells.{CellView, slot_of, after_slot, unlisted_by, stepped}
-use Rattle.seam_node_steps.specs.Cells.{cell_steps, cell_task, ready_next, look_next, cell_hears}
-use Rattle.seam_node_steps.specs.Cells.{known_to, ready_entity, surveys, calls_ready, looks_around}
-use Rattle.seam_node_steps.specs.Maps.{Map, set_at}
 use Rattle.seam_node_steps.proofs.Slots.{get-set_at}
 use Rattle.seam_node_steps.proofs.Peers.{cell_frame}
 use Rattle.seam_node_steps.proofs.ValidCells.{cell_stays_valid}

@@ -1,18 +1,9 @@
 -- A real that has a ready call, and what the call makes of it.
 use Rattle.std.proofs.Common.{◌≡◌, ℕ, true, false, is_some, Option, None, Some, refl, ap, sym, subst, ◌∙◌}
 use Rattle.seam_table.proofs.Found.{found}
-use Rattle.seam_tree.specs.Division.{Division}
-use Rattle.seam_order.specs.Held.{OrderView}
-use Rattle.seam_order.specs.Offers.{next_item}
-use Rattle.seam_call.specs.declared.call.Call.{Call as CallData}
-use Rattle.seam_entity.specs.Here.{Here}
-use Rattle.seam_entity.specs.Reals.{RealView}
-use Rattle.seam_entity.specs.Calls.{order_is_ready, ready_order, has_ready}
-use Rattle.seam_entity.specs.Executing.{may_execute, executed_ready, shows}
-use Rattle.seam_entity.specs.Preparing.{HasReady}
-use Rattle.seam_node_steps.specs.Slots.{Slot}
-use Rattle.seam_node_steps.specs.Settle.{settled}
-use Rattle.seam_node_steps.specs.CellCases.{ready_call_task, ready_in, executes_ready}
+use Rattle.seam_node_steps.specs.Prelude.{Division, OrderView, next_item, Call as CallData, Here, RealView, order_is_ready, ready_order}
+use Rattle.seam_node_steps.specs.Prelude.{has_ready, may_execute, executed_ready, shows, HasReady, Slot, settled, ready_call_task, ready_in}
+use Rattle.seam_node_steps.specs.Prelude.{executes_ready}
 use Rattle.seam_cell_parts.specs.Stepping.{IsLater}
 use Rattle.seam_cell_cases.proofs.CallLemmas.{CanSettle, RisesLater, can_settle}
 

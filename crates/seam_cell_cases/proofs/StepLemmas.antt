@@ -8,23 +8,12 @@ use Rattle.std.specs.Ordering.{nat_cmp, match_ordering}
 use Rattle.std.specs.declared.cmp.Ordering.{Ordering}
 use Rattle.std.specs.declared.cmp.Ordering.TheVariants.{Less, Equal, Greater}
 use Rattle.std.specs.Cmp.{nat_cmp_total, tied_itself}
-use Rattle.seam_machine.specs.Views.{OutView}
-use Rattle.seam_machine.specs.declared.machines.Input.{Input}
-use Rattle.seam_machine.specs.declared.machines.Input.TheVariants.{Task, From}
-use Rattle.seam_call.specs.declared.call.Call.{Call as CallData}
-use Rattle.seam_entity.specs.Here.{Here}
-use Rattle.seam_entity.specs.Orders.{order_of}
-use Rattle.seam_entity.specs.Reals.{RealView}
-use Rattle.seam_entity.specs.declared.message.Msg.{Msg}
+use Rattle.seam_node_steps.specs.Prelude.{OutView, Input, Task, From, Call as CallData, Here, order_of, RealView, Msg, has_ready, may_call}
+use Rattle.seam_node_steps.specs.Prelude.{may_execute, executed, shows, with_offer, set_at, number_of, Slot, SlotStep, slot_after}
+use Rattle.seam_node_steps.specs.Prelude.{unless_stray, settled, CellView, slot_of, with_slot, after_slot, unlisted_by, stepped, cell_steps}
+use Rattle.seam_node_steps.specs.Prelude.{cell_task, real_is_ready, ready_entity, ready_next, look_next}
 use Rattle.seam_entity.specs.declared.message.Msg.TheVariants.{Call}
-use Rattle.seam_entity.specs.Calls.{has_ready}
-use Rattle.seam_entity.specs.Executing.{may_call, may_execute, executed, shows, with_offer}
-use Rattle.seam_node_steps.specs.Maps.{set_at, number_of}
-use Rattle.seam_node_steps.specs.Slots.{Slot, SlotStep, slot_after, unless_stray}
-use Rattle.seam_node_steps.specs.Settle.{settled}
 use Rattle.seam_node_steps.specs.CellCases
-use Rattle.seam_node_steps.specs.Cells.{CellView, slot_of, with_slot, after_slot, unlisted_by, stepped, cell_steps, cell_task}
-use Rattle.seam_node_steps.specs.Cells.{real_is_ready, ready_entity, ready_next, look_next}
 use Rattle.seam_node_steps.proofs.Slots.{set_at-same}
 use Rattle.seam_cell_parts.specs.declared.context.CellContext.{CellContext}
 use Rattle.seam_cell_parts.specs.declared.reals.Reals.{Reals}

@@ -2,16 +2,8 @@
 use Rattle.std.proofs.Common.{◌≡◌, ◌<◌, ◌^◌, ◌++◌, ℕ, Bool, true, false, not, List, [], ◌∷◌, Option, None, Some, is_none, is_some}
 use Rattle.std.proofs.Common.{Result, Ok, Err, OnOk, OnErr, refl, sym, ap, subst, ◌∙◌, append-nil}
 use Rattle.std.specs.FinMap as table
-use Rattle.seam_machine.specs.Views.{OutView}
-use Rattle.seam_entity.specs.Numbers.{may_rise}
-use Rattle.seam_entity.specs.Reals.{RealView}
-use Rattle.seam_entity.specs.Executing.{may_settle}
-use Rattle.seam_entity.specs.declared.message.Msg.{Msg}
-use Rattle.seam_node_steps.specs.Maps.{set_at}
-use Rattle.seam_node_steps.specs.Slots.{SlotStep, unless_stray}
-use Rattle.seam_node_steps.specs.Settle.{settled}
-use Rattle.seam_node_steps.specs.CellCases.{stray_survey, survey_task as survey_step}
-use Rattle.seam_node_steps.specs.Cells.{CellView, slot_of, stepped, cell_task}
+use Rattle.seam_node_steps.specs.Prelude.{OutView, may_rise, RealView, may_settle, Msg, set_at, SlotStep, unless_stray, settled}
+use Rattle.seam_node_steps.specs.Prelude.{stray_survey, survey_task as survey_step, CellView, slot_of, stepped, cell_task}
 use Rattle.seam_cell_parts.specs.declared.context.CellContext.{CellContext}
 use Rattle.seam_cell_parts.specs.declared.reals.Reals.{Reals}
 use Rattle.seam_cell_parts.specs.declared.places.Places.{Places}

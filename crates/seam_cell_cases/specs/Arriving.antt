@@ -1,11 +1,7 @@
 -- What base nodes are told of a real that came, and which cells its haunts may be.
 use Rattle.std.specs.Prelude.{ℕ, Bool}
 use Rattle.std.specs.FinSet as set
-use Rattle.seam_tree.specs.Cells.{Cells}
-use Rattle.seam_tree.specs.Division.{Division}
-use Rattle.seam_entity.specs.declared.message.Msg.{Msg}
-use Rattle.seam_entity.specs.declared.message.Msg.TheVariants.{Current}
-use Rattle.seam_node_steps.specs.CellCases.{is_cell_if}
+use Rattle.seam_node_steps.specs.Prelude.{Cells, Division, Msg, Current, is_cell_if}
 
 -- base node b is told that the entity's real is in cell me
 abbrev pub current_of : ℕ → ℕ → ℕ → ℕ → ℕ × Msg

@@ -1,13 +1,7 @@
 -- Calls of a real that is in the cell.
 use Rattle.std.specs.Prelude.{◌≡◌, Bool, false, ◌&&◌, Option, None, Some}
 use Rattle.std.specs.FinMap as table
-use Rattle.seam_call.specs.declared.call.Call.{Call}
-use Rattle.seam_entity.specs.Here.{Here}
-use Rattle.seam_entity.specs.Orders.{order_of}
-use Rattle.seam_entity.specs.Reals.{RealView}
-use Rattle.seam_entity.specs.Calls.{has_ready}
-use Rattle.seam_entity.specs.Executing.{may_call, may_execute}
-use Rattle.seam_node_steps.specs.Cells.{CellView}
+use Rattle.seam_node_steps.specs.Prelude.{Call, Here, order_of, RealView, has_ready, may_call, may_execute, CellView}
 
 abbrev pub called_by : Here → Call → Option RealView → Bool
 called_by h k None = false

@@ -1,15 +1,11 @@
 //! Calls of a real that is here.
 
 ghost use Rattle.std.specs.Prelude.{◌≡◌, ◌<◌, ◌^◌, true, is_some, IfOk, IfErr, IfSome, OnOk, OnErr, Some, option_map};
-ghost use Rattle.seam_defs.specs.Deeds.{with_later};
-ghost use Rattle.seam_defs.specs.Settings.{AreLegal};
-ghost use Rattle.seam_entity.specs.Here.{cell_count};
-ghost use Rattle.seam_entity.specs.Orders.{order_of};
-ghost use Rattle.seam_entity.specs.Calls.{may_offer as order_may_offer, has_ready};
-ghost use Rattle.seam_entity.specs.Executing.{may_settle as real_may_settle, may_execute as real_may_execute, may_call as real_may_call};
-ghost use Rattle.seam_entity.specs.Executing.{executed, shows, with_deed};
+ghost use Rattle.seam_node_steps.specs.Prelude.{with_later, AreLegal, cell_count, order_of, may_offer as order_may_offer, has_ready};
+ghost use Rattle.seam_node_steps.specs.Prelude.{may_settle as real_may_settle, may_execute as real_may_execute, may_call as real_may_call};
+ghost use Rattle.seam_node_steps.specs.Prelude.{executed, shows, settled};
+ghost use Rattle.seam_entity.specs.Executing.{with_deed};
 ghost use Rattle.seam_entity.specs.Preparing.{HasRoom, offered};
-ghost use Rattle.seam_node_steps.specs.Settle.{settled};
 ghost use Rattle.seam_cell_parts.specs.Kept.{here_in, IsThere};
 ghost use Rattle.seam_cell_parts.specs.Settling.{HasRoomFor};
 ghost use Rattle.seam_cell_parts.specs.Stepping.{HasBegun, IsDone, parts_of, slot_in, core_of};

@@ -2,9 +2,8 @@
 
 ghost use Rattle.std.specs.Prelude.{◌≡◌, [], OnOk, OnErr, IfOk, None};
 ghost use Rattle.std.specs.FinMap as table;
-ghost use Rattle.seam_entity.specs.Executing.{created, real_begins};
+ghost use Rattle.seam_node_steps.specs.Prelude.{created, real_begins, each_value};
 ghost use Rattle.seam_entity.specs.WitnessLooks.{with_witness};
-ghost use Rattle.seam_node_steps.specs.Maps.{each_value};
 ghost use Rattle.seam_cell_parts.specs.Kept.{here_in, AreKept};
 ghost use Rattle.seam_cell_cases.specs.Beginning.{changed_at};
 

@@ -2,10 +2,8 @@
 
 ghost use Rattle.std.specs.Prelude.{◌≡◌, ℕ, ◌<◌, ◌≤◌, ◌^◌, ◌+◌, ◌++◌, not, OnOk, OnErr};
 ghost use Rattle.std.specs.FinMap as table;
-ghost use Rattle.seam_machine.specs.declared.machines.Input.TheVariants.{From};
+ghost use Rattle.seam_node_steps.specs.Prelude.{From, drop_at, drops, stray_reap, cell_steps};
 ghost use Rattle.seam_entity.specs.declared.message.Msg.TheVariants as msg;
-ghost use Rattle.seam_node_steps.specs.CellCases.{drop_at, drops, stray_reap};
-ghost use Rattle.seam_node_steps.specs.Cells.{cell_steps};
 ghost use Rattle.seam_cell_parts.specs.News.{listed};
 ghost use Rattle.seam_cell_parts.specs.Kept.{cell_of, AreKept};
 ghost use Rattle.seam_cell_parts.specs.declared.context.CellContext.{CellContext as AnyCellContext};

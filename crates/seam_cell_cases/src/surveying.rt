@@ -2,14 +2,8 @@
 
 ghost use Rattle.std.specs.Prelude.{◌≡◌, ◌<◌, ◌++◌, not, true, false, IsTrue, OnOk, OnErr, IfSome, Some, option_map};
 ghost use Rattle.std.specs.FinMap as table;
-ghost use Rattle.seam_defs.specs.Settings.{AreLegal};
-ghost use Rattle.seam_entity.specs.Here.{cell_count};
-ghost use Rattle.seam_entity.specs.Reals.{RealView};
-ghost use Rattle.seam_entity.specs.Executing.{may_settle as real_may_settle};
-ghost use Rattle.seam_node_steps.specs.Settle.{settled};
-ghost use Rattle.seam_node_steps.specs.CellCases.{stray_survey};
-ghost use Rattle.seam_node_steps.specs.Cells.{cell_task};
-ghost use Rattle.seam_node_steps.specs.Maps.{has_any};
+ghost use Rattle.seam_node_steps.specs.Prelude.{AreLegal, cell_count, RealView, may_settle as real_may_settle, settled, stray_survey};
+ghost use Rattle.seam_node_steps.specs.Prelude.{cell_task, has_any};
 ghost use Rattle.seam_cell_parts.specs.Kept.{here_in, cell_of, AreKept, AreWhole, IsThere};
 ghost use Rattle.seam_cell_parts.specs.Stepping.{IsDone, parts_of, slot_in, core_of};
 ghost use Rattle.seam_cell_cases.specs.Surveying.{IsMoot};

@@ -1,15 +1,10 @@
 //! Tasks about a real that is here: it settles, or executes a ready call and settles.
 
 ghost use Rattle.std.specs.Prelude.{◌≡◌, ◌<◌, ◌^◌, ℕ, true, false, is_some, IfOk, IfErr, IfSome, OnOk, OnErr, Some, option_map};
-ghost use Rattle.seam_defs.specs.Deeds.{with_later};
-ghost use Rattle.seam_defs.specs.Settings.{AreLegal};
-ghost use Rattle.seam_order.specs.Held.{OrderView};
-ghost use Rattle.seam_call.specs.declared.call.Call.{Call as AnyCall};
-ghost use Rattle.seam_entity.specs.Here.{cell_count};
-ghost use Rattle.seam_entity.specs.Calls.{has_ready};
-ghost use Rattle.seam_entity.specs.Executing.{may_settle, may_execute, executed_ready, shows, with_deed};
-ghost use Rattle.seam_entity.specs.Preparing.{HasSpare, HasReady};
-ghost use Rattle.seam_node_steps.specs.CellCases.{survey_task, ready_call_task};
+ghost use Rattle.seam_node_steps.specs.Prelude.{with_later, AreLegal, OrderView, Call as AnyCall, cell_count, has_ready, may_settle};
+ghost use Rattle.seam_node_steps.specs.Prelude.{may_execute, executed_ready, shows, HasReady, survey_task, ready_call_task};
+ghost use Rattle.seam_entity.specs.Executing.{with_deed};
+ghost use Rattle.seam_entity.specs.Preparing.{HasSpare};
 ghost use Rattle.seam_cell_parts.specs.Kept.{here_in, IsThere};
 ghost use Rattle.seam_cell_parts.specs.Settling.{HasRoomFor};
 ghost use Rattle.seam_cell_parts.specs.Stepping.{HasBegun, IsDone, parts_of, slot_in, core_of};

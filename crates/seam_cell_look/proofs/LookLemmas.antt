@@ -8,17 +8,11 @@ use Rattle.std.proofs.lemmas.List.{take_more}
 use Rattle.std.proofs.lemmas.List.Elements.{filter_map-append}
 use Rattle.std.proofs.lemmas.Bool.Decides.{nat_tests}
 use Rattle.seam_view.specs.declared.Look.{Look}
-use Rattle.seam_entity.specs.Here.{Here, base_of}
-use Rattle.seam_entity.specs.Numbers.{is_small}
-use Rattle.seam_entity.specs.Reals.{RealView, WitnessView}
-use Rattle.seam_node_steps.specs.Maps.{Map, set_at}
-use Rattle.seam_node_steps.specs.Slots.{unless_stray, rests}
-use Rattle.seam_node_steps.specs.CellLooks.{Known, known_of, numbered, looks_of, shown_of, after_looking}
-use Rattle.seam_node_steps.specs.CellLooks.{stray_look_by, looks_with, look_by, own_due, all_shown, shown_for}
-use Rattle.seam_node_steps.specs.Cells.{CellView, slot_of, known_to, stepped, looks_around}
-use Rattle.seam_node_steps.specs.Cells.{look_next, cell_rests}
+use Rattle.seam_node_steps.specs.Prelude.{Here, base_of, is_small, RealView, WitnessView, Map, set_at, unless_stray, rests, Known, known_of}
+use Rattle.seam_node_steps.specs.Prelude.{numbered, looks_of, shown_of, after_looking, stray_look_by, looks_with, look_by, own_due}
+use Rattle.seam_node_steps.specs.Prelude.{all_shown, shown_for, CellView, slot_of, known_to, stepped, looks_around, look_next, cell_rests}
+use Rattle.seam_node_steps.specs.Prelude.{known_at}
 use Rattle.seam_node_steps.proofs.Slots.{set_at-same}
-use Rattle.seam_node_steps.specs.Knowing.{known_at}
 use Rattle.seam_node_steps.proofs.Knowing.{known_of_others, known_without_own}
 use Rattle.seam_cell_parts.specs.News.{listed}
 use Rattle.seam_cell_parts.proofs.NewsLemmas.{one_listed}

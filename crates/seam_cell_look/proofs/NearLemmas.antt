@@ -7,18 +7,13 @@ use Rattle.std.specs.Ordering.{nat_cmp}
 use Rattle.std.specs.FinMap as table
 use Rattle.std.specs.FinMap.Entries.{is_sorted}
 use Rattle.std.proofs.lemmas.Bool.Decides.{nat_tests}
-use Rattle.seam_geo.specs.declared.pos.Pos.{Pos}
-use Rattle.seam_geo.specs.Pos.{distance}
+use Rattle.seam_node_steps.specs.Prelude.{Pos, distance, copy_in, GhostCopy, RealView, Known, seen_as, known_of, shown_of_known, CellView}
+use Rattle.seam_node_steps.specs.Prelude.{known_to, is_another, or_else, known_by, known_at, unless_self}
 use Rattle.seam_range.specs.declared.Location.{Location}
 use Rattle.seam_range.specs.Locations.{Places, is_within, within}
-use Rattle.seam_ghosts.specs.Book.{copy_in}
-use Rattle.seam_call.specs.declared.shown.GhostCopy.{GhostCopy}
 use Rattle.seam_view.specs.declared.Seen.{Seen}
 use Rattle.seam_view.specs.Replica.{Replica, seen_of}
-use Rattle.seam_entity.specs.Reals.{RealView}
-use Rattle.seam_node_steps.specs.CellLooks.{Known, seen_as, known_of, is_of, shown_of_known}
-use Rattle.seam_node_steps.specs.Cells.{CellView, known_to, is_another}
-use Rattle.seam_node_steps.specs.Knowing.{or_else, known_by, known_at, unless_self}
+use Rattle.seam_node_steps.specs.CellLooks.{is_of}
 use Rattle.seam_node_steps.proofs.Sorted.{passing, find_filter, sorted_filter, find_mapped, sorted_mapped}
 use Rattle.seam_node_steps.proofs.Knowing.{known_rises, known_to_is, known_of_others}
 use Rattle.seam_cell_parts.specs.Spots.{AreNoted, place_of_real, place_of_copy, real_places, copy_places, placed_reals, placed_copies}

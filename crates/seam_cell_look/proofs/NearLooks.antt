@@ -10,8 +10,7 @@ use Rattle.std.specs.List.{AllByRecursion, filter, list_any}
 use Rattle.std.specs.FinMap as versions
 use Rattle.std.proofs.lemmas.Bool.{or_parts}
 use Rattle.std.proofs.lemmas.Bool.Decides.{nat_tests}
-use Rattle.seam_geo.specs.declared.pos.Pos.{Pos}
-use Rattle.seam_geo.specs.Pos.{distance}
+use Rattle.seam_node_steps.specs.Prelude.{Pos, distance}
 use Rattle.seam_view.specs.declared.Seen.{Seen}
 use Rattle.seam_view.specs.declared.Look.{Look}
 use Rattle.seam_view.specs.declared.Look.TheVariants.{Leave, Set, Enter}

@@ -5,14 +5,8 @@ use Rattle.std.specs.Ordering.{nat_cmp, is_eq, eq_by_cmp}
 use Rattle.std.specs.Cmp.{nat_cmp_total, tied_itself}
 use Rattle.std.specs.FinMap as table
 use Rattle.std.proofs.lemmas.Bool.Decides.{nat_tests}
-use Rattle.seam_ghosts.specs.declared.Ghost.{Ghost}
-use Rattle.seam_ghosts.specs.Book.{copy_in}
-use Rattle.seam_call.specs.declared.shown.GhostCopy.{GhostCopy}
-use Rattle.seam_entity.specs.Here.{Here}
-use Rattle.seam_entity.specs.Reals.{RealView}
-use Rattle.seam_node_steps.specs.Maps.{Map}
+use Rattle.seam_node_steps.specs.Prelude.{Ghost, copy_in, GhostCopy, Here, RealView, Map, known_by}
 use Rattle.seam_entity.specs.WitnessLooks.{other_of_real, other_of_copy}
-use Rattle.seam_node_steps.specs.Knowing.{known_by}
 use Rattle.seam_cell_look.specs.Told.{Told, told_of, known_with, AreTold, AreToldBut, AreStillTold}
 
 pub none_told : (known : ℕ → Option GhostCopy) (told : Told) → told ≡ [] → AreTold known told

@@ -1,9 +1,6 @@
 -- What updates show, and one more of them.
 use Rattle.std.proofs.Common.{◌≡◌, ℕ, suc, ◌+◌, ◌++◌, List, [], ◌∷◌, length, refl, ap, sym, ◌∙◌, append_assoc, arith}
-use Rattle.seam_call.specs.declared.shown.Shown.{Shown}
-use Rattle.seam_entity.specs.declared.message.Msg.{Msg}
-use Rattle.seam_entity.specs.declared.message.Msg.TheVariants.{Update}
-use Rattle.seam_node_steps.specs.CellLooks.{numbered}
+use Rattle.seam_node_steps.specs.Prelude.{Shown, Msg, Update, numbered}
 use Rattle.seam_cell_look.specs.Updates.{UpdatesView, shown_in, with_shown}
 
 pub shown_twice : (u : UpdatesView) (xs ys : List Shown) → with_shown (with_shown u xs) ys ≡ with_shown u (xs ++ ys)

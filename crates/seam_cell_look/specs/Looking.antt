@@ -1,19 +1,9 @@
 -- What a witness of a cell sees and tells.
 use Rattle.std.specs.Prelude.{ℕ, ◌+◌, Bool, true, false, List, [], ◌∷◌, length, is_some, Option, None, Some}
-use Rattle.seam_ghosts.specs.declared.Ghost.{Ghost}
-use Rattle.seam_call.specs.declared.shown.GhostCopy.{GhostCopy}
-use Rattle.seam_entity.specs.declared.message.Msg.{Msg}
-use Rattle.seam_call.specs.declared.shown.Shown.{Shown}
-use Rattle.seam_call.specs.declared.shown.Shown.TheVariants.{Own}
-use Rattle.seam_defs.specs.Deeds.{own_of}
-use Rattle.seam_entity.specs.Here.{Here, base_of, properties}
-use Rattle.seam_entity.specs.Reals.{RealView, WitnessView}
-use Rattle.seam_node_steps.specs.Maps.{Map}
-use Rattle.seam_entity.specs.WitnessLooks.{told_after}
+use Rattle.seam_node_steps.specs.Prelude.{Ghost, GhostCopy, Msg, Shown, Own, own_of, Here, base_of, properties, RealView, WitnessView, Map}
+use Rattle.seam_node_steps.specs.Prelude.{told_after, Known, looks_of, shown_of, after_looking, numbered, stray_look_by, own_due, CellView}
 use Rattle.seam_view.specs.declared.Seen.{Seen}
 use Rattle.seam_view.specs.Replica.{after_looks}
-use Rattle.seam_node_steps.specs.CellLooks.{Known, looks_of, shown_of, after_looking, numbered, stray_look_by, own_due}
-use Rattle.seam_node_steps.specs.Cells.{CellView}
 use Rattle.seam_cell_look.specs.declared.looking.Glance.{Glance}
 
 -- ---- what is seen

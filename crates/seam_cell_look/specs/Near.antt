@@ -4,19 +4,14 @@ use Rattle.std.specs.Prelude.{T, if◌then◌else◌}
 use Rattle.std.specs.Ordering.{nat_cmp, match_ordering}
 use Rattle.std.specs.FinMap as table
 use Rattle.std.specs.FinMap.Entries.{is_sorted}
-use Rattle.seam_geo.specs.declared.pos.Pos.{Pos}
+use Rattle.seam_node_steps.specs.Prelude.{Pos, GhostCopy, RealView, Map, Known, seen_as, is_another}
 use Rattle.seam_range.specs.declared.Location.{Location}
 use Rattle.seam_range.specs.Locations.{is_within}
-use Rattle.seam_call.specs.declared.shown.GhostCopy.{GhostCopy}
 use Rattle.seam_view.specs.declared.Seen.{Seen}
 use Rattle.seam_view.specs.declared.Look.{Look}
 use Rattle.seam_view.specs.declared.Look.TheVariants.{Leave, Set, Enter}
 use Rattle.seam_view.specs.Replica.{Replica, seen_of}
 use Rattle.seam_view.specs.ViewLooks.{is_far}
-use Rattle.seam_entity.specs.Reals.{RealView}
-use Rattle.seam_node_steps.specs.Maps.{Map}
-use Rattle.seam_node_steps.specs.CellLooks.{Known, seen_as}
-use Rattle.seam_node_steps.specs.Cells.{is_another}
 
 -- what is known of an entity, with its number
 abbrev pub known_entity : ℕ → GhostCopy → Known

@@ -2,13 +2,7 @@
 use Rattle.std.specs.Prelude.{◌≡◌, ◌≢◌, ℕ, nat_eq, List, Option, Some}
 use Rattle.std.specs.FinMap as table
 use Rattle.std.specs.Map.{lookup}
-use Rattle.seam_ghosts.specs.declared.Ghost.{Ghost}
-use Rattle.seam_ghosts.specs.Book.{copy_in}
-use Rattle.seam_call.specs.declared.shown.GhostCopy.{GhostCopy}
-use Rattle.seam_entity.specs.Here.{Here}
-use Rattle.seam_entity.specs.Reals.{RealView}
-use Rattle.seam_node_steps.specs.Maps.{Map}
-use Rattle.seam_node_steps.specs.Knowing.{known_by}
+use Rattle.seam_node_steps.specs.Prelude.{Ghost, copy_in, GhostCopy, Here, RealView, Map, known_by}
 
 -- entities, each with the copy that was told of it
 abbrev pub Told : Type 0

@@ -1,9 +1,6 @@
 -- What a look tells, as updates.
 use Rattle.std.specs.Prelude.{ℕ, List, [], ◌∷◌, ◌++◌}
-use Rattle.seam_call.specs.declared.shown.Shown.{Shown}
-use Rattle.seam_entity.specs.Here.{Here, base_of}
-use Rattle.seam_entity.specs.Reals.{RealView}
-use Rattle.seam_entity.specs.declared.message.Msg.{Msg}
+use Rattle.seam_node_steps.specs.Prelude.{Shown, Here, base_of, RealView, Msg}
 use Rattle.seam_entity.specs.declared.message.Msg.TheVariants as msg
 
 -- updates of an entity that go to a node, numbered after those that were sent, and what they show

@@ -1,8 +1,7 @@
 //! What a look tells a client, as the updates that its entity's base node is sent.
 
 ghost use Rattle.std.specs.Prelude.{◌≡◌, ◌<◌, ◌≤◌, ◌^◌, ◌++◌, [], ◌∷◌, length, false, IfOk, OnOk};
-ghost use Rattle.seam_machine.specs.Inside.{is_empty};
-ghost use Rattle.seam_node_steps.specs.CellLooks.{numbered};
+ghost use Rattle.seam_node_steps.specs.Prelude.{is_empty, numbered};
 
 use seam_call::{Shown, Update};
 use seam_entity::Msg;

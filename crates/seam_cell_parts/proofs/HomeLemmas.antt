@@ -2,12 +2,11 @@
 use Rattle.std.proofs.Common.{◌≡◌, ◌<◌, ◌≤◌, ℕ, zero, suc, true, false}
 use Rattle.std.proofs.Common.{cond, eqb, nat_le, max, length, refl, ap, sym, ◌∙◌, arith}
 use Rattle.std.proofs.lemmas.Bool.Decides.{nat_tests}
-use Rattle.seam_geo.specs.declared.pos.Pos.{Pos}
-use Rattle.seam_geo.specs.Rect.{distance_along, distance_to}
-use Rattle.seam_tree.specs.Division.{Division, IsTree, IsInSpace, cells_of, whole, cut_after, area_after, leaf_at}
+use Rattle.seam_node_steps.specs.Prelude.{Pos, distance_to, Division, IsTree, IsInSpace, cells_of, cut_after, leaf_at, distance_to_cell}
+use Rattle.seam_node_steps.specs.Prelude.{home_at}
+use Rattle.seam_geo.specs.Rect.{distance_along}
+use Rattle.seam_tree.specs.Division.{whole, area_after}
 use Rattle.seam_tree.specs.Boundary.{above, below}
-use Rattle.seam_haunt.specs.Haunts.{distance_to_cell}
-use Rattle.seam_haunt.specs.Places.{home_at}
 
 differs : (a b : ℕ) → b < a → eqb a b ≡ false
 differs a b lt = grind (arith, nat_tests)

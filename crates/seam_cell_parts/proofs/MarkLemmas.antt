@@ -10,8 +10,7 @@ use Rattle.std.specs.Cmp.{nat_cmp_total, tied_itself}
 use Rattle.std.specs.FinMap as table
 use Rattle.std.specs.FinMap.Entries.{put, is_sorted, below_all, find as key_find}
 use Rattle.std.proofs.lemmas.Bool.Decides.{nat_tests}
-use Rattle.seam_node_steps.specs.Maps.{Map, number_of, set_at}
-use Rattle.seam_node_steps.specs.Cells.{without}
+use Rattle.seam_node_steps.specs.Prelude.{Map, number_of, set_at, without}
 use Rattle.seam_node_steps.proofs.Slots.{set_at-same}
 use Rattle.seam_cell_parts.specs.Sets.{with_entity, first_of}
 use Rattle.seam_cell_parts.specs.Kept.{marked, with_mark}

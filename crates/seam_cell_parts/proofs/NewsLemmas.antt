@@ -8,14 +8,9 @@ use Rattle.std.specs.Cmp.{nat_cmp_total, unsigned_tied}
 use Rattle.std.proofs.lemmas.Bool.{ne_eqb}
 use Rattle.std.proofs.lemmas.List.{append-nil}
 use Rattle.std.proofs.lemmas.List.Elements.{filter_map-append}
-use Rattle.seam_tree.specs.Cells.{Cells}
-use Rattle.seam_call.specs.declared.shown.GhostCopy.{GhostCopy}
-use Rattle.seam_entity.specs.Reals.{RealView}
-use Rattle.seam_entity.specs.Here.{Here, cell_numbers}
-use Rattle.seam_node_steps.specs.Settle.{told, told_unless, ghost_message, ghost_messages}
-use Rattle.seam_haunt.specs.declared.telling.Telling.{Telling}
-use Rattle.seam_haunt.specs.declared.telling.Told.TheVariants.{Nothing}
-use Rattle.seam_haunt.specs.Telling.{word_at, word}
+use Rattle.seam_node_steps.specs.Prelude.{Cells, GhostCopy, RealView, Here, cell_numbers, told, told_unless, ghost_message, ghost_messages}
+use Rattle.seam_node_steps.specs.Prelude.{Telling, Nothing, word}
+use Rattle.seam_haunt.specs.Telling.{word_at}
 use Rattle.seam_cell_parts.specs.News.{said, listed, told_by, news, Tells}
 
 pub range_more : (a n : ℕ) → range_with_len a (suc n) ≡ range_with_len a n ++ (a + n) ∷ []

@@ -9,8 +9,7 @@ use Rattle.std.specs.Ordering.{nat_cmp}
 use Rattle.std.specs.declared.cmp.Ordering.TheVariants.{Less}
 use Rattle.std.proofs.lemmas.Bool.Decides.{nat_tests}
 use Rattle.std.proofs.lemmas.Map.Keys.{sorted_head, sorted_tail}
-use Rattle.seam_node_steps.specs.Cells.{without}
-use Rattle.seam_node_steps.specs.Maps.{has_any}
+use Rattle.seam_node_steps.specs.Prelude.{without, has_any}
 use Rattle.seam_cell_parts.specs.declared.entity_queue.Entry.{Entry}
 use Rattle.seam_cell_parts.specs.Sets.{first_of}
 use Rattle.seam_cell_parts.specs.Queues.{entities, waiting, passed, IsQueue}

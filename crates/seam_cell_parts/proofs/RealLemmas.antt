@@ -2,10 +2,7 @@
 use Rattle.std.proofs.Common.{◌≡◌, ℕ, Bool, true, false, List, Option, None, Some, is_some, refl, sym, ap, subst, ◌∙◌}
 use Rattle.std.specs.FinMap as table
 use Rattle.std.specs.FinSet as set
-use Rattle.seam_entity.specs.Reals.{RealView}
-use Rattle.seam_entity.specs.Calls.{has_ready}
-use Rattle.seam_node_steps.specs.Maps.{Map, set_at}
-use Rattle.seam_node_steps.specs.Cells.{without, real_is_ready, has_witness}
+use Rattle.seam_node_steps.specs.Prelude.{RealView, has_ready, Map, set_at, without, real_is_ready, has_witness}
 use Rattle.seam_cell_parts.specs.Sets.{with_entity}
 use Rattle.seam_cell_parts.specs.declared.reals.Reals.{Reals}
 use Rattle.seam_cell_parts.specs.Kept.{marked, with_mark, AreKept, IsOpen, IsOpenFor}

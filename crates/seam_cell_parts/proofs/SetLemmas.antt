@@ -10,8 +10,7 @@ use Rattle.std.specs.BTreeSet.{insert_key}
 use Rattle.std.specs.BTreeMap.{is_at}
 use Rattle.std.proofs.lemmas.Map.Keys.{sorted_head, sorted_tail}
 use Rattle.std.proofs.lemmas.Bool.Decides.{nat_tests}
-use Rattle.seam_node_steps.specs.Cells.{without}
-use Rattle.seam_node_steps.specs.Maps.{has_any}
+use Rattle.seam_node_steps.specs.Prelude.{without, has_any}
 use Rattle.seam_cell_parts.specs.Sets.{with_entity, first_of, members, IsAlone, IsSet}
 
 pub inserted : (e : ℕ) (xs : List ℕ) → insert_key nat_cmp xs e ≡ with_entity e xs

@@ -7,25 +7,12 @@ use Rattle.std.specs.List.{filter_map, cons_option}
 use Rattle.std.specs.FinMap as table
 use Rattle.std.specs.FinSet as set
 use Rattle.std.proofs.lemmas.Bool.Decides.{nat_tests}
-use Rattle.seam_geo.specs.declared.pos.Pos.{Pos}
-use Rattle.seam_tree.specs.Division.{Division}
-use Rattle.seam_tree.specs.Cells.{Cells}
-use Rattle.seam_ghosts.specs.declared.Ghost.{Ghost}
-use Rattle.seam_ghosts.specs.Book.{BookView, beat_of, with_ghost, after_message, ghost_after}
-use Rattle.seam_call.specs.declared.shown.GhostCopy.{GhostCopy}
-use Rattle.seam_entity.specs.Here.{Here, cell_numbers}
-use Rattle.seam_entity.specs.Reals.{RealView}
-use Rattle.seam_defs.specs.declared.types.TypeDef.{TypeDef}
-use Rattle.seam_defs.specs.declared.states.State.{State}
-use Rattle.seam_entity.specs.Executing.{copy_of_real, copy_with, settled_to}
-use Rattle.seam_entity.specs.Preparing.{node_with}
-use Rattle.seam_entity.specs.declared.message.Msg.TheVariants.{Hand}
-use Rattle.seam_node_steps.specs.Maps.{Map, set_at, has_any}
-use Rattle.seam_node_steps.specs.Slots.{Slot}
-use Rattle.seam_node_steps.specs.Settle.{beat_after, home_after, haunts_at, told, told_unless, ghost_message}
-use Rattle.seam_node_steps.specs.Settle.{ghost_messages, copy_if, stayed, gone_to, settled_by, settled}
+use Rattle.seam_node_steps.specs.Prelude.{Pos, Division, Cells, Ghost, BookView, beat_of, with_ghost, after_message, ghost_after, GhostCopy}
+use Rattle.seam_node_steps.specs.Prelude.{Here, cell_numbers, RealView, TypeDef, State, copy_of_real, copy_with, settled_to, node_with}
+use Rattle.seam_node_steps.specs.Prelude.{Hand, Map, set_at, has_any, Slot, beat_after, home_after, haunts_at, told, told_unless}
+use Rattle.seam_node_steps.specs.Prelude.{ghost_message, ghost_messages, copy_if, gone_to, settled_by, settled, Telling}
+use Rattle.seam_node_steps.specs.Settle.{stayed}
 use Rattle.seam_node_steps.proofs.Slots.{set_at-same}
-use Rattle.seam_haunt.specs.declared.telling.Telling.{Telling}
 use Rattle.seam_cell_parts.specs.declared.settle.Begun.{Begun}
 use Rattle.seam_cell_parts.specs.News.{Tells, news}
 use Rattle.seam_cell_parts.specs.Settling.{former, staying, going, IsGone, IsAtRest}

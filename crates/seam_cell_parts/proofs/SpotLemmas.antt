@@ -17,16 +17,12 @@ use Rattle.seam_table.specs.Tables.{TableView, with_each}
 use Rattle.seam_table.proofs.Changed.{got_changed}
 use Rattle.seam_range.specs.declared.Location.{Location}
 use Rattle.seam_range.specs.Locations.{Places}
-use Rattle.seam_ghosts.specs.declared.Ghost.{Ghost}
+use Rattle.seam_node_steps.specs.Prelude.{Ghost, BookView, copy_in, copied, beat_of, with_ghost, after_message, GhostCopy, RealView}
+use Rattle.seam_node_steps.specs.Prelude.{real_begins, Map, set_at, or_else}
 use Rattle.seam_ghosts.specs.declared.Kept.TheVariants.{Taken, Ignored}
-use Rattle.seam_ghosts.specs.Book.{BookView, copy_in, copied, answer, beat_of, with_ghost, after_message}
-use Rattle.seam_call.specs.declared.shown.GhostCopy.{GhostCopy}
-use Rattle.seam_entity.specs.Reals.{RealView}
-use Rattle.seam_entity.specs.Executing.{real_begins}
-use Rattle.seam_node_steps.specs.Maps.{Map, set_at}
+use Rattle.seam_ghosts.specs.Book.{answer}
 use Rattle.seam_node_steps.proofs.Slots.{get-set_at}
 use Rattle.seam_node_steps.proofs.Sorted.{first, second, find_append, find_mapped, sorted_mapped}
-use Rattle.seam_node_steps.specs.Knowing.{or_else}
 use Rattle.seam_node_steps.proofs.Knowing.{find_copied, copies_rise}
 use Rattle.seam_cell_parts.specs.Spots.{is_out, is_none_else_out, still_out, AreNoted, AreListed, IsNoted, IsChanged, place_of_real}
 use Rattle.seam_cell_parts.specs.Spots.{place_of_copy, real_places, copy_places, placed_reals, placed_copies}

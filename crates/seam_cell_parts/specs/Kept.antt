@@ -2,16 +2,8 @@
 use Rattle.std.specs.Prelude.{◌≡◌, ℕ, Bool, true, false, is_some, List, map, filter, Option, None, Some}
 use Rattle.std.specs.FinMap as table
 use Rattle.std.specs.FinSet as set
-use Rattle.seam_tree.specs.Division.{Division, IsInSpace}
-use Rattle.seam_defs.specs.Settings.{AreLegal}
-use Rattle.seam_entity.specs.Here.{Here}
-use Rattle.seam_entity.specs.Reals.{RealView}
-use Rattle.seam_entity.specs.Calls.{all_held}
-use Rattle.seam_entity.specs.Executing.{fits_cell_part}
-use Rattle.seam_entity.specs.Preparing.{node_with}
-use Rattle.seam_node_steps.specs.Maps.{Map, number_of}
-use Rattle.seam_node_steps.specs.Cells.{CellView, real_is_ready, has_witness}
-use Rattle.seam_node_steps.specs.Valid.{IsCell}
+use Rattle.seam_node_steps.specs.Prelude.{Division, IsInSpace, AreLegal, Here, RealView, all_held, fits_cell_part, node_with, Map}
+use Rattle.seam_node_steps.specs.Prelude.{number_of, CellView, real_is_ready, has_witness, IsCell}
 use Rattle.seam_cell_parts.specs.Sets.{with_entity}
 use Rattle.seam_cell_parts.specs.declared.context.CellContext.{CellContext}
 use Rattle.seam_cell_parts.specs.declared.reals.Reals.{Reals}

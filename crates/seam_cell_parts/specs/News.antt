@@ -1,18 +1,10 @@
 -- What the haunts of a real are told, cell by cell.
 use Rattle.std.specs.Prelude.{◌≡◌, ℕ, ◌+◌, List, [], ◌∷◌, filter_map, Option, None, Some}
 use Rattle.std.specs.List.{range_with_len}
-use Rattle.seam_call.specs.declared.shown.GhostCopy.{GhostCopy}
-use Rattle.seam_entity.specs.Reals.{RealView}
-use Rattle.seam_entity.specs.Here.{Here}
-use Rattle.seam_entity.specs.Executing.{copy_of_real}
-use Rattle.seam_entity.specs.declared.message.Msg.{Msg}
-use Rattle.seam_entity.specs.declared.message.Msg.TheVariants.{GhostSet, GhostDrop}
-use Rattle.seam_defs.specs.declared.states.State.{State}
+use Rattle.seam_node_steps.specs.Prelude.{GhostCopy, RealView, Here, copy_of_real, Msg, GhostSet, GhostDrop, State, word, Telling, Nothing}
 use Rattle.seam_cell_parts.specs.declared.news.Subject.{Subject}
-use Rattle.seam_haunt.specs.Telling.{word}
-use Rattle.seam_haunt.specs.declared.telling.Telling.{Telling}
 use Rattle.seam_haunt.specs.declared.telling.Told.{Told}
-use Rattle.seam_haunt.specs.declared.telling.Told.TheVariants.{Nothing, Set, Drop}
+use Rattle.seam_haunt.specs.declared.telling.Told.TheVariants.{Set, Drop}
 
 -- the state of the real of which is told
 abbrev pub state_of : Subject → State

@@ -3,17 +3,8 @@ use Rattle.std.specs.Prelude.{◌≡◌, ℕ, ◌+◌, ◌<◌, ◌==◌, true, 
 use Rattle.std.specs.Ordering.{nat_cmp}
 use Rattle.std.specs.FinMap as table
 use Rattle.std.specs.FinSet as set
-use Rattle.seam_tree.specs.Cells.{Cells}
-use Rattle.seam_tree.specs.Division.{Division}
-use Rattle.seam_entity.specs.Here.{Here}
-use Rattle.seam_entity.specs.Reals.{RealView}
-use Rattle.seam_entity.specs.declared.message.Msg.{Msg}
-use Rattle.seam_entity.specs.declared.message.Msg.TheVariants.{Hand}
-use Rattle.seam_entity.specs.Executing.{settled_to}
-use Rattle.seam_node_steps.specs.Maps.{Map}
-use Rattle.seam_node_steps.specs.Slots.{NextPlace}
-use Rattle.seam_node_steps.specs.Settle.{home_after, haunts_at}
-use Rattle.seam_haunt.specs.declared.telling.Telling.{Telling}
+use Rattle.seam_node_steps.specs.Prelude.{Cells, Division, Here, RealView, Msg, Hand, settled_to, Map, NextPlace, home_after, haunts_at}
+use Rattle.seam_node_steps.specs.Prelude.{Telling}
 use Rattle.seam_cell_parts.specs.declared.settle.Begun.{Begun}
 
 -- at a hand-over the cell counts as a former haunt

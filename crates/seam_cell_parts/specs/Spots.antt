@@ -4,11 +4,7 @@ use Rattle.std.specs.Ordering.{nat_cmp, eq_by_cmp}
 use Rattle.std.specs.FinMap as map
 use Rattle.seam_range.specs.declared.Location.{Location}
 use Rattle.seam_range.specs.Locations.{Places}
-use Rattle.seam_ghosts.specs.declared.Ghost.{Ghost}
-use Rattle.seam_ghosts.specs.Book.{copy_in, copied}
-use Rattle.seam_call.specs.declared.shown.GhostCopy.{GhostCopy}
-use Rattle.seam_entity.specs.Reals.{RealView}
-use Rattle.seam_node_steps.specs.Maps.{Map, set_at}
+use Rattle.seam_node_steps.specs.Prelude.{Ghost, copy_in, copied, GhostCopy, RealView, Map, set_at}
 use Rattle.seam_cell_parts.specs.declared.spots.Spots.{Spots}
 
 -- the entity is the one that is out

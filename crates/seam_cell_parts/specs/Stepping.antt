@@ -2,21 +2,10 @@
 use Rattle.std.specs.Prelude.{◌≡◌, ℕ, ◌+◌, ◌++◌, ◌==◌, Bool, true, false, is_none, List, Option, Some, if◌then◌else◌}
 use Rattle.std.specs.FinMap as table
 use Rattle.std.specs.FinSet as set
-use Rattle.seam_tree.specs.Division.{Division}
-use Rattle.seam_geo.specs.declared.pos.Pos.{Pos}
-use Rattle.seam_ghosts.specs.declared.Ghost.{Ghost}
-use Rattle.seam_ghosts.specs.Book.{ghost_after}
-use Rattle.seam_call.specs.declared.shown.GhostCopy.{GhostCopy}
-use Rattle.seam_machine.specs.Views.{OutView}
-use Rattle.seam_entity.specs.Here.{Here}
-use Rattle.seam_entity.specs.Reals.{RealView, RoomyReal}
-use Rattle.seam_entity.specs.Executing.{copy_of_real}
-use Rattle.seam_entity.specs.declared.message.Msg.{Msg}
-use Rattle.seam_node_steps.specs.Maps.{Map, set_at, has_any}
-use Rattle.seam_node_steps.specs.Slots.{Slot, NextPlace, SlotStep, slot_after}
-use Rattle.seam_node_steps.specs.Settle.{home_after, haunts_at, ghost_messages, copy_if}
-use Rattle.seam_node_steps.specs.Cells.{without}
-use Rattle.seam_haunt.specs.declared.telling.Telling.{Telling}
+use Rattle.seam_node_steps.specs.Prelude.{Division, Pos, Ghost, ghost_after, GhostCopy, OutView, Here, RealView, copy_of_real, Msg, Map}
+use Rattle.seam_node_steps.specs.Prelude.{set_at, has_any, Slot, NextPlace, SlotStep, slot_after, home_after, haunts_at, ghost_messages}
+use Rattle.seam_node_steps.specs.Prelude.{copy_if, without, Telling}
+use Rattle.seam_entity.specs.Reals.{RoomyReal}
 use Rattle.seam_cell_parts.specs.declared.places.Places.{Places}
 use Rattle.seam_cell_parts.specs.declared.settle.Begun.{Begun}
 use Rattle.seam_cell_parts.specs.Settling.{former}

@@ -6,8 +6,7 @@ ghost use Rattle.std.specs.Prelude.{◌≡◌, ◌<◌, ◌≤◌, ◌++◌, [],
 ghost use Rattle.std.specs.List.{AllWithin};
 ghost use Rattle.std.specs.List.Sorted.{IsStrictlySortedBy};
 ghost use Rattle.std.specs.Ordering.{nat_cmp};
-ghost use Rattle.seam_node_steps.specs.Cells.{without};
-ghost use Rattle.seam_node_steps.specs.Maps.{has_any};
+ghost use Rattle.seam_node_steps.specs.Prelude.{without, has_any};
 ghost use Rattle.seam_cell_parts.specs.Sets.{first_of};
 ghost use Rattle.seam_cell_parts.specs.Queues.{entities, waiting, passed};
 

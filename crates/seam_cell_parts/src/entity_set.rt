@@ -3,9 +3,8 @@
 ghost use Rattle.std.specs.Prelude.{◌≡◌, ℕ, List, [], ◌++◌, OnOk, OnErr, not};
 ghost use Rattle.std.specs.List.Sorted.{IsStrictlySortedBy};
 ghost use Rattle.std.specs.Ordering.{nat_cmp};
-ghost use Rattle.seam_node_steps.specs.Cells.{without};
+ghost use Rattle.seam_node_steps.specs.Prelude.{without, has_any};
 ghost use Rattle.seam_cell_parts.specs.Sets.{with_entity, first_of};
-ghost use Rattle.seam_node_steps.specs.Maps.{has_any};
 
 use crate::entity_queue::EntityRow;
 use std::alloc::{AllocError, Global};

@@ -2,10 +2,7 @@
 
 ghost use Rattle.std.specs.Prelude.{◌≡◌, ℕ, ◌++◌, ◌↔◌, length, take, IsTrue, IfOk, OnOk, OnErr};
 ghost use Rattle.std.specs.FinSet as set;
-ghost use Rattle.seam_defs.specs.declared.settings.Settings.{Settings as AllSettings};
-ghost use Rattle.seam_entity.specs.Executing.{copy_with};
-ghost use Rattle.seam_entity.specs.Preparing.{node_with};
-ghost use Rattle.seam_haunt.specs.Telling.{word};
+ghost use Rattle.seam_node_steps.specs.Prelude.{Settings as AllSettings, copy_with, node_with, word};
 ghost use Rattle.seam_cell_parts.specs.News.{state_of, said, listed, news};
 
 use seam_call::GhostCopy;

@@ -2,8 +2,7 @@
 
 ghost use Rattle.std.specs.Prelude.{◌≡◌, Bool, None, Some, true, is_some, is_none, option_map, find, OnOk, OnErr, IfOk};
 ghost use Rattle.std.specs.FinMap as table;
-ghost use Rattle.seam_node_steps.specs.Maps.{number_of, set_at};
-ghost use Rattle.seam_node_steps.specs.Cells.{real_is_ready};
+ghost use Rattle.seam_node_steps.specs.Prelude.{number_of, set_at, real_is_ready};
 ghost use Rattle.seam_cell_parts.specs.Kept.{AreKept, IsOpen, IsOpenFor};
 ghost use Rattle.seam_cell_parts.specs.Stepping.{core_of, list_after};
 

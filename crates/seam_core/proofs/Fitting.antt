@@ -5,33 +5,20 @@ use Rattle.std.specs.Prelude.{slice_get}
 use Rattle.std.specs.List.{AllByRecursion}
 use Rattle.std.proofs.lemmas.Bool.{cases_eq}
 use Rattle.std.proofs.lemmas.Bool.Decides.{nat_tests}
-use Rattle.seam_geo.specs.declared.pos.Pos.{Pos}
-use Rattle.seam_tree.specs.Division.{Division, IsInSpace}
-use Rattle.seam_call.specs.declared.create.Create.{Create}
-use Rattle.seam_call.specs.declared.order.Batch.{Batch}
+use Rattle.seam_node_steps.specs.Prelude.{Pos, Division, IsInSpace, Create, Batch, RealView, WitnessView, is_inside, PartView, ProxyView}
+use Rattle.seam_node_steps.specs.Prelude.{NodeView, World, holders, loaded}
+use Rattle.seam_law_flow.specs.Prelude.{slot_at, letters_of}
+use Rattle.seam_law_calls.specs.Prelude.{Frame, has_of, has_none, entity_flow, real_in, real_of, home_of}
+use Rattle.seam_law_rounds.specs.Prelude.{IsBetweenRounds, IsFitting, MayBeMade, HasNoWitness, HasPartsBetweenRounds, AreFor}
 use Rattle.seam_base.specs.Nodes.{has_client}
 use Rattle.seam_base.specs.Marks.{passes}
-use Rattle.seam_entity.specs.Reals.{RealView, WitnessView}
-use Rattle.seam_entity.specs.Fitting.{is_inside}
-use Rattle.seam_law_flow.specs.Flows.{slot_at}
-use Rattle.seam_node_steps.specs.Bases.{PartView, ProxyView}
-use Rattle.seam_node_steps.specs.Nodes.{NodeView, World}
-use Rattle.seam_node_steps.specs.Holders.{holders}
-use Rattle.seam_node_steps.specs.Loads.{loaded}
-use Rattle.seam_law_calls.specs.Frames.{Frame}
-use Rattle.seam_law_calls.specs.Sights.{has_of, has_none, entity_flow}
-use Rattle.seam_law_calls.specs.Ones.{real_in, real_of}
 use Rattle.seam_law_calls.proofs.Counting.{none_counts}
-use Rattle.seam_law_calls.specs.BaseTurns.{home_of}
-use Rattle.seam_law_rounds.specs.Between.{IsBetweenRounds, IsFitting, MayBeMade, HasNoWitness}
 use Rattle.seam_law_rounds.proofs.Loaded.{no_mail, real_was}
 use Rattle.seam_law_rounds.proofs.Making.{Creation, nowhere, once, creation_of, middle}
 use Rattle.seam_law_rounds.proofs.Shape.{Somewhere, search_real}
-use Rattle.seam_law_rounds.specs.Parts.{HasPartsBetweenRounds, AreFor}
 use Rattle.seam_core.specs.Loads.{CanBegin, MayLoad}
 use Rattle.seam_core.proofs.Loading.{here_is}
 use Rattle.seam_core.proofs.Nodes.{IsUnseen}
-use Rattle.seam_law_flow.specs.Flows.{letters_of}
 
 -- a position inside a space of that size
 in_space : (size : ℕ) (t : Division) (p : Pos) → t.size ≡ size → is_inside size p ≡ true → IsInSpace t p

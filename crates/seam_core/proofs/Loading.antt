@@ -8,22 +8,13 @@ use Rattle.std.proofs.lemmas.List.{length-map, map-id}
 use Rattle.std.proofs.lemmas.List.Edits.{map_over_more}
 use Rattle.std.proofs.lemmas.Option.{slice_get_cases, slice_get-map, slice_get_within, get_or_from_slice_get}
 use Rattle.std.proofs.lemmas.Simd.{map-map}
-use Rattle.seam_tree.specs.Division.{IsTree}
-use Rattle.seam_machine.specs.Nets.{with_node}
-use Rattle.seam_machine.specs.Events.{EachNode}
-use Rattle.seam_call.specs.declared.order.Order.{Order}
+use Rattle.seam_node_steps.specs.Prelude.{IsTree, with_node, EachNode, Order, Batch, Here, cell_count, base_of, BaseView, NodeView, World}
+use Rattle.seam_node_steps.specs.Prelude.{Cell, Base, IsNode, with_nodes, order_if, ordered_at, reap_ordered_at, with_orders, with_reap}
+use Rattle.seam_node_steps.specs.Prelude.{reaps_loaded, loaded, look_loaded}
+use Rattle.seam_law_calls.specs.Prelude.{Frame, here_at, IsAt, IsInFrame}
+use Rattle.seam_law_rounds.specs.Prelude.{framed, each, node_loaded}
 use Rattle.seam_call.specs.declared.order.Order.TheVariants as order
-use Rattle.seam_call.specs.declared.order.Batch.{Batch}
-use Rattle.seam_entity.specs.Here.{Here, cell_count, base_of}
-use Rattle.seam_node_steps.specs.Bases.{BaseView}
-use Rattle.seam_node_steps.specs.Nodes.{NodeView, World}
-use Rattle.seam_node_steps.specs.Nodes.NodeView.{Cell, Base}
-use Rattle.seam_node_steps.specs.Valid.{IsNode}
-use Rattle.seam_node_steps.specs.Loads.{with_nodes, order_if, ordered_at, reap_ordered_at, with_order, with_orders, with_reap, reaps_loaded}
-use Rattle.seam_node_steps.specs.Loads.{loaded, look_loaded}
-use Rattle.seam_law_calls.specs.Frames.{Frame, here_at, IsAt, IsInFrame}
-use Rattle.seam_law_rounds.specs.Between.{framed}
-use Rattle.seam_law_rounds.specs.Loaded.{each, node_loaded}
+use Rattle.seam_node_steps.specs.Loads.{with_order}
 use Rattle.seam_law_rounds.proofs.Loading.{nodes_after, loaded_is, node_there}
 use Rattle.seam_law_rounds.proofs.Framing.{node_begun, node_goes, frame_turns}
 use Rattle.seam_law_rounds.proofs.Giving.{reaps_framed, look_framed}

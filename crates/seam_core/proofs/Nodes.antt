@@ -8,22 +8,13 @@ use Rattle.std.specs.Cmp.{nat_cmp_total}
 use Rattle.std.specs.FinMap as table
 use Rattle.std.proofs.lemmas.Bool.{eq-eqb}
 use Rattle.std.proofs.lemmas.List.{map-id}
-use Rattle.seam_tree.specs.Division.{Division, leaf_at}
-use Rattle.seam_call.specs.declared.create.Create.{Create}
+use Rattle.seam_node_steps.specs.Prelude.{Division, leaf_at, Create, base_of, RealView, CellView, BaseView, PartView, ProxyView}
+use Rattle.seam_node_steps.specs.Prelude.{is_base_node_of, NodeView, Cell, Base, real_if, part_if, with_route, new_part, created_at}
+use Rattle.seam_node_steps.specs.Prelude.{attached, base_round, part_begins, proxy_begins}
+use Rattle.seam_law_calls.specs.Prelude.{has_of, real_in}
+use Rattle.seam_law_rounds.specs.Prelude.{created_entity, each}
 use Rattle.seam_base.specs.Nodes.{has_client}
 use Rattle.seam_base.specs.Marks.{passes}
-use Rattle.seam_entity.specs.Here.{base_of}
-use Rattle.seam_entity.specs.Reals.{RealView}
-use Rattle.seam_node_steps.specs.Cells.{CellView}
-use Rattle.seam_node_steps.specs.Bases.{BaseView, PartView, ProxyView}
-use Rattle.seam_node_steps.specs.BaseCases.{is_base_node_of}
-use Rattle.seam_node_steps.specs.Nodes.{NodeView}
-use Rattle.seam_node_steps.specs.Nodes.NodeView.{Cell, Base}
-use Rattle.seam_node_steps.specs.Loads.{real_if, part_if, with_route, new_part, created_at, attached, base_round, part_begins, proxy_begins}
-use Rattle.seam_law_calls.specs.Sights.{has_of}
-use Rattle.seam_law_calls.specs.Ones.{real_in}
-use Rattle.seam_law_rounds.specs.Between.{created_entity}
-use Rattle.seam_law_rounds.specs.Loaded.{each}
 use Rattle.seam_law_rounds.proofs.Loading.{each_keeps, Any, any}
 use Rattle.seam_law_rounds.proofs.Staying.{Kept, same, stays_as, creates_stay, other_set}
 use Rattle.seam_law_rounds.proofs.PartLoads.{part_at, part_begun}

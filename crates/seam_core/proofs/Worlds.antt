@@ -1,23 +1,12 @@
 -- What an event keeps of a world; and a world as it is opened.
 use Rattle.std.proofs.Common.{◌≡◌, ℕ, zero, suc, ◌+◌, ◌<◌, ◌≤◌, ◌++◌, ◌∷◌, [], List, length, replicate, true, refl, ap, ◌∙◌, subst, sym, arith}
-use Rattle.seam_geo.specs.Rect.{IsProper}
-use Rattle.seam_tree.specs.Division.{IsTree, area}
-use Rattle.seam_defs.specs.declared.settings.Settings.{Settings}
-use Rattle.seam_defs.specs.declared.types.TypeDef.{TypeDef}
-use Rattle.seam_defs.specs.Types.{AreDefs}
-use Rattle.seam_defs.specs.Settings.{AreLegal}
-use Rattle.seam_machine.specs.Nets.{enabled, happens}
-use Rattle.seam_machine.specs.declared.machines.Event.{Event}
+use Rattle.seam_node_steps.specs.Prelude.{IsProper, IsTree, area, Settings, TypeDef, AreDefs, AreLegal, enabled, happens, Event, cell_count}
+use Rattle.seam_node_steps.specs.Prelude.{holders, NodeView, World, node_steps, node_has_work, one_cell, opened}
+use Rattle.seam_law_calls.specs.Prelude.{IsFrame}
+use Rattle.seam_law_rounds.specs.Prelude.{IsBetweenRounds, first_frame}
 use Rattle.seam_machine.proofs.Occurring.{occurs, length-happens}
 use Rattle.seam_net_runs.proofs.Runs.{leads_extend}
-use Rattle.seam_entity.specs.Here.{cell_count}
-use Rattle.seam_node_steps.specs.Holders.{holders}
-use Rattle.seam_node_steps.specs.Nodes.{NodeView, World, node_steps, node_has_work}
-use Rattle.seam_node_steps.specs.Loads.{one_cell, opened}
 use Rattle.seam_law_calls.proofs.Classify.{frame_happens}
-use Rattle.seam_law_calls.specs.Ones.{IsFrame}
-use Rattle.seam_law_rounds.specs.Between.{IsBetweenRounds}
-use Rattle.seam_law_rounds.specs.LastPhases.{first_frame}
 use Rattle.seam_law_rounds.proofs.Opened.{opened_between}
 use Rattle.seam_core.specs.Worlds.{IsWorld, Leads, KeepsLaws, Lives, in_calls, in_reaps, in_looks}
 

@@ -1,10 +1,7 @@
 -- What the load of a batch makes of each node before the orders are given.
 use Rattle.std.specs.Prelude.{◌≡◌, ℕ}
-use Rattle.seam_call.specs.declared.order.Batch.{Batch}
-use Rattle.seam_node_steps.specs.Nodes.{NodeView}
-use Rattle.seam_node_steps.specs.Nodes.NodeView.{Cell, Base}
-use Rattle.seam_node_steps.specs.Loads.{cell_round}
-use Rattle.seam_law_rounds.specs.Loaded.{made}
+use Rattle.seam_node_steps.specs.Prelude.{Batch, NodeView, Cell, Base, cell_round}
+use Rattle.seam_law_rounds.specs.Prelude.{made}
 use Rattle.seam_core.specs.Loads.{CanBegin, IsNumbered}
 
 -- a node that began the batch's round

@@ -1,15 +1,11 @@
 -- What a load asks of a world.
 use Rattle.std.specs.Prelude.{◌≡◌, ℕ, false, eqb, map, None}
 use Rattle.std.specs.List.{AllByRecursion, IsDistinct}
-use Rattle.seam_tree.specs.Division.{IsInSpace}
-use Rattle.seam_machine.specs.Events.{EachNode}
-use Rattle.seam_call.specs.declared.order.Batch.{Batch}
+use Rattle.seam_node_steps.specs.Prelude.{IsInSpace, EachNode, Batch, NodeView, World}
+use Rattle.seam_law_calls.specs.Prelude.{has_of, real_in}
+use Rattle.seam_law_rounds.specs.Prelude.{created_entity}
 use Rattle.seam_base.specs.Nodes.{has_client}
 use Rattle.seam_base.specs.Marks.{passes}
-use Rattle.seam_node_steps.specs.Nodes.{NodeView, World}
-use Rattle.seam_law_calls.specs.Sights.{has_of}
-use Rattle.seam_law_calls.specs.Ones.{real_in}
-use Rattle.seam_law_rounds.specs.Between.{created_entity}
 use Rattle.seam_core.specs.Nodes.{here_in}
 
 -- ---- what nodes know of their world

@@ -1,10 +1,6 @@
 -- What a machine has to say of its steps: it is said of every node.
 use Rattle.std.specs.Prelude.{◌≡◌}
-use Rattle.seam_machine.specs.Sends.{AllBelow}
-use Rattle.seam_machine.specs.declared.machines.Input.{Input}
-use Rattle.seam_entity.specs.declared.message.Msg.{Msg}
-use Rattle.seam_node_steps.specs.Nodes.{NodeView, node_steps, node_peers}
-use Rattle.seam_node_steps.specs.Valid.{IsNode}
+use Rattle.seam_node_steps.specs.Prelude.{AllBelow, Input, Msg, NodeView, node_steps, node_peers, IsNode}
 use Rattle.seam_node_steps.proofs.Targets.{node_targets}
 use Rattle.seam_node_steps.proofs.Peers.{peers_stay, node_stays_valid}
 

@@ -1,10 +1,6 @@
 -- A node as contracts see it.
 use Rattle.std.specs.Prelude.{Option, None, Some}
-use Rattle.seam_entity.specs.Here.{Here}
-use Rattle.seam_node_steps.specs.Cells.{CellView}
-use Rattle.seam_node_steps.specs.Bases.{BaseView}
-use Rattle.seam_node_steps.specs.Nodes.{NodeView}
-use Rattle.seam_node_steps.specs.Nodes.NodeView.{Cell, Base}
+use Rattle.seam_node_steps.specs.Prelude.{Here, CellView, BaseView, NodeView, Cell, Base}
 use Rattle.seam_core.specs.declared.node.Kind.{Kind}
 use Rattle.seam_core.specs.declared.node.Kind.TheVariants as kind
 

@@ -1,29 +1,16 @@
 -- Worlds that a run reaches, and the laws that hold of each.
 use Rattle.std.specs.Prelude.{◌≡◌, ℕ, ◌+◌, ◌≤◌, List, length, Some, if◌then◌else◌}
 use Rattle.std.specs.List.{AllByRecursion}
-use Rattle.seam_machine.specs.Nets.{LeadsTo, IsQuiet}
-use Rattle.seam_machine.specs.declared.machines.Event.{Event}
-use Rattle.seam_law_flow.specs.Tokens.{In}
-use Rattle.seam_call.specs.declared.order.Batch.{Batch}
-use Rattle.seam_call.specs.declared.shown.GhostCopy.{GhostCopy}
-use Rattle.seam_entity.specs.Here.{cell_count}
-use Rattle.seam_entity.specs.Reals.{RealView}
-use Rattle.seam_node_steps.specs.Holders.{holders}
-use Rattle.seam_node_steps.specs.Nodes.{World, node_steps, node_has_work}
-use Rattle.seam_node_steps.specs.Loads.{loaded, reaps_loaded, look_loaded}
-use Rattle.seam_law_calls.specs.Frames.{Frame, IsInFrame}
-use Rattle.seam_law_calls.specs.Sights.{entity_flow}
-use Rattle.seam_law_calls.specs.Ones.{real_in}
-use Rattle.seam_law_rounds.specs.Between.{framed}
-use Rattle.seam_law_rounds.specs.LastPhases.{AreReapable, reap_comes}
-use Rattle.seam_law_ghosts.specs.Truths.{IsHushed}
-use Rattle.seam_law_ghosts.specs.Copies.{copy_at}
+use Rattle.seam_node_steps.specs.Prelude.{LeadsTo, IsQuiet, Event, Batch, GhostCopy, cell_count, RealView, holders, World, node_steps}
+use Rattle.seam_node_steps.specs.Prelude.{node_has_work, loaded, reaps_loaded, look_loaded}
+use Rattle.seam_law_flow.specs.Prelude.{In}
+use Rattle.seam_law_calls.specs.Prelude.{Frame, IsInFrame, entity_flow, real_in}
+use Rattle.seam_law_rounds.specs.Prelude.{framed, AreReapable, reap_comes}
+use Rattle.seam_law_ghosts.specs.Prelude.{IsHushed, copy_at}
+use Rattle.seam_law_clients.specs.Prelude.{clients_loaded, clients_shown}
+use Rattle.seam_law_all.specs.Prelude.{KeepsRecords, KeepsRecordsWithin, MayBeGiven, ObeysLaws, EndsRightly, ObeysLawsOfReaps, AreGone}
+use Rattle.seam_law_all.specs.Prelude.{ObeysLawsOfLooks, AreShownOneLook, clients_looked}
 use Rattle.seam_rule_clients.specs.Clients.{ClientReplica}
-use Rattle.seam_law_clients.specs.Clients.{clients_loaded, clients_shown}
-use Rattle.seam_law_all.specs.Records.{KeepsRecords, KeepsRecordsWithin, MayBeGiven}
-use Rattle.seam_law_all.specs.Calls.{ObeysLaws, EndsRightly}
-use Rattle.seam_law_all.specs.Reaps.{ObeysLawsOfReaps, AreGone}
-use Rattle.seam_law_all.specs.LookLaws.{ObeysLawsOfLooks, AreShownOneLook, clients_looked}
 
 -- a world has all its nodes, and they go by the same definitions, settings and tree, in the settings' space
 pub record IsWorld (w : World) : Type 0 where

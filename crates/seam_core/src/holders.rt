@@ -1,10 +1,8 @@
 //! In how many places an entity's real is.
 
 ghost use Rattle.std.specs.Prelude.{◌≡◌, ℕ, ◌+◌, ◌-◌, ◌^◌, ◌<◌, min, length, slice_index_or, [], if◌then◌else◌};
-ghost use Rattle.seam_machine.specs.Nets.{link};
-ghost use Rattle.seam_machine.specs.Totals.{total};
+ghost use Rattle.seam_node_steps.specs.Prelude.{link, total, held_at, carried, holders};
 ghost use Rattle.seam_net_runs.specs.Weights.{row_weight, links_weight};
-ghost use Rattle.seam_node_steps.specs.Holders.{held_at, carried, holders};
 
 use crate::node::Node;
 use seam_entity::Msg;

@@ -1,11 +1,10 @@
 //! Laws of all worlds, each on a function that does nothing.
 
 ghost use Rattle.std.specs.Prelude.{ℕ};
-ghost use Rattle.seam_call.specs.declared.order.Batch.{Batch};
-ghost use Rattle.seam_node_steps.specs.Nodes.{World};
-ghost use Rattle.seam_law_calls.specs.Frames.{Frame};
+ghost use Rattle.seam_node_steps.specs.Prelude.{Batch, World};
+ghost use Rattle.seam_law_calls.specs.Prelude.{Frame};
+ghost use Rattle.seam_law_all.specs.Prelude.{KeepsRecords, MayBeGiven};
 ghost use Rattle.seam_rule_clients.specs.Clients.{ClientReplica};
-ghost use Rattle.seam_law_all.specs.Records.{KeepsRecords, MayBeGiven};
 ghost use Rattle.seam_core.specs.Worlds.{KeepsLaws};
 ghost use Rattle.seam_core.specs.Loads.{MayLoad};
 

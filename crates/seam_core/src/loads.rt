@@ -3,18 +3,13 @@
 ghost use Rattle.std.specs.Prelude.{◌≡◌, ℕ, ◌<◌, ◌≤◌, false, true, eqb, map, length, None, Some, slice_get, OnOk};
 ghost use Rattle.std.specs.FinMap as table;
 ghost use Rattle.std.specs.List.{AllByRecursion, IsDistinct};
-ghost use Rattle.seam_tree.specs.Division.{IsInSpace, IsTree};
-ghost use Rattle.seam_machine.specs.Nets.{with_node};
-ghost use Rattle.seam_machine.specs.Events.{EachNode};
+ghost use Rattle.seam_node_steps.specs.Prelude.{IsInSpace, IsTree, with_node, EachNode, with_nodes, created_at, attached, base_round};
+ghost use Rattle.seam_node_steps.specs.Prelude.{cell_round, ordered_at, with_orders, with_reap, real_if, order_if, reaps_loaded, NodeView};
+ghost use Rattle.seam_law_calls.specs.Prelude.{has_of, real_in};
+ghost use Rattle.seam_law_rounds.specs.Prelude.{created_entity, each};
 ghost use Rattle.seam_base.specs.Nodes.{has_client};
 ghost use Rattle.seam_base.specs.Marks.{passes};
-ghost use Rattle.seam_node_steps.specs.Loads.{with_nodes, created_at, attached, base_round, cell_round, ordered_at, with_order, with_orders, with_reap, real_if, order_if};
-ghost use Rattle.seam_node_steps.specs.Loads.{reaps_loaded};
-ghost use Rattle.seam_node_steps.specs.Nodes.{NodeView};
-ghost use Rattle.seam_law_calls.specs.Sights.{has_of};
-ghost use Rattle.seam_law_calls.specs.Ones.{real_in};
-ghost use Rattle.seam_law_rounds.specs.Between.{created_entity};
-ghost use Rattle.seam_law_rounds.specs.Loaded.{each};
+ghost use Rattle.seam_node_steps.specs.Loads.{with_order};
 ghost use Rattle.seam_core.specs.Loads.{IsNumbered, HasBases};
 ghost use Rattle.seam_core.specs.Begun.{begun, HasSpace, MayBegin};
 

@@ -1,11 +1,8 @@
 //! Nodes of a world: cells and base nodes.
 
 ghost use Rattle.std.specs.Prelude.{◌≡◌, ◌++◌, true, OnOk, OnErr, option_copied, if◌then◌else◌};
-ghost use Rattle.seam_machine.specs.declared.machines.Input.{Input as AnyInput};
-ghost use Rattle.seam_node_steps.specs.Nodes.{NodeView, node_steps, node_has_work, node_peers};
-ghost use Rattle.seam_node_steps.specs.Nodes.NodeView.{Cell as CellNode, Base as BaseNode};
-ghost use Rattle.seam_node_steps.specs.Valid.{IsNode};
-ghost use Rattle.seam_node_steps.specs.Holders.{held_at};
+ghost use Rattle.seam_node_steps.specs.Prelude.{Input as AnyInput, NodeView, node_steps, node_has_work, node_peers, Cell as CellNode};
+ghost use Rattle.seam_node_steps.specs.Prelude.{Base as BaseNode, IsNode, held_at};
 ghost use Rattle.seam_core.specs.Machines.{targets, keeps_peers, stays_valid};
 ghost use Rattle.seam_core.specs.Nodes.{cell_in, base_in};
 

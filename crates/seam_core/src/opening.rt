@@ -1,9 +1,7 @@
 //! The nodes of a world as it is opened.
 
 ghost use Rattle.std.specs.Prelude.{◌≡◌, ◌++◌, map, IfOk, OnOk};
-ghost use Rattle.seam_defs.specs.Settings.{AreLegal};
-ghost use Rattle.seam_entity.specs.Here.{cell_numbers, base_numbers};
-ghost use Rattle.seam_node_steps.specs.Loads.{empty_cell, empty_base, here_of};
+ghost use Rattle.seam_node_steps.specs.Prelude.{AreLegal, cell_numbers, base_numbers, empty_cell, empty_base, here_of};
 
 use crate::node::Node;
 use seam_base::Base;

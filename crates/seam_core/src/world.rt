@@ -1,15 +1,11 @@
 //! A world, and its events.
 
 ghost use Rattle.std.specs.Prelude.{◌≡◌, ◌++◌, ◌∷◌, ◌-◌, ◌^◌, [], ℕ, List, min, true, OnOk, OnErr, IfOk};
-ghost use Rattle.seam_defs.specs.Settings.{AreLegal};
-ghost use Rattle.seam_machine.specs.Nets.{enabled, happens};
-ghost use Rattle.seam_machine.specs.declared.machines.Event.{Event as AnyEvent};
-ghost use Rattle.seam_node_steps.specs.Nodes.{World as AnyWorld, node_steps, node_has_work};
-ghost use Rattle.seam_node_steps.specs.Loads.{opened, loaded, reaps_loaded, look_loaded};
-ghost use Rattle.seam_node_steps.specs.Holders.{holders};
-ghost use Rattle.seam_law_rounds.specs.LastPhases.{first_frame};
+ghost use Rattle.seam_node_steps.specs.Prelude.{AreLegal, enabled, happens, Event as AnyEvent, World as AnyWorld, node_steps};
+ghost use Rattle.seam_node_steps.specs.Prelude.{node_has_work, opened, loaded, reaps_loaded, look_loaded, holders};
+ghost use Rattle.seam_law_rounds.specs.Prelude.{first_frame};
+ghost use Rattle.seam_law_all.specs.Prelude.{KeepsRecords};
 ghost use Rattle.seam_rule_clients.specs.Clients.{ClientReplica};
-ghost use Rattle.seam_law_all.specs.Records.{KeepsRecords};
 ghost use Rattle.seam_core.specs.Worlds.{IsWorld, Leads, Lives, KeepsLaws};
 ghost use Rattle.seam_core.specs.Loads.{MayLoad};
 

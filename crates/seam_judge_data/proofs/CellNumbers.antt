@@ -4,8 +4,7 @@ use Rattle.std.specs.Ordering.{nat_cmp}
 use Rattle.std.specs.Cmp.{nat_cmp_total}
 use Rattle.std.specs.FinSet as set
 use Rattle.std.proofs.lemmas.Bool.Decides.{nat_tests}
-use Rattle.seam_tree.specs.Cells.{Cells}
-use Rattle.seam_haunt.specs.Places.{Place}
+use Rattle.seam_rule_rounds.specs.Prelude.{Cells, Place}
 use Rattle.seam_judge_data.specs.Codes.{AreSmall}
 
 pub none_are_small : (cells : Cells) → cells ≡ set.empty → AreSmall cells

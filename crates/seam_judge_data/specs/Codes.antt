@@ -2,8 +2,7 @@
 use Rattle.std.specs.Prelude.{ℕ, ◌<◌, IsTrue, refl}
 use Rattle.std.specs.FinSet as set
 use Rattle.std.specs.Coded.{Coded, code_by, coded×, coded_ℕ}
-use Rattle.seam_tree.specs.Cells.{Cells}
-use Rattle.seam_haunt.specs.Places.{Place}
+use Rattle.seam_rule_rounds.specs.Prelude.{Cells, Place}
 
 -- a place is stored as the pair of its fields
 abbrev pub place_code : Coded Place

@@ -1,9 +1,7 @@
 -- The standing that plain lists are.
 use Rattle.std.specs.Prelude.{ℕ, List, map, filter, find, unwrap_or, ◌==◌}
 use Rattle.std.specs.Option.{option_map}
-use Rattle.seam_haunt.specs.Places.{Place}
-use Rattle.seam_call.specs.Calls.{is_for}
-use Rattle.seam_rule_rounds.specs.Standing.{Standing, in_first_cell}
+use Rattle.seam_rule_rounds.specs.Prelude.{Place, is_for, Standing, in_first_cell}
 use Rattle.seam_judge_data.specs.declared.standing.Held.{Held}
 use Rattle.seam_judge_data.specs.declared.standing.Standing as plain
 

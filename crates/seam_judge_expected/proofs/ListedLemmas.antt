@@ -11,8 +11,7 @@ use Rattle.std.proofs.lemmas.List.Kept.{IsStrictlyIncreasing-filter, Contains-de
 use Rattle.std.proofs.lemmas.List.Filters.{dedup_is}
 use Rattle.std.proofs.lemmas.List.Sorted.{Contains-permutation}
 use Rattle.std.proofs.lemmas.Map.Keys.{IsStrictlyIncreasing-dedup}
-use Rattle.seam_call.specs.declared.create.Create.{Create}
-use Rattle.seam_rule_lines.specs.Round.{Lists}
+use Rattle.seam_rule_rounds.specs.Prelude.{Create, Lists}
 use Rattle.seam_rule_lines.proofs.Lists.{contains_first, contains_later, contains_cases}
 use Rattle.seam_rule_lines.proofs.InOrderLemmas.{found_entity}
 use Rattle.seam_judge_expected.specs.Entities.{among_numbers}

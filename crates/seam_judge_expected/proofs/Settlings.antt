@@ -5,10 +5,7 @@ use Rattle.std.specs.Prelude.{filter, ◌==◌, ◌&&◌, nat_le}
 use Rattle.std.specs.List.{range_with_len}
 use Rattle.std.proofs.lemmas.List.Elements.{filter-append}
 use Rattle.std.proofs.lemmas.List.{map-append}
-use Rattle.seam_geo.specs.declared.pos.Pos.{Pos}
-use Rattle.seam_tree.specs.Boundary.{place_along}
-use Rattle.seam_tree.specs.Division.{Division, cut_after, leaf_after}
-use Rattle.seam_haunt.specs.Places.{Distances, Place, settled, settled_all}
+use Rattle.seam_rule_rounds.specs.Prelude.{Pos, place_along, Division, cut_after, leaf_after, Distances, Place, settled, settled_all}
 use Rattle.seam_rule_rounds.proofs.Public.{range_more}
 
 -- the leaf after one boundary more

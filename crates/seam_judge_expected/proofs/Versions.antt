@@ -7,15 +7,10 @@ use Rattle.std.specs.List.{range_with_len}
 use Rattle.std.proofs.lemmas.Bool.Decides.{Decides-eqb, Decides-int_eq, Decides-and}
 use Rattle.std.proofs.lemmas.Slice.Eq.{slice_eq-Decides, bytes_eq-Decides}
 use Rattle.std.proofs.lemmas.List.Elements.{filter-append}
-use Rattle.seam_value.specs.declared.values.Value.{Value}
-use Rattle.seam_value.specs.declared.values.Value.TheVariants.{Number, Text}
-use Rattle.seam_defs.specs.Tests.{same_value, same_values, same_state}
-use Rattle.seam_defs.specs.declared.states.State.{State}
+use Rattle.seam_rule_rounds.specs.Prelude.{Value, Number, same_values, same_state, State, Call, Create, Header, has_changed_at, public_at}
+use Rattle.seam_value.specs.declared.values.Value.TheVariants.{Text}
+use Rattle.seam_defs.specs.Tests.{same_value}
 use Rattle.seam_defs.specs.declared.flags.Part.TheVariants as part
-use Rattle.seam_call.specs.declared.call.Call.{Call}
-use Rattle.seam_call.specs.declared.create.Create.{Create}
-use Rattle.seam_toml.specs.declared.header.Header.{Header}
-use Rattle.seam_rule_rounds.specs.FlatTable.{has_changed_at, public_at}
 use Rattle.seam_rule_rounds.proofs.Public.{range_more, public_more}
 
 same_value_decides : (a b : Value) → Decides (same_value a b) (a ≡ b)

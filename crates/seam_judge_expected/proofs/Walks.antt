@@ -3,15 +3,7 @@ use Rattle.std.proofs.Common.{◌≡◌, ◌+◌, ◌<◌, ℕ, List, [], ◌∷
 use Rattle.std.proofs.Common.{refl, subst, zero, suc, Bor}
 use Rattle.std.proofs.lemmas.List.{take_more, length-map}
 use Rattle.std.proofs.lemmas.List.Sums.{fold_more}
-use Rattle.seam_defs.specs.Types.{type_of}
-use Rattle.seam_defs.specs.Deeds.{after}
-use Rattle.seam_defs.specs.declared.types.TypeDef.{TypeDef}
-use Rattle.seam_defs.specs.declared.flags.Part.{Part}
-use Rattle.seam_defs.specs.declared.states.State.{State}
-use Rattle.seam_call.specs.declared.call.Call.{Call}
-use Rattle.seam_call.specs.declared.create.Create.{Create}
-use Rattle.seam_toml.specs.declared.header.Header.{Header}
-use Rattle.seam_rule_lines.specs.FlatTable.{flat, first_state}
+use Rattle.seam_rule_rounds.specs.Prelude.{type_of, after, TypeDef, Part, State, Call, Create, Header, flat, first_state}
 
 -- what an item gives comes after what those before it gave
 pub appended : {A B : Type 0} (F : List A → List B) → ((xs ys : List A) → F (xs ++ ys) ≡ F xs ++ F ys) → (xs : List A) (i : ℕ) (d : A) →

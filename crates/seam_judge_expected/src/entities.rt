@@ -2,8 +2,7 @@
 ghost use Rattle.std.specs.Prelude.{◌≡◌, ◌==◌, ◌++◌, ◌∷◌, [], ℕ, find, map, not, filter, IfOk, OnOk, Contains, option_copied};
 ghost use Rattle.std.specs.List.{list_any};
 ghost use Rattle.std.specs.List.Sorted.{IsStrictlyIncreasing};
-ghost use Rattle.seam_rule_lines.specs.Book.{created_as, creates_of, entries, live_as, destroys, tree_of};
-ghost use Rattle.seam_rule_lines.specs.Round.{Lists};
+ghost use Rattle.seam_rule_rounds.specs.Prelude.{created_as, creates_of, entries, live_as, destroys, tree_of, Lists};
 ghost use Rattle.seam_judge_data.specs.Standings.{standing_of};
 ghost use Rattle.seam_judge_expected.specs.Entities.{among_numbers};
 

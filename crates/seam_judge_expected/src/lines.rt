@@ -2,12 +2,8 @@
 ghost use Rattle.std.specs.Prelude.{◌≡◌, ◌++◌, ◌∷◌, [], if◌then◌else◌, IfOk, OnOk, map, filter, length};
 ghost use Rattle.std.specs.List.{flat_map, range_with_len};
 ghost use Rattle.std.specs.FinSet as set;
-ghost use Rattle.seam_tree.specs.Division.{cells_of};
-ghost use Rattle.seam_call.specs.Calls.{is_for};
-ghost use Rattle.seam_rule_lines.specs.Round.{done_lines};
+ghost use Rattle.seam_rule_rounds.specs.Prelude.{cells_of, is_for, done_lines, public_at, home_line, base_line, ghost_lines};
 ghost use Rattle.seam_defs.specs.declared.flags.Part.TheVariants as part;
-ghost use Rattle.seam_rule_rounds.specs.FlatTable.{public_at};
-ghost use Rattle.seam_rule_rounds.specs.Round.{home_line, base_line, ghost_lines};
 ghost use Rattle.seam_judge_data.specs.Standings.{standing_of};
 
 use crate::states::{public_at, state_at};

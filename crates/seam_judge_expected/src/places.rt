@@ -1,13 +1,10 @@
 // Where entities may be held.
 ghost use Rattle.std.specs.Prelude.{◌≡◌, ◌<◌, ◌≤◌, ◌-◌, ◌+◌, ◌==◌, ◌&&◌, nat_le, if◌then◌else◌, IfOk, map, length};
 ghost use Rattle.std.specs.List.{range_with_len};
-ghost use Rattle.seam_tree.specs.Boundary.{place_along};
-ghost use Rattle.seam_tree.specs.Division.{cells_of, cut_after, leaf_at, HasBoundary};
-ghost use Rattle.seam_haunt.specs.Places.{home_at, settled, settled_all};
-ghost use Rattle.seam_defs.specs.Settings.{AreInRange};
-ghost use Rattle.seam_rule_lines.specs.Book.{tree_of};
-ghost use Rattle.seam_rule_rounds.specs.FlatTable.{position_at};
-ghost use Rattle.seam_rule_rounds.specs.RoundPlaces.{distances, place_before};
+ghost use Rattle.seam_rule_rounds.specs.Prelude.{place_along, cells_of, cut_after, leaf_at, settled, settled_all, AreInRange, tree_of};
+ghost use Rattle.seam_rule_rounds.specs.Prelude.{position_at, distances, place_before};
+ghost use Rattle.seam_tree.specs.Division.{HasBoundary};
+ghost use Rattle.seam_haunt.specs.Places.{home_at};
 ghost use Rattle.seam_judge_data.specs.Standings.{standing_of};
 
 use crate::entities::tree_in;

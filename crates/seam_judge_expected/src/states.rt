@@ -1,10 +1,9 @@
 // What an entity was at each version.
 ghost use Rattle.std.specs.Prelude.{◌≡◌, ◌≤◌, ◌++◌, ◌∷◌, [], if◌then◌else◌, IfOk, OnOk, map, length};
-ghost use Rattle.seam_defs.specs.Deeds.{projected, client_of};
-ghost use Rattle.seam_defs.specs.Tests.{same_shown, same_state, same_values};
+ghost use Rattle.seam_rule_rounds.specs.Prelude.{client_of, same_shown, same_state, same_values, flat, has_changed_at, changes_past};
+ghost use Rattle.seam_rule_rounds.specs.Prelude.{public_at};
+ghost use Rattle.seam_defs.specs.Deeds.{projected};
 ghost use Rattle.seam_defs.specs.declared.flags.Group.TheVariants as group;
-ghost use Rattle.seam_rule_lines.specs.FlatTable.{flat};
-ghost use Rattle.seam_rule_rounds.specs.FlatTable.{has_changed_at, changes_past, public_at};
 
 use seam_call::{Call, Create};
 use seam_defs::{Group, Part, Props, State, TypeDef};

@@ -2,13 +2,7 @@
 use Rattle.std.proofs.Common.{◌≡◌, ◌++◌, ◌∷◌, [], ◌&&◌, ℕ, Bool, cond, List, length, map, Bor, sym, ap, ◌∙◌}
 use Rattle.std.proofs.lemmas.List.{length-map}
 use Rattle.seam_defs.specs.declared.flags.Part.TheVariants as part
-use Rattle.seam_call.specs.declared.call.Call.{Call}
-use Rattle.seam_call.specs.declared.create.Create.{Create}
-use Rattle.seam_toml.specs.declared.header.Header.{Header}
-use Rattle.seam_rule_lines.specs.Book.{is_new_client}
-use Rattle.seam_rule_rounds.specs.FlatTable.{changes_past}
-use Rattle.seam_rule_rounds.specs.Standing.{Standing}
-use Rattle.seam_rule_rounds.specs.Clients.{shows_base, base_versions}
+use Rattle.seam_rule_rounds.specs.Prelude.{Call, Create, Header, is_new_client, changes_past, Standing, shows_base, base_versions}
 
 pub versions_are : (h : Header) (s t : Standing) (c : Create) (former calls : List (Bor Call)) (first : Bool) (none some changes all : List ℕ) →
     map (λ x. x.now) former ≡ s.orders part.Base c.entity → map (λ x. x.now) calls ≡ t.orders part.Base c.entity →

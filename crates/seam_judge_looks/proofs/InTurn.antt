@@ -1,9 +1,7 @@
 -- Lines that may be shown one after another, one by one.
 use Rattle.std.proofs.Common.{◌≡◌, ◌+◌, ◌<◌, ℕ, zero, suc, Bool, false, List, [], ◌∷◌, length, map, take, get_or, Bor, sym, subst, arith}
 use Rattle.std.proofs.Common.{IsTrue, ◌↔◌}
-use Rattle.seam_call.specs.declared.shown.Shown.{Shown}
-use Rattle.seam_rule_clients.specs.Clients.{ClientReplica, after_shown, after_all_shown}
-use Rattle.seam_rule_clients.specs.Lines.{MayShow, MayShowAll}
+use Rattle.seam_rule_rounds.specs.Prelude.{Shown, ClientReplica, after_shown, after_all_shown, MayShow, MayShowAll}
 
 -- one of all that may be shown may be shown when it is its turn
 turn_of : (me : ℕ) (c : ClientReplica) (xs : List (Bor Shown)) (i : ℕ) (d : Bor Shown) → i < length xs → MayShowAll me c (map (λ x. x.now) xs) →

@@ -3,17 +3,13 @@ use Rattle.std.proofs.Common.{◌≡◌, ℕ, Bool, true, false, cond, List, [],
 use Rattle.std.specs.Prelude.{◌==◌, filter, option_map}
 use Rattle.std.specs.List.{filter_map, cons_option}
 use Rattle.std.proofs.lemmas.List.Elements.{filter_map-append}
-use Rattle.seam_geo.specs.declared.pos.Pos.{Pos}
+use Rattle.seam_rule_rounds.specs.Prelude.{Pos, Shown, Set, Leave, ClientReplica, Row, row_of, seen, shown_for, own_shown, look_at}
 use Rattle.seam_view.specs.declared.Seen.{Seen}
 use Rattle.seam_view.specs.declared.Look.{Look}
 use Rattle.seam_view.specs.declared.Look.TheVariants as look
 use Rattle.seam_view.specs.Replica.{seen_of}
 use Rattle.seam_view.specs.ViewLooks.{has_changed}
 use Rattle.seam_view.specs.Plain.{is_gone, is_new}
-use Rattle.seam_call.specs.declared.shown.Shown.{Shown}
-use Rattle.seam_call.specs.declared.shown.Shown.TheVariants.{Set, Leave}
-use Rattle.seam_rule_clients.specs.Clients.{ClientReplica}
-use Rattle.seam_rule_clients.specs.Looks.{Row, row_of, seen, shown_for, own_shown, look_at}
 use Rattle.seam_judge_looks.specs.LookParts.{leave_of, set_of, enter_of}
 
 -- what is made of those that pass a test

@@ -9,10 +9,9 @@ use Rattle.std.proofs.lemmas.Bool.Decides.{nat_tests}
 use Rattle.std.proofs.lemmas.List.{take_more, map-append}
 use Rattle.std.proofs.lemmas.List.Elements.{filter_map-append}
 use Rattle.std.proofs.lemmas.List.Sums.{fold-append}
-use Rattle.seam_call.specs.declared.shown.Shown.{Shown}
-use Rattle.seam_call.specs.declared.shown.Shown.TheVariants.{Own, Enter, Set, Leave}
+use Rattle.seam_rule_rounds.specs.Prelude.{Shown, Own, Enter, Set, Leave, ClientReplica, after_shown, after_all_shown, shown_by}
+use Rattle.seam_rule_rounds.specs.Prelude.{shown_by_lines}
 use Rattle.seam_call.specs.declared.shown.Line.{Line}
-use Rattle.seam_rule_clients.specs.Clients.{ClientReplica, after_shown, after_all_shown, shown_by, shown_by_lines}
 use Rattle.seam_judge_looks.specs.Replicas.{last_own, own_after, version_after, entries_after}
 
 -- after one more of a list

@@ -1,12 +1,8 @@
 -- What each entity gives to one look.
 use Rattle.std.specs.Prelude.{ℕ, List, if◌then◌else◌, Option, None, Some, option_map}
-use Rattle.seam_geo.specs.declared.pos.Pos.{Pos}
+use Rattle.seam_rule_rounds.specs.Prelude.{Pos, Shown, Enter, Set, Leave, ClientReplica, Row, row_of, seen}
 use Rattle.seam_view.specs.ViewLooks.{has_changed}
 use Rattle.seam_view.specs.Plain.{is_gone, is_new}
-use Rattle.seam_call.specs.declared.shown.Shown.{Shown}
-use Rattle.seam_call.specs.declared.shown.Shown.TheVariants.{Enter, Set, Leave}
-use Rattle.seam_rule_clients.specs.Clients.{ClientReplica}
-use Rattle.seam_rule_clients.specs.Looks.{Row, row_of, seen}
 
 -- an entity in view, with the version last shown, leaves
 abbrev pub leave_of : ClientReplica → Pos → List Row → ℕ × ℕ → Option Shown

@@ -4,11 +4,8 @@ use Rattle.std.specs.Prelude.{slice_index_or}
 use Rattle.std.specs.List.{list_any}
 use Rattle.std.specs.Option.{option_map}
 use Rattle.std.specs.FinMap as table
-use Rattle.seam_geo.specs.declared.pos.Pos.{Pos}
+use Rattle.seam_rule_rounds.specs.Prelude.{Pos, Shown, Own, Enter, Set, Leave, ClientReplica, after_all_shown}
 use Rattle.seam_view.specs.Replica.{placed, without}
-use Rattle.seam_call.specs.declared.shown.Shown.{Shown}
-use Rattle.seam_call.specs.declared.shown.Shown.TheVariants.{Own, Enter, Set, Leave}
-use Rattle.seam_rule_clients.specs.Clients.{ClientReplica, after_all_shown}
 use Rattle.seam_judge_looks.specs.declared.replica.Replica.{Replica}
 
 -- a client of these distances that was shown nothing

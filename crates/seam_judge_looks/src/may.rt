@@ -2,9 +2,7 @@
 ghost use Rattle.std.specs.Prelude.{◌≡◌, ◌↔◌, ◌<◌, ◌≤◌, ℕ, IsTrue, IfOk, OnOk, Some, map};
 ghost use Rattle.std.specs.FinMap as table;
 ghost use Rattle.seam_view.specs.ViewLooks.{in_view};
-ghost use Rattle.seam_rule_clients.specs.Clients.{after_shown};
-ghost use Rattle.seam_rule_clients.specs.Looks.{is_newer};
-ghost use Rattle.seam_rule_clients.specs.Lines.{IsNear, MayEnter, MaySet, MayShow, MayShowAll};
+ghost use Rattle.seam_rule_rounds.specs.Prelude.{after_shown, is_newer, IsNear, MayEnter, MaySet, MayShow, MayShowAll};
 ghost use Rattle.seam_judge_looks.specs.Replicas.{client_of};
 
 use crate::replica::{Replica, is_in_view};

@@ -1,10 +1,7 @@
 // Live entities as looks see them.
 ghost use Rattle.std.specs.Prelude.{◌≡◌, IfOk, length, map, option_copied};
 ghost use Rattle.seam_defs.specs.declared.flags.Part.TheVariants as part;
-ghost use Rattle.seam_defs.specs.Deeds.{own_of};
-ghost use Rattle.seam_rule_lines.specs.FlatTable.{flat};
-ghost use Rattle.seam_rule_rounds.specs.FlatTable.{properties, other_at, public_at, row_after, rows_of};
-ghost use Rattle.seam_rule_clients.specs.Looks.{row_of, rows_but};
+ghost use Rattle.seam_rule_rounds.specs.Prelude.{own_of, flat, properties, other_at, public_at, row_after, rows_of, row_of, rows_but};
 ghost use Rattle.seam_judge_data.specs.Standings.{standing_of};
 
 use seam_call::{Call, Create, GhostCopy};

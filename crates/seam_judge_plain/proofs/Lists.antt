@@ -4,12 +4,7 @@ use Rattle.std.proofs.Common.{Some, refl, sym, ap, ◌∙◌, arith}
 use Rattle.std.specs.Prelude.{find, ◌==◌, unwrap_or}
 use Rattle.std.specs.Option.{option_map}
 use Rattle.std.proofs.lemmas.List.{append_assoc, take_more, length-take-le}
-use Rattle.seam_call.specs.declared.create.Create.{Create}
-use Rattle.seam_call.specs.declared.shown.ClientText.{ClientText}
-use Rattle.seam_toml.specs.declared.header.Header.{Header}
-use Rattle.seam_rule_lines.specs.Orders.{Orders}
-use Rattle.seam_rule_rounds.specs.Standing.{Standing, in_first_cell}
-use Rattle.seam_rule_rounds.specs.Lines.{ClientLine}
+use Rattle.seam_rule_rounds.specs.Prelude.{Create, ClientText, Header, Orders, Standing, in_first_cell, ClientLine}
 use Rattle.seam_judge_data.specs.Standings.{place_among}
 use Rattle.seam_judge_data.specs.declared.standing.Held.{Held}
 use Rattle.seam_judge_plain.specs.Plain.{place_after, places_after, line_at, lines_from}

@@ -1,12 +1,7 @@
 -- Lines by the standing that was played.
 use Rattle.std.proofs.Common.{◌≡◌, List, map}
 use Rattle.std.specs.List.{flat_map}
-use Rattle.seam_call.specs.declared.create.Create.{Create}
-use Rattle.seam_toml.specs.declared.header.Header.{Header}
-use Rattle.seam_rule_lines.specs.Book.{tree_of}
-use Rattle.seam_rule_rounds.specs.FlatTable.{rows_of}
-use Rattle.seam_rule_rounds.specs.Standing.{Standing}
-use Rattle.seam_rule_rounds.specs.Round.{home_line, base_line, ghost_lines}
+use Rattle.seam_rule_rounds.specs.Prelude.{Create, Header, tree_of, rows_of, Standing, home_line, base_line, ghost_lines}
 use Rattle.seam_judge_plain.specs.Plain.{orders_after, places_after, played, lines_of}
 
 module _ (h : Header) (s t : Standing) (live : List Create) (orders : t.orders ≡ orders_after s)

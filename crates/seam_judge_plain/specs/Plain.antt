@@ -2,23 +2,12 @@
 use Rattle.std.specs.Prelude.{◌≡◌, ℕ, ◌+◌, ◌==◌, List, [], ◌∷◌, ◌++◌, length, map, filter, find, unwrap_or}
 use Rattle.std.specs.List.{flat_map}
 use Rattle.std.specs.Option.{option_map}
-use Rattle.seam_haunt.specs.Places.{Place, settled_all}
+use Rattle.seam_rule_rounds.specs.Prelude.{Place, settled_all, is_for, Create, ClientText, Header, Orders, calls_of, created_as, live_as}
+use Rattle.seam_rule_rounds.specs.Prelude.{tree_of, Lists, done_lines, Row, one_look, version_of, position_at, positions_past, rows_of}
+use Rattle.seam_rule_rounds.specs.Prelude.{Standing, in_first_cell, replica_of, distances, place_before, ClientLine, RoundData, base_shown}
+use Rattle.seam_rule_rounds.specs.Prelude.{base_versions, home_line, base_line, ghost_lines}
 use Rattle.seam_defs.specs.declared.flags.Part.TheVariants as part
-use Rattle.seam_call.specs.Calls.{is_for}
-use Rattle.seam_call.specs.declared.create.Create.{Create}
-use Rattle.seam_call.specs.declared.shown.ClientText.{ClientText}
 use Rattle.seam_call.specs.declared.shown.ClientText.TheVariants as text
-use Rattle.seam_toml.specs.declared.header.Header.{Header}
-use Rattle.seam_rule_lines.specs.Orders.{Orders}
-use Rattle.seam_rule_lines.specs.Book.{calls_of, created_as, live_as, tree_of}
-use Rattle.seam_rule_lines.specs.Round.{Lists, done_lines}
-use Rattle.seam_rule_clients.specs.Looks.{Row, one_look}
-use Rattle.seam_rule_rounds.specs.FlatTable.{version_of, position_at, positions_past, rows_of}
-use Rattle.seam_rule_rounds.specs.Standing.{Standing, in_first_cell, replica_of}
-use Rattle.seam_rule_rounds.specs.RoundPlaces.{distances, place_before}
-use Rattle.seam_rule_rounds.specs.Lines.{ClientLine, RoundData}
-use Rattle.seam_rule_rounds.specs.Clients.{base_shown, base_versions}
-use Rattle.seam_rule_rounds.specs.Round.{home_line, base_line, ghost_lines}
 use Rattle.seam_judge_rounds.specs.Bounds.{PrintsBounds}
 use Rattle.seam_judge_rounds.specs.Clients.{client_as}
 

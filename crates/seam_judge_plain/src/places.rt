@@ -1,9 +1,7 @@
 // Where a round leaves its entities.
 ghost use Rattle.std.specs.Prelude.{◌≡◌, ◌∷◌, ◌++◌, ℕ, IfOk, length};
-ghost use Rattle.seam_defs.specs.Settings.{AreInRange};
+ghost use Rattle.seam_rule_rounds.specs.Prelude.{AreInRange, calls_of, position_at, positions_past};
 ghost use Rattle.seam_defs.specs.declared.flags.Part.TheVariants as part;
-ghost use Rattle.seam_rule_lines.specs.Book.{calls_of};
-ghost use Rattle.seam_rule_rounds.specs.FlatTable.{position_at, positions_past};
 ghost use Rattle.seam_judge_data.specs.Standings.{place_among, standing_of};
 ghost use Rattle.seam_judge_rounds.specs.HeldPlaces.{HaveHomes};
 ghost use Rattle.seam_judge_plain.specs.Plain.{orders_after, place_after, places_after};

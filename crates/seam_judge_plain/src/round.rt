@@ -1,10 +1,6 @@
 // One legal round.
 ghost use Rattle.std.specs.Prelude.{◌≡◌, ◌+◌, ◌<◌, ◌^◌, IfOk, IfSome, IfNone, map};
-ghost use Rattle.seam_defs.specs.Settings.{AreInRange};
-ghost use Rattle.seam_rule_lines.specs.Book.{created_as, live_as};
-ghost use Rattle.seam_rule_lines.specs.Round.{Lists};
-ghost use Rattle.seam_rule_rounds.specs.Lines.{RoundData};
-ghost use Rattle.seam_rule_rounds.specs.Round.{IsRound};
+ghost use Rattle.seam_rule_rounds.specs.Prelude.{AreInRange, created_as, live_as, Lists, RoundData, IsRound};
 ghost use Rattle.seam_judge_data.specs.Standings.{standing_of};
 ghost use Rattle.seam_judge_rounds.specs.After.{after_round};
 ghost use Rattle.seam_judge_rounds.specs.Bounds.{PrintsBounds};

@@ -5,15 +5,8 @@ use Rattle.std.specs.List.{All}
 use Rattle.std.proofs.lemmas.Bool.Decides.{nat_tests}
 use Rattle.std.proofs.lemmas.List.{get_or_default, append_cancel_left}
 use Rattle.std.proofs.lemmas.List.Elements.{All-contains, filter-append}
-use Rattle.seam_defs.specs.declared.flags.Part.{Part}
-use Rattle.seam_call.specs.Calls.{is_for, is_from, same_part}
-use Rattle.seam_call.specs.Senders.{same_sender}
-use Rattle.seam_call.specs.declared.sender.Sender.{Sender}
-use Rattle.seam_call.specs.declared.sender.Sender.TheVariants.{Base, Client}
-use Rattle.seam_call.specs.declared.call.Call.{Call}
-use Rattle.seam_call.specs.declared.create.Create.{Create}
-use Rattle.seam_rule_lines.specs.Book.{Book, entries, calls_of, created_as}
-use Rattle.seam_rule_lines.specs.Round.{DoneLine, Lists, ExtendsOrders, done_lines}
+use Rattle.seam_rule_rounds.specs.Prelude.{Part, is_for, is_from, same_part, same_sender, Sender, Base, Client, Call, Create, Book, entries}
+use Rattle.seam_rule_rounds.specs.Prelude.{calls_of, created_as, DoneLine, Lists, ExtendsOrders, done_lines}
 use Rattle.seam_rule_lines.proofs.Lists.{contains_first, listed_is_one}
 use Rattle.seam_judge_expected.proofs.ListedLemmas.{in_filter}
 use Rattle.seam_judge_rounds.specs.Calls.{AgreesAt}

@@ -5,21 +5,10 @@ use Rattle.std.specs.Prelude.{filter, MatchBool}
 use Rattle.std.specs.List.{All, flat_map}
 use Rattle.std.proofs.lemmas.List.Elements.{filter-append}
 use Rattle.std.proofs.lemmas.Option.{same_Some}
-use Rattle.seam_tree.specs.declared.area_table.TheConstants.{MOST_CELLS}
-use Rattle.seam_tree.specs.Division.{Division, cells_of}
-use Rattle.seam_defs.specs.declared.flags.Part.{Part}
-use Rattle.seam_call.specs.Calls.{is_for}
-use Rattle.seam_call.specs.declared.call.Call.{Call}
-use Rattle.seam_call.specs.declared.create.Create.{Create}
-use Rattle.seam_toml.specs.declared.header.Header.{Header}
-use Rattle.seam_rule_lines.specs.Book.{live_as, tree_of, has_balance, with_round_ended}
-use Rattle.seam_rule_lines.specs.Round.{DoneLine, Lists, ExtendsOrders}
+use Rattle.seam_rule_rounds.specs.Prelude.{MOST_CELLS, Division, cells_of, Part, is_for, Call, Create, Header, live_as, tree_of}
+use Rattle.seam_rule_rounds.specs.Prelude.{has_balance, with_round_ended, DoneLine, Lists, ExtendsOrders, Standing, HasPlace, RoundData}
+use Rattle.seam_rule_rounds.specs.Prelude.{HasLooked, home_line, base_line, ghost_lines, with_bounds, HasBounds, IsRound}
 use Rattle.seam_rule_lines.proofs.Lists.{listed_is_one}
-use Rattle.seam_rule_rounds.specs.Standing.{Standing}
-use Rattle.seam_rule_rounds.specs.RoundPlaces.{HasPlace}
-use Rattle.seam_rule_rounds.specs.Lines.{RoundData}
-use Rattle.seam_rule_rounds.specs.Clients.{HasLooked}
-use Rattle.seam_rule_rounds.specs.Round.{home_line, base_line, ghost_lines, with_bounds, HasBounds, IsRound}
 use Rattle.seam_judge_rounds.specs.Bounds.{PrintsBounds}
 use Rattle.seam_judge_data.specs.Standings.{standing_of}
 use Rattle.seam_judge_data.specs.declared.standing.Standing as plain

@@ -1,15 +1,9 @@
 -- A tree is the balanced one or not.
 use Rattle.std.proofs.Common.{◌≡◌, ℕ, Bool, true, false, List, map, Option, None, Some, sym, ◌∙◌, subst, IsTrue, ◌↔◌}
 use Rattle.std.specs.Prelude.{MatchBool}
-use Rattle.seam_geo.specs.declared.pos.Pos.{Pos}
-use Rattle.seam_tree.specs.Division.{Division}
-use Rattle.seam_balance.specs.Balance.{IsBalanced}
+use Rattle.seam_rule_rounds.specs.Prelude.{Pos, Division, IsBalanced, Header, has_balance, tree_of, HomeLine, Standing}
 use Rattle.seam_balance.specs.Order.{boundaries_from_root}
 use Rattle.seam_balance.proofs.One.{one_in_turn}
-use Rattle.seam_toml.specs.declared.header.Header.{Header}
-use Rattle.seam_rule_lines.specs.Book.{has_balance, tree_of}
-use Rattle.seam_rule_lines.specs.Round.{HomeLine}
-use Rattle.seam_rule_rounds.specs.Standing.{Standing}
 use Rattle.seam_judge_rounds.specs.Bounds.{PrintsBounds}
 
 -- the tree that was balanced is the other one exactly where that is balanced too

@@ -5,12 +5,9 @@ use Rattle.std.specs.Prelude.{filter, ◌==◌, ◌&&◌, is_some, Contains}
 use Rattle.std.specs.List.{All, list_any}
 use Rattle.std.proofs.lemmas.List.{get_or_default}
 use Rattle.std.proofs.lemmas.List.Elements.{All-contains}
-use Rattle.seam_call.specs.declared.create.Create.{Create}
-use Rattle.seam_rule_lines.specs.Book.{Book, entries, creates_of, created_as, joins, was_dead, is_shown}
-use Rattle.seam_rule_lines.specs.Round.{Lists}
+use Rattle.seam_rule_rounds.specs.Prelude.{Create, Book, entries, creates_of, created_as, joins, was_dead, is_shown, Lists, ClientLine}
 use Rattle.seam_rule_lines.proofs.Lists.{contains_first}
 use Rattle.seam_rule_lines.proofs.InOrderLemmas.{found_entity}
-use Rattle.seam_rule_rounds.specs.Lines.{ClientLine}
 use Rattle.seam_judge_expected.proofs.ListedLemmas.{lists_living, in_filter}
 use Rattle.seam_judge_rounds.specs.Clients.{client_as}
 

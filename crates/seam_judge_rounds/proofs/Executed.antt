@@ -6,16 +6,9 @@ use Rattle.std.specs.List.{flat_map}
 use Rattle.std.proofs.lemmas.Bool.Decides.{nat_tests}
 use Rattle.std.proofs.lemmas.List.{map-append}
 use Rattle.std.proofs.lemmas.List.Elements.{All-contains, filter-append, Contains-append_right}
-use Rattle.seam_defs.specs.declared.flags.Part.{Part}
+use Rattle.seam_rule_rounds.specs.Prelude.{Part, is_for, is_from, same_part, same_sender, Sender, Base, Client, Call, Create, Book, entries}
+use Rattle.seam_rule_rounds.specs.Prelude.{creates_of, calls_of, created_as, DoneLine, done_lines, ExtendsOrders}
 use Rattle.seam_defs.specs.declared.flags.Part.TheVariants as part
-use Rattle.seam_call.specs.Calls.{is_for, is_from, same_part}
-use Rattle.seam_call.specs.Senders.{same_sender}
-use Rattle.seam_call.specs.declared.sender.Sender.{Sender}
-use Rattle.seam_call.specs.declared.sender.Sender.TheVariants.{Base, Client}
-use Rattle.seam_call.specs.declared.call.Call.{Call}
-use Rattle.seam_call.specs.declared.create.Create.{Create}
-use Rattle.seam_rule_lines.specs.Book.{Book, entries, creates_of, calls_of, created_as}
-use Rattle.seam_rule_lines.specs.Round.{DoneLine, done_lines, ExtendsOrders}
 use Rattle.seam_rule_lines.proofs.Lists.{contains_first}
 use Rattle.seam_rule_lines.proofs.InOrderLemmas.{found_entity}
 use Rattle.seam_judge_expected.proofs.ListedLemmas.{in_filter, filter_has}

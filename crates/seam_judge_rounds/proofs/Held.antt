@@ -9,23 +9,14 @@ use Rattle.std.specs.FinSet as set
 use Rattle.std.proofs.lemmas.Bool.Decides.{nat_tests}
 use Rattle.std.proofs.lemmas.Option.{same_Some}
 use Rattle.std.proofs.lemmas.List.Elements.{All-contains}
-use Rattle.seam_geo.specs.declared.pos.Pos.{Pos}
-use Rattle.seam_tree.specs.declared.area_table.TheConstants.{MOST_CELLS}
-use Rattle.seam_tree.specs.Division.{Division, cells_of}
-use Rattle.seam_haunt.specs.Places.{Distances, Place, settled, settled_all, IsPlaceAfter}
+use Rattle.seam_rule_rounds.specs.Prelude.{Pos, MOST_CELLS, Division, cells_of, Distances, Place, settled, settled_all, IsPlaceAfter}
+use Rattle.seam_rule_rounds.specs.Prelude.{Create, Header, live_as, tree_of, HomeLine, Lists, public_at, version_of, position_at}
+use Rattle.seam_rule_rounds.specs.Prelude.{positions_past, Standing, in_first_cell, distances, place_before, HasPlace, ghost_cells}
+use Rattle.seam_rule_rounds.specs.Prelude.{GhostLine, RoundData, home_line, ghost_lines}
 use Rattle.seam_haunt.proofs.Chosen.{contains_chosen}
 use Rattle.seam_haunt.proofs.Settling.{ghosts_settled}
 use Rattle.seam_defs.specs.declared.flags.Part.TheVariants as part
-use Rattle.seam_call.specs.declared.create.Create.{Create}
-use Rattle.seam_toml.specs.declared.header.Header.{Header}
-use Rattle.seam_rule_lines.specs.Book.{live_as, tree_of}
-use Rattle.seam_rule_lines.specs.Round.{HomeLine, Lists}
 use Rattle.seam_rule_lines.proofs.Lists.{contains_first, contains_later, contains_cases}
-use Rattle.seam_rule_rounds.specs.FlatTable.{public_at, version_of, position_at, positions_past}
-use Rattle.seam_rule_rounds.specs.Standing.{Standing, in_first_cell}
-use Rattle.seam_rule_rounds.specs.RoundPlaces.{distances, place_before, HasPlace, ghost_cells}
-use Rattle.seam_rule_rounds.specs.Lines.{GhostLine, RoundData}
-use Rattle.seam_rule_rounds.specs.Round.{home_line, ghost_lines}
 use Rattle.seam_judge_expected.proofs.ListedLemmas.{in_filter}
 use Rattle.seam_judge_rounds.specs.After.{is_ghost_of, ghosts_among, place_at, place_in}
 use Rattle.seam_judge_rounds.proofs.Pieces.{pieces_kept, one_piece}

@@ -3,27 +3,13 @@ use Rattle.std.proofs.Common.{◌≡◌, ◌≤◌, ◌++◌, ℕ, Bool, true, f
 use Rattle.std.specs.Prelude.{MatchBool, Contains, filter}
 use Rattle.std.specs.List.{All, AllByRecursion, flat_map}
 use Rattle.std.proofs.lemmas.List.{get_or_default}
-use Rattle.seam_tree.specs.declared.area_table.TheConstants.{MOST_CELLS}
-use Rattle.seam_tree.specs.Division.{Division, cells_of}
-use Rattle.seam_balance.specs.Balance.{IsBalanced}
-use Rattle.seam_haunt.specs.Places.{Place, IsPlaceAfter}
-use Rattle.seam_defs.specs.declared.flags.Part.{Part}
+use Rattle.seam_rule_rounds.specs.Prelude.{MOST_CELLS, Division, cells_of, IsBalanced, Place, IsPlaceAfter, Part, is_for, Create, GhostCopy}
+use Rattle.seam_rule_rounds.specs.Prelude.{Shown, Own, Enter, Set, Leave, ShowsTruth, Header, tree_of, has_balance, with_round_ended}
+use Rattle.seam_rule_rounds.specs.Prelude.{with_tree, version_of, position_at, positions_past, Standing, distances, place_before, HasPlace}
+use Rattle.seam_rule_rounds.specs.Prelude.{RoundData, IsOther, truth_of, ShowsClient, HasShown, HasLooked, home_line, ghost_lines}
+use Rattle.seam_rule_rounds.specs.Prelude.{with_bounds, IsRound}
 use Rattle.seam_defs.specs.declared.flags.Part.TheVariants as part
-use Rattle.seam_call.specs.Calls.{is_for}
-use Rattle.seam_call.specs.declared.create.Create.{Create}
-use Rattle.seam_call.specs.declared.shown.GhostCopy.{GhostCopy}
-use Rattle.seam_call.specs.declared.shown.Shown.{Shown}
-use Rattle.seam_call.specs.declared.shown.Shown.TheVariants.{Own, Enter, Set, Leave}
-use Rattle.seam_rule_clients.specs.Lines.{ShowsTruth}
-use Rattle.seam_toml.specs.declared.header.Header.{Header}
-use Rattle.seam_rule_lines.specs.Book.{tree_of, has_balance, with_round_ended, with_tree}
 use Rattle.seam_rule_lines.proofs.Lists.{contains_first, contains_later}
-use Rattle.seam_rule_rounds.specs.FlatTable.{version_of, position_at, positions_past}
-use Rattle.seam_rule_rounds.specs.Standing.{Standing}
-use Rattle.seam_rule_rounds.specs.RoundPlaces.{distances, place_before, HasPlace}
-use Rattle.seam_rule_rounds.specs.Lines.{RoundData}
-use Rattle.seam_rule_rounds.specs.Clients.{IsOther, truth_of, ShowsClient, HasShown, HasLooked}
-use Rattle.seam_rule_rounds.specs.Round.{home_line, ghost_lines, with_bounds, IsRound}
 use Rattle.seam_judge_rounds.specs.After.{AreForMade, place_in, after_round}
 use Rattle.seam_judge_rounds.proofs.Executed.{cells_executed, bases_executed}
 use Rattle.seam_judge_rounds.proofs.Held.{place_shown}

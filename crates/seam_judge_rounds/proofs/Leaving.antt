@@ -9,16 +9,9 @@ use Rattle.std.specs.FinSet as set
 use Rattle.std.proofs.lemmas.Bool.Decides.{nat_tests}
 use Rattle.std.proofs.lemmas.List.{map-append}
 use Rattle.std.proofs.lemmas.List.Elements.{filter-append}
-use Rattle.seam_tree.specs.Division.{Division}
+use Rattle.seam_rule_rounds.specs.Prelude.{Division, is_for, Call, Part, tree_of, with_round_ended, DoneLine, HomeLine, in_first_cell}
+use Rattle.seam_rule_rounds.specs.Prelude.{GhostLine, ClientLine, RoundData, with_bounds}
 use Rattle.seam_haunt.proofs.Chosen.{or_true}
-use Rattle.seam_call.specs.Calls.{is_for}
-use Rattle.seam_call.specs.declared.call.Call.{Call}
-use Rattle.seam_defs.specs.declared.flags.Part.{Part}
-use Rattle.seam_rule_lines.specs.Book.{tree_of, with_round_ended}
-use Rattle.seam_rule_lines.specs.Round.{DoneLine, HomeLine}
-use Rattle.seam_rule_rounds.specs.Standing.{in_first_cell}
-use Rattle.seam_rule_rounds.specs.Lines.{GhostLine, ClientLine, RoundData}
-use Rattle.seam_rule_rounds.specs.Round.{with_bounds}
 use Rattle.seam_judge_data.specs.Codes.{AreSmall}
 use Rattle.seam_judge_data.specs.Standings.{place_among, standing_of}
 use Rattle.seam_judge_data.specs.declared.standing.Held.{Held}

@@ -2,9 +2,7 @@
 use Rattle.std.proofs.Common.{◌≡◌, ℕ, Bool, List, map, Bor, sym, subst, IsTrue, ◌↔◌}
 use Rattle.std.specs.List.{All}
 use Rattle.std.proofs.lemmas.List.Elements.{All-from_recursion, recursion_from_All}
-use Rattle.seam_call.specs.declared.shown.Shown.{Shown}
-use Rattle.seam_rule_clients.specs.Clients.{ClientReplica}
-use Rattle.seam_rule_clients.specs.Lines.{MayShowAll, Truth, ShowsTruth, ShowsRightly}
+use Rattle.seam_rule_rounds.specs.Prelude.{Shown, ClientReplica, MayShowAll, Truth, ShowsTruth, ShowsRightly}
 use Rattle.seam_judge_rounds.proofs.Told.{all_now}
 
 pub rightly : (t : Truth) (me : ℕ) (c d : ClientReplica) (shown again : List (Bor Shown)) (xs : List Shown) (a b r : Bool) → c ≡ d →

@@ -1,13 +1,8 @@
 -- Whether a place is settled along all of a path, or along all but its start.
 use Rattle.std.proofs.Common.{◌≡◌, ◌⊎◌, ◌<◌, ◌+◌, ◌-◌, ℕ, Bool, List, ◌∷◌, length, map, drop, inl, inr, sym, ◌∙◌, ap, subst, arith, IsTrue, ◌↔◌}
 use Rattle.std.specs.List.{range_with_len}
-use Rattle.seam_geo.specs.declared.pos.Pos.{Pos}
-use Rattle.seam_tree.specs.Division.{Division}
-use Rattle.seam_haunt.specs.Places.{Distances, Place, settled_all, IsPlaceAfter}
-use Rattle.seam_call.specs.declared.call.Call.{Call}
-use Rattle.seam_call.specs.declared.create.Create.{Create}
-use Rattle.seam_toml.specs.declared.header.Header.{Header}
-use Rattle.seam_rule_rounds.specs.FlatTable.{position_at, positions_past}
+use Rattle.seam_rule_rounds.specs.Prelude.{Pos, Division, Distances, Place, settled_all, IsPlaceAfter, Call, Create, Header, position_at}
+use Rattle.seam_rule_rounds.specs.Prelude.{positions_past}
 
 pub place_after : (d : Distances) (t : Division) (was after first second : Place) (path tail : List Pos) (a b c r : Bool) →
     first ≡ settled_all d t was path → second ≡ settled_all d t was tail → tail ≡ drop 1 path → (IsTrue a ↔ (first ≡ after)) →

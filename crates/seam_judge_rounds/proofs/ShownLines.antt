@@ -4,19 +4,11 @@ use Rattle.std.specs.Prelude.{filter, ◌==◌}
 use Rattle.std.specs.List.{All, range_with_len}
 use Rattle.std.specs.List.Sorted.{IsNonDecreasing}
 use Rattle.std.proofs.lemmas.List.{length-map}
-use Rattle.seam_call.specs.declared.create.Create.{Create}
+use Rattle.seam_rule_rounds.specs.Prelude.{Create, Header, shown_by_lines, ShowsRightly, one_look, is_shown, has_tick, Lists, rows_of}
+use Rattle.seam_rule_rounds.specs.Prelude.{Standing, replica_of, ClientLine, RoundData, lines_to, told_in, truth_of, is_base, texts_to}
+use Rattle.seam_rule_rounds.specs.Prelude.{base_texts, base_shown, base_versions, ShowsClient, HasShown, HasLooked}
 use Rattle.seam_call.specs.declared.shown.Line.{Line}
 use Rattle.seam_call.specs.declared.shown.ClientText.TheVariants as text
-use Rattle.seam_toml.specs.declared.header.Header.{Header}
-use Rattle.seam_rule_clients.specs.Clients.{shown_by_lines}
-use Rattle.seam_rule_clients.specs.Lines.{ShowsRightly}
-use Rattle.seam_rule_clients.specs.Looks.{one_look}
-use Rattle.seam_rule_lines.specs.Book.{is_shown, has_tick}
-use Rattle.seam_rule_lines.specs.Round.{Lists}
-use Rattle.seam_rule_rounds.specs.FlatTable.{rows_of}
-use Rattle.seam_rule_rounds.specs.Standing.{Standing, replica_of}
-use Rattle.seam_rule_rounds.specs.Lines.{ClientLine, RoundData, lines_to, told_in}
-use Rattle.seam_rule_rounds.specs.Clients.{truth_of, is_base, texts_to, base_texts, base_shown, base_versions, ShowsClient, HasShown, HasLooked}
 use Rattle.seam_judge_data.specs.Standings.{standing_of}
 use Rattle.seam_judge_data.specs.declared.standing.Standing as plain
 use Rattle.seam_judge_rounds.specs.Clients.{client_as, IsTold}

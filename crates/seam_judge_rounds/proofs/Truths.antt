@@ -4,19 +4,10 @@ use Rattle.std.proofs.Common.{IsTrue, ◌↔◌, nat_lt}
 use Rattle.std.proofs.lemmas.Bool.Decides.{nat_tests}
 use Rattle.std.proofs.lemmas.List.{length-map}
 use Rattle.std.proofs.lemmas.Option.{same_Some}
-use Rattle.seam_defs.specs.Deeds.{own_of}
+use Rattle.seam_rule_rounds.specs.Prelude.{own_of, State, Call, Create, GhostCopy, Header, created_as, entries, creates_of, was_dead, flat}
+use Rattle.seam_rule_rounds.specs.Prelude.{properties, version_of, public_at, other_at, Standing, IsOwn, IsOther}
 use Rattle.seam_defs.specs.declared.flags.Part.TheVariants as part
-use Rattle.seam_defs.specs.declared.states.State.{State}
-use Rattle.seam_call.specs.declared.call.Call.{Call}
-use Rattle.seam_call.specs.declared.create.Create.{Create}
-use Rattle.seam_call.specs.declared.shown.GhostCopy.{GhostCopy}
-use Rattle.seam_toml.specs.declared.header.Header.{Header}
-use Rattle.seam_rule_lines.specs.Book.{created_as, entries, creates_of, was_dead}
-use Rattle.seam_rule_lines.specs.FlatTable.{flat}
 use Rattle.seam_rule_lines.proofs.InOrderLemmas.{found_entity}
-use Rattle.seam_rule_rounds.specs.FlatTable.{properties, version_of, public_at, other_at}
-use Rattle.seam_rule_rounds.specs.Standing.{Standing}
-use Rattle.seam_rule_rounds.specs.Clients.{IsOwn, IsOther}
 
 -- where none before the last holds, one holds where the last does
 pub last_decides : (P : ℕ → Type 0) (began n i : ℕ) (r : Bool) → began ≤ n → n ≤ i → ((v : ℕ) → began ≤ v → v < i → P v → ⊥) →

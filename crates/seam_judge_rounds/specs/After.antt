@@ -3,15 +3,8 @@ use Rattle.std.specs.Prelude.{ℕ, Bool, List, ◌++◌, ◌+◌, ◌==◌, ◌&
 use Rattle.std.specs.List.{All}
 use Rattle.std.specs.Option.{option_map}
 use Rattle.std.specs.FinSet as set
-use Rattle.seam_tree.specs.declared.area_table.TheConstants.{MOST_CELLS}
-use Rattle.seam_tree.specs.Cells.{Cells}
-use Rattle.seam_haunt.specs.Places.{Place}
-use Rattle.seam_call.specs.Calls.{is_for}
-use Rattle.seam_rule_lines.specs.Round.{HomeLine}
-use Rattle.seam_rule_lines.specs.Book.{Book, entries, calls_of, created_as, with_round_ended}
-use Rattle.seam_rule_rounds.specs.Standing.{Standing, in_first_cell}
-use Rattle.seam_rule_rounds.specs.Lines.{GhostLine, RoundData, told_in}
-use Rattle.seam_rule_rounds.specs.Round.{with_bounds}
+use Rattle.seam_rule_rounds.specs.Prelude.{MOST_CELLS, Cells, Place, is_for, HomeLine, Book, entries, calls_of, created_as}
+use Rattle.seam_rule_rounds.specs.Prelude.{with_round_ended, Standing, in_first_cell, GhostLine, RoundData, told_in, with_bounds}
 
 -- whether a ghost line is one of this entity, in a cell that a tree can have
 abbrev pub is_ghost_of : ℕ → GhostLine → Bool

@@ -1,11 +1,6 @@
 -- The boundaries that a round prints.
 use Rattle.std.specs.Prelude.{◌≡◌, List, map, Option, None, Some, MatchBool}
-use Rattle.seam_tree.specs.Division.{Division}
-use Rattle.seam_balance.specs.Balance.{IsBalanced}
-use Rattle.seam_toml.specs.declared.header.Header.{Header}
-use Rattle.seam_rule_lines.specs.Book.{has_balance, tree_of}
-use Rattle.seam_rule_lines.specs.Round.{HomeLine}
-use Rattle.seam_rule_rounds.specs.Standing.{Standing}
+use Rattle.seam_rule_rounds.specs.Prelude.{Division, IsBalanced, Header, has_balance, tree_of, HomeLine, Standing}
 
 -- What a round prints of boundaries, by what it prints of homes: where a `balance` was accepted, its tree balanced by where the homes
 -- are, and else nothing. It is *HasBounds* of `seam_rule_rounds` without the book that the round leaves.

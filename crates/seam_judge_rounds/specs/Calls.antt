@@ -1,8 +1,6 @@
 -- Whether calls were executed as they were accepted, sender by sender.
 use Rattle.std.specs.Prelude.{◌≡◌, List, filter}
-use Rattle.seam_defs.specs.declared.flags.Part.{Part}
-use Rattle.seam_call.specs.Calls.{is_from}
-use Rattle.seam_call.specs.declared.call.Call.{Call}
+use Rattle.seam_rule_rounds.specs.Prelude.{Part, is_from, Call}
 
 -- of the sender of a call, that call's entity executed exactly what was accepted for it
 abbrev pub AgreesAt : Part → List Call → List Call → Call → Type 0

@@ -1,9 +1,6 @@
 -- Which entities have a client in a round.
 use Rattle.std.specs.Prelude.{◌≡◌, ℕ, ◌++◌, Option, None, if◌then◌else◌}
-use Rattle.seam_call.specs.declared.create.Create.{Create}
-use Rattle.seam_rule_lines.specs.Book.{Book, created_as, is_shown}
-use Rattle.seam_rule_rounds.specs.Standing.{Standing}
-use Rattle.seam_rule_rounds.specs.Lines.{RoundData, told_in}
+use Rattle.seam_rule_rounds.specs.Prelude.{Create, Book, created_as, is_shown, Standing, RoundData, told_in}
 
 -- the entity of a number, where it has a client at some time of the open round
 abbrev pub client_as : Book → ℕ → Option Create

@@ -1,8 +1,6 @@
 -- What is known of where entities are held.
 use Rattle.std.specs.Prelude.{ℕ, ◌<◌}
-use Rattle.seam_tree.specs.Division.{cells_of}
-use Rattle.seam_rule_lines.specs.Book.{tree_of}
-use Rattle.seam_rule_rounds.specs.Standing.{Standing}
+use Rattle.seam_rule_rounds.specs.Prelude.{cells_of, tree_of, Standing}
 
 -- each entity has its home in a cell of the open round's tree
 abbrev pub HaveHomes : Standing → Type 0

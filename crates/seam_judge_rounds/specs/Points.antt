@@ -2,15 +2,8 @@
 use Rattle.std.specs.Prelude.{◌≡◌, ◌+◌, List, map}
 use Rattle.std.specs.List.{All, flat_map}
 use Rattle.seam_defs.specs.declared.flags.Part.TheVariants as part
-use Rattle.seam_call.specs.declared.create.Create.{Create}
-use Rattle.seam_toml.specs.declared.header.Header.{Header}
-use Rattle.seam_rule_lines.specs.Round.{Lists, ExtendsOrders}
-use Rattle.seam_rule_lines.specs.Book.{live_as, tree_of}
-use Rattle.seam_rule_rounds.specs.Standing.{Standing}
-use Rattle.seam_rule_rounds.specs.RoundPlaces.{HasPlace}
-use Rattle.seam_rule_rounds.specs.Lines.{RoundData}
-use Rattle.seam_rule_rounds.specs.Clients.{HasShown, HasLooked}
-use Rattle.seam_rule_rounds.specs.Round.{home_line, base_line, ghost_lines, HasBounds}
+use Rattle.seam_rule_rounds.specs.Prelude.{Create, Header, Lists, ExtendsOrders, live_as, tree_of, Standing, HasPlace, RoundData, HasShown}
+use Rattle.seam_rule_rounds.specs.Prelude.{HasLooked, home_line, base_line, ghost_lines, HasBounds}
 use Rattle.seam_judge_rounds.specs.declared.verdict.Point.{Point}
 use Rattle.seam_judge_rounds.specs.declared.verdict.Point.TheVariants as point
 

@@ -1,8 +1,7 @@
 // The standing that a round leaves.
 ghost use Rattle.std.specs.Prelude.{◌≡◌, ◌+◌, ◌++◌, ◌&&◌, ◌==◌, ℕ, IfOk, map, if◌then◌else◌};
 ghost use Rattle.std.specs.FinSet as set;
-ghost use Rattle.seam_tree.specs.Division.{Division};
-ghost use Rattle.seam_rule_lines.specs.Book.{tree_of};
+ghost use Rattle.seam_rule_rounds.specs.Prelude.{Division, tree_of};
 ghost use Rattle.seam_judge_data.specs.Standings.{place_among, standing_of};
 ghost use Rattle.seam_judge_rounds.specs.After.{is_ghost_of, ghosts_among, place_at, place_in, after_round};
 

@@ -1,10 +1,7 @@
 // Whether the parts of entities executed what was accepted for them.
 ghost use Rattle.std.specs.Prelude.{◌≡◌, ◌↔◌, ◌++◌, ℕ, IsTrue, IfOk, filter};
 ghost use Rattle.std.specs.List.{All};
-ghost use Rattle.seam_call.specs.Calls.{is_for, is_from};
-ghost use Rattle.seam_call.specs.declared.sender.Sender.{Sender as Senders};
-ghost use Rattle.seam_rule_lines.specs.Book.{calls_of, created_as, entries};
-ghost use Rattle.seam_rule_lines.specs.Round.{ExtendsOrders, Lists};
+ghost use Rattle.seam_rule_rounds.specs.Prelude.{is_for, is_from, Sender as Senders, calls_of, created_as, entries, ExtendsOrders, Lists};
 ghost use Rattle.seam_judge_data.specs.Standings.{standing_of};
 ghost use Rattle.seam_judge_rounds.specs.Calls.{AgreesAt};
 

@@ -1,8 +1,6 @@
 // A round to be judged, and its clients.
 ghost use Rattle.std.specs.Prelude.{◌≡◌, ◌==◌, IfOk, find, filter, map, option_copied};
-ghost use Rattle.seam_rule_lines.specs.Book.{created_as, is_shown};
-ghost use Rattle.seam_rule_lines.specs.Round.{Lists};
-ghost use Rattle.seam_rule_rounds.specs.Lines.{lines_to};
+ghost use Rattle.seam_rule_rounds.specs.Prelude.{created_as, is_shown, Lists, lines_to};
 ghost use Rattle.seam_judge_data.specs.Standings.{standing_of};
 ghost use Rattle.seam_judge_rounds.specs.Clients.{client_as};
 

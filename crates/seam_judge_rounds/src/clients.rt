@@ -2,9 +2,7 @@
 ghost use Rattle.std.specs.Prelude.{◌≡◌, ◌↔◌, ◌+◌, ◌-◌, ◌<◌, ◌≤◌, ℕ, IsTrue, IfOk, length, map, filter, slice_index_or};
 ghost use Rattle.std.specs.List.{All, range_with_len};
 ghost use Rattle.std.specs.List.Sorted.{IsNonDecreasing};
-ghost use Rattle.seam_rule_lines.specs.Book.{is_shown};
-ghost use Rattle.seam_rule_lines.specs.Round.{Lists};
-ghost use Rattle.seam_rule_rounds.specs.Clients.{is_base, base_shown, base_versions, ShowsClient, HasShown};
+ghost use Rattle.seam_rule_rounds.specs.Prelude.{is_shown, Lists, is_base, base_shown, base_versions, ShowsClient, HasShown};
 ghost use Rattle.seam_judge_data.specs.Standings.{standing_of};
 ghost use Rattle.seam_judge_rounds.specs.Clients.{client_as, IsTold};
 

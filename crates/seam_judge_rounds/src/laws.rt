@@ -1,12 +1,6 @@
 // What a legal round leaves.
 ghost use Rattle.std.specs.Prelude.{◌≤◌};
-ghost use Rattle.seam_tree.specs.declared.area_table.TheConstants.{MOST_CELLS};
-ghost use Rattle.seam_tree.specs.Division.{cells_of};
-ghost use Rattle.seam_toml.specs.declared.header.Header.{Header};
-ghost use Rattle.seam_rule_lines.specs.Book.{tree_of};
-ghost use Rattle.seam_rule_rounds.specs.Standing.{Standing};
-ghost use Rattle.seam_rule_rounds.specs.Lines.{RoundData};
-ghost use Rattle.seam_rule_rounds.specs.Round.{IsRound};
+ghost use Rattle.seam_rule_rounds.specs.Prelude.{MOST_CELLS, cells_of, Header, tree_of, Standing, RoundData, IsRound};
 ghost use Rattle.seam_judge_rounds.specs.After.{AreForMade, after_round};
 
 /// A round that is legal with some standing after it is so with the one that its lines show: a legal round leaves no other, but for where

@@ -2,12 +2,7 @@
 ghost use Rattle.std.specs.Prelude.{◌≡◌, ◌↔◌, ◌||◌, ◌++◌, [], ℕ, IsTrue, IfOk, map};
 ghost use Rattle.std.specs.List.{All};
 ghost use Rattle.seam_call.specs.declared.shown.ClientText.TheVariants as text;
-ghost use Rattle.seam_rule_clients.specs.Looks.{one_look};
-ghost use Rattle.seam_rule_lines.specs.Book.{is_shown};
-ghost use Rattle.seam_rule_lines.specs.Round.{Lists};
-ghost use Rattle.seam_rule_rounds.specs.FlatTable.{rows_of};
-ghost use Rattle.seam_rule_rounds.specs.Standing.{replica_of};
-ghost use Rattle.seam_rule_rounds.specs.Clients.{texts_to, base_texts, HasLooked};
+ghost use Rattle.seam_rule_rounds.specs.Prelude.{one_look, is_shown, Lists, rows_of, replica_of, texts_to, base_texts, HasLooked};
 ghost use Rattle.seam_judge_data.specs.Standings.{standing_of};
 ghost use Rattle.seam_judge_rounds.specs.Clients.{client_as};
 

@@ -1,13 +1,8 @@
 // Whether entities are held where they may be.
 ghost use Rattle.std.specs.Prelude.{◌≡◌, ◌↔◌, ◌⊎◌, ◌<◌, ◌≤◌, ◌+◌, ◌-◌, ◌∷◌, List, IsTrue, IfOk, length, map};
 ghost use Rattle.std.specs.List.{All, range_with_len};
-ghost use Rattle.seam_rule_lines.specs.Book.{tree_of};
-ghost use Rattle.seam_rule_rounds.specs.FlatTable.{position_at};
-ghost use Rattle.seam_geo.specs.declared.pos.Pos.{Pos as Positions};
-ghost use Rattle.seam_tree.specs.Division.{cells_of};
-ghost use Rattle.seam_haunt.specs.Places.{IsPlaceAfter};
-ghost use Rattle.seam_defs.specs.Settings.{AreInRange};
-ghost use Rattle.seam_rule_rounds.specs.RoundPlaces.{distances, HasPlace};
+ghost use Rattle.seam_rule_rounds.specs.Prelude.{tree_of, position_at, Pos as Positions, cells_of, IsPlaceAfter, AreInRange, distances};
+ghost use Rattle.seam_rule_rounds.specs.Prelude.{HasPlace};
 ghost use Rattle.seam_judge_data.specs.Standings.{standing_of};
 ghost use Rattle.seam_judge_rounds.specs.HeldPlaces.{HaveHomes};
 

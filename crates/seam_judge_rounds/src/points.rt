@@ -1,9 +1,7 @@
 // The points of a legal round about numbers, homes, base parts, ghosts and boundaries.
 ghost use Rattle.std.specs.Prelude.{◌≡◌, ◌↔◌, ◌+◌, IsTrue, IfOk, map, option_copied, Some};
 ghost use Rattle.std.specs.List.{flat_map};
-ghost use Rattle.seam_balance.specs.Balance.{IsBalanced};
-ghost use Rattle.seam_rule_lines.specs.Book.{tree_of};
-ghost use Rattle.seam_rule_rounds.specs.Round.{home_line, base_line, ghost_lines};
+ghost use Rattle.seam_rule_rounds.specs.Prelude.{IsBalanced, tree_of, home_line, base_line, ghost_lines};
 ghost use Rattle.seam_judge_data.specs.Standings.{standing_of};
 ghost use Rattle.seam_judge_rounds.specs.Bounds.{PrintsBounds};
 

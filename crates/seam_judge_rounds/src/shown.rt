@@ -1,9 +1,6 @@
 // What a client is shown of cell parts.
 ghost use Rattle.std.specs.Prelude.{◌↔◌, IsTrue, IfOk, map};
-ghost use Rattle.seam_rule_clients.specs.Clients.{shown_by_lines};
-ghost use Rattle.seam_rule_clients.specs.Lines.{ShowsRightly};
-ghost use Rattle.seam_rule_rounds.specs.Standing.{replica_of};
-ghost use Rattle.seam_rule_rounds.specs.Clients.{truth_of};
+ghost use Rattle.seam_rule_rounds.specs.Prelude.{shown_by_lines, ShowsRightly, replica_of, truth_of};
 ghost use Rattle.seam_judge_data.specs.Standings.{standing_of};
 
 use crate::calls::both;

@@ -1,9 +1,7 @@
 // What is true of entities in a round.
 ghost use Rattle.std.specs.Prelude.{◌≡◌, ◌↔◌, ◌≤◌, ℕ, IsTrue, IfOk, length, map};
 ghost use Rattle.std.specs.List.{All};
-ghost use Rattle.seam_rule_clients.specs.Lines.{ShowsTruth};
-ghost use Rattle.seam_rule_rounds.specs.FlatTable.{public_at, other_at};
-ghost use Rattle.seam_rule_rounds.specs.Clients.{IsOwn, IsOther, truth_of};
+ghost use Rattle.seam_rule_rounds.specs.Prelude.{ShowsTruth, public_at, other_at, IsOwn, IsOther, truth_of};
 ghost use Rattle.seam_judge_data.specs.Standings.{standing_of};
 
 use crate::case::{Case, created_as};

@@ -1,10 +1,6 @@
 // Which point of a legal round a round breaks.
 ghost use Rattle.std.specs.Prelude.{◌≡◌, ◌↔◌, ◌⊎◌, ◌+◌, None, Some, IsTrue, IsFalse, IfOk};
-ghost use Rattle.seam_defs.specs.Settings.{AreInRange};
-ghost use Rattle.seam_rule_lines.specs.Book.{created_as, live_as};
-ghost use Rattle.seam_rule_lines.specs.Round.{Lists, ExtendsOrders};
-ghost use Rattle.seam_rule_rounds.specs.Standing.{Standing as Standings};
-ghost use Rattle.seam_rule_rounds.specs.Round.{IsRound};
+ghost use Rattle.seam_rule_rounds.specs.Prelude.{AreInRange, created_as, live_as, Lists, ExtendsOrders, Standing as Standings, IsRound};
 ghost use Rattle.seam_judge_data.specs.Standings.{standing_of};
 ghost use Rattle.seam_judge_rounds.specs.After.{AreForMade, after_round};
 ghost use Rattle.seam_judge_rounds.specs.Bounds.{PrintsBounds};

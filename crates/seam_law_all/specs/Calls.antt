@@ -1,39 +1,16 @@
 -- The laws of a round's calls: what is true of a world to which a list of events led from a loaded one.
 use Rattle.std.specs.Prelude.{◌≡◌, ℕ, ◌+◌, ◌<◌, ◌≤◌, false, List, ◌∷◌, Some, slice_get}
-use Rattle.seam_machine.specs.Nets.{link}
-use Rattle.seam_law_flow.specs.Flows.{letters_of}
-use Rattle.seam_law_flow.specs.Tokens.{TokenPlace}
-use Rattle.seam_call.specs.declared.order.Batch.{Batch}
+use Rattle.seam_node_steps.specs.Prelude.{link, Batch, cell_count, RealView, WitnessView, Msg, Update, PartView, about, is_stray, CellView}
+use Rattle.seam_node_steps.specs.Prelude.{slot_of, holders, loaded, World, Cell}
+use Rattle.seam_law_flow.specs.Prelude.{letters_of, TokenPlace}
+use Rattle.seam_law_calls.specs.Prelude.{Frame, entity_flow, real_in, IsOne, OneFrom, AllLead, from_sender, CellCallsInTurn, home_of}
+use Rattle.seam_law_calls.specs.Prelude.{HasBaseCalls, shown_at, FindsClient, NothingIsStray}
+use Rattle.seam_law_rounds.specs.Prelude.{calls_of, framed, next_from, base_calls_of, next_to, IsServed, IsKnownAt}
+use Rattle.seam_law_ghosts.specs.Prelude.{HasNoStrayTask, IsTrue, present, AreTold, AreSettled}
+use Rattle.seam_law_clients.specs.Prelude.{true_between, clients_loaded}
 use Rattle.seam_call.specs.declared.shown.Update.{Update as UpdateData}
-use Rattle.seam_entity.specs.Here.{cell_count}
-use Rattle.seam_entity.specs.Reals.{RealView, WitnessView}
-use Rattle.seam_entity.specs.declared.message.Msg.{Msg}
-use Rattle.seam_entity.specs.declared.message.Msg.TheVariants.{Update}
-use Rattle.seam_node_steps.specs.Bases.{PartView}
-use Rattle.seam_node_steps.specs.CellCases.{about, is_stray}
-use Rattle.seam_node_steps.specs.Cells.{CellView, slot_of}
-use Rattle.seam_node_steps.specs.Holders.{holders}
-use Rattle.seam_node_steps.specs.Loads.{loaded}
-use Rattle.seam_node_steps.specs.Nodes.{World}
-use Rattle.seam_node_steps.specs.Nodes.NodeView.{Cell}
-use Rattle.seam_law_calls.specs.Frames.{Frame}
-use Rattle.seam_law_calls.specs.Sights.{entity_flow}
-use Rattle.seam_law_calls.specs.Ones.{real_in, IsOne, OneFrom}
-use Rattle.seam_law_calls.specs.Ways.{AllLead}
-use Rattle.seam_law_calls.specs.CellTurns.{from_sender, CellCallsInTurn}
-use Rattle.seam_law_calls.specs.BaseTurns.{home_of, HasBaseCalls}
-use Rattle.seam_law_calls.specs.Clients.{shown_at, FindsClient}
-use Rattle.seam_law_calls.specs.Strays.{NothingIsStray}
-use Rattle.seam_law_rounds.specs.Between.{calls_of, framed, next_from}
-use Rattle.seam_law_rounds.specs.Parts.{base_calls_of, next_to, IsServed}
-use Rattle.seam_law_ghosts.specs.Tasks.{HasNoStrayTask}
-use Rattle.seam_law_rounds.specs.Routes.{IsKnownAt}
-use Rattle.seam_law_ghosts.specs.Truths.{IsTrue}
-use Rattle.seam_law_ghosts.specs.Copies.{present, AreTold, AreSettled}
 use Rattle.seam_rule_clients.specs.Clients.{ClientReplica}
 use Rattle.seam_rule_clients.specs.Lines.{ShowsRightly}
-use Rattle.seam_law_clients.specs.RoundTruths.{true_between}
-use Rattle.seam_law_clients.specs.Clients.{clients_loaded}
 
 -- ---- no node is given what it has no case for
 

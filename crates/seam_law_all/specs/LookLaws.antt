@@ -1,21 +1,13 @@
 -- The laws of looks: what is true of a world to which a list of events led from one whose witnesses are to look.
 use Rattle.std.specs.Prelude.{◌≡◌, ℕ, List, ◌++◌, Some}
-use Rattle.seam_law_flow.specs.Tokens.{In}
-use Rattle.seam_call.specs.declared.shown.Shown.{Shown}
-use Rattle.seam_entity.specs.Reals.{RealView, WitnessView}
-use Rattle.seam_node_steps.specs.Holders.{holders}
-use Rattle.seam_node_steps.specs.Nodes.{World}
-use Rattle.seam_law_calls.specs.Frames.{Frame}
-use Rattle.seam_law_calls.specs.Sights.{entity_flow}
-use Rattle.seam_law_calls.specs.Ones.{real_in}
-use Rattle.seam_law_calls.specs.BaseTurns.{home_of}
-use Rattle.seam_law_calls.specs.Clients.{shown_at}
-use Rattle.seam_law_rounds.specs.LastPhases.{HasNoCalls}
-use Rattle.seam_law_rounds.specs.Parts.{IsServed}
-use Rattle.seam_law_ghosts.specs.Copies.{AreTold}
+use Rattle.seam_node_steps.specs.Prelude.{Shown, RealView, WitnessView, holders, World}
+use Rattle.seam_law_flow.specs.Prelude.{In}
+use Rattle.seam_law_calls.specs.Prelude.{Frame, entity_flow, real_in, home_of, shown_at}
+use Rattle.seam_law_rounds.specs.Prelude.{HasNoCalls, IsServed}
+use Rattle.seam_law_ghosts.specs.Prelude.{AreTold}
+use Rattle.seam_law_clients.specs.Prelude.{rows_of}
 use Rattle.seam_rule_clients.specs.Clients.{ClientReplica, after_all_shown}
 use Rattle.seam_rule_clients.specs.Looks.{one_look}
-use Rattle.seam_law_clients.specs.Tables.{rows_of}
 use Rattle.seam_law_all.specs.Calls.{NoneIsStrayAtCells, UpdatesFindClients}
 
 -- what entity e's client was shown since the round began

@@ -1,19 +1,11 @@
 -- The laws of reaps: what is true of a world to which a list of events led from one that was told to reap entities.
 use Rattle.std.specs.Prelude.{◌≡◌, ℕ, ◌<◌, List, Some, None}
 use Rattle.std.specs.List.{AllByRecursion}
-use Rattle.seam_law_flow.specs.Tokens.{In}
-use Rattle.seam_entity.specs.Here.{cell_count}
-use Rattle.seam_entity.specs.Reals.{RealView}
-use Rattle.seam_node_steps.specs.Bases.{PartView}
-use Rattle.seam_node_steps.specs.Holders.{holders}
-use Rattle.seam_node_steps.specs.Nodes.{World}
-use Rattle.seam_law_calls.specs.Frames.{Frame}
-use Rattle.seam_law_calls.specs.Sights.{entity_flow}
-use Rattle.seam_law_calls.specs.Ones.{real_in}
-use Rattle.seam_law_calls.specs.Reaps.{HasNoPart}
-use Rattle.seam_law_rounds.specs.LastPhases.{HasNoCalls}
-use Rattle.seam_law_ghosts.specs.Copies.{copy_at, AreTold, IsForgotten}
-use Rattle.seam_law_calls.specs.Telling.{IsToldNothing}
+use Rattle.seam_node_steps.specs.Prelude.{cell_count, RealView, PartView, holders, World}
+use Rattle.seam_law_flow.specs.Prelude.{In}
+use Rattle.seam_law_calls.specs.Prelude.{Frame, entity_flow, real_in, HasNoPart, IsToldNothing}
+use Rattle.seam_law_rounds.specs.Prelude.{HasNoCalls}
+use Rattle.seam_law_ghosts.specs.Prelude.{copy_at, AreTold, IsForgotten}
 use Rattle.seam_law_all.specs.Calls.{NoneIsStrayAtCells}
 
 -- The laws of reaps: of the world v to which a list of events led from u, where the entities `es` are to be reaped.

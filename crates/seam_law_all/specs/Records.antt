@@ -1,15 +1,11 @@
 -- The whole record between rounds.
 use Rattle.std.specs.Prelude.{ℕ}
-use Rattle.seam_defs.specs.Settings.{GhostsReach}
-use Rattle.seam_call.specs.declared.order.Batch.{Batch}
-use Rattle.seam_node_steps.specs.Nodes.{World}
-use Rattle.seam_law_calls.specs.Frames.{Frame}
-use Rattle.seam_law_rounds.specs.Between.{IsBetweenRounds, IsFitting}
-use Rattle.seam_law_rounds.specs.Parts.{HasPartsBetweenRounds, HasSmallNumbers, FitsParts}
-use Rattle.seam_law_ghosts.specs.RealPlaces.{ArePlaced}
-use Rattle.seam_law_ghosts.specs.Copies.{AreCopiesBetweenRounds}
+use Rattle.seam_node_steps.specs.Prelude.{GhostsReach, Batch, World}
+use Rattle.seam_law_calls.specs.Prelude.{Frame}
+use Rattle.seam_law_rounds.specs.Prelude.{IsBetweenRounds, IsFitting, HasPartsBetweenRounds, HasSmallNumbers, FitsParts}
+use Rattle.seam_law_ghosts.specs.Prelude.{ArePlaced, AreCopiesBetweenRounds}
+use Rattle.seam_law_clients.specs.Prelude.{ClientsFit}
 use Rattle.seam_rule_clients.specs.Clients.{ClientReplica}
-use Rattle.seam_law_clients.specs.Witnesses.{ClientsFit}
 
 -- What a world keeps from the end of a round to the next load, by the definitions, the settings and the tree of the frame, where the
 -- client of each entity e shows `clients e`.

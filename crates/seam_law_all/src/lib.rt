@@ -8,29 +8,15 @@
 #![tactic(auto)]
 
 ghost use Rattle.std.specs.Prelude.{◌≡◌, ℕ, ◌≤◌, List, Some};
-ghost use Rattle.seam_machine.specs.Nets.{IsQuiet, LeadsTo};
-ghost use Rattle.seam_machine.specs.declared.machines.Event.{Event};
-ghost use Rattle.seam_defs.specs.declared.settings.Settings.{Settings};
-ghost use Rattle.seam_defs.specs.declared.types.TypeDef.{TypeDef};
-ghost use Rattle.seam_defs.specs.Settings.{GhostsReach, standard};
-ghost use Rattle.seam_call.specs.declared.order.Batch.{Batch};
-ghost use Rattle.seam_entity.specs.Reals.{RealView};
-ghost use Rattle.seam_node_steps.specs.Rows.{empty_world};
-ghost use Rattle.seam_node_steps.specs.Nodes.{World, node_steps, node_has_work};
-ghost use Rattle.seam_node_steps.specs.Loads.{opened, loaded, reaps_loaded, look_loaded};
-ghost use Rattle.seam_law_calls.specs.Frames.{Frame};
-ghost use Rattle.seam_law_calls.specs.Sights.{entity_flow};
-ghost use Rattle.seam_law_calls.specs.Ones.{real_in, IsFrame};
-ghost use Rattle.seam_law_rounds.specs.Between.{framed};
-ghost use Rattle.seam_law_rounds.specs.LastPhases.{first_frame, AreReapable};
+ghost use Rattle.seam_node_steps.specs.Prelude.{IsQuiet, LeadsTo, Event, Settings, TypeDef, GhostsReach, standard, Batch, RealView};
+ghost use Rattle.seam_node_steps.specs.Prelude.{empty_world, World, node_steps, node_has_work, opened, loaded, reaps_loaded, look_loaded};
+ghost use Rattle.seam_law_calls.specs.Prelude.{Frame, entity_flow, real_in, IsFrame};
+ghost use Rattle.seam_law_rounds.specs.Prelude.{framed, first_frame, AreReapable, opening};
+ghost use Rattle.seam_law_clients.specs.Prelude.{clients_loaded, clients_shown};
+ghost use Rattle.seam_law_all.specs.Prelude.{KeepsRecords, KeepsRecordsWithin, MayBeGiven, ObeysLaws, EndsRightly, ObeysLawsOfReaps};
+ghost use Rattle.seam_law_all.specs.Prelude.{AreGone, ObeysLawsOfLooks, AreShownOneLook, clients_looked};
 ghost use Rattle.seam_rule_clients.specs.Clients.{ClientReplica, new_client};
-ghost use Rattle.seam_law_rounds.specs.FirstBatchExample.{opening};
 ghost use Rattle.seam_law_clients.specs.Crossing as crossing;
-ghost use Rattle.seam_law_clients.specs.Clients.{clients_loaded, clients_shown};
-ghost use Rattle.seam_law_all.specs.Records.{KeepsRecords, KeepsRecordsWithin, MayBeGiven};
-ghost use Rattle.seam_law_all.specs.Calls.{ObeysLaws, EndsRightly};
-ghost use Rattle.seam_law_all.specs.Reaps.{ObeysLawsOfReaps, AreGone};
-ghost use Rattle.seam_law_all.specs.LookLaws.{ObeysLawsOfLooks, AreShownOneLook, clients_looked};
 
 /// A world as it is opened, with definitions and a space that are such and a base node, keeps the records, whatever clients show: there
 /// are none.

@@ -5,23 +5,13 @@ use Rattle.std.specs.Prelude.{not}
 use Rattle.std.specs.List.{AllByRecursion}
 use Rattle.std.proofs.lemmas.List.{take_all, take-append-le}
 use Rattle.std.proofs.lemmas.List.Sums.{fold-append}
-use Rattle.seam_defs.specs.Deeds.{after}
-use Rattle.seam_defs.specs.Tests.{same_shown, changes}
-use Rattle.seam_defs.specs.Types.{type_of}
-use Rattle.seam_defs.specs.declared.flags.Part.{Part}
+use Rattle.seam_node_steps.specs.Prelude.{after, same_shown, changes, type_of, Part, State, TypeDef, Call as CallData, Create, public_after}
+use Rattle.seam_node_steps.specs.Prelude.{RealView}
+use Rattle.seam_rule_rounds.specs.Prelude.{Header, first_state, flat, properties, has_changed_at, public_at}
+use Rattle.seam_law_calls.specs.Prelude.{Account, account_of, after_call, after_calls}
+use Rattle.seam_law_book.specs.Prelude.{IsDoneOn, IsInTable}
 use Rattle.seam_defs.specs.declared.flags.Part.TheVariants as part
-use Rattle.seam_defs.specs.declared.states.State.{State}
-use Rattle.seam_defs.specs.declared.types.TypeDef.{TypeDef}
-use Rattle.seam_call.specs.declared.call.Call.{Call as CallData}
-use Rattle.seam_call.specs.declared.create.Create.{Create}
-use Rattle.seam_toml.specs.declared.header.Header.{Header}
-use Rattle.seam_rule_lines.specs.FlatTable.{first_state, flat}
-use Rattle.seam_rule_rounds.specs.FlatTable.{properties, has_changed_at, public_at}
 use Rattle.seam_rule_rounds.proofs.Public.{public_more}
-use Rattle.seam_entity.specs.Executing.{public_after}
-use Rattle.seam_entity.specs.Reals.{RealView}
-use Rattle.seam_law_calls.specs.Replays.{Account, account_of, after_call, after_calls}
-use Rattle.seam_law_book.specs.ExecutedRound.{IsDoneOn, IsInTable}
 
 module _ (t : TypeDef) where
   abbrev pub done_deed : State → CallData → State

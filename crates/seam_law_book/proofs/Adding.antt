@@ -4,12 +4,9 @@ use Rattle.std.proofs.Common.{append-nil, length-append, Option}
 use Rattle.std.specs.Prelude.{eqb}
 use Rattle.std.specs.List.{AllByRecursion, IsDistinct, filter_map}
 use Rattle.std.proofs.lemmas.List.Elements.{filter-append, filter_map-append}
-use Rattle.seam_defs.specs.declared.flags.Part.{Part}
-use Rattle.seam_call.specs.declared.call.Call.{Call}
-use Rattle.seam_rule_lines.specs.Book.{Book, called, calls_of, with_entry}
-use Rattle.seam_rule_lines.specs.declared.verdict.Entry.{Entry}
-use Rattle.seam_law_book.specs.Books.{as_begun}
-use Rattle.seam_law_book.specs.Bringing.{calls_from, last_number, AreNumberedFrom}
+use Rattle.seam_node_steps.specs.Prelude.{Part, Call}
+use Rattle.seam_rule_rounds.specs.Prelude.{Book, called, calls_of, with_entry, Entry}
+use Rattle.seam_law_book.specs.Prelude.{as_begun, calls_from, last_number, AreNumberedFrom}
 
 -- ---- lists
 

@@ -2,24 +2,13 @@
 use Rattle.std.proofs.Common.{◌≡◌, ℕ, ◌≤◌, Bool, true, false, Some, None, refl, sym, ap, ◌∙◌}
 use Rattle.std.specs.Prelude.{is_some, ◌&&◌, ◌||◌}
 use Rattle.std.specs.List.{list_any}
-use Rattle.seam_tree.specs.Division.{Division}
-use Rattle.seam_call.specs.declared.create.Create.{Create}
-use Rattle.seam_call.specs.declared.order.Batch.{Batch}
-use Rattle.seam_toml.specs.declared.header.Header.{Header}
-use Rattle.seam_rule_lines.specs.Book.{Book, entries, created_as, live_as, has_client, joins}
+use Rattle.seam_node_steps.specs.Prelude.{Division, Create, Batch, RealView, PartView, holders, loaded, World}
+use Rattle.seam_rule_rounds.specs.Prelude.{Header, Book, entries, created_as, live_as, has_client, joins, ClientReplica}
+use Rattle.seam_law_calls.specs.Prelude.{entity_flow}
+use Rattle.seam_law_all.specs.Prelude.{KeepsRecords, MayBeGiven}
+use Rattle.seam_law_book.specs.Prelude.{as_begun, IsPresent, Brings, IsUntouched, frame_of, base_node, GoesWith, HasRoomForCalls}
 use Rattle.seam_accept.specs.Batches.{batch_of}
-use Rattle.seam_law_book.specs.Books.{as_begun}
-use Rattle.seam_law_book.specs.Bringing.{IsPresent, Brings, IsUntouched}
 use Rattle.seam_law_book.proofs.Present.{any_split, any_begun}
-use Rattle.seam_entity.specs.Reals.{RealView}
-use Rattle.seam_node_steps.specs.Bases.{PartView}
-use Rattle.seam_node_steps.specs.Holders.{holders}
-use Rattle.seam_node_steps.specs.Loads.{loaded}
-use Rattle.seam_node_steps.specs.Nodes.{World}
-use Rattle.seam_law_calls.specs.Sights.{entity_flow}
-use Rattle.seam_rule_clients.specs.Clients.{ClientReplica}
-use Rattle.seam_law_all.specs.Records.{KeepsRecords, MayBeGiven}
-use Rattle.seam_law_book.specs.Going.{frame_of, base_node, GoesWith, HasRoomForCalls}
 use Rattle.seam_law_book.proofs.Fitting.{new_number}
 use Rattle.seam_law_book.proofs.Origins.{RealFrom, was, made}
 use Rattle.seam_law_book.proofs.Parts.{both_seen, among_joined, client_kept, client_made}

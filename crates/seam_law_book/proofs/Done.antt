@@ -4,49 +4,28 @@ use Rattle.std.proofs.Common.{Bool, true, false, cond}
 use Rattle.std.specs.Prelude.{◌==◌, ◌&&◌}
 use Rattle.std.specs.List.{AllByRecursion}
 use Rattle.std.proofs.lemmas.Bool.{eqb-true}
-use Rattle.seam_defs.specs.Deeds.{part_of_deed}
-use Rattle.seam_defs.specs.Types.{type_of}
-use Rattle.seam_call.specs.Calls.{is_for, same_part}
-use Rattle.seam_call.specs.Senders.{rank_of}
-use Rattle.seam_machine.specs.Nets.{LeadsTo}
-use Rattle.seam_machine.specs.declared.machines.Event.{Event}
+use Rattle.seam_node_steps.specs.Prelude.{part_of_deed, type_of, is_for, same_part, rank_of, LeadsTo, Event, Division, Part}
+use Rattle.seam_node_steps.specs.Prelude.{Call as CallData, Create, Batch, cell_count, RealView, holders, World, node_steps, node_has_work}
+use Rattle.seam_node_steps.specs.Prelude.{loaded}
+use Rattle.seam_rule_rounds.specs.Prelude.{Header, Book, calls_of, created_as, accepted, Orders, IsFull, ClientReplica}
+use Rattle.seam_law_flow.specs.Prelude.{letters_of}
+use Rattle.seam_law_calls.specs.Prelude.{mine, entity_flow, real_in, real_of, from_sender}
+use Rattle.seam_law_all.specs.Prelude.{ObeysLaws, EndsRightly, KeepsRecords, KeepsRecordsWithin, MayBeGiven}
+use Rattle.seam_law_book.specs.Prelude.{as_begun, IsPresent, IsFitCall, calls_from, Brings, IsUntouched, frame_of, base_node, GoesWith}
+use Rattle.seam_law_book.specs.Prelude.{HasRoomForCalls, done_by_real, done_by_part, done_in, with_done, IsDoneOn}
 use Rattle.seam_machine.proofs.Quiet.{quiet_links}
-use Rattle.seam_law_flow.specs.Flows.{letters_of}
-use Rattle.seam_tree.specs.Division.{Division}
-use Rattle.seam_defs.specs.declared.flags.Part.{Part}
 use Rattle.seam_defs.specs.declared.flags.Part.TheVariants as part
-use Rattle.seam_call.specs.declared.call.Call.{Call as CallData}
-use Rattle.seam_call.specs.declared.create.Create.{Create}
-use Rattle.seam_call.specs.declared.order.Batch.{Batch}
-use Rattle.seam_toml.specs.declared.header.Header.{Header}
-use Rattle.seam_rule_lines.specs.Book.{Book, calls_of, created_as, accepted}
-use Rattle.seam_rule_lines.specs.Orders.{Orders, IsFull}
 use Rattle.seam_rule_lines.proofs.BookEntries.{differ}
 use Rattle.seam_accept.specs.Batches.{batch_of}
-use Rattle.seam_law_book.specs.Books.{as_begun}
-use Rattle.seam_law_book.specs.Bringing.{IsPresent, IsFitCall, calls_from, Brings, IsUntouched}
 use Rattle.seam_law_book.proofs.Adding.{all_turn}
 use Rattle.seam_law_book.proofs.Untouched.{IsFromSender, known_is_sender}
-use Rattle.seam_entity.specs.Here.{cell_count}
-use Rattle.seam_entity.specs.Reals.{RealView}
-use Rattle.seam_node_steps.specs.Holders.{holders}
-use Rattle.seam_node_steps.specs.Nodes.{World, node_steps, node_has_work}
-use Rattle.seam_node_steps.specs.Loads.{loaded}
-use Rattle.seam_law_calls.specs.Sights.{mine, entity_flow}
-use Rattle.seam_law_calls.specs.Ones.{real_in, real_of}
 use Rattle.seam_law_calls.proofs.Counting.{counted_none, none_counts}
 use Rattle.seam_law_calls.proofs.Holds.{both}
-use Rattle.seam_law_calls.specs.CellTurns.{from_sender}
 use Rattle.seam_law_rounds.proofs.Framing.{in_frame}
 use Rattle.seam_law_rounds.proofs.Loaded.{no_mail}
 use Rattle.seam_law_rounds.proofs.Ready.{one_holder}
 use Rattle.seam_law_rounds.proofs.Going.{settled_loaded}
 use Rattle.seam_law_rounds.proofs.Shape.{Somewhere, Nowhere, search_real}
-use Rattle.seam_rule_clients.specs.Clients.{ClientReplica}
-use Rattle.seam_law_all.specs.Calls.{ObeysLaws, EndsRightly}
-use Rattle.seam_law_all.specs.Records.{KeepsRecords, KeepsRecordsWithin, MayBeGiven}
-use Rattle.seam_law_book.specs.Going.{frame_of, base_node, GoesWith, HasRoomForCalls}
-use Rattle.seam_law_book.specs.ExecutedRound.{done_by_real, done_by_part, done_in, with_done, IsDoneOn}
 use Rattle.seam_law_book.proofs.Numbering.{cell_calls, base_calls}
 use Rattle.seam_law_book.proofs.Fitting.{type_by}
 use Rattle.seam_law_book.proofs.Started.{nobody, no_part_there, real_comes}

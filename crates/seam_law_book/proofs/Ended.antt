@@ -6,44 +6,30 @@ use Rattle.std.specs.List.{AllByRecursion, list_any, filter_map}
 use Rattle.std.specs.Option.{option_or}
 use Rattle.std.proofs.lemmas.Bool.{eq-eqb, eqb-true}
 use Rattle.std.proofs.lemmas.Option.{none-some}
-use Rattle.seam_machine.specs.Nets.{IsQuiet}
-use Rattle.seam_tree.specs.Division.{Division}
-use Rattle.seam_defs.specs.declared.flags.Part.{Part}
+use Rattle.seam_node_steps.specs.Prelude.{IsQuiet, Division, Part, Create, Batch, RealView, PartView, holders, World, node_has_work, loaded}
+use Rattle.seam_node_steps.specs.Prelude.{reaps_loaded, look_loaded, reap_ordered_at}
+use Rattle.seam_rule_rounds.specs.Prelude.{Header, Book, entries, creates_of, calls_of, created_as, live_as, destroys, joins, has_client}
+use Rattle.seam_rule_rounds.specs.Prelude.{with_round_ended, Entry, ClientReplica}
+use Rattle.seam_law_calls.specs.Prelude.{IsInFrame, order_about, entity_flow, real_in}
+use Rattle.seam_law_rounds.specs.Prelude.{IsNew, next_from, HasSettledPart, next_to}
+use Rattle.seam_law_ghosts.specs.Prelude.{GoesThroughRound}
+use Rattle.seam_law_all.specs.Prelude.{KeepsRecords, MayBeGiven}
+use Rattle.seam_law_book.specs.Prelude.{as_begun, made_among, IsPresent, calls_from, last_number, Brings, IsUntouched, frame_of, base_node}
+use Rattle.seam_law_book.specs.Prelude.{IsHeld, Lives, GoesWith, HasRoomForCalls}
 use Rattle.seam_defs.specs.declared.flags.Part.TheVariants as part
-use Rattle.seam_call.specs.declared.create.Create.{Create}
-use Rattle.seam_call.specs.declared.order.Batch.{Batch}
-use Rattle.seam_toml.specs.declared.header.Header.{Header}
-use Rattle.seam_rule_lines.specs.Book.{Book, entries, creates_of, calls_of, created_as, live_as, destroys, joins, has_client, with_round_ended}
-use Rattle.seam_rule_lines.specs.declared.verdict.Entry.{Entry}
 use Rattle.seam_rule_lines.specs.declared.verdict.Entry.TheVariants as entry
 use Rattle.seam_rule_lines.proofs.BookEntries.{live_is_created}
 use Rattle.seam_accept.specs.Batches.{batch_of, destroyed}
-use Rattle.seam_law_book.specs.Books.{as_begun}
-use Rattle.seam_law_book.specs.Bringing.{made_among, IsPresent, calls_from, last_number, Brings, IsUntouched}
 use Rattle.seam_law_book.proofs.Adding.{all_turn, counted}
 use Rattle.seam_law_book.proofs.Present.{any_split, any_begun, created_split, created_begun, live_is_present, uncreated, undestroyed}
 use Rattle.seam_law_book.proofs.Present.{alive, undestroyed_apart}
-use Rattle.seam_entity.specs.Reals.{RealView}
-use Rattle.seam_node_steps.specs.Bases.{PartView}
-use Rattle.seam_node_steps.specs.Holders.{holders}
-use Rattle.seam_node_steps.specs.Nodes.{World, node_has_work}
-use Rattle.seam_node_steps.specs.Loads.{loaded, reaps_loaded, look_loaded, reap_ordered_at}
-use Rattle.seam_law_calls.specs.Frames.{IsInFrame}
-use Rattle.seam_law_calls.specs.Sights.{order_about, entity_flow}
-use Rattle.seam_law_calls.specs.Ones.{real_in}
 use Rattle.seam_law_calls.proofs.Counting.{counted_none}
-use Rattle.seam_law_rounds.specs.Between.{IsNew, next_from}
 use Rattle.seam_law_rounds.proofs.Loading.{nodes_after}
 use Rattle.seam_law_rounds.proofs.Framing.{in_frame}
 use Rattle.seam_law_rounds.proofs.Making.{AreOthers}
 use Rattle.seam_law_rounds.proofs.Ready.{Home}
 use Rattle.seam_law_rounds.proofs.Giving.{reaps_framed, look_framed}
 use Rattle.seam_law_rounds.proofs.Shape.{Somewhere, Nowhere, search_real}
-use Rattle.seam_law_rounds.specs.Parts.{HasSettledPart, next_to}
-use Rattle.seam_law_ghosts.specs.RealPlaces.{GoesThroughRound}
-use Rattle.seam_rule_clients.specs.Clients.{ClientReplica}
-use Rattle.seam_law_all.specs.Records.{KeepsRecords, MayBeGiven}
-use Rattle.seam_law_book.specs.Going.{frame_of, base_node, IsHeld, Lives, GoesWith, HasRoomForCalls}
 use Rattle.seam_law_book.proofs.Origins.{RealFrom, was, made}
 use Rattle.seam_law_book.proofs.Numbering.{cell_calls, base_calls}
 use Rattle.seam_law_book.proofs.Fitting.{new_number, type_by, next_by, next_to_by}

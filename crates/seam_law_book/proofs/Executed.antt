@@ -5,22 +5,14 @@ use Rattle.std.specs.Prelude.{◌==◌, ◌&&◌, filter}
 use Rattle.std.specs.List.{AllByRecursion, flat_map, range_with_len}
 use Rattle.std.proofs.lemmas.Bool.{cases_eq, cases_lt, eq-eqb}
 use Rattle.std.proofs.lemmas.List.Elements.{filter-append, filter_map-append}
-use Rattle.seam_law_flow.specs.Flows.{letters_of, more_letter}
-use Rattle.seam_defs.specs.declared.flags.Part.{Part}
-use Rattle.seam_defs.specs.declared.limits.TheConstants.{MOST_BASE_NODES}
-use Rattle.seam_call.specs.Calls.{is_for, is_from}
-use Rattle.seam_call.specs.Senders.{IsSender, same_sender, rank_of}
-use Rattle.seam_call.specs.declared.sender.Sender.{Sender}
+use Rattle.seam_node_steps.specs.Prelude.{Part, MOST_BASE_NODES, is_for, is_from, IsSender, same_sender, rank_of, Sender, Call as CallData}
+use Rattle.seam_rule_rounds.specs.Prelude.{Book, called, calls_of, accepted, of_sender, IsFull}
+use Rattle.seam_law_flow.specs.Prelude.{letters_of, more_letter}
+use Rattle.seam_law_calls.specs.Prelude.{kept_if, from_sender}
+use Rattle.seam_law_book.specs.Prelude.{as_begun, calls_from}
 use Rattle.seam_call.specs.declared.sender.Sender.TheVariants as sender
-use Rattle.seam_call.specs.declared.call.Call.{Call as CallData}
-use Rattle.seam_rule_lines.specs.Book.{Book, called, calls_of, accepted}
-use Rattle.seam_rule_lines.specs.Orders.{of_sender, IsFull}
 use Rattle.seam_rule_lines.proofs.BookEntries.{differ}
-use Rattle.seam_law_book.specs.Books.{as_begun}
-use Rattle.seam_law_book.specs.Bringing.{calls_from}
 use Rattle.seam_law_book.proofs.Untouched.{IsFromSender, accepted_by_place, same_place}
-use Rattle.seam_law_calls.specs.Sights.{kept_if}
-use Rattle.seam_law_calls.specs.CellTurns.{from_sender}
 
 -- ---- a list by its senders
 

@@ -8,35 +8,18 @@ use Rattle.std.specs.FinMap as table
 use Rattle.std.proofs.lemmas.Bool.{cases_eq, eq-eqb}
 use Rattle.std.proofs.lemmas.Bool.Decides.{nat_tests}
 use Rattle.std.proofs.lemmas.Option.{none-some}
-use Rattle.seam_tree.specs.Division.{Division}
-use Rattle.seam_geo.specs.declared.pos.Pos.{Pos}
-use Rattle.seam_defs.specs.Deeds.{FitsDeed, part_of_deed}
-use Rattle.seam_defs.specs.Types.{method_of}
-use Rattle.seam_defs.specs.Tests.{fits_deed, fit_values}
-use Rattle.seam_defs.specs.declared.flags.Part.{Part}
+use Rattle.seam_node_steps.specs.Prelude.{Division, Pos, FitsDeed, part_of_deed, method_of, fits_deed, fit_values, Part, TypeDef, Deed}
+use Rattle.seam_node_steps.specs.Prelude.{same_part, Create, order_or, RealView, is_inside, stays_inside, can_do, PartView, World}
+use Rattle.seam_rule_rounds.specs.Prelude.{Header, Book, creates_of, created_as, live_as, has_client}
+use Rattle.seam_law_calls.specs.Prelude.{entity_flow, real_in}
+use Rattle.seam_law_rounds.specs.Prelude.{next_from, IsBetweenRounds, MayBeMade, next_to}
+use Rattle.seam_law_book.specs.Prelude.{as_begun, made_among, IsPresent, IsInside, IsNewEntity, StaysInside, last_number, Brings}
+use Rattle.seam_law_book.specs.Prelude.{IsUntouched, frame_of, base_node, IsHeld, GoesWith}
 use Rattle.seam_defs.specs.declared.flags.Part.TheVariants as part
-use Rattle.seam_defs.specs.declared.types.TypeDef.{TypeDef}
-use Rattle.seam_defs.specs.declared.states.Deed.{Deed}
 use Rattle.seam_defs.specs.declared.states.Deed.TheVariants as deed
 use Rattle.seam_defs.proofs.TestLemmas.{fit-Decides}
-use Rattle.seam_call.specs.Calls.{same_part}
-use Rattle.seam_call.specs.declared.create.Create.{Create}
-use Rattle.seam_toml.specs.declared.header.Header.{Header}
-use Rattle.seam_rule_lines.specs.Book.{Book, creates_of, created_as, live_as, has_client}
 use Rattle.seam_rule_lines.proofs.BookEntries.{live_is_created, differ}
-use Rattle.seam_law_book.specs.Books.{as_begun}
-use Rattle.seam_law_book.specs.Bringing.{made_among, IsPresent, IsInside, IsNewEntity, StaysInside, last_number, Brings, IsUntouched}
-use Rattle.seam_entity.specs.Orders.{order_or}
-use Rattle.seam_entity.specs.Reals.{RealView}
-use Rattle.seam_entity.specs.Fitting.{is_inside, stays_inside, can_do}
-use Rattle.seam_node_steps.specs.Bases.{PartView}
-use Rattle.seam_node_steps.specs.Nodes.{World}
-use Rattle.seam_law_calls.specs.Sights.{entity_flow}
-use Rattle.seam_law_calls.specs.Ones.{real_in}
-use Rattle.seam_law_rounds.specs.Between.{next_from, IsBetweenRounds, MayBeMade}
 use Rattle.seam_law_rounds.proofs.Making.{AreOthers, middle}
-use Rattle.seam_law_rounds.specs.Parts.{next_to}
-use Rattle.seam_law_book.specs.Going.{frame_of, base_node, IsHeld, GoesWith}
 use Rattle.seam_law_book.proofs.Origins.{IsCreate, RealFrom, was, made, PartFrom, had, comes}
 
 -- ---- tests

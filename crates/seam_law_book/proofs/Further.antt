@@ -3,22 +3,13 @@ use Rattle.std.proofs.Common.{◌≡◌, ℕ, List, true, Option, None, Some, re
 use Rattle.std.specs.Prelude.{is_some, IsTrue, not, ◌&&◌}
 use Rattle.std.specs.List.{list_any}
 use Rattle.std.proofs.lemmas.Bool.{cases_eq}
-use Rattle.seam_tree.specs.Division.{Division}
-use Rattle.seam_machine.specs.Nets.{LeadsTo}
-use Rattle.seam_machine.specs.declared.machines.Event.{Event}
-use Rattle.seam_toml.specs.declared.header.Header.{Header}
-use Rattle.seam_rule_lines.specs.Book.{Book, entries, created_as, joins, was_dead, is_shown, with_round_ended}
-use Rattle.seam_entity.specs.Reals.{RealView, WitnessView}
-use Rattle.seam_node_steps.specs.Nodes.{World, node_steps, node_has_work}
-use Rattle.seam_node_steps.specs.Loads.{look_loaded}
-use Rattle.seam_law_calls.specs.Frames.{Frame}
-use Rattle.seam_law_calls.specs.Sights.{entity_flow}
-use Rattle.seam_law_calls.specs.Ones.{real_in}
+use Rattle.seam_node_steps.specs.Prelude.{Division, LeadsTo, Event, RealView, WitnessView, World, node_steps, node_has_work, look_loaded}
+use Rattle.seam_rule_rounds.specs.Prelude.{Header, Book, entries, created_as, joins, was_dead, is_shown, with_round_ended}
+use Rattle.seam_law_calls.specs.Prelude.{Frame, entity_flow, real_in}
+use Rattle.seam_law_rounds.specs.Prelude.{IsBetweenRounds, HasPartsBetweenRounds}
+use Rattle.seam_law_ghosts.specs.Prelude.{WasThere}
+use Rattle.seam_law_book.specs.Prelude.{frame_of, GoesWith}
 use Rattle.seam_law_calls.proofs.Holds.{both}
-use Rattle.seam_law_rounds.specs.Between.{IsBetweenRounds}
-use Rattle.seam_law_rounds.specs.Parts.{HasPartsBetweenRounds}
-use Rattle.seam_law_ghosts.specs.RealPlaces.{WasThere}
-use Rattle.seam_law_book.specs.Going.{frame_of, GoesWith}
 use Rattle.seam_law_book.proofs.Ended.{client_of, live_ended}
 use Rattle.seam_law_book.proofs.Parts.{both_seen, looks_leave_part}
 

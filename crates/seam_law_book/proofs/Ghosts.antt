@@ -4,26 +4,12 @@ use Rattle.std.proofs.Common.{refl, sym, ap, ◌∙◌, arith}
 use Rattle.std.specs.Prelude.{filter}
 use Rattle.std.specs.FinSet as set
 use Rattle.std.specs.List.{flat_map, range_with_len}
-use Rattle.seam_tree.specs.Division.{Division, cells_of}
+use Rattle.seam_node_steps.specs.Prelude.{Division, cells_of, Create, GhostCopy, cell_count, RealView, World, copy_if}
+use Rattle.seam_rule_rounds.specs.Prelude.{Header, public_at, GhostLine, ghost_cells, ghost_lines, Standing}
+use Rattle.seam_law_calls.specs.Prelude.{RealFits}
+use Rattle.seam_law_ghosts.specs.Prelude.{place_of, present, copy_at, AreSettled}
+use Rattle.seam_law_book.specs.Prelude.{frame_of, IsInTable, ghost_read, ghosts_read}
 use Rattle.seam_defs.specs.declared.flags.Part.TheVariants as part
-use Rattle.seam_call.specs.declared.create.Create.{Create}
-use Rattle.seam_call.specs.declared.shown.GhostCopy.{GhostCopy}
-use Rattle.seam_toml.specs.declared.header.Header.{Header}
-use Rattle.seam_entity.specs.Here.{cell_count}
-use Rattle.seam_entity.specs.Reals.{RealView}
-use Rattle.seam_node_steps.specs.Nodes.{World}
-use Rattle.seam_node_steps.specs.Settle.{copy_if}
-use Rattle.seam_law_calls.specs.Fits.{RealFits}
-use Rattle.seam_law_ghosts.specs.RealPlaces.{place_of}
-use Rattle.seam_law_ghosts.specs.Copies.{present, copy_at, AreSettled}
-use Rattle.seam_rule_rounds.specs.FlatTable.{public_at}
-use Rattle.seam_rule_rounds.specs.Lines.{GhostLine}
-use Rattle.seam_rule_rounds.specs.RoundPlaces.{ghost_cells}
-use Rattle.seam_rule_rounds.specs.Round.{ghost_lines}
-use Rattle.seam_rule_rounds.specs.Standing.{Standing}
-use Rattle.seam_law_book.specs.Going.{frame_of}
-use Rattle.seam_law_book.specs.ExecutedRound.{IsInTable}
-use Rattle.seam_law_book.specs.Standings.{ghost_read, ghosts_read}
 
 is_false : (b : Bool) → (b ≡ true → ⊥) → b ≡ false
 is_false true not = absurd (not refl)

@@ -5,43 +5,23 @@ use Rattle.std.specs.Prelude.{◌==◌, ◌&&◌}
 use Rattle.std.specs.List.{AllByRecursion, IsDistinct, filter_map, cons_option}
 use Rattle.std.proofs.lemmas.Bool.{eqb-true, eq-eqb}
 use Rattle.seam_machine.proofs.Quiet.{quiet_links}
-use Rattle.seam_law_flow.specs.Flows.{letters_of}
-use Rattle.seam_defs.specs.Types.{type_of}
-use Rattle.seam_tree.specs.Division.{Division}
-use Rattle.seam_defs.specs.declared.flags.Part.{Part}
+use Rattle.seam_node_steps.specs.Prelude.{type_of, Division, Part, is_for, same_part, Call as CallData, Create, Order, Batch, RealView}
+use Rattle.seam_node_steps.specs.Prelude.{cell_count, can_do, limit, PartView, holders, World, node_has_work, loaded}
+use Rattle.seam_rule_rounds.specs.Prelude.{Header, Book, calls_of, created_as, Entry}
+use Rattle.seam_law_flow.specs.Prelude.{letters_of}
+use Rattle.seam_law_calls.specs.Prelude.{mine, order_about, entity_flow, real_in, reaped_by_order, most_entities}
+use Rattle.seam_law_rounds.specs.Prelude.{next_from, IsBetweenRounds, MayBeMade, HasNoWitness, IsFitOrder, IsForReal, IsFitting, next_to}
+use Rattle.seam_law_rounds.specs.Prelude.{IsFitBaseOrder, IsForPart}
+use Rattle.seam_law_all.specs.Prelude.{MayBeGiven}
+use Rattle.seam_law_book.specs.Prelude.{as_begun, made_among, IsPresent, GetsClient, IsThere, IsNewEntity, IsFitCall, Brings, IsUntouched}
+use Rattle.seam_law_book.specs.Prelude.{frame_of, base_node, GoesWith, HasRoomForCalls, HasRoomForRound}
 use Rattle.seam_defs.specs.declared.flags.Part.TheVariants as part
-use Rattle.seam_call.specs.Calls.{is_for, same_part}
-use Rattle.seam_call.specs.declared.call.Call.{Call as CallData}
-use Rattle.seam_call.specs.declared.create.Create.{Create}
-use Rattle.seam_call.specs.declared.order.Order.{Order}
 use Rattle.seam_call.specs.declared.order.Order.TheVariants as order
-use Rattle.seam_call.specs.declared.order.Batch.{Batch}
-use Rattle.seam_toml.specs.declared.header.Header.{Header}
-use Rattle.seam_rule_lines.specs.Book.{Book, calls_of, created_as}
-use Rattle.seam_rule_lines.specs.declared.verdict.Entry.{Entry}
 use Rattle.seam_rule_lines.specs.declared.verdict.Entry.TheVariants as entry
 use Rattle.seam_accept.specs.Batches.{passes_to, ordered, batch_of}
-use Rattle.seam_law_book.specs.Books.{as_begun}
-use Rattle.seam_law_book.specs.Bringing.{made_among, IsPresent, GetsClient, IsThere, IsNewEntity, IsFitCall, Brings}
-use Rattle.seam_law_book.specs.Bringing.{IsUntouched}
 use Rattle.seam_law_book.proofs.Adding.{all_turn}
-use Rattle.seam_entity.specs.Reals.{RealView}
-use Rattle.seam_entity.specs.Here.{cell_count}
-use Rattle.seam_entity.specs.Fitting.{can_do}
-use Rattle.seam_entity.specs.Numbers.{limit}
-use Rattle.seam_node_steps.specs.Bases.{PartView}
-use Rattle.seam_node_steps.specs.Holders.{holders}
-use Rattle.seam_node_steps.specs.Nodes.{World, node_has_work}
-use Rattle.seam_node_steps.specs.Loads.{loaded}
-use Rattle.seam_law_calls.specs.Sights.{mine, order_about, entity_flow}
-use Rattle.seam_law_calls.specs.Ones.{real_in, reaped_by_order}
-use Rattle.seam_law_rounds.specs.Between.{next_from, IsBetweenRounds, MayBeMade, HasNoWitness, IsFitOrder, IsForReal, IsFitting}
 use Rattle.seam_law_rounds.proofs.Ready.{one_holder}
 use Rattle.seam_law_rounds.proofs.Loaded.{holds_kept, holds_made}
-use Rattle.seam_law_rounds.specs.Parts.{next_to, IsFitBaseOrder, IsForPart}
-use Rattle.seam_law_calls.specs.Telling.{most_entities}
-use Rattle.seam_law_all.specs.Records.{MayBeGiven}
-use Rattle.seam_law_book.specs.Going.{frame_of, base_node, GoesWith, HasRoomForCalls, HasRoomForRound}
 use Rattle.seam_law_book.proofs.Holding.{same_holders}
 use Rattle.seam_law_book.proofs.Origins.{RealFrom, real_from, part_from}
 use Rattle.seam_law_book.proofs.Numbering.{cell_numbered, base_numbered}

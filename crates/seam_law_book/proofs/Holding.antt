@@ -5,19 +5,12 @@ use Rattle.std.specs.Prelude.{option_map}
 use Rattle.std.specs.Ordering.{nat_cmp, eq_by_cmp}
 use Rattle.std.specs.FinMap as table
 use Rattle.std.proofs.lemmas.Bool.Decides.{nat_tests}
-use Rattle.seam_tree.specs.Division.{Division, cells_of}
-use Rattle.seam_machine.specs.Totals.{total}
+use Rattle.seam_node_steps.specs.Prelude.{Division, cells_of, total, Order, Batch, RealView, real_begins, one_if_real, held_at, carried}
+use Rattle.seam_node_steps.specs.Prelude.{holders, NodeView, World, Cell, Base, created_at, with_witness, attached, cell_round, base_round}
+use Rattle.seam_node_steps.specs.Prelude.{ordered_at, loaded}
+use Rattle.seam_law_rounds.specs.Prelude.{each, node_loaded}
 use Rattle.seam_net_runs.specs.Weights.{links_weight}
-use Rattle.seam_call.specs.declared.order.Order.{Order}
-use Rattle.seam_call.specs.declared.order.Batch.{Batch}
-use Rattle.seam_entity.specs.Reals.{RealView}
-use Rattle.seam_entity.specs.Executing.{real_begins}
-use Rattle.seam_node_steps.specs.Holders.{one_if_real, held_at, carried, holders}
-use Rattle.seam_node_steps.specs.Nodes.{NodeView, World}
-use Rattle.seam_node_steps.specs.Nodes.NodeView.{Cell, Base}
-use Rattle.seam_node_steps.specs.Loads.{created_at, with_witness, attached, cell_round, base_round, ordered_at, loaded}
 use Rattle.seam_node_steps.proofs.Slots.{get-set_at}
-use Rattle.seam_law_rounds.specs.Loaded.{each, node_loaded}
 use Rattle.seam_law_rounds.proofs.Loading.{each_keeps, Any, any, loaded_is, get-each_value}
 
 same_one : (g : RealView → RealView) (o : Option RealView) → one_if_real (option_map g o) ≡ one_if_real o

@@ -9,47 +9,30 @@ use Rattle.std.specs.FinMap as table
 use Rattle.std.proofs.lemmas.Bool.Decides.{nat_tests}
 use Rattle.std.proofs.lemmas.List.Elements.{filter-append}
 use Rattle.std.proofs.lemmas.Option.{slice_get-map}
-use Rattle.seam_tree.specs.Division.{Division, leaf_at, cells_of}
-use Rattle.seam_machine.specs.Nets.{IsSquare, IsQuiet, happens, enabled, LeadsTo}
-use Rattle.seam_machine.specs.declared.machines.Event.{Event}
+use Rattle.seam_node_steps.specs.Prelude.{Division, leaf_at, cells_of, IsSquare, IsQuiet, happens, enabled, LeadsTo, Event, Create, Order}
+use Rattle.seam_node_steps.specs.Prelude.{Batch, cell_count, base_of, RealView, created, real_begins, Msg, BaseCall, Hand, Current}
+use Rattle.seam_node_steps.specs.Prelude.{GhostSet, GhostDrop, Tick, Reap, Update, Map, set_at, has_any, Slot, CellView, slot_of}
+use Rattle.seam_node_steps.specs.Prelude.{ready_entity, BaseView, PartView, tick_to, NodeView, World, node_steps, node_has_work, Cell, Base}
+use Rattle.seam_node_steps.specs.Prelude.{with_nodes, real_if, part_if, with_route, new_part, created_at, with_witness, with_proxy}
+use Rattle.seam_node_steps.specs.Prelude.{attached, cell_round, base_round, part_begins, order_if, ordered_at, reap_ordered_at, loaded}
+use Rattle.seam_node_steps.specs.Prelude.{reaps_loaded, look_loaded}
+use Rattle.seam_law_flow.specs.Prelude.{comes, letters_of, slot_at}
+use Rattle.seam_law_calls.specs.Prelude.{Frame, here_at, IsInFrame, Has, AtCell, AtBase, order_about, order_concerns, orders_of, times}
+use Rattle.seam_law_calls.specs.Prelude.{no_cell, no_base, has_of, has_none, mine, entity_flow, CellMoves, BaseMoves, updated, Moves}
+use Rattle.seam_law_calls.specs.Prelude.{at_a_cell, at_a_base}
+use Rattle.seam_law_rounds.specs.Prelude.{IsNew, each, node_loaded}
 use Rattle.seam_machine.proofs.Occurring.{occurs}
 use Rattle.seam_machine.proofs.Quiet.{quiet_links, quiet_tasks}
 use Rattle.seam_net_runs.proofs.Runs.{leads_keeps}
-use Rattle.seam_law_flow.specs.Flows.{comes, letters_of, slot_at}
 use Rattle.seam_law_flow.proofs.Following.{all_append, slots_kept, letters_kept, came}
-use Rattle.seam_call.specs.declared.create.Create.{Create}
-use Rattle.seam_call.specs.declared.order.Order.{Order}
 use Rattle.seam_call.specs.declared.order.Order.TheVariants as order
-use Rattle.seam_call.specs.declared.order.Batch.{Batch}
-use Rattle.seam_entity.specs.Here.{cell_count, base_of}
-use Rattle.seam_entity.specs.Reals.{RealView}
-use Rattle.seam_entity.specs.Executing.{created, real_begins}
-use Rattle.seam_entity.specs.declared.message.Msg.{Msg}
-use Rattle.seam_entity.specs.declared.message.Msg.TheVariants.{Call, BaseCall, Hand, Current, GhostSet, GhostDrop, Tick, Reap, Update}
-use Rattle.seam_node_steps.specs.Maps.{Map, set_at, has_any}
-use Rattle.seam_node_steps.specs.Slots.{Slot}
-use Rattle.seam_node_steps.specs.Cells.{CellView, slot_of, ready_entity}
-use Rattle.seam_node_steps.specs.Bases.{BaseView, PartView}
-use Rattle.seam_node_steps.specs.BaseCases.{tick_to}
-use Rattle.seam_node_steps.specs.Nodes.{NodeView, World, node_steps, node_has_work}
-use Rattle.seam_node_steps.specs.Nodes.NodeView.{Cell, Base}
-use Rattle.seam_node_steps.specs.Loads.{with_nodes, real_if, part_if, with_route, new_part, created_at, with_witness, with_proxy, attached}
-use Rattle.seam_node_steps.specs.Loads.{cell_round, base_round, part_begins, order_if, ordered_at, reap_ordered_at, loaded, reaps_loaded}
-use Rattle.seam_node_steps.specs.Loads.{look_loaded}
+use Rattle.seam_entity.specs.declared.message.Msg.TheVariants.{Call}
 use Rattle.seam_node_steps.proofs.Slots.{get-set_at}
-use Rattle.seam_law_calls.specs.Frames.{Frame, here_at, IsInFrame}
-use Rattle.seam_law_calls.specs.Sights.{Has, AtCell, AtBase, order_about, order_concerns, orders_of, times, no_cell, no_base, has_of, has_none, mine}
-use Rattle.seam_law_calls.specs.Sights.{entity_flow}
 use Rattle.seam_law_calls.specs.CellMoves as move
-use Rattle.seam_law_calls.specs.CellMoves.{CellMoves}
 use Rattle.seam_law_calls.specs.BaseMoves as base_move
-use Rattle.seam_law_calls.specs.BaseMoves.{BaseMoves, updated}
-use Rattle.seam_law_calls.specs.Moves.{Moves, at_a_cell, at_a_base}
 use Rattle.seam_law_calls.proofs.Classify.{event_moves, frame_happens}
 use Rattle.seam_law_calls.proofs.ExampleMet.{slots}
 use Rattle.seam_law_calls.proofs.Sparing.{items_all}
-use Rattle.seam_law_rounds.specs.Between.{IsNew}
-use Rattle.seam_law_rounds.specs.Loaded.{each, node_loaded}
 use Rattle.seam_law_rounds.proofs.Loading.{each_keeps, Any, any, nodes_after, loaded_is, get-each_value}
 use Rattle.seam_law_calls.proofs.Quieting.{neither, none_left}
 use Rattle.seam_law_rounds.proofs.Staying.{other_set}

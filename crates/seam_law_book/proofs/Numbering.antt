@@ -6,35 +6,20 @@ use Rattle.std.specs.List.{AllByRecursion}
 use Rattle.std.proofs.lemmas.Bool.{cases_eq, eq-eqb, ne_eqb}
 use Rattle.std.proofs.lemmas.List.{map-id}
 use Rattle.std.proofs.Math.Nat.{mod-lt}
-use Rattle.seam_machine.specs.Sends.{items_to}
-use Rattle.seam_law_flow.specs.Flows.{letters_of, more_letter}
-use Rattle.seam_law_flow.specs.Numbered.{number_from}
-use Rattle.seam_defs.specs.declared.flags.Part.{Part}
+use Rattle.seam_node_steps.specs.Prelude.{items_to, Part, Division, is_for, same_part, rank_of, Sender, Call as CallData, Order, cell_count}
+use Rattle.seam_node_steps.specs.Prelude.{limit}
+use Rattle.seam_rule_rounds.specs.Prelude.{Header, Book, entries, calls_of, Entry}
+use Rattle.seam_law_flow.specs.Prelude.{letters_of, more_letter, number_from}
+use Rattle.seam_law_calls.specs.Prelude.{kept_if, orders_of, from_sender, numbered_from, cell_order_from, base_call_of}
+use Rattle.seam_law_rounds.specs.Prelude.{order_in, cell_call_from, AreNumbered, base_calls_of, AreBaseNumbered}
+use Rattle.seam_law_book.specs.Prelude.{as_begun, IsKnownSender, IsFitCall, calls_from, last_number, AreNumberedFrom, Brings, frame_of}
+use Rattle.seam_law_book.specs.Prelude.{HasRoomForCalls}
 use Rattle.seam_defs.specs.declared.flags.Part.TheVariants as part
-use Rattle.seam_tree.specs.Division.{Division}
-use Rattle.seam_call.specs.Calls.{is_for, same_part}
-use Rattle.seam_call.specs.Senders.{rank_of}
-use Rattle.seam_call.specs.declared.sender.Sender.{Sender}
 use Rattle.seam_call.specs.declared.sender.Sender.TheVariants as sender
-use Rattle.seam_call.specs.declared.call.Call.{Call as CallData}
-use Rattle.seam_call.specs.declared.order.Order.{Order}
 use Rattle.seam_call.specs.declared.order.Order.TheVariants as order
-use Rattle.seam_toml.specs.declared.header.Header.{Header}
-use Rattle.seam_rule_lines.specs.Book.{Book, entries, calls_of}
-use Rattle.seam_rule_lines.specs.declared.verdict.Entry.{Entry}
 use Rattle.seam_rule_lines.specs.declared.verdict.Entry.TheVariants as entry
 use Rattle.seam_accept.specs.Batches.{node_of, passes_to, batch_of}
-use Rattle.seam_law_book.specs.Books.{as_begun}
-use Rattle.seam_law_book.specs.Bringing.{IsKnownSender, IsFitCall, calls_from, last_number, AreNumberedFrom, Brings}
-use Rattle.seam_entity.specs.Here.{cell_count}
-use Rattle.seam_entity.specs.Numbers.{limit}
-use Rattle.seam_law_calls.specs.Sights.{kept_if, orders_of}
-use Rattle.seam_law_calls.specs.CellTurns.{from_sender, numbered_from, cell_order_from}
-use Rattle.seam_law_rounds.specs.Between.{order_in, cell_call_from, AreNumbered}
 use Rattle.seam_law_rounds.specs.Between as core
-use Rattle.seam_law_calls.specs.PartMoves.{base_call_of}
-use Rattle.seam_law_rounds.specs.Parts.{base_calls_of, AreBaseNumbered}
-use Rattle.seam_law_book.specs.Going.{frame_of, HasRoomForCalls}
 use Rattle.seam_law_book.proofs.Orders.{all_picked, picked_at}
 
 -- ---- the node of a sender

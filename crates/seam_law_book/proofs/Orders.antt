@@ -4,25 +4,17 @@ use Rattle.std.proofs.Common.{ap, ◌∙◌}
 use Rattle.std.specs.Prelude.{◌==◌, ◌&&◌}
 use Rattle.std.specs.List.{AllByRecursion, filter_map}
 use Rattle.std.proofs.lemmas.Bool.{eqb-true}
-use Rattle.seam_machine.specs.Sends.{items_to}
-use Rattle.seam_law_flow.specs.Flows.{letters_of, more_letter}
-use Rattle.seam_defs.specs.declared.flags.Part.{Part}
+use Rattle.seam_node_steps.specs.Prelude.{items_to, Part, MOST_CELLS, is_for, same_part, rank_of, Call as CallData, Order}
+use Rattle.seam_rule_rounds.specs.Prelude.{Header, calls_of, Entry}
+use Rattle.seam_law_flow.specs.Prelude.{letters_of, more_letter}
+use Rattle.seam_law_calls.specs.Prelude.{kept_if, order_concerns, orders_of}
+use Rattle.seam_law_rounds.specs.Prelude.{order_in}
+use Rattle.seam_law_book.specs.Prelude.{calls_from}
 use Rattle.seam_defs.specs.declared.flags.Part.TheVariants as part
-use Rattle.seam_tree.specs.declared.area_table.TheConstants.{MOST_CELLS}
-use Rattle.seam_call.specs.Calls.{is_for, same_part}
-use Rattle.seam_call.specs.Senders.{rank_of}
-use Rattle.seam_call.specs.declared.call.Call.{Call as CallData}
-use Rattle.seam_call.specs.declared.order.Order.{Order}
 use Rattle.seam_call.specs.declared.order.Order.TheVariants as order
-use Rattle.seam_toml.specs.declared.header.Header.{Header}
-use Rattle.seam_rule_lines.specs.Book.{calls_of}
-use Rattle.seam_rule_lines.specs.declared.verdict.Entry.{Entry}
 use Rattle.seam_rule_lines.specs.declared.verdict.Entry.TheVariants as entry
 use Rattle.seam_accept.specs.Batches.{node_of, passes_to, ordered}
 use Rattle.seam_accept.proofs.Books.{both}
-use Rattle.seam_law_book.specs.Bringing.{calls_from}
-use Rattle.seam_law_calls.specs.Sights.{kept_if, order_concerns, orders_of}
-use Rattle.seam_law_rounds.specs.Between.{order_in}
 
 -- the call is one of the sender of that place to the part
 abbrev pub is_chosen : Part → ℕ → ℕ → CallData → Bool

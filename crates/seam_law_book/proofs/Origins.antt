@@ -3,24 +3,14 @@ use Rattle.std.proofs.Common.{◌≡◌, ℕ, Bool, true, false, cond, eqb, List
 use Rattle.std.specs.Prelude.{option_map, slice_get}
 use Rattle.std.specs.List.{AllByRecursion, IsDistinct}
 use Rattle.std.specs.FinMap as table
-use Rattle.seam_tree.specs.Division.{leaf_at, IsTree}
-use Rattle.seam_law_flow.specs.Flows.{slot_at}
-use Rattle.seam_call.specs.declared.create.Create.{Create}
-use Rattle.seam_call.specs.declared.order.Batch.{Batch}
-use Rattle.seam_entity.specs.Reals.{RealView, WitnessView}
-use Rattle.seam_entity.specs.Executing.{created, real_begins}
-use Rattle.seam_node_steps.specs.Bases.{PartView, ProxyView}
-use Rattle.seam_node_steps.specs.Nodes.{NodeView, World}
-use Rattle.seam_node_steps.specs.Loads.{new_part, part_begins, loaded}
-use Rattle.seam_law_calls.specs.Frames.{Frame, here_at}
-use Rattle.seam_law_calls.specs.Sights.{has_of, has_none, entity_flow}
-use Rattle.seam_law_calls.specs.Ones.{real_in, reaped_by_order}
-use Rattle.seam_law_rounds.specs.Between.{created_entity, MayBeMade, IsBetweenRounds}
-use Rattle.seam_law_rounds.specs.Loaded.{node_loaded}
+use Rattle.seam_node_steps.specs.Prelude.{leaf_at, IsTree, Create, Batch, RealView, WitnessView, created, real_begins, PartView, ProxyView}
+use Rattle.seam_node_steps.specs.Prelude.{NodeView, World, new_part, part_begins, loaded}
+use Rattle.seam_law_flow.specs.Prelude.{slot_at}
+use Rattle.seam_law_calls.specs.Prelude.{Frame, here_at, has_of, has_none, entity_flow, real_in, reaped_by_order, home_of}
+use Rattle.seam_law_rounds.specs.Prelude.{created_entity, MayBeMade, IsBetweenRounds, node_loaded}
 use Rattle.seam_law_rounds.proofs.Staying.{Kept}
 use Rattle.seam_law_rounds.proofs.Making.{AreOthers, Creation, nowhere, once, creation_of, middle, until, node_made, node_after}
 use Rattle.seam_law_rounds.proofs.Loaded.{slot_is, real_was}
-use Rattle.seam_law_calls.specs.BaseTurns.{home_of}
 use Rattle.seam_law_rounds.proofs.PartLoads.{SamePart, part_stays, part_comes}
 
 -- entity e is the create x of the list, and no other of it

@@ -4,41 +4,28 @@ use Rattle.std.specs.Prelude.{is_some, option_map, slice_get, ◌||◌, ◌==◌
 use Rattle.std.specs.List.{list_any, filter_map}
 use Rattle.std.proofs.lemmas.Bool.{cases_eq}
 use Rattle.std.proofs.lemmas.Option.{slice_get-map}
-use Rattle.seam_machine.specs.Nets.{LeadsTo}
-use Rattle.seam_machine.specs.declared.machines.Event.{Event}
+use Rattle.seam_node_steps.specs.Prelude.{LeadsTo, Event, Order, Batch, Here, cell_count, WitnessView, PartView, ProxyView, NodeView, World}
+use Rattle.seam_node_steps.specs.Prelude.{node_steps, node_has_work, with_nodes, proxy_begins, part_begins, with_proxy, ordered_at}
+use Rattle.seam_node_steps.specs.Prelude.{reap_ordered_at, loaded, reaps_loaded, look_loaded}
+use Rattle.seam_rule_rounds.specs.Prelude.{joins, Entry}
+use Rattle.seam_law_flow.specs.Prelude.{slot_at}
+use Rattle.seam_law_calls.specs.Prelude.{Frame, here_at, IsInFrame, has_of, has_none, entity_flow, IsSpared, home_of}
+use Rattle.seam_law_rounds.specs.Prelude.{IsBetweenRounds, each, node_loaded, HasSettledPart, AreFor}
+use Rattle.seam_law_clients.specs.Prelude.{ShowsItsPart}
 use Rattle.seam_machine.proofs.Quiet.{quiet_tasks}
-use Rattle.seam_law_flow.specs.Flows.{slot_at}
-use Rattle.seam_call.specs.declared.order.Order.{Order}
 use Rattle.seam_call.specs.declared.order.Order.TheVariants as order
-use Rattle.seam_call.specs.declared.order.Batch.{Batch}
-use Rattle.seam_rule_lines.specs.Book.{joins}
-use Rattle.seam_rule_lines.specs.declared.verdict.Entry.{Entry}
 use Rattle.seam_rule_lines.specs.declared.verdict.Entry.TheVariants as entry
 use Rattle.seam_accept.specs.Batches.{joined}
-use Rattle.seam_entity.specs.Here.{Here, cell_count}
-use Rattle.seam_entity.specs.Reals.{WitnessView}
-use Rattle.seam_node_steps.specs.Bases.{PartView, ProxyView}
-use Rattle.seam_node_steps.specs.Nodes.{NodeView, World, node_steps, node_has_work}
-use Rattle.seam_node_steps.specs.Loads.{with_nodes, proxy_begins, part_begins, with_proxy, ordered_at, reap_ordered_at, loaded}
-use Rattle.seam_node_steps.specs.Loads.{reaps_loaded, look_loaded}
-use Rattle.seam_law_calls.specs.Frames.{Frame, here_at, IsInFrame}
-use Rattle.seam_law_calls.specs.Sights.{has_of, has_none, entity_flow}
-use Rattle.seam_law_calls.specs.Ones.{IsSpared}
-use Rattle.seam_law_rounds.specs.Between.{IsBetweenRounds}
-use Rattle.seam_law_rounds.specs.Loaded.{each, node_loaded}
 use Rattle.seam_law_rounds.proofs.Loading.{nodes_after}
 use Rattle.seam_law_rounds.proofs.Making.{AreOthers}
 use Rattle.seam_law_rounds.proofs.Loaded.{slot_is}
 use Rattle.seam_law_rounds.proofs.Giving.{look_framed, look_given}
-use Rattle.seam_law_calls.specs.BaseTurns.{home_of}
 use Rattle.seam_law_calls.proofs.AloneRuns.{bare_leads}
-use Rattle.seam_law_rounds.specs.Parts.{HasSettledPart, AreFor}
 use Rattle.seam_law_rounds.proofs.PartLoads.{part_at, parts_ordered}
 use Rattle.seam_law_rounds.proofs.PartsLoaded.{same_some}
 use Rattle.seam_law_rounds.proofs.Still.{is_still, still_leads}
 use Rattle.seam_law_rounds.proofs.Calms.{reaps_part}
 use Rattle.seam_law_rounds.proofs.Joining.{is_among, joined_if, peopled, part_joined, part_peopled, bare_peopled}
-use Rattle.seam_law_clients.specs.BaseLines.{ShowsItsPart}
 use Rattle.seam_law_clients.proofs.BaseLines.{shows_its_part}
 
 abbrev pub tick : ℕ × Order

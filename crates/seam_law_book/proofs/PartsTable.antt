@@ -3,39 +3,19 @@ use Rattle.std.proofs.Common.{◌≡◌, ℕ, ◌≤◌, List, [], ◌∷◌, �
 use Rattle.std.proofs.Common.{sym, ap, ◌∙◌, subst, arith, inl, inr, length-append, ◌⊎◌}
 use Rattle.std.specs.List.{AllByRecursion}
 use Rattle.std.proofs.lemmas.Option.{none-some}
-use Rattle.seam_tree.specs.Division.{Division}
-use Rattle.seam_value.specs.declared.values.Value.{Value}
-use Rattle.seam_defs.specs.Deeds.{after}
-use Rattle.seam_defs.specs.Types.{type_of}
-use Rattle.seam_defs.specs.declared.flags.Part.{Part}
+use Rattle.seam_node_steps.specs.Prelude.{Division, Value, after, type_of, Part, State, Deed, TypeDef, Call as CallData, Create, Batch}
+use Rattle.seam_node_steps.specs.Prelude.{PartView, holders, loaded, World}
+use Rattle.seam_rule_rounds.specs.Prelude.{Header, Book, entries, calls_of, created_as, accepted, flat, Orders, IsFull, ClientReplica}
+use Rattle.seam_law_calls.specs.Prelude.{here_at, entity_flow}
+use Rattle.seam_law_all.specs.Prelude.{KeepsRecords, MayBeGiven}
+use Rattle.seam_law_book.specs.Prelude.{as_begun, IsPresent, Brings, IsUntouched, frame_of, base_node, GoesWith, HasRoomForCalls}
+use Rattle.seam_law_book.specs.Prelude.{IsPartInTable, ArePartsInTable, BeginsPart}
 use Rattle.seam_defs.specs.declared.flags.Part.TheVariants as part
-use Rattle.seam_defs.specs.declared.states.State.{State}
-use Rattle.seam_defs.specs.declared.states.Deed.{Deed}
 use Rattle.seam_defs.specs.declared.states.Deed.TheVariants as deed
-use Rattle.seam_defs.specs.declared.types.TypeDef.{TypeDef}
-use Rattle.seam_call.specs.declared.call.Call.{Call as CallData}
-use Rattle.seam_call.specs.declared.create.Create.{Create}
-use Rattle.seam_call.specs.declared.order.Batch.{Batch}
-use Rattle.seam_toml.specs.declared.header.Header.{Header}
-use Rattle.seam_rule_lines.specs.Book.{Book, entries, calls_of, created_as, accepted}
-use Rattle.seam_rule_lines.specs.FlatTable.{flat}
-use Rattle.seam_rule_lines.specs.Orders.{Orders, IsFull}
 use Rattle.seam_rule_lines.proofs.BookEntries.{live_is_created}
 use Rattle.seam_accept.specs.Batches.{batch_of}
-use Rattle.seam_law_book.specs.Books.{as_begun}
-use Rattle.seam_law_book.specs.Bringing.{IsPresent, Brings, IsUntouched}
 use Rattle.seam_law_book.proofs.Untouched.{IsFromSender}
-use Rattle.seam_node_steps.specs.Bases.{PartView}
-use Rattle.seam_node_steps.specs.Holders.{holders}
-use Rattle.seam_node_steps.specs.Loads.{loaded}
-use Rattle.seam_node_steps.specs.Nodes.{World}
-use Rattle.seam_law_calls.specs.Frames.{here_at}
-use Rattle.seam_law_calls.specs.Sights.{entity_flow}
 use Rattle.seam_law_rounds.proofs.Shape.{Somewhere, Nowhere}
-use Rattle.seam_rule_clients.specs.Clients.{ClientReplica}
-use Rattle.seam_law_all.specs.Records.{KeepsRecords, MayBeGiven}
-use Rattle.seam_law_book.specs.Going.{frame_of, base_node, GoesWith, HasRoomForCalls}
-use Rattle.seam_law_book.specs.ExecutedRound.{IsPartInTable, ArePartsInTable, BeginsPart}
 use Rattle.seam_law_book.proofs.Origins.{PartFrom, had, comes}
 use Rattle.seam_law_book.proofs.Fitting.{others_none, made_is, new_number, part_type_by}
 use Rattle.seam_law_book.proofs.Started.{part_comes, no_one}

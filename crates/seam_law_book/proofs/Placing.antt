@@ -4,48 +4,27 @@ use Rattle.std.proofs.Common.{Option, Some, None, refl, sym, ap, ◌∙◌, subs
 use Rattle.std.specs.Prelude.{◌==◌, ◌||◌}
 use Rattle.std.specs.List.{AllByRecursion, list_any, range_with_len}
 use Rattle.std.proofs.Math.Seq.{take-length, take-append_seam}
-use Rattle.seam_tree.specs.Division.{Division}
-use Rattle.seam_haunt.specs.Places.{Place, IsPlaceAfter}
-use Rattle.seam_defs.specs.Types.{type_of}
+use Rattle.seam_node_steps.specs.Prelude.{Division, Place, IsPlaceAfter, type_of, State, Call as CallData, Create, Part, Batch, RealView}
+use Rattle.seam_node_steps.specs.Prelude.{holders, World, loaded}
+use Rattle.seam_rule_rounds.specs.Prelude.{Header, creates_of, makes, tree_of, first_state, flat, Entry, entries, calls_of, created_as}
+use Rattle.seam_rule_rounds.specs.Prelude.{live_as, accepted, IsFull, ClientReplica, Standing, distances, place_before, HasPlace}
+use Rattle.seam_rule_rounds.specs.Prelude.{position_at, positions_past}
+use Rattle.seam_law_calls.specs.Prelude.{entity_flow, real_in}
+use Rattle.seam_law_ghosts.specs.Prelude.{positions_after, path_of, place_of, first_place, made_real, IsRightPlace}
+use Rattle.seam_law_all.specs.Prelude.{KeepsRecords, MayBeGiven}
+use Rattle.seam_law_book.specs.Prelude.{as_begun, made_among, IsPresent, Brings, IsUntouched, frame_of, GoesWith, HasRoomForCalls}
+use Rattle.seam_law_book.specs.Prelude.{AreInTable, AreInPlace}
 use Rattle.seam_defs.specs.declared.flags.Part.TheVariants as part
-use Rattle.seam_defs.specs.declared.states.State.{State}
-use Rattle.seam_call.specs.declared.call.Call.{Call as CallData}
-use Rattle.seam_call.specs.declared.create.Create.{Create}
-use Rattle.seam_toml.specs.declared.header.Header.{Header}
-use Rattle.seam_rule_lines.specs.Book.{creates_of, makes, tree_of}
-use Rattle.seam_rule_lines.specs.FlatTable.{first_state, flat}
-use Rattle.seam_rule_lines.specs.declared.verdict.Entry.{Entry}
 use Rattle.seam_rule_lines.specs.declared.verdict.Entry.TheVariants as entry
 use Rattle.seam_rule_lines.proofs.BookEntries.{differ}
 use Rattle.seam_law_rounds.proofs.Making.{AreOthers}
 use Rattle.std.proofs.lemmas.Option.{none-some}
-use Rattle.seam_defs.specs.declared.flags.Part.{Part}
-use Rattle.seam_call.specs.declared.order.Batch.{Batch}
-use Rattle.seam_rule_lines.specs.Book.{entries, calls_of, created_as, live_as, accepted}
-use Rattle.seam_rule_lines.specs.Orders.{IsFull}
 use Rattle.seam_rule_lines.proofs.BookEntries.{live_is_created}
 use Rattle.seam_accept.specs.Batches.{batch_of}
-use Rattle.seam_law_book.specs.Books.{as_begun}
-use Rattle.seam_law_book.specs.Bringing.{made_among, IsPresent, Brings, IsUntouched}
 use Rattle.seam_law_book.proofs.Untouched.{IsFromSender}
-use Rattle.seam_entity.specs.Reals.{RealView}
-use Rattle.seam_node_steps.specs.Holders.{holders}
-use Rattle.seam_node_steps.specs.Nodes.{World}
-use Rattle.seam_node_steps.specs.Loads.{loaded}
-use Rattle.seam_law_calls.specs.Sights.{entity_flow}
-use Rattle.seam_law_calls.specs.Ones.{real_in}
 use Rattle.seam_law_rounds.proofs.Making.{middle}
-use Rattle.seam_law_ghosts.specs.RealPlaces.{positions_after, path_of, place_of, first_place, made_real, IsRightPlace}
-use Rattle.seam_rule_clients.specs.Clients.{ClientReplica}
-use Rattle.seam_law_all.specs.Records.{KeepsRecords, MayBeGiven}
-use Rattle.seam_rule_rounds.specs.Standing.{Standing}
-use Rattle.seam_rule_rounds.specs.RoundPlaces.{distances, place_before, HasPlace}
-use Rattle.seam_law_book.specs.Going.{frame_of, GoesWith, HasRoomForCalls}
-use Rattle.seam_law_book.specs.ExecutedRound.{AreInTable}
-use Rattle.seam_law_book.specs.Standings.{AreInPlace}
 use Rattle.seam_law_book.proofs.Origins.{RealFrom, was, made}
 use Rattle.seam_law_book.proofs.Fitting.{others_none, made_is, new_number, type_by}
-use Rattle.seam_rule_rounds.specs.FlatTable.{position_at, positions_past}
 use Rattle.seam_law_book.proofs.Accounts.{done_deed, one_more}
 use Rattle.seam_law_book.proofs.Table.{none_ordered}
 

@@ -4,38 +4,23 @@ use Rattle.std.proofs.Common.{◌∙◌}
 use Rattle.std.specs.Prelude.{is_some}
 use Rattle.std.specs.List.{AllByRecursion}
 use Rattle.std.specs.FinMap as table
-use Rattle.seam_law_flow.specs.Flows.{letters_of}
-use Rattle.seam_law_flow.specs.Tokens.{TokenPlace, In, On}
+use Rattle.seam_node_steps.specs.Prelude.{Call as CallData, Batch, order_or, RealView, holders, World, loaded}
+use Rattle.seam_rule_rounds.specs.Prelude.{ClientReplica}
+use Rattle.seam_law_flow.specs.Prelude.{letters_of, TokenPlace, In, On, Desk, desk_of, parcel_of}
+use Rattle.seam_law_calls.specs.Prelude.{Frame, entity_flow, real_in, real_of, IsOne, desk_for, as_sender, real_desk, home_of}
+use Rattle.seam_law_calls.specs.Prelude.{as_base_sender, part_desk}
+use Rattle.seam_law_rounds.specs.Prelude.{framed, calls_of, next_from, next_to, base_calls_of, HasSettledPart}
+use Rattle.seam_law_ghosts.specs.Prelude.{WasThere, GoesThroughRound}
+use Rattle.seam_law_all.specs.Prelude.{ObeysLaws, EndsRightly, ObeysLawsOfLooks, ObeysLawsOfReaps, AreGone, KeepsRecords}
+use Rattle.seam_law_all.specs.Prelude.{KeepsRecordsWithin, MayBeGiven}
 use Rattle.seam_law_flow.proofs.TokenLemmas.{sole_here}
-use Rattle.seam_law_flow.specs.Desks.{Desk, desk_of, parcel_of}
-use Rattle.seam_call.specs.declared.call.Call.{Call as CallData}
-use Rattle.seam_call.specs.declared.order.Batch.{Batch}
-use Rattle.seam_entity.specs.Orders.{order_or}
-use Rattle.seam_entity.specs.Reals.{RealView}
-use Rattle.seam_node_steps.specs.Holders.{holders}
-use Rattle.seam_node_steps.specs.Nodes.{World}
-use Rattle.seam_node_steps.specs.Loads.{loaded}
-use Rattle.seam_law_calls.specs.Frames.{Frame}
-use Rattle.seam_law_calls.specs.Sights.{entity_flow}
-use Rattle.seam_law_calls.specs.Ones.{real_in, real_of, IsOne}
 use Rattle.seam_law_calls.proofs.Counting.{counted_one}
-use Rattle.seam_law_calls.specs.CellTurns.{desk_for, as_sender, real_desk}
-use Rattle.seam_law_rounds.specs.Between.{framed, calls_of, next_from}
 use Rattle.seam_law_rounds.proofs.Framing.{in_frame}
 use Rattle.seam_law_rounds.proofs.Going.{spared_loaded}
 use Rattle.seam_law_rounds.proofs.Loaded.{no_mail}
 use Rattle.seam_law_rounds.proofs.Ready.{Home, quiet_home}
-use Rattle.seam_law_calls.specs.BaseTurns.{home_of, as_base_sender, part_desk}
-use Rattle.seam_law_rounds.specs.Parts.{next_to, base_calls_of}
-use Rattle.seam_law_rounds.specs.Parts.{HasSettledPart}
-use Rattle.seam_law_ghosts.specs.RealPlaces.{WasThere, GoesThroughRound}
 use Rattle.seam_law_ghosts.proofs.Ends.{looks_leave, reaps_leave}
-use Rattle.seam_rule_clients.specs.Clients.{ClientReplica}
 use Rattle.seam_law_book.proofs.Parts.{IsButClient, looks_leave_part, client_stays, both_seen}
-use Rattle.seam_law_all.specs.Calls.{ObeysLaws, EndsRightly}
-use Rattle.seam_law_all.specs.LookLaws.{ObeysLawsOfLooks}
-use Rattle.seam_law_all.specs.Reaps.{ObeysLawsOfReaps, AreGone}
-use Rattle.seam_law_all.specs.Records.{KeepsRecords, KeepsRecordsWithin, MayBeGiven}
 
 -- what the laws of the three phases say of a round
 pub record Obeyed (f : Frame) (clients : ℕ → ClientReplica) (w : World) (b : Batch) (v : World) (round : GoesThroughRound w b v) : Type 0 where

@@ -7,13 +7,12 @@ use Rattle.std.specs.Option.{option_or}
 use Rattle.std.proofs.lemmas.List.Elements.{filter_map-append}
 use Rattle.std.proofs.lemmas.List.Folds.{find-append, list_any-append}
 use Rattle.std.proofs.lemmas.Option.{none-some}
-use Rattle.seam_call.specs.declared.create.Create.{Create}
-use Rattle.seam_rule_lines.specs.Book.{Book, entries, created, creates_of, created_as, live_as, destroys, joins, has_client, with_entry}
-use Rattle.seam_rule_lines.specs.declared.verdict.Entry.{Entry}
+use Rattle.seam_node_steps.specs.Prelude.{Create}
+use Rattle.seam_rule_rounds.specs.Prelude.{Book, entries, created, creates_of, created_as, live_as, destroys, joins, has_client, with_entry}
+use Rattle.seam_rule_rounds.specs.Prelude.{Entry}
+use Rattle.seam_law_book.specs.Prelude.{as_begun, entity_of, made_among, IsPresent}
 use Rattle.seam_rule_lines.specs.declared.verdict.Entry.TheVariants as entry
 use Rattle.seam_accept.specs.Batches.{joined, destroyed}
-use Rattle.seam_law_book.specs.Books.{as_begun}
-use Rattle.seam_law_book.specs.Bringing.{entity_of, made_among, IsPresent}
 
 -- ---- options and tests
 

@@ -3,39 +3,27 @@ use Rattle.std.proofs.Common.{◌≡◌, ℕ, ◌+◌, ◌<◌, ◌≤◌, Bool,
 use Rattle.std.proofs.Common.{inl, inr, ◌-◌}
 use Rattle.std.specs.Prelude.{IsSome, IsTrue}
 use Rattle.std.proofs.lemmas.Bool.{cases_lt}
-use Rattle.seam_io.specs.Lines.{Line, Content, Long}
-use Rattle.seam_value.specs.NumberWords.{IsWhole, SpellsPositive}
-use Rattle.seam_geo.specs.Rect.{Area}
+use Rattle.seam_node_steps.specs.Prelude.{IsWhole, Area, Division, cells_of, area, IsTree, MOST_CELLS, FitsDeed, part_of_deed, type_of}
+use Rattle.seam_node_steps.specs.Prelude.{TypeDef, Deed, Sender, Call, Create}
+use Rattle.seam_rule_rounds.specs.Prelude.{Line, Content, Long, Header, Book, created_as, live_as, accepted, has_client, tree_of, Adds}
+use Rattle.seam_rule_rounds.specs.Prelude.{HoldsAgainst, Holds, Spells, Entry, Cause}
+use Rattle.seam_law_book.specs.Prelude.{IsAccepted, IsInside, StaysInside, IsKnownSender}
+use Rattle.seam_value.specs.NumberWords.{SpellsPositive}
 use Rattle.seam_tree.specs.Boundary.{RunsThrough, place_along}
-use Rattle.seam_tree.specs.Division.{Division, cells_of, area, HasBoundary, NoneEmpty, IsTree}
+use Rattle.seam_tree.specs.Division.{HasBoundary, NoneEmpty}
 use Rattle.seam_tree.specs.Change.{with_cut, with_place}
 use Rattle.seam_tree.specs.declared.boundary.Boundary.{Boundary}
-use Rattle.seam_tree.specs.declared.area_table.TheConstants.{MOST_CELLS}
 use Rattle.seam_tree.specs.declared.tree.CutError.{CutError}
 use Rattle.seam_tree.specs.declared.tree.ShiftError.{ShiftError}
 use Rattle.seam_tree.specs.declared.tree.CutError.TheVariants.{NoCell, OutsideCell, TooManyCells}
 use Rattle.seam_tree.specs.declared.tree.ShiftError.TheVariants.{NoBoundary, WouldEmpty}
 use Rattle.seam_tree.proofs.Changes.{with_cut_tree, with_place_tree, cells_with_cut}
 use Rattle.seam_tree.proofs.Padded.{length_cuts_moved}
-use Rattle.seam_defs.specs.Deeds.{FitsDeed, part_of_deed}
-use Rattle.seam_defs.specs.Types.{type_of}
-use Rattle.seam_defs.specs.declared.types.TypeDef.{TypeDef}
-use Rattle.seam_defs.specs.declared.states.Deed.{Deed}
-use Rattle.seam_call.specs.declared.sender.Sender.{Sender}
 use Rattle.seam_call.specs.declared.sender.Sender.TheVariants as sender
-use Rattle.seam_call.specs.declared.call.Call.{Call}
-use Rattle.seam_call.specs.declared.create.Create.{Create}
-use Rattle.seam_toml.specs.declared.header.Header.{Header}
 use Rattle.seam_rule_lines.specs.Language as language
-use Rattle.seam_rule_lines.specs.Book.{Book, created_as, live_as, accepted, has_client, tree_of}
-use Rattle.seam_rule_lines.specs.Judging.{IsThere, NamesCreate, NamesCall, NamesDeed, NamesMove, Adds, HoldsAgainst, Holds, RefusesCut, RefusesShift}
-use Rattle.seam_rule_lines.specs.Judging.{Spells}
-use Rattle.seam_rule_lines.specs.declared.verdict.Entry.{Entry}
+use Rattle.seam_rule_lines.specs.Judging.{IsThere, NamesCreate, NamesCall, NamesDeed, NamesMove, RefusesCut, RefusesShift}
 use Rattle.seam_rule_lines.specs.declared.verdict.Entry.TheVariants as entry
-use Rattle.seam_rule_lines.specs.declared.verdict.Cause.{Cause}
 use Rattle.seam_rule_lines.specs.declared.verdict.Cause.TheVariants as cause
-use Rattle.seam_law_book.specs.Books.{IsAccepted}
-use Rattle.seam_law_book.specs.Bringing.{IsInside, StaysInside, IsKnownSender}
 
 -- ---- what is known
 

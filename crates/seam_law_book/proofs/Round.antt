@@ -4,22 +4,13 @@ use Rattle.std.proofs.Common.{refl, sym, ap, ◌∙◌, subst, arith, append-nil
 use Rattle.std.specs.Prelude.{eqb, ◌==◌, ◌&&◌}
 use Rattle.std.specs.List.{AllByRecursion, IsDistinct, filter_map}
 use Rattle.std.proofs.lemmas.Bool.{eqb-true}
-use Rattle.seam_tree.specs.Division.{cells_of}
-use Rattle.seam_defs.specs.Settings.{AreLegal}
-use Rattle.seam_defs.specs.declared.flags.Part.{Part}
-use Rattle.seam_call.specs.Calls.{is_for, same_part}
-use Rattle.seam_call.specs.Senders.{rank_of}
-use Rattle.seam_call.specs.declared.call.Call.{Call}
-use Rattle.seam_call.specs.declared.create.Create.{Create}
-use Rattle.seam_toml.specs.declared.header.Header.{Header}
-use Rattle.seam_rule_lines.specs.Book.{Book, entries, created, called, creates_of, calls_of, with_entry, tree_of}
-use Rattle.seam_rule_lines.specs.declared.verdict.Entry.{Entry}
+use Rattle.seam_node_steps.specs.Prelude.{cells_of, AreLegal, Part, is_for, same_part, rank_of, Call, Create}
+use Rattle.seam_rule_rounds.specs.Prelude.{Header, Book, entries, created, called, creates_of, calls_of, with_entry, tree_of, Entry}
+use Rattle.seam_law_book.specs.Prelude.{IsOfLines, empty, accepts, ends, balances, as_begun, entity_of, GetsClient, IsThere, IsNewEntity}
+use Rattle.seam_law_book.specs.Prelude.{IsFitCall, calls_from, last_number, AreNumberedFrom, Brings}
 use Rattle.seam_rule_lines.specs.declared.verdict.Entry.TheVariants as entry
 use Rattle.seam_accept.specs.Batches.{joined, destroyed}
 use Rattle.seam_accept.proofs.Books.{tree_with, same_part_is, both}
-use Rattle.seam_law_book.specs.Books.{IsOfLines, empty, accepts, ends, balances, as_begun}
-use Rattle.seam_law_book.specs.Bringing.{entity_of, GetsClient, IsThere, IsNewEntity, IsFitCall, calls_from, last_number}
-use Rattle.seam_law_book.specs.Bringing.{AreNumberedFrom, Brings}
 use Rattle.seam_law_book.proofs.Proper.{IsProper, IsProperCall, accepted_is_proper}
 use Rattle.seam_law_book.proofs.Adding.{all_join, all_turn, distinct_more, numbered_more, brought_more, calls_from_more, counted}
 use Rattle.seam_law_book.proofs.Present.{uncreated, live_is_present, unjoined, undestroyed, alone_begun, present_more}

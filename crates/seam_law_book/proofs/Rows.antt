@@ -13,39 +13,25 @@ use Rattle.std.proofs.lemmas.Map.Keys.{sorted_from_strictly_increasing}
 use Rattle.std.proofs.lemmas.Bool.Decides.{nat_tests, Decides-eqb, Decides-int_eq}
 use Rattle.std.proofs.lemmas.Slice.Eq.{slice_eq-Decides, bytes_eq-Decides}
 use Rattle.std.specs.Bool.{Decides}
-use Rattle.seam_tree.specs.Division.{Division}
-use Rattle.seam_value.specs.declared.values.Value.{Value}
-use Rattle.seam_value.specs.declared.values.Value.TheVariants.{Number, Text}
-use Rattle.seam_defs.specs.Deeds.{ghost_of, other_of, own_of}
-use Rattle.seam_defs.specs.Tests.{same_value, same_values, same_state, same_shown}
+use Rattle.seam_node_steps.specs.Prelude.{Division, Value, Number, Text, ghost_of, other_of, own_of, same_value, same_values, same_state}
+use Rattle.seam_node_steps.specs.Prelude.{same_shown, State, Call as CallData, Create, RealView, World}
+use Rattle.seam_rule_rounds.specs.Prelude.{Header, Book, entries, creates_of, live_as, flat, Orders, Lists, Row, properties, has_changed_at}
+use Rattle.seam_rule_rounds.specs.Prelude.{public_at, row_after, rows_of}
+use Rattle.seam_law_calls.specs.Prelude.{here_at}
+use Rattle.seam_law_rounds.specs.Prelude.{IsBetweenRounds}
+use Rattle.seam_law_clients.specs.Prelude.{rows_at, row_in, row_of_real}
+use Rattle.seam_law_book.specs.Prelude.{frame_of, GoesWith, IsInTable, AreInTable}
 use Rattle.seam_defs.specs.declared.flags.Part.TheVariants as part
-use Rattle.seam_defs.specs.declared.states.State.{State}
-use Rattle.seam_call.specs.declared.call.Call.{Call as CallData}
-use Rattle.seam_call.specs.declared.create.Create.{Create}
-use Rattle.seam_toml.specs.declared.header.Header.{Header}
-use Rattle.seam_rule_lines.specs.Book.{Book, entries, creates_of, live_as}
-use Rattle.seam_rule_lines.specs.FlatTable.{flat}
-use Rattle.seam_rule_lines.specs.Orders.{Orders}
-use Rattle.seam_rule_lines.specs.Round.{Lists}
 use Rattle.seam_rule_lines.proofs.BookEntries.{live_is_created}
 use Rattle.seam_rule_lines.proofs.InOrderLemmas.{found_entity}
 use Rattle.seam_rule_lines.proofs.Lists.{contains_first, contains_later, contains_cases}
-use Rattle.seam_entity.specs.Reals.{RealView}
-use Rattle.seam_node_steps.specs.Nodes.{World}
-use Rattle.seam_law_calls.specs.Frames.{here_at}
-use Rattle.seam_law_rounds.specs.Between.{IsBetweenRounds}
 use Rattle.seam_law_calls.proofs.Holds.{both as both_hold}
 use Rattle.seam_law_rounds.proofs.Shape.{Somewhere, Nowhere, search_real}
 use Rattle.seam_node_steps.proofs.Sorted.{both, tied_same, find_entries}
-use Rattle.seam_rule_clients.specs.Looks.{Row}
-use Rattle.seam_law_clients.specs.Tables.{rows_at, row_in, row_of_real}
 use Rattle.seam_law_clients.specs.Tables as world
 use Rattle.seam_law_clients.proofs.Rows.{found_in}
 use Rattle.seam_law_clients.proofs.OneLook.{row_there, row_nowhere}
-use Rattle.seam_rule_rounds.specs.FlatTable.{properties, has_changed_at, public_at, row_after, rows_of}
 use Rattle.seam_rule_rounds.proofs.Public.{public_more}
-use Rattle.seam_law_book.specs.Going.{frame_of, GoesWith}
-use Rattle.seam_law_book.specs.ExecutedRound.{IsInTable, AreInTable}
 
 -- ---- what others may see, at the public version
 

@@ -1,27 +1,15 @@
 -- Where the entities of a loaded world come from, where the batch is that of a book's open round.
 use Rattle.std.proofs.Common.{◌≡◌, ℕ, ◌≤◌, Option, Some, None, refl, ap, ◌∙◌, arith, inl, inr}
-use Rattle.seam_law_flow.specs.Flows.{letters_of}
-use Rattle.seam_tree.specs.Division.{Division}
-use Rattle.seam_call.specs.declared.create.Create.{Create}
-use Rattle.seam_call.specs.declared.order.Batch.{Batch}
-use Rattle.seam_toml.specs.declared.header.Header.{Header}
-use Rattle.seam_rule_lines.specs.Book.{Book, created_as}
+use Rattle.seam_node_steps.specs.Prelude.{Division, Create, Batch, RealView, PartView, holders, World, loaded}
+use Rattle.seam_rule_rounds.specs.Prelude.{Header, Book, created_as, ClientReplica}
+use Rattle.seam_law_flow.specs.Prelude.{letters_of}
+use Rattle.seam_law_calls.specs.Prelude.{entity_flow, real_in, real_of}
+use Rattle.seam_law_all.specs.Prelude.{KeepsRecords, MayBeGiven}
+use Rattle.seam_law_book.specs.Prelude.{as_begun, made_among, IsPresent, Brings, IsUntouched, frame_of, GoesWith, HasRoomForCalls}
 use Rattle.seam_accept.specs.Batches.{batch_of}
-use Rattle.seam_law_book.specs.Books.{as_begun}
-use Rattle.seam_law_book.specs.Bringing.{made_among, IsPresent, Brings, IsUntouched}
-use Rattle.seam_entity.specs.Reals.{RealView}
-use Rattle.seam_node_steps.specs.Bases.{PartView}
-use Rattle.seam_node_steps.specs.Holders.{holders}
-use Rattle.seam_node_steps.specs.Nodes.{World}
-use Rattle.seam_node_steps.specs.Loads.{loaded}
-use Rattle.seam_law_calls.specs.Sights.{entity_flow}
-use Rattle.seam_law_calls.specs.Ones.{real_in, real_of}
 use Rattle.seam_law_calls.proofs.Counting.{none_counts}
 use Rattle.seam_law_rounds.proofs.Loaded.{no_mail}
 use Rattle.seam_law_rounds.proofs.Shape.{Nowhere}
-use Rattle.seam_rule_clients.specs.Clients.{ClientReplica}
-use Rattle.seam_law_all.specs.Records.{KeepsRecords, MayBeGiven}
-use Rattle.seam_law_book.specs.Going.{frame_of, GoesWith, HasRoomForCalls}
 use Rattle.seam_law_book.proofs.Origins.{RealFrom, real_from, PartFrom, had, comes, part_from, IsCreate}
 use Rattle.seam_law_book.proofs.Fitting.{found_by}
 

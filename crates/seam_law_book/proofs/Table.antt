@@ -6,44 +6,23 @@ use Rattle.std.proofs.lemmas.Bool.{cases_eq, eq-eqb}
 use Rattle.std.specs.List.{AllByRecursion}
 use Rattle.std.proofs.lemmas.Option.{none-some}
 use Rattle.seam_law_flow.proofs.TokenLemmas.{sole_here}
-use Rattle.seam_tree.specs.Division.{Division, leaf_at}
-use Rattle.seam_defs.specs.Types.{type_of}
+use Rattle.seam_node_steps.specs.Prelude.{Division, leaf_at, type_of, Part, is_from, IsSender, same_sender, rank_of, Sender}
+use Rattle.seam_node_steps.specs.Prelude.{Call as CallData, Create, Batch, RealView, real_begins, World, loaded, holders}
+use Rattle.seam_rule_rounds.specs.Prelude.{Header, Book, entries, calls_of, created_as, accepted, flat, public_at, Orders, of_sender}
+use Rattle.seam_rule_rounds.specs.Prelude.{IsFull, ClientReplica}
+use Rattle.seam_law_calls.specs.Prelude.{entity_flow, real_in, real_of, OneFrom, Account, account_of, after_calls}
+use Rattle.seam_law_ghosts.specs.Prelude.{made_real, BeginsAt}
+use Rattle.seam_law_all.specs.Prelude.{ObeysLaws, KeepsRecords, MayBeGiven}
+use Rattle.seam_law_book.specs.Prelude.{as_begun, IsPresent, calls_from, Brings, IsUntouched, frame_of, GoesWith, HasRoomForCalls}
+use Rattle.seam_law_book.specs.Prelude.{IsInTable, AreInTable, BeginsReal, IsDoneOn}
 use Rattle.seam_defs.specs.declared.flags.Part.TheVariants as part
-use Rattle.seam_defs.specs.declared.flags.Part.{Part}
-use Rattle.seam_call.specs.Calls.{is_from}
-use Rattle.seam_call.specs.Senders.{IsSender, same_sender, rank_of}
-use Rattle.seam_call.specs.declared.sender.Sender.{Sender}
 use Rattle.seam_call.specs.declared.sender.Sender.TheVariants as sender
-use Rattle.seam_call.specs.declared.call.Call.{Call as CallData}
-use Rattle.seam_call.specs.declared.create.Create.{Create}
-use Rattle.seam_call.specs.declared.order.Batch.{Batch}
-use Rattle.seam_toml.specs.declared.header.Header.{Header}
-use Rattle.seam_rule_lines.specs.Book.{Book, entries, calls_of, created_as, accepted}
-use Rattle.seam_rule_lines.specs.FlatTable.{flat}
-use Rattle.seam_rule_rounds.specs.FlatTable.{public_at}
-use Rattle.seam_rule_lines.specs.Orders.{Orders, of_sender, IsFull}
 use Rattle.seam_accept.specs.Batches.{batch_of}
-use Rattle.seam_law_book.specs.Books.{as_begun}
-use Rattle.seam_law_book.specs.Bringing.{IsPresent, calls_from, Brings, IsUntouched}
 use Rattle.seam_law_book.proofs.Untouched.{IsFromSender, accepted_by_place}
 use Rattle.seam_rule_lines.proofs.BookEntries.{live_is_created}
-use Rattle.seam_entity.specs.Reals.{RealView}
-use Rattle.seam_entity.specs.Executing.{real_begins}
-use Rattle.seam_node_steps.specs.Nodes.{World}
-use Rattle.seam_node_steps.specs.Loads.{loaded}
-use Rattle.seam_law_calls.specs.Sights.{entity_flow}
-use Rattle.seam_law_calls.specs.Ones.{real_in, real_of, OneFrom}
-use Rattle.seam_law_calls.specs.Replays.{Account, account_of, after_calls}
-use Rattle.seam_node_steps.specs.Holders.{holders}
 use Rattle.seam_law_rounds.proofs.Making.{middle}
 use Rattle.seam_law_rounds.proofs.Loaded.{real_loaded}
 use Rattle.seam_law_rounds.proofs.Going.{settled_loaded}
-use Rattle.seam_law_ghosts.specs.RealPlaces.{made_real, BeginsAt}
-use Rattle.seam_rule_clients.specs.Clients.{ClientReplica}
-use Rattle.seam_law_all.specs.Calls.{ObeysLaws}
-use Rattle.seam_law_all.specs.Records.{KeepsRecords, MayBeGiven}
-use Rattle.seam_law_book.specs.Going.{frame_of, GoesWith, HasRoomForCalls}
-use Rattle.seam_law_book.specs.ExecutedRound.{IsInTable, AreInTable, BeginsReal, IsDoneOn}
 use Rattle.seam_law_book.proofs.Accounts.{done_after, Agrees, agrees_after, in_table_by}
 use Rattle.seam_law_book.proofs.Origins.{IsCreate, RealFrom, was, made}
 use Rattle.seam_law_book.proofs.Fitting.{others_none, made_is, new_number, type_by}

@@ -4,24 +4,16 @@ use Rattle.std.proofs.Common.{refl, sym, ap, ◌∙◌, subst, arith, append-nil
 use Rattle.std.specs.Prelude.{eqb, filter, ◌==◌, ◌&&◌, ◌||◌}
 use Rattle.std.specs.List.{AllByRecursion, IsDistinct, list_any}
 use Rattle.std.proofs.lemmas.Option.{none-some}
-use Rattle.seam_tree.specs.Division.{Division, IsTree}
-use Rattle.seam_defs.specs.Settings.{AreLegal}
-use Rattle.seam_defs.specs.declared.flags.Part.{Part}
-use Rattle.seam_call.specs.Calls.{is_for, is_from, same_part}
-use Rattle.seam_call.specs.Senders.{IsSender, same_sender, rank_of}
-use Rattle.seam_call.specs.declared.sender.Sender.{Sender}
+use Rattle.seam_node_steps.specs.Prelude.{Division, IsTree, AreLegal, Part, is_for, is_from, same_part, IsSender, same_sender, rank_of}
+use Rattle.seam_node_steps.specs.Prelude.{Sender, Call, Create}
+use Rattle.seam_rule_rounds.specs.Prelude.{Header, Book, one_cell, entries, creates_of, calls_of, created_as, live_as, joins, destroys}
+use Rattle.seam_rule_rounds.specs.Prelude.{with_entry, tree_of, Entry}
+use Rattle.seam_law_book.specs.Prelude.{IsOfLines, empty, accepts, ends, balances, as_begun, entity_of, made_among, IsKnownSender}
+use Rattle.seam_law_book.specs.Prelude.{calls_from, IsUntouched}
 use Rattle.seam_call.specs.declared.sender.Sender.TheVariants as sender
-use Rattle.seam_call.specs.declared.call.Call.{Call}
-use Rattle.seam_call.specs.declared.create.Create.{Create}
-use Rattle.seam_toml.specs.declared.header.Header.{Header}
-use Rattle.seam_rule_lines.specs.Book.{Book, one_cell, entries, creates_of, calls_of, created_as, live_as, joins, destroys, with_entry}
-use Rattle.seam_rule_lines.specs.Book.{tree_of}
-use Rattle.seam_rule_lines.specs.declared.verdict.Entry.{Entry}
 use Rattle.seam_rule_lines.specs.declared.verdict.Entry.TheVariants as entry
 use Rattle.seam_rule_lines.proofs.BookEntries.{differ, live_is_created, creates_with_entry}
 use Rattle.seam_accept.proofs.Books.{created_with, calls_with_entry, any_with, tree_with}
-use Rattle.seam_law_book.specs.Books.{IsOfLines, empty, accepts, ends, balances, as_begun}
-use Rattle.seam_law_book.specs.Bringing.{entity_of, made_among, IsKnownSender, calls_from, IsUntouched}
 use Rattle.seam_law_book.proofs.Proper.{IsProper, accepted_is_proper}
 use Rattle.seam_law_book.proofs.Adding.{all_join, distinct_more, calls_from_more}
 use Rattle.seam_law_book.proofs.Present.{both_none, unmade_apart}

@@ -1,11 +1,7 @@
 -- Books that lines make.
 use Rattle.std.specs.Prelude.{◌≡◌, []}
-use Rattle.seam_io.specs.Lines.{Line}
-use Rattle.seam_tree.specs.Division.{Division, cells_of, IsTree}
-use Rattle.seam_toml.specs.declared.header.Header.{Header}
-use Rattle.seam_rule_lines.specs.Book.{Book, empty_book, with_entry, with_round_ended, with_tree, tree_of}
-use Rattle.seam_rule_lines.specs.Judging.{Judges}
-use Rattle.seam_rule_lines.specs.declared.verdict.Entry.{Entry}
+use Rattle.seam_node_steps.specs.Prelude.{Division, cells_of, IsTree}
+use Rattle.seam_rule_rounds.specs.Prelude.{Line, Header, Book, empty_book, with_entry, with_round_ended, with_tree, tree_of, Judges, Entry}
 use Rattle.seam_rule_lines.specs.declared.verdict.Verdict.TheVariants as verdict
 
 -- a line is accepted, and adds the entry

@@ -1,23 +1,13 @@
 -- What the open round of a book brings to the core, by the book as the round began.
 use Rattle.std.specs.Prelude.{◌≡◌, ◌⊎◌, ℕ, ◌+◌, ◌<◌, ◌≤◌, false, eqb, ◌&&◌, ◌==◌, List, [], ◌∷◌, map, filter, find, length, Option, Some, None}
 use Rattle.std.specs.List.{AllByRecursion, IsDistinct, filter_map, list_any}
-use Rattle.seam_value.specs.NumberWords.{IsWhole}
-use Rattle.seam_tree.specs.Division.{cells_of, IsTree}
-use Rattle.seam_geo.specs.declared.pos.Pos.{Pos}
-use Rattle.seam_defs.specs.Deeds.{FitsDeed, part_of_deed}
-use Rattle.seam_defs.specs.Types.{type_of}
-use Rattle.seam_defs.specs.declared.flags.Part.{Part}
-use Rattle.seam_defs.specs.declared.states.Deed.{Deed}
+use Rattle.seam_node_steps.specs.Prelude.{IsWhole, cells_of, IsTree, Pos, FitsDeed, part_of_deed, type_of, Part, Deed, is_for, rank_of}
+use Rattle.seam_node_steps.specs.Prelude.{Sender, Call, Create}
+use Rattle.seam_rule_rounds.specs.Prelude.{Header, Book, entries, creates_of, calls_of, created_as, live_as, has_client, joins, destroys}
+use Rattle.seam_rule_rounds.specs.Prelude.{tree_of}
 use Rattle.seam_defs.specs.declared.states.Deed.TheVariants as deed
 use Rattle.seam_call.specs.BaseNodes.{IsBaseNodeOf}
-use Rattle.seam_call.specs.Calls.{is_for}
-use Rattle.seam_call.specs.Senders.{rank_of}
-use Rattle.seam_call.specs.declared.sender.Sender.{Sender}
 use Rattle.seam_call.specs.declared.sender.Sender.TheVariants as sender
-use Rattle.seam_call.specs.declared.call.Call.{Call}
-use Rattle.seam_call.specs.declared.create.Create.{Create}
-use Rattle.seam_toml.specs.declared.header.Header.{Header}
-use Rattle.seam_rule_lines.specs.Book.{Book, entries, creates_of, calls_of, created_as, live_as, has_client, joins, destroys, tree_of}
 use Rattle.seam_accept.specs.Batches.{joined, destroyed}
 use Rattle.seam_law_book.specs.Books.{as_begun}
 

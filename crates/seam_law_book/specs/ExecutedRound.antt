@@ -1,23 +1,10 @@
 -- What a round executed, read off the world in which its calls left the nodes quiet, and the flat table after it.
 use Rattle.std.specs.Prelude.{◌≡◌, ℕ, length, List, [], ◌++◌, Option, None, Some}
 use Rattle.std.specs.List.{flat_map}
-use Rattle.seam_defs.specs.Deeds.{part_of_deed}
-use Rattle.seam_defs.specs.declared.flags.Part.{Part}
+use Rattle.seam_node_steps.specs.Prelude.{part_of_deed, Part, TypeDef, Call, Create, cell_numbers, RealView, PartView, World}
+use Rattle.seam_rule_rounds.specs.Prelude.{Header, Book, live_as, flat, Orders, public_at}
+use Rattle.seam_law_calls.specs.Prelude.{entity_flow, real_in}
 use Rattle.seam_defs.specs.declared.flags.Part.TheVariants as part
-use Rattle.seam_defs.specs.declared.types.TypeDef.{TypeDef}
-use Rattle.seam_call.specs.declared.call.Call.{Call}
-use Rattle.seam_call.specs.declared.create.Create.{Create}
-use Rattle.seam_toml.specs.declared.header.Header.{Header}
-use Rattle.seam_rule_lines.specs.Book.{Book, live_as}
-use Rattle.seam_rule_lines.specs.FlatTable.{flat}
-use Rattle.seam_rule_lines.specs.Orders.{Orders}
-use Rattle.seam_rule_rounds.specs.FlatTable.{public_at}
-use Rattle.seam_entity.specs.Here.{cell_numbers}
-use Rattle.seam_entity.specs.Reals.{RealView}
-use Rattle.seam_node_steps.specs.Bases.{PartView}
-use Rattle.seam_node_steps.specs.Nodes.{World}
-use Rattle.seam_law_calls.specs.Sights.{entity_flow}
-use Rattle.seam_law_calls.specs.Ones.{real_in}
 use Rattle.seam_law_book.specs.Going.{base_node}
 
 -- the calls that a real, and a base part, executed in the round

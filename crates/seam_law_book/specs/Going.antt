@@ -1,21 +1,11 @@
 -- A book goes with a quiet world: what the book says of entities is what the world has of them.
 use Rattle.std.specs.Prelude.{◌≡◌, ℕ, ◌+◌, ◌%◌, ◌^◌, ◌<◌, ◌≤◌, is_some, length, None, Some}
-use Rattle.seam_tree.specs.Division.{Division, cells_of}
+use Rattle.seam_node_steps.specs.Prelude.{Division, cells_of, Create, cell_count, RealView, PartView, World}
+use Rattle.seam_rule_rounds.specs.Prelude.{Header, Book, entries, open_lines, created_as, live_as, has_client, tree_of, MOST_LINES}
+use Rattle.seam_law_calls.specs.Prelude.{Frame, entity_flow, real_in}
+use Rattle.seam_law_rounds.specs.Prelude.{next_from, numbers_of, IsNew, next_to, lines_of}
 use Rattle.seam_defs.specs.declared.flags.Part.TheVariants as part
-use Rattle.seam_call.specs.declared.create.Create.{Create}
-use Rattle.seam_toml.specs.declared.header.Header.{Header}
-use Rattle.seam_rule_lines.specs.Book.{Book, entries, open_lines, created_as, live_as, has_client, tree_of}
-use Rattle.seam_rule_lines.specs.declared.limits.TheConstants.{MOST_LINES}
 use Rattle.seam_law_book.specs.Bringing.{last_number}
-use Rattle.seam_entity.specs.Here.{cell_count}
-use Rattle.seam_entity.specs.Reals.{RealView}
-use Rattle.seam_node_steps.specs.Bases.{PartView}
-use Rattle.seam_node_steps.specs.Nodes.{World}
-use Rattle.seam_law_calls.specs.Frames.{Frame}
-use Rattle.seam_law_calls.specs.Sights.{entity_flow}
-use Rattle.seam_law_calls.specs.Ones.{real_in}
-use Rattle.seam_law_rounds.specs.Between.{next_from, numbers_of, IsNew}
-use Rattle.seam_law_rounds.specs.Parts.{next_to, lines_of}
 
 -- what the nodes of a world of the header go by, with this tree
 abbrev pub frame_of : Header → Division → Frame

@@ -4,3 +4,4 @@ pub mod Going
 pub mod ExecutedRound
 pub mod Standings
 pub mod Playing
+pub mod Prelude

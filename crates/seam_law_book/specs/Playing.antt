@@ -1,24 +1,13 @@
 -- A round of a book's open lines, played in a world that the book goes with.
 use Rattle.std.specs.Prelude.{◌≡◌, ℕ, is_some, Some}
 use Rattle.std.specs.List.{list_any}
-use Rattle.seam_tree.specs.Division.{Division}
-use Rattle.seam_defs.specs.Settings.{AreLegal}
-use Rattle.seam_defs.specs.declared.flags.Part.{Part}
-use Rattle.seam_machine.specs.Nets.{IsQuiet}
-use Rattle.seam_toml.specs.declared.header.Header.{Header}
-use Rattle.seam_rule_lines.specs.Book.{Book, entries, joins, accepted}
-use Rattle.seam_rule_lines.specs.Orders.{Orders, IsFull}
+use Rattle.seam_node_steps.specs.Prelude.{Division, AreLegal, Part, IsQuiet, RealView, PartView, loaded, World, node_has_work}
+use Rattle.seam_rule_rounds.specs.Prelude.{Header, Book, entries, joins, accepted, Orders, IsFull, ClientReplica}
+use Rattle.seam_law_calls.specs.Prelude.{entity_flow, real_in}
+use Rattle.seam_law_ghosts.specs.Prelude.{GoesThroughRound}
+use Rattle.seam_law_all.specs.Prelude.{KeepsRecords}
 use Rattle.seam_accept.specs.Batches.{batch_of}
 use Rattle.seam_law_book.specs.Books.{IsOfLines, as_begun}
-use Rattle.seam_entity.specs.Reals.{RealView}
-use Rattle.seam_node_steps.specs.Bases.{PartView}
-use Rattle.seam_node_steps.specs.Loads.{loaded}
-use Rattle.seam_node_steps.specs.Nodes.{World, node_has_work}
-use Rattle.seam_law_calls.specs.Sights.{entity_flow}
-use Rattle.seam_law_calls.specs.Ones.{real_in}
-use Rattle.seam_law_ghosts.specs.RealPlaces.{GoesThroughRound}
-use Rattle.seam_rule_clients.specs.Clients.{ClientReplica}
-use Rattle.seam_law_all.specs.Records.{KeepsRecords}
 use Rattle.seam_law_book.specs.Going.{frame_of, base_node, GoesWith, HasRoomForCalls, HasRoomForRound}
 use Rattle.seam_law_book.specs.ExecutedRound.{AreInTable, ArePartsInTable}
 

@@ -1,26 +1,14 @@
 -- Where a standing has the entities of a world, the home, base and ghost lines that are read off one, and what clients show.
 use Rattle.std.specs.Prelude.{◌≡◌, ℕ, List, [], ◌∷◌, Option, None, Some}
 use Rattle.std.specs.List.{flat_map}
-use Rattle.seam_haunt.specs.Places.{Place}
-use Rattle.seam_call.specs.declared.shown.GhostCopy.{GhostCopy}
-use Rattle.seam_rule_lines.specs.Round.{HomeLine, BaseLine}
-use Rattle.seam_entity.specs.Here.{cell_numbers}
-use Rattle.seam_entity.specs.Reals.{RealView}
-use Rattle.seam_node_steps.specs.Bases.{PartView}
-use Rattle.seam_node_steps.specs.Nodes.{World}
-use Rattle.seam_law_calls.specs.Sights.{entity_flow}
-use Rattle.seam_law_calls.specs.Ones.{real_in}
-use Rattle.seam_law_ghosts.specs.RealPlaces.{place_of, GoesThroughRound}
-use Rattle.seam_tree.specs.Division.{Division}
-use Rattle.seam_toml.specs.declared.header.Header.{Header}
-use Rattle.seam_rule_lines.specs.Book.{Book}
+use Rattle.seam_node_steps.specs.Prelude.{Place, GhostCopy, cell_numbers, RealView, PartView, World, Division}
+use Rattle.seam_rule_rounds.specs.Prelude.{HomeLine, BaseLine, Header, Book, ClientReplica, GhostLine}
+use Rattle.seam_law_calls.specs.Prelude.{entity_flow, real_in}
+use Rattle.seam_law_rounds.specs.Prelude.{framed}
+use Rattle.seam_law_ghosts.specs.Prelude.{place_of, GoesThroughRound, copy_at}
+use Rattle.seam_law_clients.specs.Prelude.{clients_loaded, clients_shown}
+use Rattle.seam_law_all.specs.Prelude.{clients_looked}
 use Rattle.seam_accept.specs.Batches.{batch_of}
-use Rattle.seam_law_rounds.specs.Between.{framed}
-use Rattle.seam_rule_clients.specs.Clients.{ClientReplica}
-use Rattle.seam_law_clients.specs.Clients.{clients_loaded, clients_shown}
-use Rattle.seam_law_all.specs.LookLaws.{clients_looked}
-use Rattle.seam_law_ghosts.specs.Copies.{copy_at}
-use Rattle.seam_rule_rounds.specs.Lines.{GhostLine}
 use Rattle.seam_law_book.specs.Going.{frame_of}
 
 -- each real is in the cell, and has a ghost in the cells, that these places say

@@ -9,11 +9,9 @@
 // Of `proofs/`, `Adding` (what one more entry adds), `Present` (who is there) and `Untouched` are for callers.
 
 ghost use Rattle.std.specs.Prelude.{◌≡◌, ℕ, None};
-ghost use Rattle.seam_defs.specs.Settings.{AreLegal};
-ghost use Rattle.seam_toml.specs.declared.header.Header.{Header};
-ghost use Rattle.seam_rule_lines.specs.Book.{Book, created_as};
-ghost use Rattle.seam_law_book.specs.Books.{IsOfLines, as_begun};
-ghost use Rattle.seam_law_book.specs.Bringing.{Brings, IsUntouched};
+ghost use Rattle.seam_node_steps.specs.Prelude.{AreLegal};
+ghost use Rattle.seam_rule_rounds.specs.Prelude.{Header, Book, created_as};
+ghost use Rattle.seam_law_book.specs.Prelude.{IsOfLines, as_begun, Brings, IsUntouched};
 
 /// Lines made the book as its open round began too. What the round brings fits that, after a header with legal settings.
 pub fn lines_bring_what_fits()

@@ -2,18 +2,14 @@
 use Rattle.std.proofs.Common.{◌≡◌, ℕ, Bool, true, false, ◌==◌, ◌&&◌, List, [], ◌∷◌, ◌++◌, Option, None, Some, refl, sym, ap, ◌∙◌, inl, inr}
 use Rattle.std.specs.List.{AllByRecursion}
 use Rattle.std.proofs.lemmas.Bool.{cases_eq}
-use Rattle.seam_law_flow.specs.Flows.{Flow, letters_of, more_letter}
-use Rattle.seam_law_flow.specs.Tokens.{TokenPlace, In, On, Sole}
+use Rattle.seam_node_steps.specs.Prelude.{Call as CallData, Msg, BaseCall, Hand, Current, GhostSet, GhostDrop, Tick, Reap, Update}
+use Rattle.seam_law_flow.specs.Prelude.{Flow, letters_of, more_letter, TokenPlace, In, On, Sole, of_number, Mail, Item, packed, keeps}
+use Rattle.seam_law_flow.specs.Prelude.{bears, held_in, WaitsOnce}
+use Rattle.seam_law_calls.specs.Prelude.{Has, kept_if, is_from, cell_order_from, cell_post, cell_mail, as_sender}
+use Rattle.seam_law_bounds.specs.Prelude.{is_numbered}
 use Rattle.seam_law_flow.proofs.Bridge.{letters_of-append}
-use Rattle.seam_law_flow.specs.Numbered.{of_number}
-use Rattle.seam_law_flow.specs.Desks.{Mail, Item, packed, keeps, bears, held_in, WaitsOnce}
-use Rattle.seam_call.specs.declared.call.Call.{Call as CallData}
-use Rattle.seam_entity.specs.declared.message.Msg.{Msg}
-use Rattle.seam_entity.specs.declared.message.Msg.TheVariants.{Call, BaseCall, Hand, Current, GhostSet, GhostDrop, Tick, Reap, Update}
-use Rattle.seam_law_calls.specs.Sights.{Has, kept_if}
+use Rattle.seam_entity.specs.declared.message.Msg.TheVariants.{Call}
 use Rattle.seam_law_calls.proofs.Holds.{both}
-use Rattle.seam_law_calls.specs.CellTurns.{is_from, cell_order_from, cell_post, cell_mail, as_sender}
-use Rattle.seam_law_bounds.specs.Passes.{is_numbered}
 
 nil_before : {A : Type 0} (xs : List A) (y r : A) → xs ++ y ∷ [] ≡ r ∷ [] → xs ≡ []
 nil_before [] y r h = refl

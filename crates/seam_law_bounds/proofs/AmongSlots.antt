@@ -9,36 +9,24 @@ use Rattle.std.specs.declared.cmp.Ordering.{Ordering}
 use Rattle.std.specs.declared.cmp.Ordering.TheVariants.{Less, Equal, Greater}
 use Rattle.std.specs.FinSet as set
 use Rattle.std.proofs.lemmas.Bool.{eqb-true}
-use Rattle.seam_tree.specs.Division.{Division}
-use Rattle.seam_tree.specs.Cells.{Cells}
+use Rattle.seam_node_steps.specs.Prelude.{Division, Cells, Ghost, copy_in, beat_in, OrderView, next_item, Call as CallData, GhostCopy}
+use Rattle.seam_node_steps.specs.Prelude.{Shown, order_of, RealView, WitnessView, Msg, BaseCall, Hand, Current, GhostSet, GhostDrop, Tick}
+use Rattle.seam_node_steps.specs.Prelude.{Reap, Update, Here, cell_numbers, base_numbers, base_of, ready_order, copy_of_real, executed}
+use Rattle.seam_node_steps.specs.Prelude.{executed_ready, shows, settled_to, Slot, NextPlace, SlotStep, rests, unless_stray, slot_after}
+use Rattle.seam_node_steps.specs.Prelude.{heard, told, told_unless, ghost_message, ghost_messages, haunts_at, home_after, stays, goes}
+use Rattle.seam_node_steps.specs.Prelude.{settled_by, settled, about, call_next_place, current_to, hand_over_comes, ghost_set, ghost_drop}
+use Rattle.seam_node_steps.specs.Prelude.{drop_if, drop_at, reap, survey_task, executes_ready, ready_in, ready_call_task, is_stray}
+use Rattle.seam_node_steps.specs.Prelude.{slot_steps, Known, seen_as, numbered, shown_of, looks_of, looks_with, look_by, look_task}
+use Rattle.seam_law_bounds.specs.Prelude.{is_among, AllAmong}
 use Rattle.seam_law_flow.proofs.Following.{all_append}
-use Rattle.seam_ghosts.specs.declared.Ghost.{Ghost}
-use Rattle.seam_ghosts.specs.Book.{copy_in, beat_in}
-use Rattle.seam_order.specs.Held.{OrderView}
-use Rattle.seam_order.specs.Offers.{next_item}
 use Rattle.seam_view.specs.declared.Seen.{Seen}
 use Rattle.seam_view.specs.declared.Look.{Look}
 use Rattle.seam_view.specs.declared.Look.TheVariants.{Leave, Set as LookSet, Enter}
 use Rattle.seam_view.specs.Replica.{Replica, IsView, seen_of, placed, without, after_showing, after_look, after_looks}
 use Rattle.seam_view.proofs.Kept.{view_after_looks}
-use Rattle.seam_call.specs.declared.call.Call.{Call as CallData}
-use Rattle.seam_call.specs.declared.shown.GhostCopy.{GhostCopy}
-use Rattle.seam_call.specs.declared.shown.Shown.{Shown}
-use Rattle.seam_entity.specs.Orders.{order_of}
-use Rattle.seam_entity.specs.Reals.{RealView, WitnessView}
-use Rattle.seam_entity.specs.declared.message.Msg.{Msg}
-use Rattle.seam_entity.specs.declared.message.Msg.TheVariants.{Call, BaseCall, Hand, Current, GhostSet, GhostDrop, Tick, Reap, Update}
-use Rattle.seam_entity.specs.Here.{Here, cell_numbers, base_numbers, base_of}
-use Rattle.seam_entity.specs.Calls.{ready_order}
-use Rattle.seam_entity.specs.Executing.{copy_of_real, executed, executed_ready, shows, settled_to}
-use Rattle.seam_node_steps.specs.Slots.{Slot, NextPlace, SlotStep, rests, unless_stray, slot_after, heard}
-use Rattle.seam_node_steps.specs.Settle.{told, told_unless, ghost_message, ghost_messages, haunts_at, home_after, stays, goes, settled_by}
-use Rattle.seam_node_steps.specs.Settle.{settled}
-use Rattle.seam_node_steps.specs.CellCases.{about, offered, call_next_place, call, current_to, hand_over_comes, ghost_set}
-use Rattle.seam_node_steps.specs.CellCases.{ghost_drop, drop_if, drop_at, reap, survey_task, executes_ready, ready_in, ready_call_task}
-use Rattle.seam_node_steps.specs.CellCases.{is_stray, case_of, slot_steps}
-use Rattle.seam_node_steps.specs.CellLooks.{Known, seen_as, numbered, shown_of, looks_of, looks_with, look_by, look_task}
-use Rattle.seam_law_bounds.specs.Looking.{is_among, AllAmong}
+use Rattle.seam_entity.specs.declared.message.Msg.TheVariants.{Call}
+use Rattle.seam_node_steps.specs.CellCases.{offered, call}
+use Rattle.seam_node_steps.specs.CellCases.{case_of}
 
 -- ---- lists
 

@@ -1,44 +1,30 @@
 -- Without looks, and without calls to an entity's base part, nothing comes to it: a part that holds nothing never holds anything.
 use Rattle.std.proofs.Common.{◌≡◌, ℕ, true, List, [], ◌∷◌, Option, None, Some, refl, sym, ap, ◌∙◌, subst, arith}
 use Rattle.std.specs.List.{AllByRecursion}
-use Rattle.seam_machine.specs.Nets.{happens, enabled, LeadsTo}
-use Rattle.seam_machine.specs.declared.machines.Event.{Event}
+use Rattle.seam_node_steps.specs.Prelude.{happens, enabled, LeadsTo, Event, Order, Msg, BaseCall, Hand, Current, GhostSet, GhostDrop, Tick}
+use Rattle.seam_node_steps.specs.Prelude.{Reap, Update, Here, PartView, World, node_steps, node_has_work}
+use Rattle.seam_law_flow.specs.Prelude.{comes, letters_of, IsSilent, carried_in}
+use Rattle.seam_law_calls.specs.Prelude.{Frame, here_at, IsInFrame, Has, AtBase, entity_flow, Moves, at_a_cell, at_a_base, held_in, real_in}
+use Rattle.seam_law_calls.specs.Prelude.{base_call_in, update_in, base_call_of, calls_ordered, called, told, PartMoves, WitnessMoves}
+use Rattle.seam_law_calls.specs.Prelude.{HasNoBaseCalls, HasToldAtMost, HasNoLooks}
+use Rattle.seam_law_bounds.specs.Prelude.{part_weight}
 use Rattle.seam_machine.proofs.Occurring.{occurs}
 use Rattle.seam_net_runs.specs.Sums.{weight_or}
 use Rattle.seam_net_runs.proofs.Runs.{leads_by_one, leads_keeps}
-use Rattle.seam_law_flow.specs.Flows.{comes, letters_of}
-use Rattle.seam_law_flow.specs.Sent.{IsSilent}
-use Rattle.seam_law_flow.specs.Tokens.{carried_in}
 use Rattle.seam_law_flow.proofs.Following.{all_append, slots_kept, letters_kept, came}
-use Rattle.seam_call.specs.declared.order.Order.{Order}
 use Rattle.seam_call.specs.declared.order.Order.TheVariants as order
-use Rattle.seam_entity.specs.declared.message.Msg.{Msg}
-use Rattle.seam_entity.specs.declared.message.Msg.TheVariants.{Call, BaseCall, Hand, Current, GhostSet, GhostDrop, Tick, Reap, Update}
-use Rattle.seam_entity.specs.Here.{Here}
-use Rattle.seam_node_steps.specs.Bases.{PartView}
-use Rattle.seam_node_steps.specs.Nodes.{World, node_steps, node_has_work}
-use Rattle.seam_law_calls.specs.Frames.{Frame, here_at, IsInFrame}
-use Rattle.seam_law_calls.specs.Sights.{Has, AtBase, entity_flow}
-use Rattle.seam_law_calls.specs.Moves.{Moves, at_a_cell, at_a_base}
+use Rattle.seam_entity.specs.declared.message.Msg.TheVariants.{Call}
 use Rattle.seam_law_calls.proofs.Classify.{event_moves, frame_happens}
-use Rattle.seam_law_calls.specs.Burdens.{held_in}
-use Rattle.seam_law_calls.specs.Ones.{real_in}
 use Rattle.seam_law_calls.proofs.HeldCounts.{taken_counts}
 use Rattle.seam_law_calls.proofs.Sparing.{items_all}
-use Rattle.seam_law_calls.specs.PartMoves.{base_call_in, update_in, base_call_of, calls_ordered, called, told}
 use Rattle.seam_law_calls.specs.PartMoves as part
-use Rattle.seam_law_calls.specs.PartMoves.{PartMoves}
 use Rattle.seam_law_calls.specs.WitnessMoves as witness
-use Rattle.seam_law_calls.specs.WitnessMoves.{WitnessMoves}
 use Rattle.seam_law_ghosts.proofs.Unknown.{IsTickOrder, IsTick, IsUnknown, unknown_leads}
-use Rattle.seam_law_calls.specs.Reaps.{HasNoBaseCalls}
-use Rattle.seam_law_calls.specs.Clients.{HasToldAtMost, HasNoLooks}
 use Rattle.seam_law_calls.proofs.BaseSilent.{sees_no_update, base_silent}
 use Rattle.seam_law_calls.proofs.NoLooks.{looks_lead}
 use Rattle.seam_law_calls.proofs.PartSteps.{part_moves}
 use Rattle.seam_law_calls.proofs.Reaped.{no_call_comes}
 use Rattle.seam_law_calls.proofs.WitnessSteps.{witness_moves}
-use Rattle.seam_law_bounds.specs.Weights.{part_weight}
 use Rattle.seam_law_bounds.proofs.BaseWeights.{showing_weighs}
 
 abbrev pub HoldsNone : AtBase → Type 0

@@ -6,40 +6,29 @@ use Rattle.std.specs.Ordering.{nat_cmp}
 use Rattle.std.specs.declared.cmp.Ordering.{Ordering}
 use Rattle.std.specs.declared.cmp.Ordering.TheVariants.{Less, Equal, Greater}
 use Rattle.std.specs.FinMap as table
-use Rattle.seam_machine.specs.Views.{Stepped}
-use Rattle.seam_machine.specs.Totals.{total}
-use Rattle.seam_machine.specs.declared.machines.Input.{Input}
-use Rattle.seam_machine.specs.declared.machines.Input.TheVariants.{Task, From}
+use Rattle.seam_node_steps.specs.Prelude.{Stepped, total, Input, Task, From, OrderView, next_item, Call as CallData, Order, Shown}
+use Rattle.seam_node_steps.specs.Prelude.{ClientText, rank_of, order_of, Msg, BaseCall, Hand, Current, GhostSet, GhostDrop, Tick, Reap}
+use Rattle.seam_node_steps.specs.Prelude.{Update, Here, cell_count, ready_order, order_is_ready, has_any, BaseView, PartView, ProxyView}
+use Rattle.seam_node_steps.specs.Prelude.{RouteView, with_part, line_if, sends_none, may_show, offered, part_called, on_route, base_order}
+use Rattle.seam_node_steps.specs.Prelude.{is_base_node_of, order_of_node, stray_order, part_is_ready, ready_part, after_ready}
+use Rattle.seam_node_steps.specs.Prelude.{proxy_is_ready, client_is_ready, ready_proxy, shows_next, after_showing, proxy_task}
+use Rattle.seam_node_steps.specs.Prelude.{task_without_orders, base_task, newer_route, current, offered_update, updated_proxy, update}
+use Rattle.seam_node_steps.specs.Prelude.{case_of, base_steps, base_has_work}
+use Rattle.seam_law_bounds.specs.Prelude.{Sizes, settle_weight, tick_weight, proxy_weight, part_weight, order_weight, letter_weight}
+use Rattle.seam_law_bounds.specs.Prelude.{BaseCan}
 use Rattle.seam_net_runs.specs.Sums.{weight_or}
 use Rattle.seam_net_runs.specs.Weights.{sent_weight, input_weight}
 use Rattle.seam_net_runs.proofs.MapSums.{total_of_insert, total_of_remove, sent_of_range, range_bounds}
 use Rattle.seam_table.proofs.Found.{found}
-use Rattle.seam_order.specs.Held.{OrderView}
-use Rattle.seam_order.specs.Offers.{next_item}
-use Rattle.seam_call.specs.declared.call.Call.{Call as CallData}
-use Rattle.seam_call.specs.declared.order.Order.{Order}
 use Rattle.seam_call.specs.declared.order.Order.TheVariants as order
-use Rattle.seam_call.specs.declared.shown.Shown.{Shown}
 use Rattle.seam_call.specs.declared.shown.Update.{Update as UpdateData}
-use Rattle.seam_call.specs.declared.shown.ClientText.{ClientText}
-use Rattle.seam_call.specs.Senders.{rank_of}
-use Rattle.seam_entity.specs.Orders.{order_of}
-use Rattle.seam_entity.specs.declared.message.Msg.{Msg}
-use Rattle.seam_entity.specs.declared.message.Msg.TheVariants.{Call, BaseCall, Hand, Current, GhostSet, GhostDrop, Tick, Reap, Update}
-use Rattle.seam_entity.specs.Here.{Here, cell_count}
-use Rattle.seam_entity.specs.Calls.{ready_order, order_is_ready}
-use Rattle.seam_node_steps.specs.Maps.{has_any}
-use Rattle.seam_node_steps.specs.Bases.{BaseView, PartView, ProxyView, RouteView, with_part, line_if}
-use Rattle.seam_node_steps.specs.BaseCases.{sends_none, unless_stray, may_show, may_execute, executed, offered, part_called}
-use Rattle.seam_node_steps.specs.BaseCases.{on_route, base_order, is_base_node_of, order_of_node, stray_order, part_is_ready}
-use Rattle.seam_node_steps.specs.BaseCases.{ready_part, executes_ready, after_ready, proxy_is_ready, client_is_ready, ready_proxy, shows_next}
-use Rattle.seam_node_steps.specs.BaseCases.{after_showing, proxy_task, task_without_orders, base_task, newer_route, current, offered_update}
-use Rattle.seam_node_steps.specs.BaseCases.{updated_proxy, update, is_stray, case_of, base_steps, base_has_work}
+use Rattle.seam_entity.specs.declared.message.Msg.TheVariants.{Call}
+use Rattle.seam_node_steps.specs.BaseCases.{unless_stray, may_execute, executed}
+use Rattle.seam_node_steps.specs.BaseCases.{executes_ready}
+use Rattle.seam_node_steps.specs.BaseCases.{is_stray}
 use Rattle.seam_law_calls.proofs.HeldCounts.{turn_counts, early_counts, taken_counts}
 use Rattle.seam_law_calls.proofs.PartSteps.{equal_of, greater_of}
-use Rattle.seam_law_bounds.specs.Weights.{Sizes, settle_weight, tick_weight, proxy_weight, part_weight, order_weight, base_weight}
-use Rattle.seam_law_bounds.specs.Weights.{letter_weight}
-use Rattle.seam_law_bounds.specs.Events.{BaseCan}
+use Rattle.seam_law_bounds.specs.Weights.{base_weight}
 use Rattle.seam_law_bounds.proofs.Counts.{offer_adds, taking_removes}
 
 -- ---- parts

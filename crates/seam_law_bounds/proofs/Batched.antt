@@ -3,32 +3,19 @@ use Rattle.std.proofs.Common.{◌≡◌, ℕ, Bool, true, false, cond, List, [],
 use Rattle.std.specs.Prelude.{slice_get}
 use Rattle.std.specs.List.{AllByRecursion, range_with_len}
 use Rattle.std.specs.FinSet as set
-use Rattle.seam_machine.specs.Nets.{link, happens, enabled, LeadsTo}
-use Rattle.seam_machine.specs.Events.{EachNode}
-use Rattle.seam_machine.specs.declared.machines.Event.{Event}
+use Rattle.seam_node_steps.specs.Prelude.{link, happens, enabled, LeadsTo, EachNode, Event, Call as CallData, Order, Msg, BaseCall, Hand}
+use Rattle.seam_node_steps.specs.Prelude.{Current, GhostSet, GhostDrop, Tick, Reap, Update, base_numbers, base_of, haunts_at}
+use Rattle.seam_node_steps.specs.Prelude.{ghost_messages, current_to, tick_to, NodeView, World, node_steps, node_has_work, Cell, Base}
+use Rattle.seam_law_flow.specs.Prelude.{comes, slot_at, letters_of, IsSilent}
+use Rattle.seam_law_calls.specs.Prelude.{Frame, here_at, IsInFrame, Has, mine, order_concerns, orders_of, has_of, has_none, entity_flow}
+use Rattle.seam_law_calls.specs.Prelude.{CellMoves, BaseMoves, Moves, at_a_cell, at_a_base}
 use Rattle.seam_machine.proofs.Occurring.{occurs}
 use Rattle.seam_net_runs.proofs.Runs.{leads_by_one, leads_keeps}
-use Rattle.seam_law_flow.specs.Flows.{comes, slot_at, letters_of}
-use Rattle.seam_law_flow.specs.Sent.{IsSilent}
 use Rattle.seam_law_flow.proofs.Following.{all_append, letters_kept, came}
-use Rattle.seam_call.specs.declared.call.Call.{Call as CallData}
-use Rattle.seam_call.specs.declared.order.Order.{Order}
 use Rattle.seam_call.specs.declared.order.Order.TheVariants as order
-use Rattle.seam_entity.specs.declared.message.Msg.{Msg}
-use Rattle.seam_entity.specs.declared.message.Msg.TheVariants.{Call, BaseCall, Hand, Current, GhostSet, GhostDrop, Tick, Reap, Update}
-use Rattle.seam_entity.specs.Here.{base_numbers, base_of}
-use Rattle.seam_node_steps.specs.Settle.{haunts_at, ghost_messages}
-use Rattle.seam_node_steps.specs.CellCases.{current_to}
-use Rattle.seam_node_steps.specs.BaseCases.{tick_to}
-use Rattle.seam_node_steps.specs.Nodes.{NodeView, World, node_steps, node_has_work}
-use Rattle.seam_node_steps.specs.Nodes.NodeView.{Cell, Base}
-use Rattle.seam_law_calls.specs.Frames.{Frame, here_at, IsInFrame}
-use Rattle.seam_law_calls.specs.Sights.{Has, mine, order_concerns, orders_of, has_of, has_none, entity_flow}
+use Rattle.seam_entity.specs.declared.message.Msg.TheVariants.{Call}
 use Rattle.seam_law_calls.specs.CellMoves as move
-use Rattle.seam_law_calls.specs.CellMoves.{CellMoves}
 use Rattle.seam_law_calls.specs.BaseMoves as base_move
-use Rattle.seam_law_calls.specs.BaseMoves.{BaseMoves}
-use Rattle.seam_law_calls.specs.Moves.{Moves, at_a_cell, at_a_base}
 use Rattle.seam_law_calls.proofs.Classify.{event_moves, frame_happens}
 use Rattle.seam_law_calls.proofs.Plain.{SeesNoGhost, ghosts_silent, drops_silent, mapped_silent, numbered_silent}
 use Rattle.seam_law_calls.proofs.Sparing.{items_all}

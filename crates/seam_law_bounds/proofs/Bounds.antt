@@ -5,19 +5,12 @@ use Rattle.std.specs.Prelude.{slice_get}
 use Rattle.std.specs.List.{range_with_len}
 use Rattle.std.specs.FinMap as table
 use Rattle.std.proofs.Math.Nat.{mul-le-mul_left}
-use Rattle.seam_machine.specs.Totals.{total}
-use Rattle.seam_call.specs.declared.order.Batch.{Batch}
-use Rattle.seam_entity.specs.Here.{cell_count}
-use Rattle.seam_node_steps.specs.Cells.{has_witness, witnesses}
-use Rattle.seam_node_steps.specs.Nodes.{NodeView, World}
-use Rattle.seam_node_steps.specs.Nodes.NodeView.{Cell, Base}
-use Rattle.seam_node_steps.specs.Loads.{loaded}
-use Rattle.seam_law_calls.specs.Frames.{Frame}
-use Rattle.seam_law_ghosts.specs.Copies.{AreCopiesBetweenRounds}
-use Rattle.seam_law_rounds.specs.Parts.{MayBeLoaded}
-use Rattle.seam_law_ghosts.specs.RealPlaces.{GoesThroughRound}
-use Rattle.seam_law_bounds.specs.Looking.{is_among, LooksAmong, SeesWhatIsThere}
-use Rattle.seam_law_bounds.specs.Phases.{entities, reals_at, witnesses_at, all_witnesses, events_of_looks}
+use Rattle.seam_node_steps.specs.Prelude.{total, Batch, cell_count, has_witness, witnesses, NodeView, World, Cell, Base, loaded}
+use Rattle.seam_law_calls.specs.Prelude.{Frame}
+use Rattle.seam_law_rounds.specs.Prelude.{MayBeLoaded}
+use Rattle.seam_law_ghosts.specs.Prelude.{AreCopiesBetweenRounds, GoesThroughRound}
+use Rattle.seam_law_bounds.specs.Prelude.{is_among, LooksAmong, SeesWhatIsThere, entities, reals_at, witnesses_at, all_witnesses}
+use Rattle.seam_law_bounds.specs.Prelude.{events_of_looks}
 use Rattle.seam_law_bounds.proofs.There.{numbers_many, reals_of, reals_many, passing_has, us, ws, among_then}
 
 -- ---- the witnesses, cell by cell

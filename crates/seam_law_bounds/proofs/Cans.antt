@@ -5,30 +5,13 @@ use Rattle.std.specs.Prelude.{slice_get}
 use Rattle.std.specs.List.{AllByRecursion}
 use Rattle.std.specs.FinMap as table
 use Rattle.std.proofs.lemmas.Bool.{eq-eqb}
-use Rattle.seam_machine.specs.Nets.{link, letter, input_from}
-use Rattle.seam_machine.specs.declared.machines.Input.{Input}
-use Rattle.seam_machine.specs.declared.machines.Input.TheVariants.{From}
-use Rattle.seam_law_flow.specs.Flows.{slot_at, letters_of}
-use Rattle.seam_call.specs.declared.order.Order.{Order}
-use Rattle.seam_entity.specs.Reals.{RealView}
-use Rattle.seam_entity.specs.Calls.{has_ready, ready_order}
-use Rattle.seam_entity.specs.Executing.{may_execute}
-use Rattle.seam_entity.specs.Numbers.{may_rise}
-use Rattle.seam_entity.specs.declared.message.Msg.{Msg}
-use Rattle.seam_entity.specs.declared.message.Msg.TheVariants.{Tick}
-use Rattle.seam_entity.specs.Here.{Here}
-use Rattle.seam_node_steps.specs.Cells.{CellView}
-use Rattle.seam_node_steps.specs.Bases.{BaseView, PartView}
-use Rattle.seam_node_steps.specs.BaseCases.{stray_order, proxy_is_ready, may_show}
+use Rattle.seam_node_steps.specs.Prelude.{link, letter, input_from, Input, From, Order, RealView, has_ready, ready_order, may_execute}
+use Rattle.seam_node_steps.specs.Prelude.{may_rise, Msg, Tick, Here, CellView, BaseView, PartView, stray_order, proxy_is_ready, may_show}
+use Rattle.seam_node_steps.specs.Prelude.{NodeView, World, Cell, Base}
+use Rattle.seam_law_flow.specs.Prelude.{slot_at, letters_of}
+use Rattle.seam_law_calls.specs.Prelude.{Frame, IsInFrame, mine, times, has_of, has_none, tick_in, HasNoLooks}
+use Rattle.seam_law_bounds.specs.Prelude.{Sizes, part_weight, BaseCan, NodeCan, LooksFit}
 use Rattle.seam_node_steps.specs.BaseCases as base
-use Rattle.seam_node_steps.specs.Nodes.{NodeView, World}
-use Rattle.seam_node_steps.specs.Nodes.NodeView.{Cell, Base}
-use Rattle.seam_law_calls.specs.Frames.{Frame, IsInFrame}
-use Rattle.seam_law_calls.specs.Sights.{mine, times, has_of, has_none}
-use Rattle.seam_law_calls.specs.Clients.{tick_in, HasNoLooks}
-use Rattle.seam_law_bounds.specs.Weights.{Sizes, part_weight}
-use Rattle.seam_law_bounds.specs.Events.{BaseCan, NodeCan}
-use Rattle.seam_law_bounds.specs.Looking.{LooksFit}
 use Rattle.seam_law_bounds.proofs.BaseWeights.{after_ready_weighs, showing_weighs}
 
 -- ---- a base node

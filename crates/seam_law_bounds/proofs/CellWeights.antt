@@ -3,23 +3,17 @@ use Rattle.std.proofs.Common.{◌≡◌, ℕ, suc, ◌+◌, ◌*◌, ◌≤◌, 
 use Rattle.std.proofs.Common.{find, arith}
 use Rattle.std.specs.Prelude.{◌||◌, is_some, if◌then◌else◌, option_map}
 use Rattle.std.specs.FinMap as table
-use Rattle.seam_machine.specs.declared.machines.Input.{Input}
-use Rattle.seam_machine.specs.declared.machines.Input.TheVariants.{Task, From}
+use Rattle.seam_node_steps.specs.Prelude.{Input, Task, From, RealView, has_ready, Msg, BaseCall, Hand, Current, GhostSet, GhostDrop, Tick}
+use Rattle.seam_node_steps.specs.Prelude.{Reap, Update, number_of, has_any, Slot, SlotStep, slot_after, about, slot_steps, CellView}
+use Rattle.seam_node_steps.specs.Prelude.{slot_of, after_slot, is_another, unlisted_by, stepped, known_to, surveys, calls_ready}
+use Rattle.seam_node_steps.specs.Prelude.{looks_around, real_is_ready, ready_entity, look_next, ready_next, cell_task, tick, cell_hears}
+use Rattle.seam_node_steps.specs.Prelude.{cell_steps, cell_has_work, Cell}
+use Rattle.seam_law_bounds.specs.Prelude.{Sizes, settling, look_weight, tick_weight, real_weight, letter_weight, cell_passes, node_passes}
 use Rattle.seam_net_runs.specs.Weights.{sent_weight, input_weight}
 use Rattle.seam_table.proofs.Found.{found}
-use Rattle.seam_entity.specs.Reals.{RealView}
-use Rattle.seam_entity.specs.Calls.{has_ready}
-use Rattle.seam_entity.specs.declared.message.Msg.{Msg}
-use Rattle.seam_entity.specs.declared.message.Msg.TheVariants.{Call, BaseCall, Hand, Current, GhostSet, GhostDrop, Tick, Reap, Update}
-use Rattle.seam_node_steps.specs.Maps.{number_of, has_any}
-use Rattle.seam_node_steps.specs.Slots.{Slot, SlotStep, slot_after}
-use Rattle.seam_node_steps.specs.CellCases.{about, slot_steps}
-use Rattle.seam_node_steps.specs.Cells.{CellView, slot_of, after_slot, is_another, unlisted_by, stepped, known_to, surveys, calls_ready}
-use Rattle.seam_node_steps.specs.Cells.{looks_around, real_is_ready, ready_entity, look_next, ready_next, cell_task, tick, cell_hears}
-use Rattle.seam_node_steps.specs.Cells.{cell_steps, cell_has_work}
-use Rattle.seam_law_bounds.specs.Weights.{Sizes, settling, look_weight, tick_weight, real_weight, cell_weight, letter_weight}
-use Rattle.seam_law_bounds.specs.Events.{cell_passes, CellCan, node_passes}
-use Rattle.seam_node_steps.specs.Nodes.NodeView.{Cell}
+use Rattle.seam_entity.specs.declared.message.Msg.TheVariants.{Call}
+use Rattle.seam_law_bounds.specs.Weights.{cell_weight}
+use Rattle.seam_law_bounds.specs.Events.{CellCan}
 use Rattle.seam_law_bounds.proofs.Counts.{times_grows, one_more, filter_shortens, total_of_set_at}
 use Rattle.seam_law_bounds.proofs.SlotWeights.{slot_weight, step_weight, passed, message_weighs, survey_weighs, ready_weighs, look_weighs}
 

@@ -1,22 +1,14 @@
 -- In a round each call that is passed on climbs.
 use Rattle.std.proofs.Common.{◌≡◌, ℕ, ◌+◌, ◌≤◌, true, List, Option, None, Some, refl, sym, ap, ◌∙◌, arith, inl, inr}
 use Rattle.std.proofs.lemmas.Bool.{cases_eq}
-use Rattle.seam_machine.specs.Nets.{happens, enabled, LeadsTo}
-use Rattle.seam_machine.specs.declared.machines.Event.{Event}
-use Rattle.seam_law_flow.specs.Flows.{Flow}
-use Rattle.seam_call.specs.declared.order.Batch.{Batch}
-use Rattle.seam_entity.specs.Reals.{RealView}
-use Rattle.seam_entity.specs.declared.message.Msg.{Msg}
-use Rattle.seam_node_steps.specs.Slots.{NextPlace}
-use Rattle.seam_node_steps.specs.Nodes.{World, node_steps, node_has_work}
-use Rattle.seam_node_steps.specs.Loads.{loaded}
-use Rattle.seam_law_calls.specs.Frames.{Frame}
-use Rattle.seam_law_calls.specs.Sights.{Has, entity_flow}
-use Rattle.seam_law_calls.specs.Ones.{real_in}
-use Rattle.seam_law_rounds.specs.Between.{IsBetweenRounds, IsFitting, framed}
+use Rattle.seam_node_steps.specs.Prelude.{happens, enabled, LeadsTo, Event, Batch, RealView, Msg, NextPlace, World, node_steps}
+use Rattle.seam_node_steps.specs.Prelude.{node_has_work, loaded}
+use Rattle.seam_law_flow.specs.Prelude.{Flow}
+use Rattle.seam_law_calls.specs.Prelude.{Frame, Has, entity_flow, real_in}
+use Rattle.seam_law_rounds.specs.Prelude.{IsBetweenRounds, IsFitting, framed}
+use Rattle.seam_law_bounds.specs.Prelude.{rank_of, ComesTo, AreRanked, Climbs}
 use Rattle.seam_law_rounds.proofs.Going.{frame_loaded, settled_loaded, its, one_loaded, spared_loaded}
 use Rattle.seam_law_rounds.proofs.CallsEnd.{routed_loaded}
-use Rattle.seam_law_bounds.specs.Ranks.{rank_of, ComesTo, AreRanked, Climbs}
 use Rattle.seam_law_bounds.proofs.Ranking.{rank_real, rank_next, rank_none, Ranked, ranked_leads, climbs}
 
 -- what a node without the real sends to its next place comes to a node of higher rank

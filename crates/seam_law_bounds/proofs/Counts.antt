@@ -7,11 +7,10 @@ use Rattle.std.specs.Ordering.{nat_cmp, match_ordering}
 use Rattle.std.specs.declared.cmp.Ordering.{Ordering}
 use Rattle.std.specs.declared.cmp.Ordering.TheVariants.{Less, Equal, Greater}
 use Rattle.std.specs.FinMap as table
-use Rattle.seam_order.specs.Held.{OrderView, item_at, with_item, without}
-use Rattle.seam_order.specs.Offers.{next_item, after_offer, after_item, after_taking}
+use Rattle.seam_node_steps.specs.Prelude.{OrderView, item_at, with_item, next_item, after_offer, after_item, after_taking, Map, set_at}
+use Rattle.seam_order.specs.Held.{without}
 use Rattle.seam_net_runs.specs.Sums.{weight_or, map_total}
 use Rattle.seam_net_runs.proofs.MapSums.{total_of_insert, total_of_remove}
-use Rattle.seam_node_steps.specs.Maps.{Map, set_at}
 
 -- ---- products
 

@@ -1,17 +1,12 @@
 -- In the worked row "an early call is held" one call is passed on, once, and the real is handed over once.
 use Rattle.std.proofs.Common.{◌≡◌, ℕ, ◌+◌, Bool, true, false, cond, ◌&&◌, is_some, is_none, List, [], ◌∷◌, refl, ap, ◌∙◌}
-use Rattle.seam_machine.specs.Nets.{happens}
-use Rattle.seam_machine.specs.declared.machines.Event.{Event}
+use Rattle.seam_node_steps.specs.Prelude.{happens, Event, World, node_steps, IsRow, task, mail, steps}
+use Rattle.seam_law_calls.specs.Prelude.{entity_flow, events_of, real_in}
+use Rattle.seam_law_bounds.specs.Prelude.{passes_on, passes, hand_overs}
 use Rattle.seam_net_runs.specs.Weights.{counted}
-use Rattle.seam_node_steps.specs.Nodes.{World, node_steps}
-use Rattle.seam_node_steps.specs.Rows.{IsRow, task, mail}
 use Rattle.seam_node_steps.specs.EarlyCall.{world_0, world_1, world_2, world_3, world_4, world_5, world_6, world_7, world_8, world_9}
-use Rattle.seam_node_steps.specs.EarlyCall.{world_10, world_11, world_12, steps}
+use Rattle.seam_node_steps.specs.EarlyCall.{world_10, world_11, world_12}
 use Rattle.seam_node_steps.proofs.Tables.{computing}
-use Rattle.seam_law_calls.specs.Sights.{entity_flow}
-use Rattle.seam_law_calls.specs.HandOverExample.{events_of}
-use Rattle.seam_law_calls.specs.Ones.{real_in}
-use Rattle.seam_law_bounds.specs.Passes.{passes_on, passes, hand_overs}
 
 -- the count along the worlds of a row
 abbrev along : (World → World → Event → Bool) → World → List (Event × World) → ℕ

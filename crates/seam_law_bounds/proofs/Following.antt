@@ -2,12 +2,11 @@
 use Rattle.std.proofs.Common.{◌≡◌, ℕ, ◌≤◌, ◌⊎◌, Bool, true, false, ◌||◌, List, [], ◌∷◌, ◌++◌, refl, sym, ◌∙◌, arith, inl, inr}
 use Rattle.std.specs.List.{AllByRecursion}
 use Rattle.std.proofs.lemmas.Bool.Decides.{nat_tests}
-use Rattle.seam_law_flow.specs.Flows.{Flow}
-use Rattle.seam_call.specs.declared.call.Call.{Call as CallData}
-use Rattle.seam_entity.specs.declared.message.Msg.{Msg}
-use Rattle.seam_entity.specs.declared.message.Msg.TheVariants.{Call, BaseCall, Hand, Current, GhostSet, GhostDrop, Tick, Reap, Update}
-use Rattle.seam_law_calls.specs.Sights.{Has}
-use Rattle.seam_law_bounds.specs.Ranks.{is_hand_from, has_hand_from, ComesTo}
+use Rattle.seam_node_steps.specs.Prelude.{Call as CallData, Msg, BaseCall, Hand, Current, GhostSet, GhostDrop, Tick, Reap, Update}
+use Rattle.seam_law_flow.specs.Prelude.{Flow}
+use Rattle.seam_law_calls.specs.Prelude.{Has}
+use Rattle.seam_law_bounds.specs.Prelude.{is_hand_from, has_hand_from, ComesTo}
+use Rattle.seam_entity.specs.declared.message.Msg.TheVariants.{Call}
 use Rattle.seam_law_bounds.proofs.Ranking.{either}
 
 -- a hand-over of at least so great a generation is one of at least a smaller one

@@ -5,19 +5,14 @@ use Rattle.std.specs.Prelude.{slice_get}
 use Rattle.std.proofs.lemmas.Bool.{cases_eq, eq-eqb, ne_eqb}
 use Rattle.std.proofs.lemmas.Bool.Decides.{nat_tests}
 use Rattle.std.proofs.lemmas.Option.{slice_get-map}
-use Rattle.seam_machine.specs.Events.{EachNode}
-use Rattle.seam_machine.specs.Totals.{total}
+use Rattle.seam_node_steps.specs.Prelude.{EachNode, total, Order, base_of, BaseView, NodeView, World, Cell, Base, order_if, ordered_at}
+use Rattle.seam_node_steps.specs.Prelude.{with_orders, with_nodes, reap_ordered_at, with_reap, reaps_loaded}
+use Rattle.seam_law_calls.specs.Prelude.{Frame, here_at, IsAt, IsBaseAt}
+use Rattle.seam_law_bounds.specs.Prelude.{Sizes, order_weight, node_weight, world_weight}
 use Rattle.seam_machine.proofs.Totals.{total-push}
-use Rattle.seam_call.specs.declared.order.Order.{Order}
 use Rattle.seam_call.specs.declared.order.Order.TheVariants as order
-use Rattle.seam_entity.specs.Here.{base_of}
-use Rattle.seam_node_steps.specs.Bases.{BaseView}
-use Rattle.seam_node_steps.specs.Nodes.{NodeView, World}
-use Rattle.seam_node_steps.specs.Nodes.NodeView.{Cell, Base}
-use Rattle.seam_node_steps.specs.Loads.{order_if, ordered_at, with_order, with_orders, with_nodes, reap_ordered_at, with_reap, reaps_loaded}
-use Rattle.seam_law_calls.specs.Frames.{Frame, here_at, IsAt, IsBaseAt}
+use Rattle.seam_node_steps.specs.Loads.{with_order}
 use Rattle.seam_law_rounds.proofs.Loading.{node_there}
-use Rattle.seam_law_bounds.specs.Weights.{Sizes, order_weight, node_weight, world_weight}
 
 -- where g is at most h at each node, but at most a more at the node `home`, so is the sum
 module _ {N : Type 0} (g h : N → ℕ) (home a : ℕ) where

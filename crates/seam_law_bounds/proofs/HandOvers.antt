@@ -4,47 +4,30 @@ use Rattle.std.proofs.Common.{◌∙◌, arith}
 use Rattle.std.specs.Prelude.{is_some, is_none}
 use Rattle.std.specs.List.{range_with_len}
 use Rattle.std.specs.FinSet as set
-use Rattle.seam_machine.specs.Nets.{happens, AllEnabled}
-use Rattle.seam_machine.specs.Events.{Occurs}
-use Rattle.seam_machine.specs.Totals.{total}
-use Rattle.seam_machine.specs.declared.machines.Event.{Event}
+use Rattle.seam_node_steps.specs.Prelude.{happens, AllEnabled, Occurs, total, Event, rank_of, RealView, Msg, BaseCall, Hand, Current}
+use Rattle.seam_node_steps.specs.Prelude.{GhostSet, GhostDrop, Tick, Reap, Update, base_numbers, base_of, settled_to, SlotStep, slot_after}
+use Rattle.seam_node_steps.specs.Prelude.{haunts_at, ghost_messages, current_to, shown_of, looks_with, tick_to, NodeView, World, node_steps}
+use Rattle.seam_node_steps.specs.Prelude.{node_has_work}
+use Rattle.seam_law_flow.specs.Prelude.{letter_in, slot_at, IsSilent}
+use Rattle.seam_law_calls.specs.Prelude.{Frame, here_at, IsInFrame, Has, AtCell, AtBase, mine, concerning, has_of, has_none, entity_flow}
+use Rattle.seam_law_calls.specs.Prelude.{unlisted_if, Does, Acts, surveys, calls, readies, CellMoves, BaseMoves, Moves, at_a_cell}
+use Rattle.seam_law_calls.specs.Prelude.{at_a_base, held_in, real_in, IsSpared}
+use Rattle.seam_law_bounds.specs.Prelude.{hands_over, hand_overs, one_if_cell}
 use Rattle.seam_machine.proofs.Occurring.{occurs, node_here}
 use Rattle.seam_machine.proofs.Totals.{total-push}
 use Rattle.seam_net_runs.specs.Sums.{weight_or}
 use Rattle.seam_net_runs.specs.Weights.{weight}
 use Rattle.seam_net_runs.proofs.Soundness.{sound_sends}
 use Rattle.seam_net_runs.proofs.Weighing.{weight_moves}
-use Rattle.seam_law_flow.specs.Flows.{letter_in, slot_at}
-use Rattle.seam_law_flow.specs.Sent.{IsSilent}
-use Rattle.seam_call.specs.Senders.{rank_of}
-use Rattle.seam_entity.specs.Reals.{RealView}
-use Rattle.seam_entity.specs.declared.message.Msg.{Msg}
-use Rattle.seam_entity.specs.declared.message.Msg.TheVariants.{Call, BaseCall, Hand, Current, GhostSet, GhostDrop, Tick, Reap, Update}
-use Rattle.seam_entity.specs.Here.{base_numbers, base_of}
-use Rattle.seam_entity.specs.Executing.{settled_to}
-use Rattle.seam_node_steps.specs.Slots.{SlotStep, slot_after}
-use Rattle.seam_node_steps.specs.Settle.{haunts_at, ghost_messages}
+use Rattle.seam_entity.specs.declared.message.Msg.TheVariants.{Call}
 use Rattle.seam_node_steps.specs.Settle as settle
-use Rattle.seam_node_steps.specs.CellCases.{current_to}
-use Rattle.seam_node_steps.specs.CellLooks.{shown_of, looks_with}
-use Rattle.seam_node_steps.specs.BaseCases.{tick_to}
-use Rattle.seam_node_steps.specs.Nodes.{NodeView, World, node_steps, node_has_work}
-use Rattle.seam_law_calls.specs.Frames.{Frame, here_at, IsInFrame}
-use Rattle.seam_law_calls.specs.Sights.{Has, AtCell, AtBase, mine, concerning, has_of, has_none, entity_flow}
 use Rattle.seam_law_calls.specs.CellMoves as move
-use Rattle.seam_law_calls.specs.CellMoves.{unlisted_if, Does, Acts, surveys, calls, readies, CellMoves}
-use Rattle.seam_law_calls.specs.BaseMoves.{BaseMoves}
-use Rattle.seam_law_calls.specs.Moves.{Moves, at_a_cell, at_a_base}
 use Rattle.seam_law_calls.proofs.Classify.{node_laws, node_moves, frame_happens}
-use Rattle.seam_law_calls.specs.Burdens.{held_in}
-use Rattle.seam_law_calls.specs.Ones.{real_in, IsSpared}
 use Rattle.seam_law_calls.proofs.Easing.{sent_is as all_sent, input_is}
 use Rattle.seam_law_calls.proofs.Paying.{OrdersPay, base_paid}
 use Rattle.seam_law_calls.proofs.Plain.{SeesNoGhost, ghosts_silent, mapped_silent, numbered_silent}
 use Rattle.seam_law_calls.proofs.HeldCounts.{turn_counts, early_counts, taken_counts}
 use Rattle.seam_law_calls.proofs.OneReal.{calm_of, spared_happens}
-use Rattle.seam_law_bounds.specs.Passes.{hands_over, hand_overs}
-use Rattle.seam_law_bounds.specs.Phases.{one_if_cell}
 
 -- eyes that see what may bring a settling
 abbrev heavy : Msg → Option ℕ

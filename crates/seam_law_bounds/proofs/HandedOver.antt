@@ -1,21 +1,13 @@
 -- In a round a call is passed on at most as often as its entity's real is handed over.
 use Rattle.std.proofs.Common.{◌≡◌, ℕ, ◌+◌, ◌≤◌, List, Some, refl, sym, ap, ◌∙◌, subst, arith, inl}
-use Rattle.seam_machine.specs.Nets.{run, LeadsTo}
-use Rattle.seam_machine.specs.declared.machines.Event.{Event}
+use Rattle.seam_node_steps.specs.Prelude.{run, LeadsTo, Event, Batch, RealView, World, node_steps, node_has_work, loaded}
+use Rattle.seam_law_calls.specs.Prelude.{Frame, entity_flow, real_in, real_of}
+use Rattle.seam_law_rounds.specs.Prelude.{calls_of, next_from, IsBetweenRounds, IsFitting, framed}
+use Rattle.seam_law_bounds.specs.Prelude.{rank_of, is_numbered, passes, hand_overs}
 use Rattle.seam_law_flow.proofs.TokenLemmas.{sole_here}
-use Rattle.seam_call.specs.declared.order.Batch.{Batch}
-use Rattle.seam_entity.specs.Reals.{RealView}
-use Rattle.seam_node_steps.specs.Nodes.{World, node_steps, node_has_work}
-use Rattle.seam_node_steps.specs.Loads.{loaded}
-use Rattle.seam_law_calls.specs.Frames.{Frame}
-use Rattle.seam_law_calls.specs.Sights.{entity_flow}
-use Rattle.seam_law_calls.specs.Ones.{real_in, real_of}
-use Rattle.seam_law_rounds.specs.Between.{calls_of, next_from, IsBetweenRounds, IsFitting, framed}
 use Rattle.seam_law_rounds.proofs.Going.{frame_loaded, settled_loaded, kept_loaded}
 use Rattle.seam_law_rounds.proofs.Loaded.{no_mail}
 use Rattle.seam_law_rounds.proofs.Turns.{are_calls}
-use Rattle.seam_law_bounds.specs.Ranks.{rank_of}
-use Rattle.seam_law_bounds.specs.Passes.{is_numbered, passes, hand_overs}
 use Rattle.seam_law_bounds.proofs.Following.{Follows}
 use Rattle.seam_law_bounds.proofs.Passing.{Passing, passing_is, passing_leads}
 use Rattle.seam_law_bounds.proofs.Climbing.{no_next, ranked_loaded}

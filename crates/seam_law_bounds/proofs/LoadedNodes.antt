@@ -7,26 +7,17 @@ use Rattle.std.specs.Ordering.{nat_cmp, is_lt}
 use Rattle.std.specs.Cmp.{nat_cmp_total}
 use Rattle.std.specs.FinMap as table
 use Rattle.std.specs.FinMap.Entries.{is_sorted, below_all}
-use Rattle.seam_tree.specs.Division.{leaf_at, cells_of}
+use Rattle.seam_node_steps.specs.Prelude.{leaf_at, cells_of, Create, Order, Batch, properties_of, Here, base_of, properties, Map}
+use Rattle.seam_node_steps.specs.Prelude.{with_value, each_value, has_any, BaseView, PartView, ProxyView, base_text, CellView, NodeView}
+use Rattle.seam_node_steps.specs.Prelude.{node_has_work, Cell, Base, real_if, part_if, with_route, new_part, created_at, with_proxy}
+use Rattle.seam_node_steps.specs.Prelude.{attached, cell_round, base_round, new_proxy, proxy_begins, part_begins, order_if, ordered_at}
+use Rattle.seam_law_calls.specs.Prelude.{held_of}
+use Rattle.seam_law_rounds.specs.Prelude.{each, made, node_loaded}
+use Rattle.seam_law_bounds.specs.Prelude.{proxy_weight, part_weight}
 use Rattle.seam_net_runs.specs.Sums.{weight_or}
 use Rattle.seam_law_flow.proofs.Following.{all_append}
-use Rattle.seam_call.specs.declared.create.Create.{Create}
-use Rattle.seam_call.specs.declared.order.Order.{Order}
-use Rattle.seam_call.specs.declared.order.Batch.{Batch}
 use Rattle.seam_defs.specs.declared.flags.Group.TheVariants as group
-use Rattle.seam_defs.specs.Deeds.{properties_of}
-use Rattle.seam_entity.specs.Here.{Here, base_of, properties}
-use Rattle.seam_node_steps.specs.Maps.{Map, with_value, each_value, has_any}
-use Rattle.seam_node_steps.specs.Bases.{BaseView, PartView, ProxyView, base_text}
-use Rattle.seam_node_steps.specs.Cells.{CellView}
-use Rattle.seam_node_steps.specs.Nodes.{NodeView, node_has_work}
-use Rattle.seam_node_steps.specs.Nodes.NodeView.{Cell, Base}
-use Rattle.seam_node_steps.specs.Loads.{real_if, part_if, with_route, new_part, created_at, with_proxy, attached, cell_round, base_round}
-use Rattle.seam_node_steps.specs.Loads.{new_proxy, proxy_begins, part_begins, order_if, ordered_at}
-use Rattle.seam_law_calls.specs.Burdens.{held_of}
-use Rattle.seam_law_rounds.specs.Loaded.{each, made, node_loaded}
 use Rattle.seam_law_rounds.proofs.Loading.{each_keeps, Any, any, set_keeps, get-each_value}
-use Rattle.seam_law_bounds.specs.Weights.{proxy_weight, part_weight}
 use Rattle.seam_law_bounds.proofs.BaseWeights.{line_weighs}
 use Rattle.seam_law_bounds.proofs.QuietWeights.{map_weighs_none, idle_looks, idle_base}
 use Rattle.seam_law_bounds.proofs.Starts.{IsPlain}

@@ -13,24 +13,16 @@ use Rattle.std.specs.FinMap.Entries.{by_order, put, is_sorted, below_all}
 use Rattle.std.proofs.lemmas.Bool.Decides.{nat_tests}
 use Rattle.std.proofs.lemmas.List.{length-map, length-append}
 use Rattle.seam_law_flow.proofs.Following.{all_append}
-use Rattle.seam_ghosts.specs.declared.Ghost.{Ghost}
-use Rattle.seam_ghosts.specs.Book.{copy_in, with_copy, copied}
-use Rattle.seam_geo.specs.declared.pos.Pos.{Pos}
-use Rattle.seam_geo.specs.Pos.{distance}
+use Rattle.seam_node_steps.specs.Prelude.{Ghost, copy_in, with_copy, copied, Pos, distance, GhostCopy, RealView, WitnessView, Map}
+use Rattle.seam_node_steps.specs.Prelude.{number_of, Known, seen_as, looks_of, known_real, known_copy, CellView, is_of_another, known_in}
+use Rattle.seam_node_steps.specs.Prelude.{known_to, has_witness, witnesses, World}
+use Rattle.seam_law_bounds.specs.Prelude.{is_among, AllAmong, LooksAmong, LooksFit}
 use Rattle.seam_view.specs.declared.Seen.{Seen}
 use Rattle.seam_view.specs.declared.Look.TheVariants.{Leave, Set as LookSet, Enter as LookEnter}
 use Rattle.seam_view.specs.ViewLooks.{one_look, leaving, changed, entering, leaves, has_changed, enters, in_view, is_far, not_older}
 use Rattle.seam_view.specs.Replica.{Replica, IsView, seen_of}
-use Rattle.seam_call.specs.declared.shown.GhostCopy.{GhostCopy}
-use Rattle.seam_entity.specs.Reals.{RealView, WitnessView}
-use Rattle.seam_node_steps.specs.Maps.{Map, number_of}
-use Rattle.seam_node_steps.specs.CellLooks.{Known, seen_as, looks_of}
-use Rattle.seam_node_steps.specs.Cells.{known_real, known_copy}
-use Rattle.seam_node_steps.specs.Cells.{CellView, is_of_another, known_in, known_to, has_witness, witnesses}
-use Rattle.seam_node_steps.specs.Nodes.{World}
 use Rattle.seam_node_steps.proofs.Tables.{entries_empty}
 use Rattle.seam_table.proofs.Found.{found}
-use Rattle.seam_law_bounds.specs.Looking.{is_among, AllAmong, LooksAmong, LooksFit}
 use Rattle.seam_law_bounds.proofs.Pigeons.{Distinct, distinct_from, apart, pigeons, NoneAmong, distinct_append}
 
 abbrev pub seen_names : List Seen → List ℕ

@@ -6,43 +6,26 @@ use Rattle.std.specs.Prelude.{not, slice_get}
 use Rattle.std.specs.List.{AllByRecursion, range_with_len}
 use Rattle.std.specs.FinMap as table
 use Rattle.std.proofs.lemmas.Option.{slice_get-map}
-use Rattle.seam_machine.specs.Nets.{link, LeadsTo}
-use Rattle.seam_machine.specs.Events.{EachNode}
-use Rattle.seam_machine.specs.Totals.{total}
-use Rattle.seam_machine.specs.declared.machines.Event.{Event}
+use Rattle.seam_node_steps.specs.Prelude.{link, LeadsTo, EachNode, total, Event, Call as CallData, Order, RealView, has_ready, may_execute}
+use Rattle.seam_node_steps.specs.Prelude.{cell_count, Msg, CellView, BaseView, PartView, stray_order, NodeView, World, node_steps}
+use Rattle.seam_node_steps.specs.Prelude.{node_has_work, Cell, Base, ordered_at, look_loaded}
+use Rattle.seam_law_flow.specs.Prelude.{slot_at, letters_of, more_letter}
+use Rattle.seam_law_calls.specs.Prelude.{Frame, IsInFrame, mine, order_concerns, orders_of, has_of, has_none, entity_flow, base_call_in}
+use Rattle.seam_law_calls.specs.Prelude.{base_call_of, calls_ordered}
+use Rattle.seam_law_rounds.specs.Prelude.{IsBetweenRounds}
+use Rattle.seam_law_bounds.specs.Prelude.{Sizes, look_weight, tick_weight, part_weight, world_weight, BaseCan, AllCan, is_pass, LooksFit}
+use Rattle.seam_law_bounds.specs.Prelude.{ClientsKeepRoom, Always, HoldsNothing, events_of_looks}
 use Rattle.seam_machine.proofs.Quiet.{quiet_tasks}
 use Rattle.seam_net_runs.specs.Sums.{weight_or}
-use Rattle.seam_law_flow.specs.Flows.{slot_at, letters_of, more_letter}
-use Rattle.seam_call.specs.declared.call.Call.{Call as CallData}
-use Rattle.seam_call.specs.declared.order.Order.{Order}
 use Rattle.seam_call.specs.declared.order.Order.TheVariants as order
-use Rattle.seam_entity.specs.Reals.{RealView}
-use Rattle.seam_entity.specs.Calls.{has_ready}
-use Rattle.seam_entity.specs.Executing.{may_execute}
-use Rattle.seam_entity.specs.Here.{cell_count}
-use Rattle.seam_entity.specs.declared.message.Msg.{Msg}
 use Rattle.seam_entity.specs.declared.message.Msg.TheVariants.{Call}
-use Rattle.seam_node_steps.specs.Cells.{CellView}
-use Rattle.seam_node_steps.specs.Bases.{BaseView, PartView}
-use Rattle.seam_node_steps.specs.BaseCases.{stray_order}
-use Rattle.seam_node_steps.specs.Nodes.{NodeView, World, node_steps, node_has_work}
-use Rattle.seam_node_steps.specs.Nodes.NodeView.{Cell, Base}
-use Rattle.seam_node_steps.specs.Loads.{ordered_at, look_loaded}
-use Rattle.seam_law_calls.specs.Frames.{Frame, IsInFrame}
-use Rattle.seam_law_calls.specs.Sights.{mine, order_concerns, orders_of, has_of, has_none, entity_flow}
-use Rattle.seam_law_rounds.specs.Between.{IsBetweenRounds}
 use Rattle.seam_law_rounds.proofs.Loading.{node_there}
 use Rattle.seam_law_rounds.proofs.Giving.{look_framed}
 use Rattle.seam_law_rounds.proofs.Looking.{tick}
 use Rattle.seam_law_rounds.proofs.Shape.{frame_leads}
 use Rattle.seam_law_ghosts.proofs.NoStrays.{look_tasks}
 use Rattle.seam_law_ghosts.proofs.Unknown.{IsTickOrder}
-use Rattle.seam_law_calls.specs.PartMoves.{base_call_in, base_call_of, calls_ordered}
 use Rattle.seam_law_calls.proofs.WitnessKept.{all_weaker}
-use Rattle.seam_law_bounds.specs.Weights.{Sizes, look_weight, tick_weight, part_weight, world_weight}
-use Rattle.seam_law_bounds.specs.Events.{BaseCan, AllCan, is_pass}
-use Rattle.seam_law_bounds.specs.Looking.{LooksFit, ClientsKeepRoom, Always}
-use Rattle.seam_law_bounds.specs.Phases.{HoldsNothing, events_of_looks}
 use Rattle.seam_law_bounds.proofs.Bare.{part_calls, IsUncalled, uncalled_leads}
 use Rattle.seam_law_bounds.proofs.Batched.{OrderIs, calls_are}
 use Rattle.seam_law_bounds.proofs.Cans.{none_is_ready, can_look}

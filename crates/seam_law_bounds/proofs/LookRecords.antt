@@ -4,33 +4,18 @@ use Rattle.std.specs.Prelude.{slice_get}
 use Rattle.std.specs.List.{range_with_len}
 use Rattle.std.specs.FinMap as table
 use Rattle.std.proofs.lemmas.Bool.{cases_eq}
-use Rattle.seam_machine.specs.Nets.{LeadsTo}
-use Rattle.seam_machine.specs.Totals.{total}
-use Rattle.seam_machine.specs.declared.machines.Event.{Event}
+use Rattle.seam_node_steps.specs.Prelude.{LeadsTo, total, Event, cell_count, RealView, BaseView, PartView, proxy_is_ready, may_show, World}
+use Rattle.seam_node_steps.specs.Prelude.{node_steps, node_has_work, Base, look_loaded}
+use Rattle.seam_law_flow.specs.Prelude.{slot_at}
+use Rattle.seam_law_calls.specs.Prelude.{Frame, has_of, has_none, entity_flow, real_in, home_of, sent_by}
+use Rattle.seam_law_rounds.specs.Prelude.{IsBetweenRounds, HasPartsBetweenRounds, HasSmallNumbers, IsServed, bare, served}
+use Rattle.seam_law_bounds.specs.Prelude.{part_weight, Always, LooksAmong, ClientsKeepRoom, HoldsNothing, events_of_looks}
 use Rattle.seam_net_runs.specs.Sums.{weight_or}
-use Rattle.seam_law_flow.specs.Flows.{slot_at}
-use Rattle.seam_entity.specs.Here.{cell_count}
-use Rattle.seam_entity.specs.Reals.{RealView}
-use Rattle.seam_node_steps.specs.Bases.{BaseView, PartView}
-use Rattle.seam_node_steps.specs.BaseCases.{proxy_is_ready, may_show}
-use Rattle.seam_node_steps.specs.Nodes.{World, node_steps, node_has_work}
-use Rattle.seam_node_steps.specs.Nodes.NodeView.{Base}
-use Rattle.seam_node_steps.specs.Loads.{look_loaded}
-use Rattle.seam_law_calls.specs.Frames.{Frame}
-use Rattle.seam_law_calls.specs.Sights.{has_of, has_none, entity_flow}
-use Rattle.seam_law_calls.specs.Ones.{real_in}
-use Rattle.seam_law_rounds.specs.Between.{IsBetweenRounds}
 use Rattle.seam_law_rounds.proofs.Shape.{Somewhere, Nowhere, search_real}
-use Rattle.seam_law_calls.specs.BaseTurns.{home_of}
-use Rattle.seam_law_calls.specs.WitnessMoves.{sent_by}
 use Rattle.seam_law_calls.proofs.ClientRuns.{part_may_show}
 use Rattle.seam_law_calls.proofs.StrayRuns.{base_burden_leads}
-use Rattle.seam_law_rounds.specs.Parts.{HasPartsBetweenRounds, HasSmallNumbers, IsServed, bare, served}
 use Rattle.seam_law_rounds.proofs.Calms.{look_settles, look_numbers, look_serves}
 use Rattle.seam_law_rounds.proofs.Ticking.{most_told}
-use Rattle.seam_law_bounds.specs.Weights.{part_weight}
-use Rattle.seam_law_bounds.specs.Looking.{Always, LooksAmong, ClientsKeepRoom}
-use Rattle.seam_law_bounds.specs.Phases.{HoldsNothing, events_of_looks}
 use Rattle.seam_law_bounds.proofs.Cans.{none_is_shown}
 use Rattle.seam_law_bounds.proofs.LookCounts.{looks_fit}
 use Rattle.seam_law_bounds.proofs.LookPhase.{frame_start, looks_end}

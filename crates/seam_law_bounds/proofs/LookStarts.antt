@@ -8,25 +8,18 @@ use Rattle.std.proofs.lemmas.Bool.{cases_eq}
 use Rattle.std.proofs.lemmas.Option.{slice_get-map}
 use Rattle.seam_machine.proofs.Quiet.{quiet_links}
 use Rattle.seam_law_calls.proofs.Counting.{counted_none, none_counts}
-use Rattle.seam_machine.specs.Nets.{happens, enabled, LeadsTo}
-use Rattle.seam_machine.specs.declared.machines.Event.{Event}
+use Rattle.seam_node_steps.specs.Prelude.{happens, enabled, LeadsTo, Event, Batch, RealView, WitnessView, CellView, NodeView, World}
+use Rattle.seam_node_steps.specs.Prelude.{node_steps, node_has_work, Cell, Base, order_if, ordered_at, loaded, look_loaded, reap_ordered_at}
+use Rattle.seam_node_steps.specs.Prelude.{reaps_loaded}
+use Rattle.seam_law_flow.specs.Prelude.{slot_at, letters_of}
+use Rattle.seam_law_calls.specs.Prelude.{Frame, IsInFrame, mine, has_of, has_none, entity_flow, real_in, real_of, EachReal}
+use Rattle.seam_law_rounds.specs.Prelude.{IsBetweenRounds, each, AreReapable, MayBeLoaded}
+use Rattle.seam_law_bounds.specs.Prelude.{LooksFit, Always, is_among, LooksAmong, HoldsNothing, entities, cell_orders, base_orders}
+use Rattle.seam_law_bounds.specs.Prelude.{tick_orders, events_of_round}
 use Rattle.seam_machine.proofs.Occurring.{occurs}
 use Rattle.seam_net_runs.proofs.Runs.{leads_keeps}
-use Rattle.seam_law_flow.specs.Flows.{slot_at, letters_of}
-use Rattle.seam_call.specs.declared.order.Batch.{Batch}
-use Rattle.seam_entity.specs.Reals.{RealView, WitnessView}
-use Rattle.seam_node_steps.specs.Cells.{CellView}
-use Rattle.seam_node_steps.specs.Nodes.{NodeView, World, node_steps, node_has_work}
-use Rattle.seam_node_steps.specs.Nodes.NodeView.{Cell, Base}
-use Rattle.seam_node_steps.specs.Loads.{order_if, ordered_at, loaded, look_loaded, reap_ordered_at, reaps_loaded}
-use Rattle.seam_law_calls.specs.Frames.{Frame, IsInFrame}
-use Rattle.seam_law_calls.specs.Sights.{mine, has_of, has_none, entity_flow}
 use Rattle.seam_law_calls.proofs.Classify.{frame_happens}
-use Rattle.seam_law_calls.specs.Ones.{real_in, real_of}
-use Rattle.seam_law_rounds.specs.Between.{IsBetweenRounds}
-use Rattle.seam_law_rounds.specs.Loaded.{each}
 use Rattle.seam_law_rounds.proofs.Loading.{node_there}
-use Rattle.seam_law_rounds.specs.LastPhases.{AreReapable}
 use Rattle.seam_law_bounds.proofs.ReapPhase as reap
 use Rattle.seam_law_rounds.proofs.Shape.{Somewhere, Nowhere, search_real}
 use Rattle.seam_law_rounds.proofs.Calm.{IsCalm}
@@ -34,11 +27,7 @@ use Rattle.seam_law_rounds.proofs.Giving.{look_cell, reals_stay}
 use Rattle.seam_law_rounds.proofs.Looking as looking
 use Rattle.seam_law_rounds.proofs.Looking.{tick, look_makes_none}
 use Rattle.seam_law_rounds.proofs.Phases.{calm_leads}
-use Rattle.seam_law_calls.specs.Clients.{EachReal}
 use Rattle.seam_law_calls.proofs.WitnessKept.{each_happens}
-use Rattle.seam_law_rounds.specs.Parts.{MayBeLoaded}
-use Rattle.seam_law_bounds.specs.Looking.{LooksFit, Always, is_among, LooksAmong}
-use Rattle.seam_law_bounds.specs.Phases.{HoldsNothing, entities, cell_orders, base_orders, tick_orders, events_of_round}
 use Rattle.seam_law_bounds.proofs.Among.{always_among}
 use Rattle.seam_law_bounds.proofs.LookCounts.{looks_fit}
 use Rattle.seam_law_bounds.proofs.LookPhase.{frame_start, empty_start}

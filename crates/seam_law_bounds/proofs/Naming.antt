@@ -1,17 +1,12 @@
 -- What there is to look at in a loaded world is of the entities that have a real there.
 use Rattle.std.proofs.Common.{ℕ, List, ap, ◌∙◌}
-use Rattle.seam_law_flow.specs.Flows.{slot_at}
-use Rattle.seam_call.specs.declared.order.Batch.{Batch}
-use Rattle.seam_node_steps.specs.Loads.{loaded}
-use Rattle.seam_node_steps.specs.Nodes.{World}
-use Rattle.seam_law_calls.specs.Frames.{Frame}
-use Rattle.seam_law_calls.specs.Sights.{has_of, has_none}
-use Rattle.seam_law_calls.specs.Ones.{real_in}
-use Rattle.seam_law_ghosts.specs.Copies.{AreCopiesBetweenRounds}
-use Rattle.seam_law_rounds.specs.Parts.{MayBeLoaded}
-use Rattle.seam_law_bounds.specs.Looking.{LooksAmong, SeesWhatIsThere}
+use Rattle.seam_node_steps.specs.Prelude.{Batch, loaded, World}
+use Rattle.seam_law_flow.specs.Prelude.{slot_at}
+use Rattle.seam_law_calls.specs.Prelude.{Frame, has_of, has_none, real_in}
+use Rattle.seam_law_rounds.specs.Prelude.{MayBeLoaded}
+use Rattle.seam_law_ghosts.specs.Prelude.{AreCopiesBetweenRounds}
+use Rattle.seam_law_bounds.specs.Prelude.{LooksAmong, SeesWhatIsThere, AreAmong}
 use Rattle.seam_law_bounds.proofs.There.{among_named}
-use Rattle.seam_law_bounds.specs.Most.{AreAmong}
 
 pub among_these : (f : Frame) (w : World) (b : Batch) → MayBeLoaded f w b → AreCopiesBetweenRounds f w → SeesWhatIsThere (loaded w b) →
     (us : List ℕ) → AreAmong us (loaded w b) → LooksAmong us (λ k. us) (loaded w b)

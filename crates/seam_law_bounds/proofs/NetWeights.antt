@@ -2,25 +2,18 @@
 use Rattle.std.proofs.Common.{◌≡◌, ℕ, ◌+◌, ◌≤◌, Bool, true, false, List, [], ◌∷◌, ◌++◌, length, Some, refl, ap, ◌∙◌, arith}
 use Rattle.std.proofs.lemmas.List.{length-append}
 use Rattle.std.specs.Prelude.{if◌then◌else◌}
-use Rattle.seam_machine.specs.Nets.{input_from, happens, enabled, IsQuiet, LeadsTo}
-use Rattle.seam_machine.specs.Events.{Occurs}
-use Rattle.seam_machine.specs.declared.machines.Event.{Event}
-use Rattle.seam_machine.specs.declared.machines.Input.{Input}
-use Rattle.seam_machine.specs.declared.machines.Input.TheVariants.{Task}
+use Rattle.seam_node_steps.specs.Prelude.{input_from, happens, enabled, IsQuiet, LeadsTo, Occurs, Event, Input, Task, Msg, NodeView, World}
+use Rattle.seam_node_steps.specs.Prelude.{node_steps, node_has_work, Cell, Base, IsNode}
+use Rattle.seam_law_calls.specs.Prelude.{Frame, IsAt, IsInFrame}
+use Rattle.seam_law_bounds.specs.Prelude.{Sizes, node_weight, letter_weight, world_weight, node_passes, passes_by, is_pass, NodeCan, AllCan}
+use Rattle.seam_law_bounds.specs.Prelude.{all_passes}
 use Rattle.seam_machine.proofs.Occurring.{occurs, occurs_works}
 use Rattle.seam_net_runs.specs.Weights.{sent_weight, input_weight, Lowers}
 use Rattle.seam_net_runs.proofs.Runs.{leads_nowhere, leads_extend, leads_end}
 use Rattle.seam_net_runs.proofs.Soundness.{sound_sends}
 use Rattle.seam_net_runs.proofs.Weighing.{weight_moves}
-use Rattle.seam_entity.specs.declared.message.Msg.{Msg}
-use Rattle.seam_node_steps.specs.Nodes.{NodeView, World, node_steps, node_has_work}
-use Rattle.seam_node_steps.specs.Nodes.NodeView.{Cell, Base}
-use Rattle.seam_node_steps.specs.Valid.{IsNode}
-use Rattle.seam_law_calls.specs.Frames.{Frame, IsAt, IsInFrame}
 use Rattle.seam_law_calls.proofs.Classify.{node_laws}
 use Rattle.seam_law_rounds.proofs.Shape.{frame_leads}
-use Rattle.seam_law_bounds.specs.Weights.{Sizes, node_weight, letter_weight, world_weight}
-use Rattle.seam_law_bounds.specs.Events.{node_passes, passes_by, is_pass, NodeCan, AllCan, all_passes}
 use Rattle.seam_law_bounds.proofs.CellWeights.{cell_lowers}
 use Rattle.seam_law_bounds.proofs.BaseWeights.{base_lowers}
 

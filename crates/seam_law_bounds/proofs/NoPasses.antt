@@ -1,18 +1,12 @@
 -- Where no call comes to a cell, none is passed on.
 use Rattle.std.proofs.Common.{◌≡◌, ℕ, false, cond, List, [], ◌∷◌, Option, None, Some, refl, ap, arith}
 use Rattle.std.specs.Prelude.{slice_get}
-use Rattle.seam_machine.specs.Nets.{link, input_from, happens, AllEnabled, LeadsTo}
-use Rattle.seam_machine.specs.declared.machines.Event.{Event}
-use Rattle.seam_machine.specs.declared.machines.Input.{Input}
-use Rattle.seam_machine.specs.declared.machines.Input.TheVariants.{Task, From}
+use Rattle.seam_node_steps.specs.Prelude.{link, input_from, happens, AllEnabled, LeadsTo, Event, Input, Task, From, Call as CallData, Msg}
+use Rattle.seam_node_steps.specs.Prelude.{BaseCall, Hand, Current, GhostSet, GhostDrop, Tick, Reap, Update, CellView, NodeView, World}
+use Rattle.seam_node_steps.specs.Prelude.{node_steps, node_has_work, Cell, Base}
+use Rattle.seam_law_bounds.specs.Prelude.{cell_passes, node_passes, passes_by, is_pass, all_passes}
 use Rattle.seam_net_runs.proofs.Runs.{leads_nowhere, leads_by_one, leads_join}
-use Rattle.seam_call.specs.declared.call.Call.{Call as CallData}
-use Rattle.seam_entity.specs.declared.message.Msg.{Msg}
-use Rattle.seam_entity.specs.declared.message.Msg.TheVariants.{Call, BaseCall, Hand, Current, GhostSet, GhostDrop, Tick, Reap, Update}
-use Rattle.seam_node_steps.specs.Cells.{CellView}
-use Rattle.seam_node_steps.specs.Nodes.{NodeView, World, node_steps, node_has_work}
-use Rattle.seam_node_steps.specs.Nodes.NodeView.{Cell, Base}
-use Rattle.seam_law_bounds.specs.Events.{cell_passes, node_passes, passes_by, is_pass, all_passes}
+use Rattle.seam_entity.specs.declared.message.Msg.TheVariants.{Call}
 use Rattle.seam_law_bounds.proofs.Cans.{fed_by}
 
 message_passes : (c : CellView) (m : Msg) → ((k : CallData) → m ≡ Call k → ⊥) → cell_passes c m ≡ false

@@ -2,22 +2,14 @@
 use Rattle.std.proofs.Common.{◌≡◌, ℕ, ◌⊎◌, List, [], length, Option, None, Some, refl, sym, ap, ◌∙◌, subst, arith, inl, inr}
 use Rattle.std.specs.FinMap as table
 use Rattle.std.proofs.lemmas.Bool.{cases_eq}
-use Rattle.seam_machine.specs.Nets.{IsQuiet, LeadsTo}
-use Rattle.seam_machine.specs.declared.machines.Event.{Event}
+use Rattle.seam_node_steps.specs.Prelude.{IsQuiet, LeadsTo, Event, Batch, order_or, RealView, WitnessView, holders, PartView, ProxyView}
+use Rattle.seam_node_steps.specs.Prelude.{World, node_steps, node_has_work, loaded, look_loaded}
+use Rattle.seam_law_flow.specs.Prelude.{slot_at, letters_of}
+use Rattle.seam_law_calls.specs.Prelude.{Frame, mine, has_of, has_none, entity_flow, real_in, home_of}
+use Rattle.seam_law_rounds.specs.Prelude.{framed, IsBetweenRounds, HasPartsBetweenRounds, HasSmallNumbers, MayBeLoaded, AreFor}
+use Rattle.seam_law_bounds.specs.Prelude.{proxy_weight, part_weight, HoldsNothing}
 use Rattle.seam_net_runs.specs.Sums.{weight_or}
-use Rattle.seam_law_flow.specs.Flows.{slot_at, letters_of}
 use Rattle.seam_machine.proofs.Quiet.{quiet_links}
-use Rattle.seam_call.specs.declared.order.Batch.{Batch}
-use Rattle.seam_entity.specs.Orders.{order_or}
-use Rattle.seam_entity.specs.Reals.{RealView, WitnessView}
-use Rattle.seam_node_steps.specs.Holders.{holders}
-use Rattle.seam_node_steps.specs.Bases.{PartView, ProxyView}
-use Rattle.seam_node_steps.specs.Nodes.{World, node_steps, node_has_work}
-use Rattle.seam_node_steps.specs.Loads.{loaded, look_loaded}
-use Rattle.seam_law_calls.specs.Frames.{Frame}
-use Rattle.seam_law_calls.specs.Sights.{mine, has_of, has_none, entity_flow}
-use Rattle.seam_law_calls.specs.Ones.{real_in}
-use Rattle.seam_law_rounds.specs.Between.{framed, IsBetweenRounds}
 use Rattle.seam_law_rounds.proofs.Going.{one_after}
 use Rattle.seam_law_rounds.proofs.Ready.{one_holder, quiet_home}
 use Rattle.seam_law_rounds.proofs.Room.{no_held}
@@ -26,12 +18,8 @@ use Rattle.seam_law_rounds.proofs.Looking.{look_keeps, look_ends_between}
 use Rattle.seam_law_rounds.proofs.Shape.{Somewhere, Nowhere, search_real}
 use Rattle.seam_law_ghosts.proofs.NoStrays.{unknown_look}
 use Rattle.seam_law_ghosts.proofs.Unknown.{IsTickOrder}
-use Rattle.seam_law_calls.specs.BaseTurns.{home_of}
-use Rattle.seam_law_rounds.specs.Parts.{HasPartsBetweenRounds, HasSmallNumbers, MayBeLoaded, AreFor}
 use Rattle.seam_law_rounds.proofs.BaseCallsEnd.{calls_end_with_parts}
 use Rattle.seam_law_rounds.proofs.Calms.{look_ends_with_parts}
-use Rattle.seam_law_bounds.specs.Weights.{proxy_weight, part_weight}
-use Rattle.seam_law_bounds.specs.Phases.{HoldsNothing}
 use Rattle.seam_law_bounds.proofs.Bare.{HoldsNone, IsIdle, idle_leads}
 use Rattle.seam_law_bounds.proofs.LookPhase.{plain_start}
 use Rattle.seam_law_bounds.proofs.RoundPhase.{idle_then}

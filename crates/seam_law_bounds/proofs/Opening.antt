@@ -3,24 +3,13 @@ use Rattle.std.proofs.Common.{◌≡◌, ℕ, ◌≤◌, false, List, [], Some, 
 use Rattle.std.specs.Prelude.{slice_get}
 use Rattle.std.specs.List.{AllByRecursion}
 use Rattle.std.specs.FinMap as table
-use Rattle.seam_law_flow.specs.Flows.{slot_at}
-use Rattle.seam_ghosts.specs.Book.{copy_in}
-use Rattle.seam_defs.specs.declared.settings.Settings.{Settings}
-use Rattle.seam_defs.specs.declared.types.TypeDef.{TypeDef}
-use Rattle.seam_entity.specs.Reals.{RealView}
-use Rattle.seam_node_steps.specs.Cells.{CellView}
-use Rattle.seam_node_steps.specs.Bases.{BaseView, PartView}
-use Rattle.seam_node_steps.specs.Nodes.{NodeView, World}
-use Rattle.seam_node_steps.specs.Nodes.NodeView.{Cell, Base}
-use Rattle.seam_node_steps.specs.Loads.{opened}
-use Rattle.seam_law_calls.specs.Sights.{Has, has_of, has_none}
-use Rattle.seam_law_calls.specs.Ones.{real_in, IsFrame}
-use Rattle.seam_law_rounds.specs.LastPhases.{first_frame}
+use Rattle.seam_node_steps.specs.Prelude.{copy_in, Settings, TypeDef, RealView, CellView, BaseView, PartView, NodeView, World, Cell, Base}
+use Rattle.seam_node_steps.specs.Prelude.{opened}
+use Rattle.seam_law_flow.specs.Prelude.{slot_at}
+use Rattle.seam_law_calls.specs.Prelude.{Has, has_of, has_none, real_in, IsFrame, is_tick_order}
+use Rattle.seam_law_rounds.specs.Prelude.{first_frame, first_batch}
+use Rattle.seam_law_bounds.specs.Prelude.{LooksAmong, SeesWhatIsThere, HoldsNothing}
 use Rattle.seam_law_rounds.proofs.Opened.{opened_is_new, opened_has_none}
-use Rattle.seam_law_calls.specs.Clients.{is_tick_order}
-use Rattle.seam_law_rounds.specs.FirstBatchExample.{first_batch}
-use Rattle.seam_law_bounds.specs.Looking.{LooksAmong, SeesWhatIsThere}
-use Rattle.seam_law_bounds.specs.Phases.{HoldsNothing}
 
 module _ (defs : List TypeDef) (settings : Settings) (frame : IsFrame (first_frame defs settings)) (bases : 1 ≤ settings.bases) where
   abbrev w : World

@@ -3,27 +3,19 @@ use Rattle.std.proofs.Common.{◌≡◌, ℕ, Bool, true, false, List, [], ◌�
 use Rattle.std.specs.Prelude.{not}
 use Rattle.std.specs.List.{AllByRecursion}
 use Rattle.std.specs.FinMap as table
-use Rattle.seam_machine.specs.Views.{Stepped}
-use Rattle.seam_machine.specs.Nets.{LeadsTo}
-use Rattle.seam_machine.specs.Events.{EachNode}
-use Rattle.seam_machine.specs.declared.machines.Event.{Event}
-use Rattle.seam_machine.specs.declared.machines.Input.{Input}
-use Rattle.seam_machine.specs.declared.machines.Input.TheVariants.{Task, From}
+use Rattle.seam_node_steps.specs.Prelude.{Stepped, LeadsTo, EachNode, Event, Input, Task, From, Call as CallData, Order, Msg, BaseCall}
+use Rattle.seam_node_steps.specs.Prelude.{Hand, Current, GhostSet, GhostDrop, Tick, Reap, Update, BaseView, PartView, ProxyView, RouteView}
+use Rattle.seam_node_steps.specs.Prelude.{part_called, base_order, is_base_node_of, order_of_node, stray_order, ready_part, ready_proxy}
+use Rattle.seam_node_steps.specs.Prelude.{proxy_task, task_without_orders, base_task, newer_route, current, updated_proxy, update, case_of}
+use Rattle.seam_node_steps.specs.Prelude.{base_steps, may_show, NodeView, World, node_steps, node_has_work, Cell, Base}
 use Rattle.seam_machine.proofs.Occurring.{occurs}
 use Rattle.seam_net_runs.proofs.Keeping.{each_node}
 use Rattle.seam_net_runs.proofs.Runs.{leads_keeps}
-use Rattle.seam_call.specs.declared.call.Call.{Call as CallData}
-use Rattle.seam_call.specs.declared.order.Order.{Order}
 use Rattle.seam_call.specs.declared.order.Order.TheVariants as order
 use Rattle.seam_call.specs.declared.shown.Update.{Update as UpdateData}
-use Rattle.seam_entity.specs.declared.message.Msg.{Msg}
-use Rattle.seam_entity.specs.declared.message.Msg.TheVariants.{Call, BaseCall, Hand, Current, GhostSet, GhostDrop, Tick, Reap, Update}
-use Rattle.seam_node_steps.specs.Bases.{BaseView, PartView, ProxyView, RouteView}
-use Rattle.seam_node_steps.specs.BaseCases.{unless_stray, part_called, base_order, is_base_node_of, order_of_node, stray_order}
-use Rattle.seam_node_steps.specs.BaseCases.{ready_part, ready_proxy, proxy_task, task_without_orders, base_task, newer_route, current}
-use Rattle.seam_node_steps.specs.BaseCases.{updated_proxy, update, is_stray, case_of, base_steps, may_execute, may_show}
-use Rattle.seam_node_steps.specs.Nodes.{NodeView, World, node_steps, node_has_work}
-use Rattle.seam_node_steps.specs.Nodes.NodeView.{Cell, Base}
+use Rattle.seam_entity.specs.declared.message.Msg.TheVariants.{Call}
+use Rattle.seam_node_steps.specs.BaseCases.{unless_stray}
+use Rattle.seam_node_steps.specs.BaseCases.{is_stray, may_execute}
 
 -- ---- a step keeps the orders, or takes the first
 

@@ -4,27 +4,16 @@ use Rattle.std.proofs.Common.{ap, ◌∙◌, arith, inl, inr}
 use Rattle.std.specs.Prelude.{slice_get}
 use Rattle.std.specs.List.{AllByRecursion}
 use Rattle.std.proofs.lemmas.Bool.{eq-eqb}
-use Rattle.seam_machine.specs.Nets.{link, input_from, happens, AllEnabled, LeadsTo}
-use Rattle.seam_machine.specs.Totals.{total}
-use Rattle.seam_machine.specs.declared.machines.Event.{Event}
-use Rattle.seam_machine.specs.declared.machines.Input.{Input}
-use Rattle.seam_machine.specs.declared.machines.Input.TheVariants.{Task, From}
+use Rattle.seam_node_steps.specs.Prelude.{link, input_from, happens, AllEnabled, LeadsTo, total, Event, Input, Task, From, Call as CallData}
+use Rattle.seam_node_steps.specs.Prelude.{Order, rank_of, Msg, BaseCall, Hand, Current, GhostSet, GhostDrop, Tick, Reap, Update, CellView}
+use Rattle.seam_node_steps.specs.Prelude.{slot_of, NodeView, World, node_steps, node_has_work, Cell, Base}
+use Rattle.seam_law_flow.specs.Prelude.{slot_at}
+use Rattle.seam_law_calls.specs.Prelude.{has_of, has_none, entity_flow}
+use Rattle.seam_law_bounds.specs.Prelude.{brings_call, was_left, passes_on, passes, is_left, passes_by, is_pass, all_passes, one_if_cell}
 use Rattle.seam_net_runs.proofs.Runs.{leads_nowhere, leads_by_one, leads_join}
-use Rattle.seam_law_flow.specs.Flows.{slot_at}
-use Rattle.seam_call.specs.declared.call.Call.{Call as CallData}
-use Rattle.seam_call.specs.declared.order.Order.{Order}
 use Rattle.seam_call.specs.declared.order.Order.TheVariants as order
-use Rattle.seam_call.specs.Senders.{rank_of}
-use Rattle.seam_entity.specs.declared.message.Msg.{Msg}
-use Rattle.seam_entity.specs.declared.message.Msg.TheVariants.{Call, BaseCall, Hand, Current, GhostSet, GhostDrop, Tick, Reap, Update}
-use Rattle.seam_node_steps.specs.Cells.{CellView, slot_of}
-use Rattle.seam_node_steps.specs.Nodes.{NodeView, World, node_steps, node_has_work}
-use Rattle.seam_node_steps.specs.Nodes.NodeView.{Cell, Base}
-use Rattle.seam_law_calls.specs.Sights.{has_of, has_none, entity_flow}
+use Rattle.seam_entity.specs.declared.message.Msg.TheVariants.{Call}
 use Rattle.seam_law_calls.proofs.Holds.{all_two}
-use Rattle.seam_law_bounds.specs.Passes.{brings_call, was_left, passes_on, passes}
-use Rattle.seam_law_bounds.specs.Events.{is_left, passes_by, is_pass, all_passes}
-use Rattle.seam_law_bounds.specs.Phases.{one_if_cell}
 use Rattle.seam_law_bounds.proofs.Cans.{fed_by}
 
 -- the call is one of those that are ordered

@@ -3,45 +3,29 @@ use Rattle.std.proofs.Common.{◌≡◌, ℕ, ◌+◌, ◌<◌, ◌≤◌, ◌�
 use Rattle.std.proofs.Common.{length, Option, None, Some, refl, sym, ap, ◌∙◌, subst, arith, inl, inr}
 use Rattle.std.specs.List.{AllByRecursion}
 use Rattle.std.proofs.lemmas.Bool.{cases_eq}
-use Rattle.seam_machine.specs.Nets.{happens, enabled, run, AllEnabled}
-use Rattle.seam_machine.specs.Events.{Occurs}
-use Rattle.seam_machine.specs.Sends.{items_to}
-use Rattle.seam_machine.specs.declared.machines.Input.{Input}
-use Rattle.seam_machine.specs.declared.machines.Input.TheVariants.{Task, From}
-use Rattle.seam_machine.specs.declared.machines.Event.{Event}
+use Rattle.seam_node_steps.specs.Prelude.{happens, enabled, run, AllEnabled, Occurs, items_to, Input, Task, From, Event, item_at}
+use Rattle.seam_node_steps.specs.Prelude.{Call as CallData, Order, RealView, Msg, BaseCall, Hand, Current, GhostSet, GhostDrop, Tick, Reap}
+use Rattle.seam_node_steps.specs.Prelude.{Update, NextPlace, RouteView, World, node_steps, node_has_work}
+use Rattle.seam_law_flow.specs.Prelude.{Flow, Goes, comes, letter_in, letters_of, more_letter, slot_at, IsSilent, carried_in, TokenPlace}
+use Rattle.seam_law_flow.specs.Prelude.{In, On, number_from, of_number}
+use Rattle.seam_law_calls.specs.Prelude.{Frame, Has, kept_if, mine, has_of, has_none, entity_flow, MovesTo, real_in, real_of, IsOne}
+use Rattle.seam_law_calls.specs.Prelude.{IsFrame, is_visited, cell_order_from, AreCallsOf}
+use Rattle.seam_law_bounds.specs.Prelude.{rank_of, is_hand_from, has_hand_from, ComesTo, is_handed_over, is_numbered, brings_call, was_left}
+use Rattle.seam_law_bounds.specs.Prelude.{passes_on, hands_over, passes, hand_overs}
 use Rattle.seam_machine.proofs.Occurring.{occurs, node_there}
-use Rattle.seam_law_flow.specs.Flows.{Flow, Goes, comes, letter_in, letters_of, more_letter, slot_at}
-use Rattle.seam_law_flow.specs.Sent.{IsSilent}
-use Rattle.seam_law_flow.specs.Tokens.{carried_in, TokenPlace, In, On}
 use Rattle.seam_law_flow.proofs.Following.{Rest, whole, tail, More, own, none, change}
 use Rattle.seam_law_flow.proofs.SendLists.{one_here}
 use Rattle.seam_law_flow.proofs.TokenLemmas.{first_is, sole_here}
-use Rattle.seam_law_flow.specs.Numbered.{number_from, of_number}
-use Rattle.seam_order.specs.Held.{item_at}
-use Rattle.seam_call.specs.declared.call.Call.{Call as CallData}
-use Rattle.seam_call.specs.declared.order.Order.{Order}
 use Rattle.seam_call.specs.declared.order.Order.TheVariants as order
-use Rattle.seam_entity.specs.Reals.{RealView}
-use Rattle.seam_entity.specs.declared.message.Msg.{Msg}
-use Rattle.seam_entity.specs.declared.message.Msg.TheVariants.{Call, BaseCall, Hand, Current, GhostSet, GhostDrop, Tick, Reap, Update}
-use Rattle.seam_node_steps.specs.Slots.{NextPlace}
-use Rattle.seam_node_steps.specs.Bases.{RouteView}
-use Rattle.seam_node_steps.specs.Nodes.{World, node_steps, node_has_work}
-use Rattle.seam_law_calls.specs.Frames.{Frame}
-use Rattle.seam_law_calls.specs.Sights.{Has, kept_if, mine, has_of, has_none, entity_flow}
-use Rattle.seam_law_calls.specs.Moves.{MovesTo}
+use Rattle.seam_entity.specs.declared.message.Msg.TheVariants.{Call}
 use Rattle.seam_law_calls.proofs.Classify.{event_moves_with}
-use Rattle.seam_law_calls.specs.Ones.{real_in, real_of, IsOne, IsFrame}
 use Rattle.seam_law_calls.proofs.Holds.{both}
 use Rattle.seam_law_calls.proofs.OneReal.{goes, room, calm_of}
 use Rattle.seam_law_calls.proofs.Sparing.{items_all}
-use Rattle.seam_law_calls.specs.Ways.{is_visited}
 use Rattle.seam_law_calls.proofs.WayMoves.{call_in}
-use Rattle.seam_law_calls.specs.CellTurns.{cell_order_from, AreCallsOf}
 use Rattle.seam_law_calls.proofs.CellRuns.{Kept, kept_happens, finds}
 use Rattle.seam_law_rounds.proofs.RoadRuns.{Came, road}
-use Rattle.seam_law_bounds.specs.Ranks.{rank_of, is_hand_from, has_hand_from, ComesTo, is_handed_over}
-use Rattle.seam_law_bounds.specs.Passes.{is_numbered, is_to, brings_call, was_left, passes_on, hands_over, passes, hand_overs}
+use Rattle.seam_law_bounds.specs.Passes.{is_to}
 use Rattle.seam_law_bounds.proofs.Ranking.{rank_real, rank_next, hand_from, landed_by, Ranked, Raises, raises}
 use Rattle.seam_law_bounds.proofs.CallSends.{FewerOrders, Sends, plain, ordered, passed, sends}
 use Rattle.seam_law_bounds.proofs.Following.{comes_less, has_before, Follows, follow_more, follow_append, none_follow}

@@ -4,28 +4,18 @@ use Rattle.std.proofs.Common.{◌∙◌, arith}
 use Rattle.std.specs.Prelude.{nat_lt, find, slice_get}
 use Rattle.std.specs.FinMap as table
 use Rattle.std.proofs.lemmas.Bool.Decides.{nat_tests}
-use Rattle.seam_machine.specs.Nets.{link}
-use Rattle.seam_machine.specs.Totals.{total}
+use Rattle.seam_node_steps.specs.Prelude.{link, total, RealView, Map, has_any, CellView, BaseView, NodeView, World, node_has_work, Cell}
+use Rattle.seam_node_steps.specs.Prelude.{Base}
+use Rattle.seam_law_flow.specs.Prelude.{slot_at}
+use Rattle.seam_law_calls.specs.Prelude.{Frame, has_of, has_none, held_in, real_in}
+use Rattle.seam_law_rounds.specs.Prelude.{IsBetweenRounds}
+use Rattle.seam_law_bounds.specs.Prelude.{Sizes, settling, look_weight, real_weight, part_weight, order_weight, node_weight, letter_weight}
+use Rattle.seam_law_bounds.specs.Prelude.{world_weight, HoldsNothing}
 use Rattle.seam_machine.proofs.Quiet.{quiet_links, quiet_tasks}
 use Rattle.seam_table.proofs.Found.{found}
 use Rattle.seam_net_runs.specs.Sums.{map_total}
-use Rattle.seam_law_flow.specs.Flows.{slot_at}
-use Rattle.seam_entity.specs.Reals.{RealView}
-use Rattle.seam_node_steps.specs.Maps.{Map, has_any}
-use Rattle.seam_node_steps.specs.Cells.{CellView}
-use Rattle.seam_node_steps.specs.Bases.{BaseView}
-use Rattle.seam_node_steps.specs.Nodes.{NodeView, World, node_has_work}
-use Rattle.seam_node_steps.specs.Nodes.NodeView.{Cell, Base}
-use Rattle.seam_law_calls.specs.Frames.{Frame}
-use Rattle.seam_law_calls.specs.Sights.{has_of, has_none}
-use Rattle.seam_law_calls.specs.Burdens.{held_in}
-use Rattle.seam_law_calls.specs.Ones.{real_in}
-use Rattle.seam_law_rounds.specs.Between.{IsBetweenRounds}
 use Rattle.seam_law_rounds.proofs.Room.{no_held, rows_none}
 use Rattle.seam_law_rounds.proofs.Starting.{none_weighs}
-use Rattle.seam_law_bounds.specs.Weights.{Sizes, settling, look_weight, real_weight, part_weight, order_weight, node_weight}
-use Rattle.seam_law_bounds.specs.Weights.{letter_weight, world_weight}
-use Rattle.seam_law_bounds.specs.Phases.{HoldsNothing}
 use Rattle.seam_law_bounds.proofs.Counts.{none_times}
 
 -- ---- maps

@@ -5,31 +5,23 @@ use Rattle.std.proofs.Common.{refl, sym, ap, ◌∙◌, subst, arith, inl, inr}
 use Rattle.std.specs.Prelude.{option_map}
 use Rattle.std.proofs.lemmas.Bool.{cases_eq}
 use Rattle.std.proofs.lemmas.Bool.Decides.{nat_tests}
-use Rattle.seam_machine.specs.Nets.{happens, enabled, LeadsTo}
-use Rattle.seam_machine.specs.Sends.{items_to}
-use Rattle.seam_machine.specs.declared.machines.Event.{Event}
+use Rattle.seam_node_steps.specs.Prelude.{happens, enabled, LeadsTo, items_to, Event, RealView, Msg, BaseCall, Hand, Current, GhostSet}
+use Rattle.seam_node_steps.specs.Prelude.{GhostDrop, Tick, Reap, Update, NextPlace, World, node_steps, node_has_work}
+use Rattle.seam_law_flow.specs.Prelude.{Flow, Goes, comes, carried_in, TokenPlace, In, On}
+use Rattle.seam_law_calls.specs.Prelude.{Frame, Has, entity_flow, MovesTo, real_in, real_of, IsSpared, IsFrame, HasOne}
+use Rattle.seam_law_bounds.specs.Prelude.{rank_of, is_hand_from, has_hand_from, ComesTo, AreRanked, is_handed_over, Climbs}
 use Rattle.seam_machine.proofs.Occurring.{occurs}
 use Rattle.seam_machine.proofs.SendLemmas.{items_to-append}
 use Rattle.seam_net_runs.proofs.Runs.{leads_keeps}
-use Rattle.seam_law_flow.specs.Flows.{Flow, Goes, comes}
-use Rattle.seam_law_flow.specs.Tokens.{carried_in, TokenPlace, In, On}
 use Rattle.seam_law_flow.proofs.Following.{Rest, whole, tail, More, own, none, change}
 use Rattle.seam_law_flow.proofs.SendLists.{one_here}
 use Rattle.seam_law_flow.proofs.TokenLemmas.{sole_here, sole_came}
-use Rattle.seam_entity.specs.Reals.{RealView}
-use Rattle.seam_entity.specs.declared.message.Msg.{Msg}
-use Rattle.seam_entity.specs.declared.message.Msg.TheVariants.{Call, BaseCall, Hand, Current, GhostSet, GhostDrop, Tick, Reap, Update}
-use Rattle.seam_node_steps.specs.Slots.{NextPlace}
-use Rattle.seam_node_steps.specs.Nodes.{World, node_steps, node_has_work}
-use Rattle.seam_law_calls.specs.Frames.{Frame}
-use Rattle.seam_law_calls.specs.Sights.{Has, entity_flow}
-use Rattle.seam_law_calls.specs.Moves.{MovesTo}
-use Rattle.seam_law_calls.specs.Ones.{real_in, real_of, IsSpared, IsFrame, HasOne}
+use Rattle.seam_entity.specs.declared.message.Msg.TheVariants.{Call}
 use Rattle.seam_law_calls.proofs.Handling.{FindsRoom}
 use Rattle.seam_law_calls.proofs.OneReal.{goes, room, one_happens, calm_of, spared_happens}
 use Rattle.seam_law_rounds.proofs.RoadMoves.{generation_of, generation_in, Roads, plain, arrives, departs}
 use Rattle.seam_law_rounds.proofs.RoadRuns.{IsRouted, Came, road, grown, place_then, routed_by}
-use Rattle.seam_law_bounds.specs.Ranks.{rank_by, rank_of, is_hand_from, has_hand_from, ComesTo, AreRanked, is_handed_over, Climbs}
+use Rattle.seam_law_bounds.specs.Ranks.{rank_by}
 
 -- ---- lists of letters
 

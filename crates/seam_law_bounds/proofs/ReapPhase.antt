@@ -6,47 +6,26 @@ use Rattle.std.specs.List.{AllByRecursion}
 use Rattle.std.specs.FinMap as table
 use Rattle.std.proofs.lemmas.List.{length-map}
 use Rattle.std.proofs.lemmas.Option.{slice_get-map, slice_get_within}
-use Rattle.seam_machine.specs.Nets.{link, LeadsTo}
-use Rattle.seam_machine.specs.Events.{Occurs, EachNode}
-use Rattle.seam_machine.specs.declared.machines.Event.{Event}
+use Rattle.seam_node_steps.specs.Prelude.{link, LeadsTo, Occurs, EachNode, Event, Call as CallData, Order, RealView, has_ready, may_execute}
+use Rattle.seam_node_steps.specs.Prelude.{cell_count, base_of, Msg, holders, CellView, BaseView, PartView, RouteView, stray_order, NodeView}
+use Rattle.seam_node_steps.specs.Prelude.{World, node_steps, node_has_work, Cell, Base, order_if, with_nodes, reap_ordered_at, reaps_loaded}
+use Rattle.seam_law_flow.specs.Prelude.{slot_at}
+use Rattle.seam_law_calls.specs.Prelude.{Frame, IsInFrame, has_of, has_none, entity_flow, base_call_of, is_tick_order}
+use Rattle.seam_law_rounds.specs.Prelude.{IsBetweenRounds, each, AreReapable}
+use Rattle.seam_law_bounds.specs.Prelude.{Sizes, part_weight, BaseCan, NodeCan, is_pass, all_passes, HoldsNothing}
 use Rattle.seam_machine.proofs.Quiet.{quiet_tasks}
 use Rattle.seam_net_runs.specs.Sums.{weight_or}
-use Rattle.seam_law_flow.specs.Flows.{slot_at}
 use Rattle.seam_law_flow.proofs.Following.{all_append}
-use Rattle.seam_call.specs.declared.call.Call.{Call as CallData}
-use Rattle.seam_call.specs.declared.order.Order.{Order}
 use Rattle.seam_call.specs.declared.order.Order.TheVariants as order
-use Rattle.seam_entity.specs.Reals.{RealView}
-use Rattle.seam_entity.specs.Calls.{has_ready}
-use Rattle.seam_entity.specs.Executing.{may_execute}
-use Rattle.seam_entity.specs.Here.{cell_count, base_of}
-use Rattle.seam_entity.specs.declared.message.Msg.{Msg}
 use Rattle.seam_entity.specs.declared.message.Msg.TheVariants.{Call}
-use Rattle.seam_node_steps.specs.Holders.{holders}
-use Rattle.seam_node_steps.specs.Cells.{CellView}
-use Rattle.seam_node_steps.specs.Bases.{BaseView, PartView, RouteView}
-use Rattle.seam_node_steps.specs.BaseCases.{stray_order}
-use Rattle.seam_node_steps.specs.Nodes.{NodeView, World, node_steps, node_has_work}
-use Rattle.seam_node_steps.specs.Nodes.NodeView.{Cell, Base}
-use Rattle.seam_node_steps.specs.Loads.{order_if, with_nodes, reap_ordered_at, reaps_loaded}
-use Rattle.seam_law_calls.specs.Frames.{Frame, IsInFrame}
-use Rattle.seam_law_calls.specs.Sights.{has_of, has_none, entity_flow}
-use Rattle.seam_law_rounds.specs.Between.{IsBetweenRounds}
-use Rattle.seam_law_rounds.specs.Loaded.{each}
 use Rattle.seam_law_rounds.proofs.Loading.{node_there}
 use Rattle.seam_law_rounds.proofs.Ready.{quiet_home}
-use Rattle.seam_law_rounds.specs.LastPhases.{AreReapable}
 use Rattle.seam_law_rounds.proofs.Shape.{frame_leads, many_leads}
 use Rattle.seam_law_rounds.proofs.Giving.{reaps_framed, reaps_cell, reals_stay}
 use Rattle.seam_law_rounds.proofs.Phases.{calm_leads}
 use Rattle.seam_law_rounds.proofs.Reaping as reaping
 use Rattle.seam_law_rounds.proofs.Reaping.{is_told}
 use Rattle.seam_law_ghosts.proofs.NoStrays.{reaps_tasks}
-use Rattle.seam_law_calls.specs.PartMoves.{base_call_of}
-use Rattle.seam_law_calls.specs.Clients.{is_tick_order}
-use Rattle.seam_law_bounds.specs.Weights.{Sizes, part_weight}
-use Rattle.seam_law_bounds.specs.Events.{BaseCan, NodeCan, is_pass, all_passes}
-use Rattle.seam_law_bounds.specs.Phases.{HoldsNothing}
 use Rattle.seam_law_bounds.proofs.Bare.{IsBare, bare_leads}
 use Rattle.seam_law_calls.proofs.WitnessKept.{all_weaker}
 use Rattle.seam_law_bounds.proofs.Batched.{OrderIs, calls_are}

@@ -4,37 +4,25 @@ use Rattle.std.specs.Prelude.{slice_get}
 use Rattle.std.specs.List.{AllByRecursion}
 use Rattle.std.specs.FinMap as table
 use Rattle.std.proofs.Math.Nat.{mul-le-mul_left}
-use Rattle.seam_law_flow.specs.Flows.{slot_at, letters_of}
-use Rattle.seam_call.specs.declared.order.Batch.{Batch}
-use Rattle.seam_entity.specs.Reals.{RealView, WitnessView}
-use Rattle.seam_node_steps.specs.Cells.{CellView}
-use Rattle.seam_node_steps.specs.Loads.{loaded}
-use Rattle.seam_node_steps.specs.Nodes.{World}
-use Rattle.seam_node_steps.specs.Nodes.NodeView.{Cell}
-use Rattle.seam_law_calls.specs.Frames.{Frame}
-use Rattle.seam_law_calls.specs.Sights.{has_of, has_none, entity_flow}
-use Rattle.seam_law_calls.specs.Ones.{real_in, real_of}
+use Rattle.seam_node_steps.specs.Prelude.{Batch, RealView, WitnessView, CellView, loaded, World, Cell}
+use Rattle.seam_law_flow.specs.Prelude.{slot_at, letters_of}
+use Rattle.seam_law_calls.specs.Prelude.{Frame, has_of, has_none, entity_flow, real_in, real_of, sent_of, sent_by, HasToldAtMost}
+use Rattle.seam_law_rounds.specs.Prelude.{framed, numbers_of, MayBeLoaded}
+use Rattle.seam_law_ghosts.specs.Prelude.{AreCopiesBetweenRounds, GoesThroughRound, WasThere}
+use Rattle.seam_law_clients.specs.Prelude.{having_looked, looked_by}
+use Rattle.seam_law_bounds.specs.Prelude.{LooksAmong, LooksFit, Always, AreAtMost}
 use Rattle.seam_law_calls.proofs.Easing.{burden_leads}
 use Rattle.seam_law_calls.proofs.Gone.{gone_leads}
-use Rattle.seam_law_rounds.specs.Between.{framed, numbers_of}
 use Rattle.seam_law_rounds.proofs.Framing.{in_frame}
 use Rattle.seam_law_rounds.proofs.Going.{frame_loaded}
 use Rattle.seam_law_rounds.proofs.Loaded.{no_mail, real_loaded}
 use Rattle.seam_law_rounds.proofs.Room.{no_held, weighs, real_room}
 use Rattle.seam_law_rounds.proofs.Shape.{Somewhere, Nowhere, search_real}
-use Rattle.seam_law_calls.specs.WitnessMoves.{sent_of, sent_by}
-use Rattle.seam_law_calls.specs.Clients.{HasToldAtMost}
-use Rattle.seam_law_rounds.specs.Parts.{MayBeLoaded}
 use Rattle.seam_law_rounds.proofs.Ticking.{looks_loaded}
-use Rattle.seam_law_ghosts.specs.Copies.{AreCopiesBetweenRounds}
-use Rattle.seam_law_ghosts.specs.RealPlaces.{GoesThroughRound, WasThere}
-use Rattle.seam_law_bounds.specs.Looking.{LooksAmong, LooksFit, Always}
 use Rattle.seam_law_bounds.proofs.There.{had_loaded}
-use Rattle.seam_law_clients.specs.Phases.{having_looked, looked_by}
 use Rattle.seam_law_clients.proofs.Reaping.{stays}
 use Rattle.seam_law_clients.proofs.Round.{called_between}
 use Rattle.seam_law_clients.proofs.ShownOnce.{cell_at}
-use Rattle.seam_law_bounds.specs.Most.{AreAtMost}
 use Rattle.seam_law_bounds.proofs.ToldCounts.{tells_few}
 use Rattle.seam_law_bounds.proofs.Telling.{tells_at_most}
 

@@ -5,51 +5,30 @@ use Rattle.std.specs.Prelude.{not, slice_get}
 use Rattle.std.specs.List.{AllByRecursion}
 use Rattle.std.specs.FinMap as table
 use Rattle.std.proofs.lemmas.Option.{slice_get-map}
-use Rattle.seam_machine.specs.Nets.{link, LeadsTo}
-use Rattle.seam_machine.specs.Events.{EachNode}
-use Rattle.seam_machine.specs.declared.machines.Event.{Event}
+use Rattle.seam_node_steps.specs.Prelude.{link, LeadsTo, EachNode, Event, Call as CallData, Order, Batch, rank_of, RealView, has_ready}
+use Rattle.seam_node_steps.specs.Prelude.{may_execute, Msg, holders, CellView, BaseView, PartView, stray_order, NodeView, World, node_steps}
+use Rattle.seam_node_steps.specs.Prelude.{node_has_work, Cell, Base, loaded}
+use Rattle.seam_law_flow.specs.Prelude.{slot_at}
+use Rattle.seam_law_calls.specs.Prelude.{Frame, IsInFrame, order_about, has_of, has_none, NoneIsStray}
+use Rattle.seam_law_rounds.specs.Prelude.{framed, node_loaded, MayBeLoaded}
+use Rattle.seam_law_bounds.specs.Prelude.{part_weight, Sizes, settle_weight, settling, order_weight, BaseCan, AllCan, all_passes}
+use Rattle.seam_law_bounds.specs.Prelude.{HoldsNothing, entities, one_if_cell, cell_orders, base_orders, tick_orders}
 use Rattle.seam_machine.proofs.Quiet.{quiet_links}
 use Rattle.seam_net_runs.specs.Sums.{weight_or}
-use Rattle.seam_law_flow.specs.Flows.{slot_at}
-use Rattle.seam_call.specs.declared.call.Call.{Call as CallData}
-use Rattle.seam_call.specs.declared.order.Order.{Order}
 use Rattle.seam_call.specs.declared.order.Order.TheVariants as order
-use Rattle.seam_call.specs.declared.order.Batch.{Batch}
-use Rattle.seam_call.specs.Senders.{rank_of}
-use Rattle.seam_entity.specs.Reals.{RealView}
-use Rattle.seam_entity.specs.Calls.{has_ready}
-use Rattle.seam_entity.specs.Executing.{may_execute}
-use Rattle.seam_entity.specs.declared.message.Msg.{Msg}
 use Rattle.seam_entity.specs.declared.message.Msg.TheVariants.{Call}
-use Rattle.seam_node_steps.specs.Holders.{holders}
-use Rattle.seam_node_steps.specs.Cells.{CellView}
-use Rattle.seam_node_steps.specs.Bases.{BaseView, PartView}
-use Rattle.seam_node_steps.specs.BaseCases.{stray_order}
 use Rattle.seam_node_steps.specs.BaseCases as base
-use Rattle.seam_node_steps.specs.Nodes.{NodeView, World, node_steps, node_has_work}
-use Rattle.seam_node_steps.specs.Nodes.NodeView.{Cell, Base}
-use Rattle.seam_node_steps.specs.Loads.{loaded}
-use Rattle.seam_law_calls.specs.Frames.{Frame, IsInFrame}
-use Rattle.seam_law_calls.specs.Sights.{order_about, has_of, has_none}
-use Rattle.seam_law_rounds.specs.Between.{framed}
 use Rattle.seam_law_rounds.proofs.Framing.{in_frame}
 use Rattle.seam_law_rounds.proofs.Going.{settled_loaded, spared_loaded}
-use Rattle.seam_law_rounds.specs.Loaded.{node_loaded}
 use Rattle.seam_law_rounds.proofs.Loading.{loaded_is, node_there}
 use Rattle.seam_law_rounds.proofs.Shape.{Somewhere, Nowhere, search_real, frame_leads}
 use Rattle.seam_law_ghosts.proofs.Beginning.{unknown_loaded}
 use Rattle.seam_law_ghosts.proofs.InRound.{nobody}
 use Rattle.seam_law_ghosts.proofs.NoStrays.{round_tasks}
 use Rattle.seam_law_bounds.proofs.HandedOver.{passed_few}
-use Rattle.seam_law_calls.specs.Strays.{NoneIsStray}
 use Rattle.seam_law_calls.proofs.WitnessKept.{all_weaker}
 use Rattle.seam_law_calls.proofs.NodeStray.{none_is_stray}
-use Rattle.seam_law_rounds.specs.Parts.{MayBeLoaded}
 use Rattle.seam_law_rounds.proofs.PartsGoing.{none_strays}
-use Rattle.seam_law_bounds.specs.Weights.{part_weight}
-use Rattle.seam_law_bounds.specs.Weights.{Sizes, settle_weight, settling, order_weight}
-use Rattle.seam_law_bounds.specs.Events.{BaseCan, AllCan, all_passes}
-use Rattle.seam_law_bounds.specs.Phases.{HoldsNothing, entities, one_if_cell, cell_orders, base_orders, tick_orders}
 use Rattle.seam_law_bounds.proofs.Bare.{IsIdle, idle_leads}
 use Rattle.seam_law_bounds.proofs.Batched.{OrderIs, calls_are}
 use Rattle.seam_law_bounds.proofs.Cans.{base_can}

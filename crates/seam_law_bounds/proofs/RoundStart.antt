@@ -7,39 +7,26 @@ use Rattle.std.specs.FinMap as table
 use Rattle.std.proofs.lemmas.Bool.{cases_eq, eq-eqb, ne_eqb}
 use Rattle.std.proofs.lemmas.List.{length-map}
 use Rattle.std.proofs.lemmas.Option.{slice_get-map}
-use Rattle.seam_machine.specs.Nets.{link}
-use Rattle.seam_machine.specs.Events.{EachNode}
-use Rattle.seam_machine.specs.Totals.{total}
+use Rattle.seam_node_steps.specs.Prelude.{link, EachNode, total, Order, Batch, RealView, real_begins, Here, with_value, each_value}
+use Rattle.seam_node_steps.specs.Prelude.{CellView, BaseView, NodeView, World, node_has_work, Cell, Base, with_nodes, with_orders, order_if}
+use Rattle.seam_node_steps.specs.Prelude.{ordered_at, cell_begins, cell_round, loaded}
+use Rattle.seam_law_flow.specs.Prelude.{slot_at}
+use Rattle.seam_law_calls.specs.Prelude.{Frame, IsAt, order_concerns, orders_of, has_of, has_none, entity_flow, held_in, real_in}
+use Rattle.seam_law_calls.specs.Prelude.{reaped_by_order}
+use Rattle.seam_law_rounds.specs.Prelude.{IsBetweenRounds, IsFitting, framed, each, made, node_loaded}
+use Rattle.seam_law_bounds.specs.Prelude.{Sizes, settle_weight, settling, look_weight, real_weight, part_weight, order_weight, node_weight}
+use Rattle.seam_law_bounds.specs.Prelude.{letter_weight, world_weight, HoldsNothing, reals_at, entities, one_if_cell, one_if_tick}
+use Rattle.seam_law_bounds.specs.Prelude.{cell_orders, base_orders, tick_orders}
 use Rattle.seam_machine.proofs.Quiet.{quiet_links, quiet_tasks}
 use Rattle.seam_net_runs.specs.Sums.{weight_or}
-use Rattle.seam_law_flow.specs.Flows.{slot_at}
-use Rattle.seam_call.specs.declared.order.Order.{Order}
 use Rattle.seam_call.specs.declared.order.Order.TheVariants as order
-use Rattle.seam_call.specs.declared.order.Batch.{Batch}
-use Rattle.seam_entity.specs.Reals.{RealView}
-use Rattle.seam_entity.specs.Executing.{real_begins}
-use Rattle.seam_entity.specs.Here.{Here}
-use Rattle.seam_node_steps.specs.Maps.{with_value, each_value}
-use Rattle.seam_node_steps.specs.Cells.{CellView}
-use Rattle.seam_node_steps.specs.Bases.{BaseView}
-use Rattle.seam_node_steps.specs.Nodes.{NodeView, World, node_has_work}
-use Rattle.seam_node_steps.specs.Nodes.NodeView.{Cell, Base}
-use Rattle.seam_node_steps.specs.Loads.{with_nodes, with_order, with_orders, order_if, ordered_at, cell_begins, cell_round, loaded}
-use Rattle.seam_law_calls.specs.Frames.{Frame, IsAt}
-use Rattle.seam_law_calls.specs.Sights.{order_concerns, orders_of, has_of, has_none, entity_flow}
-use Rattle.seam_law_calls.specs.Burdens.{held_in}
-use Rattle.seam_law_calls.specs.Ones.{real_in, reaped_by_order}
-use Rattle.seam_law_rounds.specs.Between.{IsBetweenRounds, IsFitting, framed}
-use Rattle.seam_law_rounds.specs.Loaded.{each, made, node_loaded}
+use Rattle.seam_node_steps.specs.Loads.{with_order}
 use Rattle.seam_law_rounds.proofs.Loading.{loaded_is, node_there, nodes_after}
 use Rattle.seam_law_rounds.proofs.Framing.{node_begun}
 use Rattle.seam_law_rounds.proofs.Going.{settled_loaded}
 use Rattle.seam_law_rounds.proofs.Room.{one_if, Surveys, loaded_surveys, no_held, rows_none}
 use Rattle.seam_law_rounds.proofs.Giving.{look_cell, reals_stay}
-use Rattle.seam_law_bounds.specs.Weights.{Sizes, settle_weight, settling, look_weight, real_weight, part_weight, order_weight}
-use Rattle.seam_law_bounds.specs.Weights.{node_weight, letter_weight, world_weight}
-use Rattle.seam_law_bounds.specs.Phases.{HoldsNothing, reals_at, entities, one_if_cell, one_if_base, one_if_tick, cell_orders, base_orders}
-use Rattle.seam_law_bounds.specs.Phases.{tick_orders}
+use Rattle.seam_law_bounds.specs.Phases.{one_if_base}
 use Rattle.seam_law_bounds.proofs.Counts.{none_times}
 use Rattle.seam_law_bounds.proofs.Given.{AreAt, sum_exceeds, sum_adds, turned, nodes_stay, order_stays, orders_add}
 use Rattle.seam_law_bounds.proofs.HandOvers.{real_left, node_left, mine_left, left}

@@ -1,20 +1,12 @@
 -- A round ends, with its ticks.
 use Rattle.std.proofs.Common.{◌≡◌, ℕ, zero, suc, ◌+◌, ◌*◌, ◌≤◌, List, length, refl, ap, arith}
 use Rattle.std.specs.List.{range_with_len}
-use Rattle.seam_machine.specs.Nets.{LeadsTo}
-use Rattle.seam_machine.specs.Totals.{total}
-use Rattle.seam_machine.specs.declared.machines.Event.{Event}
+use Rattle.seam_node_steps.specs.Prelude.{LeadsTo, total, Event, Batch, cell_count, World, node_steps, node_has_work, loaded}
+use Rattle.seam_law_calls.specs.Prelude.{Frame}
+use Rattle.seam_law_rounds.specs.Prelude.{MayBeLoaded}
+use Rattle.seam_law_bounds.specs.Prelude.{Sizes, look_weight, tick_weight, order_weight, AllCan, LooksFit, Always, HoldsNothing, entities}
+use Rattle.seam_law_bounds.specs.Prelude.{cell_orders, base_orders, tick_orders, events_of_round}
 use Rattle.seam_call.specs.declared.order.Order.TheVariants as order
-use Rattle.seam_call.specs.declared.order.Batch.{Batch}
-use Rattle.seam_entity.specs.Here.{cell_count}
-use Rattle.seam_node_steps.specs.Nodes.{World, node_steps, node_has_work}
-use Rattle.seam_node_steps.specs.Loads.{loaded}
-use Rattle.seam_law_calls.specs.Frames.{Frame}
-use Rattle.seam_law_rounds.specs.Parts.{MayBeLoaded}
-use Rattle.seam_law_bounds.specs.Weights.{Sizes, look_weight, tick_weight, order_weight}
-use Rattle.seam_law_bounds.specs.Events.{AllCan}
-use Rattle.seam_law_bounds.specs.Looking.{LooksFit, Always}
-use Rattle.seam_law_bounds.specs.Phases.{HoldsNothing, entities, cell_orders, base_orders, tick_orders, events_of_round}
 use Rattle.seam_law_bounds.proofs.Cans.{can_look}
 use Rattle.seam_law_bounds.proofs.RoundPhase.{g, start, frame_then, base_then, cell_then, round_long}
 

@@ -3,41 +3,27 @@ use Rattle.std.proofs.Common.{◌≡◌, ℕ, ◌⊎◌, Bool, true, false, cond
 use Rattle.std.proofs.Common.{subst, inl, inr}
 use Rattle.std.specs.Prelude.{option_map, slice_get}
 use Rattle.std.specs.List.{AllByRecursion}
-use Rattle.seam_machine.specs.Nets.{IsQuiet, LeadsTo}
-use Rattle.seam_machine.specs.declared.machines.Event.{Event}
+use Rattle.seam_node_steps.specs.Prelude.{IsQuiet, LeadsTo, Event, State, Property, ghost_of, other_of, projected, GhostCopy, RealView}
+use Rattle.seam_node_steps.specs.Prelude.{WitnessView, holders, seen_as, CellView, known_to, is_another, World, node_steps, node_has_work}
+use Rattle.seam_node_steps.specs.Prelude.{Cell, look_loaded}
+use Rattle.seam_law_flow.specs.Prelude.{letters_of}
+use Rattle.seam_law_calls.specs.Prelude.{Frame, mine, entity_flow, real_in}
+use Rattle.seam_law_rounds.specs.Prelude.{IsBetweenRounds, HasPartsBetweenRounds}
+use Rattle.seam_law_ghosts.specs.Prelude.{WasThere, AreCopiesBetweenRounds}
+use Rattle.seam_law_clients.specs.Prelude.{witness_looked, looked_by, having_looked, HaveRoomToLook}
+use Rattle.seam_law_bounds.specs.Prelude.{SeesWhatIsThere}
 use Rattle.seam_machine.proofs.Quiet.{quiet_links}
-use Rattle.seam_law_flow.specs.Flows.{letters_of}
 use Rattle.seam_defs.specs.declared.flags.Group.TheVariants as group
-use Rattle.seam_defs.specs.declared.states.State.{State}
-use Rattle.seam_defs.specs.declared.types.Property.{Property}
-use Rattle.seam_defs.specs.Deeds.{ghost_of, other_of, projected}
 use Rattle.seam_view.specs.Replica.{seen_of}
-use Rattle.seam_call.specs.declared.shown.GhostCopy.{GhostCopy}
-use Rattle.seam_entity.specs.Reals.{RealView, WitnessView}
-use Rattle.seam_node_steps.specs.Holders.{holders}
-use Rattle.seam_node_steps.specs.CellLooks.{seen_as}
-use Rattle.seam_node_steps.specs.Cells.{CellView, known_to, is_another}
-use Rattle.seam_node_steps.specs.Nodes.{World, node_steps, node_has_work}
-use Rattle.seam_node_steps.specs.Nodes.NodeView.{Cell}
-use Rattle.seam_node_steps.specs.Loads.{look_loaded}
-use Rattle.seam_law_calls.specs.Frames.{Frame}
-use Rattle.seam_law_calls.specs.Sights.{mine, entity_flow}
-use Rattle.seam_law_calls.specs.Ones.{real_in}
-use Rattle.seam_law_rounds.specs.Between.{IsBetweenRounds}
 use Rattle.seam_law_rounds.proofs.Ready.{one_holder}
 use Rattle.seam_law_rounds.proofs.Looking.{look_keeps}
 use Rattle.seam_law_rounds.proofs.Shape.{Somewhere, Nowhere, search_real}
-use Rattle.seam_law_rounds.specs.Parts.{HasPartsBetweenRounds}
-use Rattle.seam_law_ghosts.specs.RealPlaces.{WasThere}
 use Rattle.seam_law_ghosts.proofs.Ends.{looks_leave}
-use Rattle.seam_law_ghosts.specs.Copies.{AreCopiesBetweenRounds}
-use Rattle.seam_law_clients.specs.Phases.{witness_looked, looked_by, having_looked, HaveRoomToLook}
 use Rattle.seam_law_clients.proofs.Near.{as_seen, seen_found}
 use Rattle.seam_node_steps.proofs.Knowing.{known_at, known_to_is}
 use Rattle.seam_law_clients.proofs.OneLook.{known_nowhere}
 use Rattle.seam_law_clients.proofs.LookEnds.{looked}
 use Rattle.seam_law_clients.proofs.ShownOnce.{cell_at}
-use Rattle.seam_law_bounds.specs.Looking.{SeesWhatIsThere}
 use Rattle.seam_law_bounds.proofs.Viewed.{EachKnown, viewed_known}
 
 module _ (f : Frame) (u : World) (between : IsBetweenRounds f u) (parts : HasPartsBetweenRounds f u) (copies : AreCopiesBetweenRounds f u)

@@ -10,37 +10,23 @@ use Rattle.seam_machine.proofs.Totals.{total-append}
 use Rattle.seam_net_runs.specs.Sums.{weight_or}
 use Rattle.seam_net_runs.specs.Weights.{sent_weight}
 use Rattle.seam_net_runs.proofs.MapSums.{sent_of_chosen, sent_of_range_bounds}
-use Rattle.seam_tree.specs.Division.{Division}
-use Rattle.seam_tree.specs.Cells.{Cells}
-use Rattle.seam_order.specs.Held.{OrderView}
-use Rattle.seam_order.specs.Offers.{next_item}
+use Rattle.seam_node_steps.specs.Prelude.{Division, Cells, OrderView, next_item, Call as CallData, GhostCopy, Shown, rank_of, order_of}
+use Rattle.seam_node_steps.specs.Prelude.{RealView, WitnessView, Msg, BaseCall, Hand, Current, GhostSet, GhostDrop, Tick, Reap, Update}
+use Rattle.seam_node_steps.specs.Prelude.{Here, cell_count, base_of, has_ready, ready_order, order_is_ready, copy_of_real, may_settle}
+use Rattle.seam_node_steps.specs.Prelude.{may_execute, may_call, with_offer, executed, executed_ready, shows, settled_to, Slot, NextPlace}
+use Rattle.seam_node_steps.specs.Prelude.{SlotStep, unless_stray, slot_after, told, told_unless, ghost_message, ghost_messages, gone_to}
+use Rattle.seam_node_steps.specs.Prelude.{stays, settled_by, settled, home_after, haunts_at, call_next_place, stray_call, hand_over_comes}
+use Rattle.seam_node_steps.specs.Prelude.{stray_hand, ghost_set, stray_ghost_set, ghost_drop, drop_at, drop_if, reap, stray_reap}
+use Rattle.seam_node_steps.specs.Prelude.{survey_task, stray_survey, executes_ready, ready_in, is_stray, slot_steps, ready_call_task}
+use Rattle.seam_node_steps.specs.Prelude.{stray_ready_call, Known, numbered, own_due, shown_for, all_shown, looks_of, shown_of, look_by}
+use Rattle.seam_node_steps.specs.Prelude.{look_task, stray_look}
+use Rattle.seam_law_bounds.specs.Prelude.{Sizes, settle_weight, settling, look_weight, real_weight, letter_weight, is_left}
 use Rattle.seam_view.specs.declared.Look.{Look}
-use Rattle.seam_call.specs.declared.call.Call.{Call as CallData}
-use Rattle.seam_call.specs.declared.shown.GhostCopy.{GhostCopy}
-use Rattle.seam_call.specs.declared.shown.Shown.{Shown}
-use Rattle.seam_call.specs.Senders.{rank_of}
-use Rattle.seam_entity.specs.Orders.{order_of}
-use Rattle.seam_entity.specs.Reals.{RealView, WitnessView}
-use Rattle.seam_entity.specs.declared.message.Msg.{Msg}
-use Rattle.seam_entity.specs.declared.message.Msg.TheVariants.{Call, BaseCall, Hand, Current, GhostSet, GhostDrop, Tick, Reap, Update}
-use Rattle.seam_entity.specs.Here.{Here, cell_count, base_of}
-use Rattle.seam_entity.specs.Calls.{has_ready, ready_order, order_is_ready}
-use Rattle.seam_entity.specs.Executing.{copy_of_real, may_settle, may_execute, may_call, with_offer, executed, executed_ready, shows}
-use Rattle.seam_entity.specs.Executing.{settled_to}
+use Rattle.seam_entity.specs.declared.message.Msg.TheVariants.{Call}
 use Rattle.seam_table.proofs.Found.{found}
-use Rattle.seam_node_steps.specs.Slots.{Slot, NextPlace, SlotStep, unless_stray, slot_after}
-use Rattle.seam_node_steps.specs.Settle.{told, told_unless, ghost_message, ghost_messages, gone_to, stays, settled_by, settled}
-use Rattle.seam_node_steps.specs.Settle.{home_after, haunts_at}
-use Rattle.seam_node_steps.specs.CellCases.{offered, call_real_here, call_next_place, call, stray_call, hand_over_comes, stray_hand}
-use Rattle.seam_node_steps.specs.CellCases.{ghost_set, stray_ghost_set, ghost_drop, drop_at, drop_if, reap, stray_reap, survey_task}
-use Rattle.seam_node_steps.specs.CellCases.{stray_survey}
-use Rattle.seam_node_steps.specs.CellCases.{executes_ready, ready_in, is_stray, slot_steps, ready_call_task, stray_ready_call}
-use Rattle.seam_node_steps.specs.CellLooks.{Known, numbered, own_due, shown_for, all_shown, looks_of, shown_of, look_by, look_task}
-use Rattle.seam_node_steps.specs.CellLooks.{stray_look}
+use Rattle.seam_node_steps.specs.CellCases.{offered, call_real_here, call}
 use Rattle.seam_law_calls.proofs.HeldCounts.{turn_counts, early_counts, taken_counts}
 use Rattle.seam_law_calls.proofs.PartSteps.{equal_of, greater_of}
-use Rattle.seam_law_bounds.specs.Weights.{Sizes, settle_weight, settling, look_weight, real_weight, letter_weight}
-use Rattle.seam_law_bounds.specs.Events.{is_left}
 use Rattle.seam_law_bounds.proofs.Counts.{one_more, chosen_are_few}
 
 module _ (z : Sizes) where

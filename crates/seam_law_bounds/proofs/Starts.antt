@@ -5,24 +5,14 @@ use Rattle.std.specs.Prelude.{slice_get}
 use Rattle.std.specs.List.{AllByRecursion}
 use Rattle.std.specs.FinMap as table
 use Rattle.std.proofs.lemmas.Bool.{cases_eq}
-use Rattle.seam_machine.specs.Nets.{link}
-use Rattle.seam_machine.specs.Events.{EachNode}
+use Rattle.seam_node_steps.specs.Prelude.{link, EachNode, Order, RealView, Msg, PartView, NodeView, World, Cell, Base}
+use Rattle.seam_law_flow.specs.Prelude.{slot_at, letters_of, more_letter}
+use Rattle.seam_law_calls.specs.Prelude.{Frame, IsInFrame, Has, mine, times, order_concerns, orders_of, has_of, has_none, entity_flow}
+use Rattle.seam_law_calls.specs.Prelude.{real_in, real_of, base_call_in, update_in, base_call_of, calls_ordered, sent_by, is_tick_order}
+use Rattle.seam_law_calls.specs.Prelude.{tick_in, HasToldAtMost, HasNoLooks}
+use Rattle.seam_law_bounds.specs.Prelude.{part_weight}
 use Rattle.seam_net_runs.specs.Sums.{weight_or}
-use Rattle.seam_law_flow.specs.Flows.{slot_at, letters_of, more_letter}
-use Rattle.seam_call.specs.declared.order.Order.{Order}
-use Rattle.seam_entity.specs.Reals.{RealView}
-use Rattle.seam_entity.specs.declared.message.Msg.{Msg}
-use Rattle.seam_node_steps.specs.Bases.{PartView}
-use Rattle.seam_node_steps.specs.Nodes.{NodeView, World}
-use Rattle.seam_node_steps.specs.Nodes.NodeView.{Cell, Base}
-use Rattle.seam_law_calls.specs.Frames.{Frame, IsInFrame}
-use Rattle.seam_law_calls.specs.Sights.{Has, mine, times, order_concerns, orders_of, has_of, has_none, entity_flow}
-use Rattle.seam_law_calls.specs.Ones.{real_in, real_of}
 use Rattle.seam_law_rounds.proofs.Shape.{Somewhere, Nowhere, search_real}
-use Rattle.seam_law_calls.specs.PartMoves.{base_call_in, update_in, base_call_of, calls_ordered}
-use Rattle.seam_law_calls.specs.WitnessMoves.{sent_by}
-use Rattle.seam_law_calls.specs.Clients.{is_tick_order, tick_in, HasToldAtMost, HasNoLooks}
-use Rattle.seam_law_bounds.specs.Weights.{part_weight}
 use Rattle.seam_law_bounds.proofs.Bare.{HoldsNone, IsBare}
 
 -- a cell whose look list is empty, and a base node whose orders are such and whose parts hold nothing

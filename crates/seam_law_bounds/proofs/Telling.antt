@@ -1,31 +1,18 @@
 -- What a witness told stays within what it told at the start and what its looks may tell, by how many entities there are to look at.
 use Rattle.std.proofs.Common.{◌≡◌, ℕ, ◌+◌, ◌*◌, ◌≤◌, true, List, [], ◌∷◌, ◌++◌, length, Some, sym, ap, ◌∙◌, arith}
 use Rattle.std.proofs.Math.Nat.{mul-le-mul_left}
-use Rattle.seam_tree.specs.Division.{cells_of}
-use Rattle.seam_machine.specs.Nets.{happens, enabled, LeadsTo}
-use Rattle.seam_machine.specs.Events.{Occurs}
-use Rattle.seam_machine.specs.declared.machines.Event.{Event}
+use Rattle.seam_node_steps.specs.Prelude.{cells_of, happens, enabled, LeadsTo, Occurs, Event, Here, base_of, cell_count, RealView}
+use Rattle.seam_node_steps.specs.Prelude.{WitnessView, Known, shown_of, CellView, known_to, World, node_steps, node_has_work, Cell}
+use Rattle.seam_law_flow.specs.Prelude.{slot_at}
+use Rattle.seam_law_calls.specs.Prelude.{Frame, IsInFrame, has_of, has_none, real_in, sent_of, sent_by, EachReal, HasToldAtMost, looks_left}
+use Rattle.seam_law_bounds.specs.Prelude.{LooksAmong, LooksFit, Always}
 use Rattle.seam_machine.proofs.Occurring.{occurs}
 use Rattle.seam_net_runs.proofs.Runs.{leads_keeps, leads_extend, leads_nowhere}
-use Rattle.seam_law_flow.specs.Flows.{slot_at}
-use Rattle.seam_entity.specs.Here.{Here, base_of, cell_count}
-use Rattle.seam_entity.specs.Reals.{RealView, WitnessView}
-use Rattle.seam_node_steps.specs.CellLooks.{Known, shown_of}
-use Rattle.seam_node_steps.specs.Cells.{CellView, known_to}
-use Rattle.seam_node_steps.specs.Nodes.{World, node_steps, node_has_work}
-use Rattle.seam_node_steps.specs.Nodes.NodeView.{Cell}
-use Rattle.seam_law_calls.specs.Frames.{Frame, IsInFrame}
-use Rattle.seam_law_calls.specs.Sights.{has_of, has_none}
-use Rattle.seam_law_calls.specs.Ones.{real_in}
 use Rattle.seam_law_calls.proofs.Classify.{frame_happens}
-use Rattle.seam_law_calls.specs.WitnessMoves.{sent_of, sent_by}
-use Rattle.seam_law_calls.specs.Clients.{EachReal, HasToldAtMost}
-use Rattle.seam_law_calls.specs.Telling.{looks_left}
 use Rattle.seam_law_calls.proofs.WitnessKept.{ByWitness, each_weaker}
 use Rattle.seam_law_calls.proofs.Looking.{looked_at}
 use Rattle.seam_law_calls.proofs.LooksLeft.{looks_left_happens, looks_left_falls}
 use Rattle.seam_law_calls.proofs.Telling.{Looked, each_looked}
-use Rattle.seam_law_bounds.specs.Looking.{LooksAmong, LooksFit, Always}
 use Rattle.seam_law_bounds.proofs.ToldCounts.{tells_few}
 
 module _ (f : Frame) (most : cells_of f.tree ≤ cell_count) (us ws : List ℕ)

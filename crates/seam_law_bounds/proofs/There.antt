@@ -11,47 +11,28 @@ use Rattle.std.proofs.lemmas.Bool.{eq-eqb}
 use Rattle.std.proofs.lemmas.Bool.Decides.{nat_tests}
 use Rattle.std.proofs.lemmas.List.{length-append, length-map}
 use Rattle.std.proofs.lemmas.List.Folds.{list_any-append}
-use Rattle.seam_tree.specs.Division.{Division, leaf_at, cells_of}
-use Rattle.seam_machine.specs.Nets.{link, LeadsTo}
+use Rattle.seam_node_steps.specs.Prelude.{Division, leaf_at, cells_of, link, LeadsTo, total, Event, copy_in, Create, Order, Batch}
+use Rattle.seam_node_steps.specs.Prelude.{GhostCopy, Here, RealView, WitnessView, created, real_begins, holders, Map, number_of, CellView}
+use Rattle.seam_node_steps.specs.Prelude.{has_witness, witnesses, NodeView, World, node_steps, node_has_work, Cell, Base, real_if}
+use Rattle.seam_node_steps.specs.Prelude.{created_at, with_witness, attached, cell_round, base_round, ordered_at, loaded}
+use Rattle.seam_law_flow.specs.Prelude.{slot_at, letters_of}
+use Rattle.seam_law_calls.specs.Prelude.{Frame, has_of, has_none, entity_flow, real_in, real_of}
+use Rattle.seam_law_rounds.specs.Prelude.{framed, made, node_loaded, MayBeLoaded}
+use Rattle.seam_law_ghosts.specs.Prelude.{AreCopiesBetweenRounds}
+use Rattle.seam_law_bounds.specs.Prelude.{is_among, AllAmong, LooksAmong, SeesWhatIsThere, HoldsNothing, entities, reals_at, all_witnesses}
+use Rattle.seam_law_bounds.specs.Prelude.{witnesses_at, cell_orders, base_orders, tick_orders, events_of_round}
 use Rattle.seam_machine.proofs.Quiet.{quiet_links}
-use Rattle.seam_machine.specs.Totals.{total}
-use Rattle.seam_machine.specs.declared.machines.Event.{Event}
-use Rattle.seam_law_flow.specs.Flows.{slot_at, letters_of}
-use Rattle.seam_ghosts.specs.Book.{copy_in}
-use Rattle.seam_call.specs.declared.create.Create.{Create}
-use Rattle.seam_call.specs.declared.order.Order.{Order}
-use Rattle.seam_call.specs.declared.order.Batch.{Batch}
-use Rattle.seam_call.specs.declared.shown.GhostCopy.{GhostCopy}
-use Rattle.seam_entity.specs.Here.{Here}
-use Rattle.seam_entity.specs.Reals.{RealView, WitnessView}
-use Rattle.seam_entity.specs.Executing.{created, real_begins}
-use Rattle.seam_node_steps.specs.Holders.{holders}
-use Rattle.seam_node_steps.specs.Maps.{Map, number_of}
-use Rattle.seam_node_steps.specs.Cells.{CellView, has_witness, witnesses}
-use Rattle.seam_node_steps.specs.Nodes.{NodeView, World, node_steps, node_has_work}
-use Rattle.seam_node_steps.specs.Nodes.NodeView.{Cell, Base}
-use Rattle.seam_node_steps.specs.Loads.{real_if, created_at, with_witness, attached, cell_round, base_round, ordered_at, loaded}
 use Rattle.seam_node_steps.proofs.Slots.{get-set_at}
-use Rattle.seam_law_calls.specs.Frames.{Frame}
-use Rattle.seam_law_calls.specs.Sights.{has_of, has_none, entity_flow}
-use Rattle.seam_law_calls.specs.Ones.{real_in, real_of}
 use Rattle.seam_law_calls.proofs.Counting.{none_counts}
-use Rattle.seam_law_rounds.specs.Between.{framed}
 use Rattle.seam_law_rounds.proofs.Framing.{in_frame}
 use Rattle.seam_law_rounds.proofs.Going.{one_after}
-use Rattle.seam_law_rounds.specs.Loaded.{made, node_loaded}
 use Rattle.seam_law_rounds.proofs.Loading.{each_keeps, Any, any, loaded_is, get-each_value}
 use Rattle.seam_law_rounds.proofs.Loaded.{slot_is, no_mail, holds_kept}
 use Rattle.seam_law_rounds.proofs.Shape.{Somewhere, Nowhere, search_real}
-use Rattle.seam_law_ghosts.specs.Copies.{AreCopiesBetweenRounds}
 use Rattle.seam_law_ghosts.proofs.Loading.{home_loaded}
 use Rattle.seam_law_ghosts.proofs.Rounding.{loaded_copied}
 use Rattle.seam_law_calls.proofs.WitnessKept.{all_weaker}
-use Rattle.seam_law_rounds.specs.Parts.{MayBeLoaded}
 use Rattle.seam_law_rounds.proofs.Attaching.{sees_loaded}
-use Rattle.seam_law_bounds.specs.Looking.{is_among, AllAmong, LooksAmong, SeesWhatIsThere}
-use Rattle.seam_law_bounds.specs.Phases.{HoldsNothing, entities, reals_at, all_witnesses, witnesses_at, cell_orders, base_orders, tick_orders}
-use Rattle.seam_law_bounds.specs.Phases.{events_of_round}
 use Rattle.seam_law_bounds.proofs.Among.{always_among}
 use Rattle.seam_law_bounds.proofs.LookStarts.{in_cell, round_is_bounded}
 

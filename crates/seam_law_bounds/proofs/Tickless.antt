@@ -1,22 +1,13 @@
 -- A round without ticks ends.
 use Rattle.std.proofs.Common.{◌≡◌, ℕ, ◌+◌, ◌*◌, ◌≤◌, false, List, [], ◌∷◌, length, refl, arith}
 use Rattle.std.specs.List.{AllByRecursion}
-use Rattle.seam_machine.specs.Nets.{LeadsTo}
-use Rattle.seam_machine.specs.Events.{EachNode}
-use Rattle.seam_machine.specs.Totals.{total}
-use Rattle.seam_machine.specs.declared.machines.Event.{Event}
-use Rattle.seam_call.specs.declared.order.Order.{Order}
+use Rattle.seam_node_steps.specs.Prelude.{LeadsTo, EachNode, total, Event, Order, Batch, World, node_steps, node_has_work}
+use Rattle.seam_law_calls.specs.Prelude.{Frame, is_tick_order, HasNoLooks}
+use Rattle.seam_law_rounds.specs.Prelude.{MayBeLoaded}
+use Rattle.seam_law_bounds.specs.Prelude.{Sizes, order_weight, AllCan, HoldsNothing, entities, one_if_tick, cell_orders, base_orders}
+use Rattle.seam_law_bounds.specs.Prelude.{tick_orders, events_of_round}
 use Rattle.seam_call.specs.declared.order.Order.TheVariants as order
-use Rattle.seam_call.specs.declared.order.Batch.{Batch}
-use Rattle.seam_node_steps.specs.Nodes.{World, node_steps, node_has_work}
-use Rattle.seam_law_calls.specs.Frames.{Frame}
-use Rattle.seam_law_calls.specs.Clients.{is_tick_order, HasNoLooks}
 use Rattle.seam_law_calls.proofs.NoLooks.{looks_lead}
-use Rattle.seam_law_rounds.specs.Parts.{MayBeLoaded}
-use Rattle.seam_law_bounds.specs.Weights.{Sizes, order_weight}
-use Rattle.seam_law_bounds.specs.Events.{AllCan}
-use Rattle.seam_law_bounds.specs.Phases.{HoldsNothing, entities, one_if_tick, cell_orders, base_orders, tick_orders}
-use Rattle.seam_law_bounds.specs.Phases.{events_of_round}
 use Rattle.seam_law_bounds.proofs.Cans.{can_by}
 use Rattle.seam_law_bounds.proofs.Counts.{none_times}
 use Rattle.seam_law_bounds.proofs.RoundPhase.{g, start, plain_with, frame_start, empty_start, sole_start, frame_then, base_then, cell_then}

@@ -3,16 +3,10 @@ use Rattle.std.proofs.Common.{◌≡◌, ℕ, zero, suc, ◌+◌, ◌≤◌, Boo
 use Rattle.std.proofs.Common.{refl, sym, subst, arith}
 use Rattle.std.specs.Prelude.{slice_get}
 use Rattle.std.specs.FinMap as table
-use Rattle.seam_ghosts.specs.Book.{copy_in}
-use Rattle.seam_call.specs.declared.shown.Shown.{Shown}
-use Rattle.seam_entity.specs.Here.{Here}
-use Rattle.seam_entity.specs.Reals.{RealView, WitnessView}
-use Rattle.seam_node_steps.specs.CellLooks.{Known, shown_for, own_due, looks_of, shown_of}
-use Rattle.seam_node_steps.specs.Cells.{CellView, known_to}
-use Rattle.seam_node_steps.specs.Nodes.{World}
-use Rattle.seam_node_steps.specs.Nodes.NodeView.{Cell}
+use Rattle.seam_node_steps.specs.Prelude.{copy_in, Shown, Here, RealView, WitnessView, Known, shown_for, own_due, looks_of, shown_of}
+use Rattle.seam_node_steps.specs.Prelude.{CellView, known_to, World, Cell}
+use Rattle.seam_law_bounds.specs.Prelude.{LooksAmong, LooksFit}
 use Rattle.seam_law_calls.proofs.Below.{mapped_few}
-use Rattle.seam_law_bounds.specs.Looking.{LooksAmong, LooksFit}
 
 -- a world of one cell has that one alone
 only : (d : CellView) (k : ℕ) (c : CellView) → slice_get (Cell d ∷ []) k ≡ Some (Cell c) → d ≡ c

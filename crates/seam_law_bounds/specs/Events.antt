@@ -1,26 +1,13 @@
 -- What an event asks of its node, so that it lowers the weight; and which events keep it.
 use Rattle.std.specs.Prelude.{◌≡◌, ℕ, ◌≤◌, Bool, true, false, ◌&&◌, is_none, is_some, List, ◌∷◌, length, Option, None, Some, slice_get}
 use Rattle.std.specs.FinMap as table
-use Rattle.seam_machine.specs.Nets.{input_from, LeadsTo}
-use Rattle.seam_machine.specs.Events.{Occurs}
-use Rattle.seam_machine.specs.declared.machines.Input.{Input}
-use Rattle.seam_machine.specs.declared.machines.Input.TheVariants.{Task, From}
-use Rattle.seam_machine.specs.declared.machines.Event.{Event}
+use Rattle.seam_node_steps.specs.Prelude.{input_from, LeadsTo, Occurs, Input, Task, From, Event, Order, RealView, WitnessView, has_ready}
+use Rattle.seam_node_steps.specs.Prelude.{may_execute, Msg, BaseCall, Hand, Current, GhostSet, GhostDrop, Tick, Reap, Update, Slot}
+use Rattle.seam_node_steps.specs.Prelude.{looks_of, CellView, slot_of, known_to, witnesses, BaseView, PartView, stray_order, proxy_is_ready}
+use Rattle.seam_node_steps.specs.Prelude.{may_show, NodeView, World, node_steps, node_has_work, Cell, Base}
 use Rattle.seam_net_runs.specs.Weights.{counted}
-use Rattle.seam_call.specs.declared.order.Order.{Order}
-use Rattle.seam_entity.specs.Reals.{RealView, WitnessView}
-use Rattle.seam_entity.specs.Calls.{has_ready}
-use Rattle.seam_entity.specs.Executing.{may_execute}
-use Rattle.seam_entity.specs.declared.message.Msg.{Msg}
-use Rattle.seam_entity.specs.declared.message.Msg.TheVariants.{Call, BaseCall, Hand, Current, GhostSet, GhostDrop, Tick, Reap, Update}
-use Rattle.seam_node_steps.specs.Slots.{Slot}
-use Rattle.seam_node_steps.specs.CellLooks.{looks_of}
-use Rattle.seam_node_steps.specs.Cells.{CellView, slot_of, known_to, witnesses}
-use Rattle.seam_node_steps.specs.Bases.{BaseView, PartView}
-use Rattle.seam_node_steps.specs.BaseCases.{stray_order, proxy_is_ready, may_show}
+use Rattle.seam_entity.specs.declared.message.Msg.TheVariants.{Call}
 use Rattle.seam_node_steps.specs.BaseCases as base
-use Rattle.seam_node_steps.specs.Nodes.{NodeView, World, node_steps, node_has_work}
-use Rattle.seam_node_steps.specs.Nodes.NodeView.{Cell, Base}
 use Rattle.seam_law_bounds.specs.Weights.{Sizes}
 
 -- ---- calls that are passed on

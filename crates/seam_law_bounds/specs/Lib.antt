@@ -6,3 +6,4 @@ pub mod Looking
 pub mod Phases
 pub mod Records
 pub mod Most
+pub mod Prelude

@@ -3,21 +3,11 @@ use Rattle.std.specs.Prelude.{◌≡◌, ℕ, ◌≤◌, Bool, true, nat_eq, Lis
 use Rattle.std.specs.List.{AllByRecursion, list_any}
 use Rattle.std.specs.Map.{keys_of}
 use Rattle.std.specs.FinMap as table
-use Rattle.seam_machine.specs.Nets.{LeadsTo}
-use Rattle.seam_machine.specs.declared.machines.Event.{Event}
-use Rattle.seam_ghosts.specs.Book.{copy_in}
+use Rattle.seam_node_steps.specs.Prelude.{LeadsTo, Event, copy_in, GhostCopy, RealView, WitnessView, holders, looks_of, CellView, known_to}
+use Rattle.seam_node_steps.specs.Prelude.{witnesses, BaseView, PartView, proxy_is_ready, may_show, World, node_steps, node_has_work, Cell}
+use Rattle.seam_node_steps.specs.Prelude.{Base}
+use Rattle.seam_law_calls.specs.Prelude.{entity_flow, real_in}
 use Rattle.seam_view.specs.Replica.{IsView}
-use Rattle.seam_call.specs.declared.shown.GhostCopy.{GhostCopy}
-use Rattle.seam_entity.specs.Reals.{RealView, WitnessView}
-use Rattle.seam_node_steps.specs.Holders.{holders}
-use Rattle.seam_node_steps.specs.CellLooks.{looks_of}
-use Rattle.seam_node_steps.specs.Cells.{CellView, known_to, witnesses}
-use Rattle.seam_node_steps.specs.Bases.{BaseView, PartView}
-use Rattle.seam_node_steps.specs.BaseCases.{proxy_is_ready, may_show}
-use Rattle.seam_node_steps.specs.Nodes.{World, node_steps, node_has_work}
-use Rattle.seam_node_steps.specs.Nodes.NodeView.{Cell, Base}
-use Rattle.seam_law_calls.specs.Sights.{entity_flow}
-use Rattle.seam_law_calls.specs.Ones.{real_in}
 use Rattle.seam_law_bounds.specs.Weights.{Sizes}
 
 -- the look that is due next in a cell has no more lines for other entities, and the cell has no more witnesses, than there are

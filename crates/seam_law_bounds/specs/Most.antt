@@ -1,9 +1,7 @@
 -- Numbers of reals that are at most so great, and the names of those that are there.
 use Rattle.std.specs.Prelude.{◌≡◌, ℕ, ◌≤◌, true, List, Some}
-use Rattle.seam_entity.specs.Reals.{RealView}
-use Rattle.seam_node_steps.specs.Nodes.{World}
-use Rattle.seam_law_calls.specs.Sights.{entity_flow}
-use Rattle.seam_law_calls.specs.Ones.{real_in}
+use Rattle.seam_node_steps.specs.Prelude.{RealView, World}
+use Rattle.seam_law_calls.specs.Prelude.{entity_flow, real_in}
 use Rattle.seam_law_bounds.specs.Looking.{is_among}
 
 -- of each real that is in a cell, this number is at most n

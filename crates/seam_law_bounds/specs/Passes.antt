@@ -1,17 +1,10 @@
 -- How often a call is passed on, and how often its entity is handed over.
 use Rattle.std.specs.Prelude.{ℕ, ◌==◌, Bool, false, ◌&&◌, is_some, is_none, List, Option, None, Some}
-use Rattle.seam_machine.specs.Nets.{input_from, happens}
-use Rattle.seam_machine.specs.declared.machines.Input.{Input}
-use Rattle.seam_machine.specs.declared.machines.Input.TheVariants.{Task, From}
-use Rattle.seam_machine.specs.declared.machines.Event.{Event}
+use Rattle.seam_node_steps.specs.Prelude.{input_from, happens, Input, Task, From, Event, Call as CallData, Msg, BaseCall, Hand, Current}
+use Rattle.seam_node_steps.specs.Prelude.{GhostSet, GhostDrop, Tick, Reap, Update, World, node_steps}
+use Rattle.seam_law_calls.specs.Prelude.{Has, entity_flow, real_in, is_from}
 use Rattle.seam_net_runs.specs.Weights.{counted}
-use Rattle.seam_call.specs.declared.call.Call.{Call as CallData}
-use Rattle.seam_entity.specs.declared.message.Msg.{Msg}
-use Rattle.seam_entity.specs.declared.message.Msg.TheVariants.{Call, BaseCall, Hand, Current, GhostSet, GhostDrop, Tick, Reap, Update}
-use Rattle.seam_node_steps.specs.Nodes.{World, node_steps}
-use Rattle.seam_law_calls.specs.Sights.{Has, entity_flow}
-use Rattle.seam_law_calls.specs.Ones.{real_in}
-use Rattle.seam_law_calls.specs.CellTurns.{is_from}
+use Rattle.seam_entity.specs.declared.message.Msg.TheVariants.{Call}
 
 -- ---- the call of a sender with a number
 

@@ -1,14 +1,8 @@
 -- What a phase begins with, and how many events it may take.
 use Rattle.std.specs.Prelude.{◌≡◌, ℕ, ◌+◌, ◌*◌, length, Some, slice_get}
 use Rattle.std.specs.FinMap as table
-use Rattle.seam_machine.specs.Totals.{total}
-use Rattle.seam_call.specs.declared.order.Order.{Order}
+use Rattle.seam_node_steps.specs.Prelude.{total, Order, Batch, witnesses, BaseView, PartView, NodeView, World, Cell, Base}
 use Rattle.seam_call.specs.declared.order.Order.TheVariants as order
-use Rattle.seam_call.specs.declared.order.Batch.{Batch}
-use Rattle.seam_node_steps.specs.Cells.{witnesses}
-use Rattle.seam_node_steps.specs.Bases.{BaseView, PartView}
-use Rattle.seam_node_steps.specs.Nodes.{NodeView, World}
-use Rattle.seam_node_steps.specs.Nodes.NodeView.{Cell, Base}
 use Rattle.seam_law_bounds.specs.Weights.{part_weight}
 
 -- no base part holds a call, and no client an update

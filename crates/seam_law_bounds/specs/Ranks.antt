@@ -1,14 +1,9 @@
 -- Ranks of nodes, which say how often an entity's real was handed over before it was there.
 use Rattle.std.specs.Prelude.{◌≡◌, ℕ, ◌+◌, ◌-◌, ◌≤◌, ◌⊎◌, Bool, true, false, ◌||◌, nat_le, if◌then◌else◌, List, [], ◌∷◌, Option, None, Some}
-use Rattle.seam_law_flow.specs.Flows.{Flow}
-use Rattle.seam_law_flow.specs.Tokens.{TokenPlace, In, On}
-use Rattle.seam_entity.specs.Reals.{RealView}
-use Rattle.seam_entity.specs.declared.message.Msg.{Msg}
-use Rattle.seam_entity.specs.declared.message.Msg.TheVariants.{Call, BaseCall, Hand, Current, GhostSet, GhostDrop, Tick, Reap, Update}
-use Rattle.seam_node_steps.specs.Slots.{NextPlace}
-use Rattle.seam_node_steps.specs.Nodes.{World}
-use Rattle.seam_law_calls.specs.Sights.{Has, entity_flow}
-use Rattle.seam_law_calls.specs.Ones.{IsOne}
+use Rattle.seam_node_steps.specs.Prelude.{RealView, Msg, BaseCall, Hand, Current, GhostSet, GhostDrop, Tick, Reap, Update, NextPlace, World}
+use Rattle.seam_law_flow.specs.Prelude.{Flow, TokenPlace, In, On}
+use Rattle.seam_law_calls.specs.Prelude.{Has, entity_flow, IsOne}
+use Rattle.seam_entity.specs.declared.message.Msg.TheVariants.{Call}
 
 abbrev pub rank_by : Option RealView → Option NextPlace → ℕ
 rank_by (Some r) n = r.generation

@@ -1,20 +1,13 @@
 -- What each item of a net weighs: at least the number of events that it can still cause. A call that is passed on keeps its weight.
 use Rattle.std.specs.Prelude.{ℕ, ◌+◌, ◌*◌, length}
 use Rattle.std.specs.List.{range_with_len}
-use Rattle.seam_machine.specs.Totals.{total}
+use Rattle.seam_node_steps.specs.Prelude.{total, Order, RealView, Msg, BaseCall, Hand, Current, GhostSet, GhostDrop, Tick, Reap, Update}
+use Rattle.seam_node_steps.specs.Prelude.{cell_count, CellView, BaseView, PartView, ProxyView, NodeView, World, Cell, Base}
+use Rattle.seam_law_calls.specs.Prelude.{held_in}
 use Rattle.seam_net_runs.specs.Sums.{weight_or, map_total}
 use Rattle.seam_net_runs.specs.Weights.{weight}
-use Rattle.seam_call.specs.declared.order.Order.{Order}
 use Rattle.seam_call.specs.declared.order.Order.TheVariants as order
-use Rattle.seam_entity.specs.Reals.{RealView}
-use Rattle.seam_entity.specs.declared.message.Msg.{Msg}
-use Rattle.seam_entity.specs.declared.message.Msg.TheVariants.{Call, BaseCall, Hand, Current, GhostSet, GhostDrop, Tick, Reap, Update}
-use Rattle.seam_entity.specs.Here.{cell_count}
-use Rattle.seam_node_steps.specs.Cells.{CellView}
-use Rattle.seam_node_steps.specs.Bases.{BaseView, PartView, ProxyView}
-use Rattle.seam_node_steps.specs.Nodes.{NodeView, World}
-use Rattle.seam_node_steps.specs.Nodes.NodeView.{Cell, Base}
-use Rattle.seam_law_calls.specs.Burdens.{held_in}
+use Rattle.seam_entity.specs.declared.message.Msg.TheVariants.{Call}
 
 -- what is fixed in a phase: the number of base nodes, the most lines that a look has for other entities, and the most witnesses that
 -- each cell has

@@ -8,19 +8,11 @@
 // for its own.
 
 ghost use Rattle.std.specs.Prelude.{ℕ, ◌+◌, ◌*◌, List, length};
-ghost use Rattle.seam_machine.specs.Nets.{IsQuiet};
-ghost use Rattle.seam_call.specs.declared.order.Batch.{Batch};
-ghost use Rattle.seam_node_steps.specs.Loads.{loaded};
-ghost use Rattle.seam_node_steps.specs.Nodes.{World, node_has_work};
-ghost use Rattle.seam_law_calls.specs.Frames.{Frame};
-ghost use Rattle.seam_law_rounds.specs.Between.{numbers_of};
-ghost use Rattle.seam_law_calls.specs.WitnessMoves.{sent_by};
-ghost use Rattle.seam_law_rounds.specs.Parts.{MayBeLoaded};
-ghost use Rattle.seam_law_ghosts.specs.Copies.{AreCopiesBetweenRounds};
-ghost use Rattle.seam_law_ghosts.specs.RealPlaces.{GoesThroughRound};
-ghost use Rattle.seam_law_bounds.specs.Looking.{SeesWhatIsThere};
-ghost use Rattle.seam_law_bounds.specs.Phases.{HoldsNothing};
-ghost use Rattle.seam_law_bounds.specs.Most.{AreAtMost, AreAmong};
+ghost use Rattle.seam_node_steps.specs.Prelude.{IsQuiet, Batch, loaded, World, node_has_work};
+ghost use Rattle.seam_law_calls.specs.Prelude.{Frame, sent_by};
+ghost use Rattle.seam_law_rounds.specs.Prelude.{numbers_of, MayBeLoaded};
+ghost use Rattle.seam_law_ghosts.specs.Prelude.{AreCopiesBetweenRounds, GoesThroughRound};
+ghost use Rattle.seam_law_bounds.specs.Prelude.{SeesWhatIsThere, HoldsNothing, AreAtMost, AreAmong};
 
 /// Where the numbers of each real are at most n, they are at most that many more after a round (`reals`). Where each witness told at most n
 /// updates, it told at most that many more after a round (`told`) of a world that has reals of the entities of a list alone.

@@ -16,30 +16,16 @@
 
 ghost use Rattle.std.specs.Prelude.{◌≡◌, ℕ, ◌+◌, ◌*◌, ◌≤◌, true, false, List, [], length};
 ghost use Rattle.std.specs.List.{AllByRecursion, range_with_len};
-ghost use Rattle.seam_machine.specs.Nets.{link, enabled, IsQuiet, LeadsTo};
-ghost use Rattle.seam_machine.specs.Totals.{total};
-ghost use Rattle.seam_machine.specs.Events.{Occurs};
-ghost use Rattle.seam_machine.specs.declared.machines.Event.{Event};
+ghost use Rattle.seam_node_steps.specs.Prelude.{link, enabled, IsQuiet, LeadsTo, total, Occurs, Event, Batch, World, node_steps};
+ghost use Rattle.seam_node_steps.specs.Prelude.{node_has_work, opened, loaded, reaps_loaded, look_loaded, cell_count, Settings, TypeDef};
+ghost use Rattle.seam_law_calls.specs.Prelude.{Frame, IsInFrame, IsFrame, is_tick_order};
+ghost use Rattle.seam_law_rounds.specs.Prelude.{IsBetweenRounds, first_frame, AreReapable, first_batch, MayBeLoaded, HasPartsBetweenRounds};
+ghost use Rattle.seam_law_rounds.specs.Prelude.{HasSmallNumbers};
+ghost use Rattle.seam_law_ghosts.specs.Prelude.{AreCopiesBetweenRounds};
+ghost use Rattle.seam_law_bounds.specs.Prelude.{Sizes, world_weight, is_pass, NodeCan, AllCan, all_passes, LooksFit, ClientsKeepRoom};
+ghost use Rattle.seam_law_bounds.specs.Prelude.{Always, SeesWhatIsThere, LooksAmong, HoldsNothing, entities, all_witnesses, cell_orders};
+ghost use Rattle.seam_law_bounds.specs.Prelude.{base_orders, tick_orders, events_of_round, events_of_looks};
 ghost use Rattle.seam_net_runs.specs.Weights.{Lowers};
-ghost use Rattle.seam_call.specs.declared.order.Batch.{Batch};
-ghost use Rattle.seam_node_steps.specs.Nodes.{World, node_steps, node_has_work};
-ghost use Rattle.seam_node_steps.specs.Loads.{opened, loaded, reaps_loaded, look_loaded};
-ghost use Rattle.seam_entity.specs.Here.{cell_count};
-ghost use Rattle.seam_law_calls.specs.Frames.{Frame, IsInFrame};
-ghost use Rattle.seam_law_rounds.specs.Between.{IsBetweenRounds};
-ghost use Rattle.seam_law_rounds.specs.LastPhases.{first_frame, AreReapable};
-ghost use Rattle.seam_law_calls.specs.Ones.{IsFrame};
-ghost use Rattle.seam_defs.specs.declared.settings.Settings.{Settings};
-ghost use Rattle.seam_defs.specs.declared.types.TypeDef.{TypeDef};
-ghost use Rattle.seam_law_ghosts.specs.Copies.{AreCopiesBetweenRounds};
-ghost use Rattle.seam_law_rounds.specs.FirstBatchExample.{first_batch};
-ghost use Rattle.seam_law_bounds.specs.Weights.{Sizes, world_weight};
-ghost use Rattle.seam_law_bounds.specs.Events.{is_pass, NodeCan, AllCan, all_passes};
-ghost use Rattle.seam_law_calls.specs.Clients.{is_tick_order};
-ghost use Rattle.seam_law_rounds.specs.Parts.{MayBeLoaded, HasPartsBetweenRounds, HasSmallNumbers};
-ghost use Rattle.seam_law_bounds.specs.Looking.{LooksFit, ClientsKeepRoom, Always, SeesWhatIsThere, LooksAmong};
-ghost use Rattle.seam_law_bounds.specs.Phases.{HoldsNothing, entities, all_witnesses, cell_orders, base_orders, tick_orders};
-ghost use Rattle.seam_law_bounds.specs.Phases.{events_of_round, events_of_looks};
 
 /// An enabled event whose node can do what it is to do lowers the weight of the world, but for one that passes a call on, which does not
 /// raise it.

@@ -10,28 +10,16 @@
 // callers.
 
 ghost use Rattle.std.specs.Prelude.{◌≡◌, ℕ, ◌*◌, ◌≤◌, List, length};
-ghost use Rattle.seam_machine.specs.Nets.{IsQuiet, LeadsTo};
-ghost use Rattle.seam_machine.specs.declared.machines.Event.{Event};
-ghost use Rattle.seam_defs.specs.declared.settings.Settings.{Settings};
-ghost use Rattle.seam_defs.specs.declared.types.TypeDef.{TypeDef};
-ghost use Rattle.seam_defs.specs.Settings.{GhostsReach};
-ghost use Rattle.seam_call.specs.declared.order.Batch.{Batch};
-ghost use Rattle.seam_node_steps.specs.Nodes.{World, node_steps, node_has_work};
-ghost use Rattle.seam_node_steps.specs.Loads.{opened, loaded, look_loaded};
-ghost use Rattle.seam_law_calls.specs.Frames.{Frame};
-ghost use Rattle.seam_law_calls.specs.Ones.{IsFrame};
-ghost use Rattle.seam_law_rounds.specs.Between.{IsBetweenRounds, framed};
-ghost use Rattle.seam_law_rounds.specs.LastPhases.{first_frame};
-ghost use Rattle.seam_law_rounds.specs.Parts.{MayBeLoaded, HasPartsBetweenRounds, HasSmallNumbers};
-ghost use Rattle.seam_law_ghosts.specs.Copies.{AreCopiesBetweenRounds};
-ghost use Rattle.seam_law_ghosts.specs.RealPlaces.{GoesThroughRound};
+ghost use Rattle.seam_node_steps.specs.Prelude.{IsQuiet, LeadsTo, Event, Settings, TypeDef, GhostsReach, Batch, World, node_steps};
+ghost use Rattle.seam_node_steps.specs.Prelude.{node_has_work, opened, loaded, look_loaded};
+ghost use Rattle.seam_law_calls.specs.Prelude.{Frame, IsFrame};
+ghost use Rattle.seam_law_rounds.specs.Prelude.{IsBetweenRounds, framed, first_frame, MayBeLoaded, HasPartsBetweenRounds, HasSmallNumbers};
+ghost use Rattle.seam_law_ghosts.specs.Prelude.{AreCopiesBetweenRounds, GoesThroughRound};
+ghost use Rattle.seam_law_clients.specs.Prelude.{clients_loaded, clients_shown};
+ghost use Rattle.seam_law_all.specs.Prelude.{KeepsRecords, MayBeGiven};
+ghost use Rattle.seam_law_bounds.specs.Prelude.{IsBounded, SeesWhatIsThere, HoldsNothing, entities, all_witnesses, cell_orders};
+ghost use Rattle.seam_law_bounds.specs.Prelude.{base_orders, tick_orders, events_of_round, events_of_looks};
 ghost use Rattle.seam_rule_clients.specs.Clients.{ClientReplica};
-ghost use Rattle.seam_law_clients.specs.Clients.{clients_loaded, clients_shown};
-ghost use Rattle.seam_law_all.specs.Records.{KeepsRecords, MayBeGiven};
-ghost use Rattle.seam_law_bounds.specs.Records.{IsBounded};
-ghost use Rattle.seam_law_bounds.specs.Looking.{SeesWhatIsThere};
-ghost use Rattle.seam_law_bounds.specs.Phases.{HoldsNothing, entities, all_witnesses, cell_orders, base_orders, tick_orders};
-ghost use Rattle.seam_law_bounds.specs.Phases.{events_of_round, events_of_looks};
 
 /// What bounds a round holds of an opened world, and again after each round: base parts and clients hold nothing (`nothing`), and views
 /// name what is there (`views`), since each witness looked last (`looks`), whatever it had in view before.

@@ -9,23 +9,13 @@
 //! Crates above cite these modules of `proofs`: `Ranking` (a step, and every list of events), `HandedOver` (how often a call is passed on).
 
 ghost use Rattle.std.specs.Prelude.{◌≡◌, ℕ, ◌+◌, ◌≤◌, true, List, None, Some};
-ghost use Rattle.seam_machine.specs.Nets.{happens, enabled, LeadsTo};
-ghost use Rattle.seam_machine.specs.declared.machines.Event.{Event};
-ghost use Rattle.seam_law_flow.specs.Flows.{Flow};
-ghost use Rattle.seam_call.specs.declared.order.Batch.{Batch};
-ghost use Rattle.seam_entity.specs.Reals.{RealView};
-ghost use Rattle.seam_entity.specs.declared.message.Msg.{Msg};
-ghost use Rattle.seam_node_steps.specs.Slots.{NextPlace};
+ghost use Rattle.seam_node_steps.specs.Prelude.{happens, enabled, LeadsTo, Event, Batch, RealView, Msg, NextPlace, World, node_steps};
+ghost use Rattle.seam_node_steps.specs.Prelude.{node_has_work, loaded};
+ghost use Rattle.seam_law_flow.specs.Prelude.{Flow};
+ghost use Rattle.seam_law_calls.specs.Prelude.{Frame, Has, entity_flow, events_of, real_in};
+ghost use Rattle.seam_law_rounds.specs.Prelude.{IsBetweenRounds, IsFitting};
+ghost use Rattle.seam_law_bounds.specs.Prelude.{rank_of, ComesTo, AreRanked, Climbs, passes, hand_overs};
 ghost use Rattle.seam_node_steps.specs.EarlyCall as early;
-ghost use Rattle.seam_node_steps.specs.Nodes.{World, node_steps, node_has_work};
-ghost use Rattle.seam_node_steps.specs.Loads.{loaded};
-ghost use Rattle.seam_law_calls.specs.Frames.{Frame};
-ghost use Rattle.seam_law_calls.specs.Sights.{Has, entity_flow};
-ghost use Rattle.seam_law_calls.specs.HandOverExample.{events_of};
-ghost use Rattle.seam_law_calls.specs.Ones.{real_in};
-ghost use Rattle.seam_law_rounds.specs.Between.{IsBetweenRounds, IsFitting};
-ghost use Rattle.seam_law_bounds.specs.Ranks.{rank_of, ComesTo, AreRanked, Climbs};
-ghost use Rattle.seam_law_bounds.specs.Passes.{passes, hand_overs};
 
 /// What a node that has the next place alone passes on comes to a node of higher rank.
 pub fn a_call_that_is_passed_on_climbs()

@@ -1,24 +1,15 @@
 -- Each call once to the base part of an entity without a client: after every list of events.
 use Rattle.std.proofs.Common.{◌≡◌, ℕ, true, List, ◌∷◌, ap}
-use Rattle.seam_machine.specs.Nets.{happens, enabled, LeadsTo}
-use Rattle.seam_machine.specs.Events.{Occurs}
-use Rattle.seam_machine.specs.declared.machines.Event.{Event}
+use Rattle.seam_node_steps.specs.Prelude.{happens, enabled, LeadsTo, Occurs, Event, Call as CallData, Msg, BaseCall, may_show, World}
+use Rattle.seam_node_steps.specs.Prelude.{node_steps, node_has_work}
+use Rattle.seam_law_flow.specs.Prelude.{comes}
+use Rattle.seam_law_calls.specs.Prelude.{Frame, here_at, IsInFrame, entity_flow, IsSpared, HasNoProxy, home_of, FindsPart, HasBaseCalls}
+use Rattle.seam_law_calls.specs.Prelude.{HasNoClient}
 use Rattle.seam_machine.proofs.Occurring.{occurs}
 use Rattle.seam_net_runs.proofs.Runs.{leads_keeps}
-use Rattle.seam_law_flow.specs.Flows.{comes}
 use Rattle.seam_law_flow.proofs.Following.{slots_kept}
-use Rattle.seam_call.specs.declared.call.Call.{Call as CallData}
-use Rattle.seam_entity.specs.declared.message.Msg.{Msg}
-use Rattle.seam_entity.specs.declared.message.Msg.TheVariants.{BaseCall}
-use Rattle.seam_node_steps.specs.BaseCases.{may_show}
-use Rattle.seam_node_steps.specs.Nodes.{World, node_steps, node_has_work}
-use Rattle.seam_law_calls.specs.Frames.{Frame, here_at, IsInFrame}
-use Rattle.seam_law_calls.specs.Sights.{entity_flow}
 use Rattle.seam_law_calls.proofs.Classify.{frame_happens, event_moves}
-use Rattle.seam_law_calls.specs.Ones.{IsSpared}
 use Rattle.seam_law_calls.proofs.OneReal.{spared_happens}
-use Rattle.seam_law_calls.specs.PartMoves.{HasNoProxy}
-use Rattle.seam_law_calls.specs.BaseTurns.{home_of, FindsPart, HasBaseCalls, HasNoClient}
 use Rattle.seam_law_calls.proofs.PartSteps.{part_moves}
 use Rattle.seam_law_calls.proofs.ClientSteps.{client_after, stays_alone}
 use Rattle.seam_law_calls.proofs.BaseRuns.{unordered, finds, kept_happens}

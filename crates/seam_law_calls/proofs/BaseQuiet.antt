@@ -2,30 +2,19 @@
 use Rattle.std.proofs.Common.{◌≡◌, ℕ, false, is_some, List, [], Option, None, Some, refl, sym, ap, ◌∙◌, subst}
 use Rattle.std.specs.List.{AllByRecursion}
 use Rattle.std.specs.FinMap as table
-use Rattle.seam_machine.specs.Nets.{IsQuiet}
+use Rattle.seam_node_steps.specs.Prelude.{IsQuiet, next_item, Call as CallData, order_or, has_any, BaseView, PartView, ProxyView}
+use Rattle.seam_node_steps.specs.Prelude.{part_is_ready, ready_part, proxy_is_ready, client_is_ready, ready_proxy, base_has_work, NodeView}
+use Rattle.seam_node_steps.specs.Prelude.{World, node_has_work, Cell, Base}
+use Rattle.seam_law_flow.specs.Prelude.{letters_of, Desk, desk_of, parcel_of, IsStill}
+use Rattle.seam_law_calls.specs.Prelude.{Frame, IsInFrame, Has, mine, has_of, has_none, orders_of, entity_flow, from_sender, numbered_from}
+use Rattle.seam_law_calls.specs.Prelude.{base_call_in, base_call_of, part_desk, base_mail, as_base_sender, BaseCallsInTurn, home_of}
+use Rattle.seam_law_calls.specs.Prelude.{proxy_of, order_in, updates_at, shown_at, tells, HasClient, HasNoBaseCalls}
 use Rattle.seam_machine.proofs.Quiet.{quiet_links, quiet_tasks}
-use Rattle.seam_law_flow.specs.Flows.{letters_of}
 use Rattle.seam_law_flow.proofs.TokenLemmas.{sole_here}
-use Rattle.seam_order.specs.Offers.{next_item}
 use Rattle.seam_law_flow.proofs.Delivering.{all_delivered}
-use Rattle.seam_law_flow.specs.Desks.{Desk, desk_of, parcel_of, IsStill}
 use Rattle.seam_law_flow.proofs.Ends.{all_done}
-use Rattle.seam_call.specs.declared.call.Call.{Call as CallData}
-use Rattle.seam_entity.specs.Orders.{order_or}
-use Rattle.seam_node_steps.specs.Maps.{has_any}
-use Rattle.seam_node_steps.specs.Bases.{BaseView, PartView, ProxyView}
-use Rattle.seam_node_steps.specs.BaseCases.{part_is_ready, ready_part, proxy_is_ready, client_is_ready, ready_proxy, base_has_work}
-use Rattle.seam_node_steps.specs.Nodes.{NodeView, World, node_has_work}
-use Rattle.seam_node_steps.specs.Nodes.NodeView.{Cell, Base}
-use Rattle.seam_law_calls.specs.Frames.{Frame, IsInFrame}
-use Rattle.seam_law_calls.specs.Sights.{Has, mine, has_of, has_none, orders_of, entity_flow}
 use Rattle.seam_law_calls.proofs.ExampleMet.{slots}
-use Rattle.seam_law_calls.specs.CellTurns.{from_sender, numbered_from}
 use Rattle.seam_law_calls.proofs.Quieting.{neither, none_left, none_some, got_fails, no_turn_by}
-use Rattle.seam_law_calls.specs.PartMoves.{base_call_in, base_call_of}
-use Rattle.seam_law_calls.specs.BaseTurns.{part_desk, base_mail, as_base_sender, BaseCallsInTurn, home_of}
-use Rattle.seam_law_calls.specs.Clients.{proxy_of, order_in, updates_at, shown_at, tells, HasClient}
-use Rattle.seam_law_calls.specs.Reaps.{HasNoBaseCalls}
 use Rattle.seam_law_calls.proofs.PartSeen.{desk_of_part}
 
 -- no call of a part is ready in a base node without a task

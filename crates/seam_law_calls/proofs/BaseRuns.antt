@@ -6,49 +6,27 @@ use Rattle.std.specs.List.{AllByRecursion}
 use Rattle.std.specs.FinMap as table
 use Rattle.std.proofs.lemmas.List.{length-append}
 use Rattle.seam_table.proofs.Found.{found}
-use Rattle.seam_machine.specs.Nets.{happens}
-use Rattle.seam_machine.specs.Events.{Occurs}
-use Rattle.seam_machine.specs.declared.machines.Input.TheVariants.{Task}
-use Rattle.seam_machine.specs.declared.machines.Event.{Event}
+use Rattle.seam_node_steps.specs.Prelude.{happens, Occurs, Task, Event, item_at, next_item, Call as CallData, Order, rank_of, order_or}
+use Rattle.seam_node_steps.specs.Prelude.{order_of, Msg, BaseCall, limit, may_rise, order_is_ready, may_offer, PartView, fits_base_part}
+use Rattle.seam_node_steps.specs.Prelude.{may_show, NodeView, World, node_steps}
+use Rattle.seam_law_flow.specs.Prelude.{Flow, Goes, comes, letters_of, more_letter, slot_at, carried_in, number_from, Item, desk_of}
+use Rattle.seam_law_flow.specs.Prelude.{parcel_of, AreInTurn, Passes}
+use Rattle.seam_law_calls.specs.Prelude.{Frame, here_at, Has, has_of, has_none, entity_flow, MovesTo, reaped_by_order, IsSpared}
+use Rattle.seam_law_calls.specs.Prelude.{numbered_from, calls_ordered, part_desk, base_post, base_mail, as_base_sender, IsBaseCallOf}
+use Rattle.seam_law_calls.specs.Prelude.{BaseCallsInTurn, part_burden, node_base_burden, mine_base_burden, base_burden, home_of, IsHomeward}
+use Rattle.seam_law_calls.specs.Prelude.{FindsPart, HasBaseCalls}
 use Rattle.seam_net_runs.specs.Sums.{weight_or}
 use Rattle.seam_net_runs.proofs.Weighing.{weight_bounds}
-use Rattle.seam_law_flow.specs.Flows.{Flow, Goes, comes, letters_of, more_letter, slot_at}
-use Rattle.seam_law_flow.specs.Tokens.{carried_in}
 use Rattle.seam_law_flow.proofs.Narrowing.{narrow_goes}
 use Rattle.seam_law_flow.proofs.TokenLemmas.{first_is, sole_here}
-use Rattle.seam_order.specs.Held.{item_at}
-use Rattle.seam_order.specs.Offers.{next_item}
-use Rattle.seam_law_flow.specs.Numbered.{number_from}
 use Rattle.seam_law_flow.proofs.Numbers.{item_bounds}
-use Rattle.seam_law_flow.specs.Desks.{Item, desk_of, parcel_of, AreInTurn}
-use Rattle.seam_law_flow.specs.CallMoves.{Passes}
 use Rattle.seam_law_flow.proofs.Steps.{turn_goes}
 use Rattle.seam_law_flow.proofs.Ends.{is_met, never_held, held_is_due, due_is, stored_is_due, stored_is_free}
-use Rattle.seam_call.specs.declared.call.Call.{Call as CallData}
-use Rattle.seam_call.specs.declared.order.Order.{Order}
 use Rattle.seam_call.specs.declared.order.Order.TheVariants as order
-use Rattle.seam_call.specs.Senders.{rank_of}
-use Rattle.seam_entity.specs.Orders.{order_or, order_of}
-use Rattle.seam_entity.specs.declared.message.Msg.{Msg}
-use Rattle.seam_entity.specs.declared.message.Msg.TheVariants.{BaseCall}
-use Rattle.seam_entity.specs.Numbers.{limit, may_rise}
-use Rattle.seam_entity.specs.Calls.{order_is_ready, may_offer}
-use Rattle.seam_node_steps.specs.Bases.{PartView}
-use Rattle.seam_node_steps.specs.BaseCases.{fits_base_part, may_show}
-use Rattle.seam_node_steps.specs.Nodes.{NodeView, World, node_steps}
-use Rattle.seam_law_calls.specs.Frames.{Frame, here_at}
-use Rattle.seam_law_calls.specs.Sights.{Has, has_of, has_none, entity_flow}
-use Rattle.seam_law_calls.specs.Moves.{MovesTo}
 use Rattle.seam_law_calls.proofs.Classify.{event_moves, frame_happens}
-use Rattle.seam_law_calls.specs.Ones.{reaped_by_order, IsSpared}
 use Rattle.seam_law_calls.proofs.Holds.{all_two, below_is}
 use Rattle.seam_law_calls.proofs.OneReal.{spared_happens}
-use Rattle.seam_law_calls.specs.CellTurns.{numbered_from}
 use Rattle.seam_law_calls.proofs.DeskLemmas.{from_same}
-use Rattle.seam_law_calls.specs.PartMoves.{calls_ordered}
-use Rattle.seam_law_calls.specs.BaseTurns.{part_desk, base_post, base_mail, as_base_sender, IsBaseCallOf}
-use Rattle.seam_law_calls.specs.BaseTurns.{BaseCallsInTurn, part_burden, node_base_burden, mine_base_burden, base_burden, home_of}
-use Rattle.seam_law_calls.specs.BaseTurns.{IsHomeward, FindsPart, HasBaseCalls}
 use Rattle.seam_law_calls.proofs.PartSteps.{part_moves}
 use Rattle.seam_law_calls.proofs.PartEasing.{base_burden_happens}
 use Rattle.seam_law_calls.proofs.PartSeen.{desk_of_part, HoldsOwnCalls, part_seen}

@@ -1,20 +1,12 @@
 -- What a base node sends: calls, ticks and reaps alone.
 use Rattle.std.proofs.Common.{◌≡◌, ℕ, List, [], ◌∷◌, Option, None, sym, subst, ◌+◌, refl}
 use Rattle.std.specs.List.{range_with_len}
-use Rattle.seam_law_flow.specs.Sent.{IsSilent}
-use Rattle.seam_call.specs.declared.shown.Shown.{Shown}
-use Rattle.seam_call.specs.declared.call.Call.{Call as CallData}
-use Rattle.seam_entity.specs.declared.message.Msg.{Msg}
-use Rattle.seam_entity.specs.declared.message.Msg.TheVariants.{Call, BaseCall, Tick, Reap}
-use Rattle.seam_entity.specs.Here.{Here}
-use Rattle.seam_node_steps.specs.BaseCases.{tick_to}
-use Rattle.seam_node_steps.specs.CellLooks.{numbered}
-use Rattle.seam_law_calls.specs.Sights.{AtBase}
+use Rattle.seam_node_steps.specs.Prelude.{Shown, Call as CallData, Msg, BaseCall, Tick, Reap, Here, tick_to, numbered}
+use Rattle.seam_law_flow.specs.Prelude.{IsSilent}
+use Rattle.seam_law_calls.specs.Prelude.{AtBase, BaseMoves, real_of, update_in}
+use Rattle.seam_entity.specs.declared.message.Msg.TheVariants.{Call}
 use Rattle.seam_law_calls.specs.BaseMoves as move
-use Rattle.seam_law_calls.specs.BaseMoves.{BaseMoves}
-use Rattle.seam_law_calls.specs.Ones.{real_of}
 use Rattle.seam_law_calls.proofs.Plain.{mapped_silent}
-use Rattle.seam_law_calls.specs.PartMoves.{update_in}
 
 -- eyes that see nothing of what base nodes send
 pub record SeesNoOrder {L : Type 0} (mine : Msg → Option L) : Type 0 where

@@ -4,23 +4,19 @@ use Rattle.std.specs.Prelude.{nat_lt}
 use Rattle.std.specs.Cmp.{nat_cmp_total, unsigned_tied}
 use Rattle.std.specs.FinMap as table
 use Rattle.std.proofs.lemmas.Bool.{cases_eq, eq-eqb, ne_eqb}
-use Rattle.seam_machine.specs.declared.machines.Input.TheVariants.{From}
-use Rattle.seam_call.specs.declared.call.Call.{Call as CallData}
-use Rattle.seam_call.specs.declared.order.Order.{Order}
+use Rattle.seam_node_steps.specs.Prelude.{From, Call as CallData, Order, Msg, BaseCall, Hand, Current, GhostSet, GhostDrop, Tick, Reap}
+use Rattle.seam_node_steps.specs.Prelude.{Update, Map, about, BaseView, RouteView, PartView, ProxyView, with_part, may_show, offered}
+use Rattle.seam_node_steps.specs.Prelude.{after_ready, after_showing, is_base_node_of, tick_to, on_route, stray_base_call, stray_current}
+use Rattle.seam_node_steps.specs.Prelude.{stray_update, stray_order, order_of_node, base_order, base_task, task_without_orders, proxy_task}
+use Rattle.seam_node_steps.specs.Prelude.{ready_part, ready_proxy, part_is_ready, sends_none, case_of, base_steps}
+use Rattle.seam_law_calls.specs.Prelude.{mine, concerning, orders_of, AtBase, at_base, strays_at, is_stuck, newer, part_offered, updated}
+use Rattle.seam_law_calls.specs.Prelude.{BaseMoves}
 use Rattle.seam_call.specs.declared.shown.Update.{Update as UpdateData}
-use Rattle.seam_entity.specs.declared.message.Msg.{Msg}
-use Rattle.seam_entity.specs.declared.message.Msg.TheVariants.{Call, BaseCall, Hand, Current, GhostSet, GhostDrop, Tick, Reap, Update}
-use Rattle.seam_node_steps.specs.Maps.{Map}
-use Rattle.seam_node_steps.specs.CellCases.{about}
-use Rattle.seam_node_steps.specs.Bases.{BaseView, RouteView, PartView, ProxyView, with_part}
+use Rattle.seam_entity.specs.declared.message.Msg.TheVariants.{Call}
 use Rattle.seam_node_steps.specs.BaseCases
-use Rattle.seam_node_steps.specs.BaseCases.{may_call, may_execute, may_show, offered, after_ready, executes_ready, after_showing}
-use Rattle.seam_node_steps.specs.BaseCases.{is_base_node_of, tick_to, on_route, stray_base_call, stray_current, stray_update, stray_order}
-use Rattle.seam_node_steps.specs.BaseCases.{order_of_node, base_order, base_task, task_without_orders, proxy_task, ready_part, ready_proxy}
-use Rattle.seam_node_steps.specs.BaseCases.{part_is_ready, sends_none, unless_stray, is_stray, case_of, base_steps}
-use Rattle.seam_law_calls.specs.Sights.{mine, concerning, orders_of, AtBase, at_base}
+use Rattle.seam_node_steps.specs.BaseCases.{may_call, may_execute, executes_ready}
+use Rattle.seam_node_steps.specs.BaseCases.{unless_stray, is_stray}
 use Rattle.seam_law_calls.specs.BaseMoves as move
-use Rattle.seam_law_calls.specs.BaseMoves.{strays_at, is_stuck, newer, part_offered, updated, BaseMoves}
 use Rattle.seam_law_calls.proofs.Lists.{mine_own, mine_other}
 
 -- ---- maps at the entity's number

@@ -5,26 +5,18 @@ use Rattle.std.specs.List.{AllByRecursion, range_with_len}
 use Rattle.std.specs.FinMap as table
 use Rattle.std.proofs.lemmas.Bool.{cases_eq}
 use Rattle.seam_table.proofs.Found.{found}
-use Rattle.seam_order.specs.Held.{OrderView}
-use Rattle.seam_order.specs.Offers.{next_item}
-use Rattle.seam_machine.specs.Views.{Stepped}
-use Rattle.seam_call.specs.declared.call.Call.{Call as CallData}
-use Rattle.seam_call.specs.declared.order.Order.{Order}
+use Rattle.seam_node_steps.specs.Prelude.{OrderView, next_item, Stepped, Call as CallData, Order, Msg, BaseCall, Reap, base_of, about}
+use Rattle.seam_node_steps.specs.Prelude.{has_ready, ready_order, BaseView, RouteView, PartView, ProxyView, with_part, may_show}
+use Rattle.seam_node_steps.specs.Prelude.{after_ready, after_showing, is_base_node_of, tick_to, on_route, stray_base_call, stray_order}
+use Rattle.seam_node_steps.specs.Prelude.{order_of_node, base_order, base_task, task_without_orders, proxy_task, ready_part, ready_proxy}
+use Rattle.seam_node_steps.specs.Prelude.{part_is_ready, client_is_ready, sends_none}
+use Rattle.seam_law_calls.specs.Prelude.{concerns, concerning, order_about, orders_of, AtBase, at_base, is_stuck, part_offered, BaseMoves}
 use Rattle.seam_call.specs.declared.order.Order.TheVariants as order
-use Rattle.seam_entity.specs.declared.message.Msg.{Msg}
-use Rattle.seam_entity.specs.declared.message.Msg.TheVariants.{Call, BaseCall, Reap}
-use Rattle.seam_entity.specs.Here.{base_of}
-use Rattle.seam_node_steps.specs.CellCases.{about}
-use Rattle.seam_entity.specs.Calls.{has_ready, ready_order}
-use Rattle.seam_node_steps.specs.Bases.{BaseView, RouteView, PartView, ProxyView, with_part}
+use Rattle.seam_entity.specs.declared.message.Msg.TheVariants.{Call}
 use Rattle.seam_node_steps.specs.BaseCases
-use Rattle.seam_node_steps.specs.BaseCases.{may_call, may_execute, may_show, after_ready, executes_ready, after_showing, is_base_node_of}
-use Rattle.seam_node_steps.specs.BaseCases.{tick_to, on_route, stray_base_call, stray_order, order_of_node, base_order, base_task}
-use Rattle.seam_node_steps.specs.BaseCases.{task_without_orders, proxy_task, ready_part, ready_proxy, part_is_ready, client_is_ready, sends_none}
+use Rattle.seam_node_steps.specs.BaseCases.{may_call, may_execute, executes_ready}
 use Rattle.seam_node_steps.specs.BaseCases.{unless_stray}
-use Rattle.seam_law_calls.specs.Sights.{concerns, concerning, order_about, orders_of, AtBase, at_base}
 use Rattle.seam_law_calls.specs.BaseMoves as move
-use Rattle.seam_law_calls.specs.BaseMoves.{is_stuck, part_offered, BaseMoves}
 use Rattle.seam_law_calls.proofs.Lists.{AllAbout, all_pass, concerned_own, concerned_other, concerning_own, concerning_other, orders_own}
 use Rattle.seam_law_calls.proofs.Lists.{orders_other}
 use Rattle.seam_law_calls.proofs.BaseSteps.{gone_own, gone_other, at_same, yes_of, part_own, part_other}

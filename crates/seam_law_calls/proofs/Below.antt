@@ -12,22 +12,16 @@ use Rattle.std.proofs.lemmas.Bool.Decides.{nat_tests}
 use Rattle.std.proofs.lemmas.List.{length-map, length-append}
 use Rattle.std.proofs.lemmas.Map.Steps.{length-le_from_distinct_below}
 use Rattle.seam_table.proofs.Found.{found}
-use Rattle.seam_geo.specs.declared.pos.Pos.{Pos}
+use Rattle.seam_node_steps.specs.Prelude.{Pos, Ghost, copy_in, with_copy, copied, GhostCopy, RealView, Map, Known, seen_as, CellView}
+use Rattle.seam_node_steps.specs.Prelude.{known_real, known_copy, known_in, is_of_another, known_to}
+use Rattle.seam_law_calls.specs.Prelude.{most_entities, IsFewView}
 use Rattle.seam_law_flow.proofs.Following.{all_append}
-use Rattle.seam_ghosts.specs.declared.Ghost.{Ghost}
-use Rattle.seam_ghosts.specs.Book.{copy_in, with_copy, copied}
 use Rattle.seam_view.specs.declared.Seen.{Seen}
 use Rattle.seam_view.specs.declared.Look.{Look}
 use Rattle.seam_view.specs.declared.Look.TheVariants as look
 use Rattle.seam_view.specs.ViewLooks.{leaving, changed, entering, leaves, has_changed, enters, one_look}
 use Rattle.seam_view.specs.Replica.{Replica, seen_of, placed, without, after_showing, after_look, after_looks}
 use Rattle.seam_view.proofs.Kept.{view_after_looks}
-use Rattle.seam_call.specs.declared.shown.GhostCopy.{GhostCopy}
-use Rattle.seam_entity.specs.Reals.{RealView}
-use Rattle.seam_node_steps.specs.Maps.{Map}
-use Rattle.seam_node_steps.specs.CellLooks.{Known, seen_as}
-use Rattle.seam_node_steps.specs.Cells.{CellView, known_real, known_copy, known_in, is_of_another, known_to}
-use Rattle.seam_law_calls.specs.Telling.{most_entities, IsFewView}
 
 -- ---- lengths
 

@@ -3,29 +3,18 @@ use Rattle.std.proofs.Common.{◌≡◌, ℕ, ◌+◌, ◌*◌, ◌≤◌, Bool,
 use Rattle.std.proofs.Common.{refl, ap, ◌∙◌, arith}
 use Rattle.std.specs.List.{range_with_len}
 use Rattle.std.specs.FinSet as set
-use Rattle.seam_call.specs.Senders.{rank_of}
-use Rattle.seam_machine.specs.Totals.{total}
+use Rattle.seam_node_steps.specs.Prelude.{rank_of, total, RealView, Msg, BaseCall, Hand, Current, GhostSet, GhostDrop, Tick, Reap, Update}
+use Rattle.seam_node_steps.specs.Prelude.{base_numbers, base_of, SlotStep, slot_after, haunts_at, ghost_messages, beat_after, settled_to}
+use Rattle.seam_node_steps.specs.Prelude.{current_to, shown_of, looks_with, tick_to}
+use Rattle.seam_law_flow.specs.Prelude.{IsSilent}
+use Rattle.seam_law_calls.specs.Prelude.{Frame, here_at, Has, AtCell, unlisted_if, Does, Acts, surveys, calls, readies, CellMoves}
+use Rattle.seam_law_calls.specs.Prelude.{BaseMoves, Moves, at_a_cell, at_a_base, held_in, real_burden, order_burden, letter_burden}
+use Rattle.seam_law_calls.specs.Prelude.{has_burden}
 use Rattle.seam_machine.proofs.Totals.{total-push}
 use Rattle.seam_net_runs.specs.Sums.{weight_or}
-use Rattle.seam_law_flow.specs.Sent.{IsSilent}
-use Rattle.seam_entity.specs.Reals.{RealView}
-use Rattle.seam_entity.specs.declared.message.Msg.{Msg}
-use Rattle.seam_entity.specs.declared.message.Msg.TheVariants.{Call, BaseCall, Hand, Current, GhostSet, GhostDrop, Tick, Reap, Update}
-use Rattle.seam_entity.specs.Here.{base_numbers, base_of}
-use Rattle.seam_node_steps.specs.Slots.{SlotStep, slot_after}
-use Rattle.seam_node_steps.specs.Settle.{haunts_at, ghost_messages, beat_after}
-use Rattle.seam_entity.specs.Executing.{settled_to}
+use Rattle.seam_entity.specs.declared.message.Msg.TheVariants.{Call}
 use Rattle.seam_node_steps.specs.Settle as settle
-use Rattle.seam_node_steps.specs.CellCases.{current_to}
-use Rattle.seam_node_steps.specs.CellLooks.{shown_of, looks_with}
-use Rattle.seam_node_steps.specs.BaseCases.{tick_to}
-use Rattle.seam_law_calls.specs.Frames.{Frame, here_at}
-use Rattle.seam_law_calls.specs.Sights.{Has, AtCell}
 use Rattle.seam_law_calls.specs.CellMoves as move
-use Rattle.seam_law_calls.specs.CellMoves.{unlisted_if, Does, Acts, surveys, calls, readies, CellMoves}
-use Rattle.seam_law_calls.specs.BaseMoves.{BaseMoves}
-use Rattle.seam_law_calls.specs.Moves.{Moves, at_a_cell, at_a_base}
-use Rattle.seam_law_calls.specs.Burdens.{held_in, real_burden, order_burden, letter_burden, has_burden}
 use Rattle.seam_law_calls.proofs.Plain.{SeesNoGhost, ghosts_silent, drops_silent, mapped_silent, numbered_silent}
 use Rattle.seam_law_calls.proofs.Paying.{OrdersPay, base_paid}
 use Rattle.seam_law_calls.proofs.HeldCounts.{turn_counts, early_counts, taken_counts}

@@ -5,49 +5,29 @@ use Rattle.std.proofs.Common.{ap, ◌∙◌, arith}
 use Rattle.std.specs.Prelude.{slice_get}
 use Rattle.std.specs.FinMap as table
 use Rattle.seam_table.proofs.Found.{found}
-use Rattle.seam_machine.specs.Nets.{happens, enabled, LeadsTo}
-use Rattle.seam_machine.specs.Events.{Occurs}
-use Rattle.seam_machine.specs.declared.machines.Input.TheVariants.{Task}
-use Rattle.seam_machine.specs.declared.machines.Event.{Event}
+use Rattle.seam_node_steps.specs.Prelude.{happens, enabled, LeadsTo, Occurs, Task, Event, item_at, next_item, Call as CallData, rank_of}
+use Rattle.seam_node_steps.specs.Prelude.{order_or, order_of, RealView, Msg, Reap, limit, cell_count, order_is_ready, may_offer}
+use Rattle.seam_node_steps.specs.Prelude.{fits_cell_part, may_call, may_execute, NodeView, World, node_steps, node_has_work, Cell, Base}
+use Rattle.seam_law_flow.specs.Prelude.{Flow, comes, letter_in, letters_of, more_letter, slot_at, carried_in, Item, desk_of, parcel_of}
+use Rattle.seam_law_flow.specs.Prelude.{AreInTurn, Passes, Twice}
+use Rattle.seam_law_calls.specs.Prelude.{Frame, here_at, IsInFrame, Has, mine, has_of, has_none, entity_flow, real_burden, node_burden}
+use Rattle.seam_law_calls.specs.Prelude.{mine_burden, burden, real_in, IsSpared, IsFrame, HasOne, is_visited, AllLead, desk_for, real_desk}
+use Rattle.seam_law_calls.specs.Prelude.{cell_post, cell_mail, as_sender, IsCallOf, AreCallsOf, CellCallsInTurn, FindsTurn}
 use Rattle.seam_machine.proofs.Occurring.{occurs}
 use Rattle.seam_net_runs.specs.Sums.{weight_or}
 use Rattle.seam_net_runs.proofs.Runs.{leads_keeps}
 use Rattle.seam_net_runs.proofs.Weighing.{weight_bounds}
-use Rattle.seam_law_flow.specs.Flows.{Flow, comes, letter_in, letters_of, more_letter, slot_at}
-use Rattle.seam_law_flow.specs.Tokens.{carried_in}
 use Rattle.seam_law_flow.proofs.Narrowing.{narrow_goes}
 use Rattle.seam_law_flow.proofs.TokenLemmas.{first_is, sole_here}
-use Rattle.seam_order.specs.Held.{item_at}
-use Rattle.seam_order.specs.Offers.{next_item}
-use Rattle.seam_law_flow.specs.Desks.{Item, desk_of, parcel_of, AreInTurn}
-use Rattle.seam_law_flow.specs.CallMoves.{Passes, Twice}
 use Rattle.seam_law_flow.proofs.Steps.{turns_go}
 use Rattle.seam_law_flow.proofs.Ends.{is_met, never_late, never_held, held_is_due, due_is}
-use Rattle.seam_call.specs.declared.call.Call.{Call as CallData}
-use Rattle.seam_call.specs.Senders.{rank_of}
-use Rattle.seam_entity.specs.Orders.{order_or, order_of}
-use Rattle.seam_entity.specs.Reals.{RealView}
-use Rattle.seam_entity.specs.declared.message.Msg.{Msg}
-use Rattle.seam_entity.specs.declared.message.Msg.TheVariants.{Call, Reap}
-use Rattle.seam_entity.specs.Numbers.{limit}
-use Rattle.seam_entity.specs.Here.{cell_count}
-use Rattle.seam_entity.specs.Calls.{order_is_ready, may_offer}
-use Rattle.seam_entity.specs.Executing.{fits_cell_part, may_call, may_execute}
-use Rattle.seam_node_steps.specs.Nodes.{NodeView, World, node_steps, node_has_work}
-use Rattle.seam_node_steps.specs.Nodes.NodeView.{Cell, Base}
-use Rattle.seam_law_calls.specs.Frames.{Frame, here_at, IsInFrame}
-use Rattle.seam_law_calls.specs.Sights.{Has, mine, has_of, has_none, entity_flow}
-use Rattle.seam_law_calls.specs.Burdens.{real_burden, node_burden, mine_burden, burden}
-use Rattle.seam_law_calls.specs.Ones.{real_in, IsSpared, IsFrame, HasOne}
+use Rattle.seam_entity.specs.declared.message.Msg.TheVariants.{Call}
 use Rattle.seam_law_calls.proofs.Holds.{all_two, below_is}
 use Rattle.seam_law_calls.proofs.Easing.{burden_happens}
 use Rattle.seam_law_calls.proofs.OneReal.{goes, room, one_happens, calm_of, spared_happens}
-use Rattle.seam_law_calls.specs.Ways.{is_visited, AllLead}
 use Rattle.seam_law_calls.proofs.WayMoves.{leads}
 use Rattle.seam_law_calls.proofs.Leading.{lead_goes}
 use Rattle.seam_law_calls.proofs.Finding.{first_finds}
-use Rattle.seam_law_calls.specs.CellTurns.{desk_for, real_desk, cell_post, cell_mail, as_sender, IsCallOf, AreCallsOf, CellCallsInTurn}
-use Rattle.seam_law_calls.specs.CellTurns.{FindsTurn}
 use Rattle.seam_law_calls.proofs.DeskLemmas.{from_same}
 use Rattle.seam_law_calls.proofs.CellSeen.{HoldsOwn, calls_seen}
 

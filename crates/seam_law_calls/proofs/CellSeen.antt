@@ -7,44 +7,26 @@ use Rattle.std.specs.FinMap as table
 use Rattle.std.specs.FinSet as set
 use Rattle.std.proofs.lemmas.Bool.{cases_eq}
 use Rattle.seam_table.proofs.Found.{found}
-use Rattle.seam_machine.specs.Sends.{items_to}
-use Rattle.seam_law_flow.specs.Flows.{letters_of, more_letter}
-use Rattle.seam_law_flow.specs.Sent.{IsSilent}
-use Rattle.seam_law_flow.specs.Tokens.{carried_in}
+use Rattle.seam_node_steps.specs.Prelude.{items_to, OrderView, next_item, Call as CallData, Order, rank_of, order_or, order_of, RealView}
+use Rattle.seam_node_steps.specs.Prelude.{Msg, BaseCall, Hand, Current, GhostSet, GhostDrop, Tick, Reap, Update, Here, cell_count}
+use Rattle.seam_node_steps.specs.Prelude.{base_numbers, base_of, order_is_ready, ready_order, may_call, with_offer, settled_to, NextPlace}
+use Rattle.seam_node_steps.specs.Prelude.{SlotStep, slot_after, haunts_at, ghost_messages, current_to, stray_call, is_stray, may_come}
+use Rattle.seam_node_steps.specs.Prelude.{shown_of, looks_with, tick_to}
+use Rattle.seam_law_flow.specs.Prelude.{letters_of, more_letter, IsSilent, carried_in, Desk, Post, Mail, Item, Quiet, Only, Passes, rests}
+use Rattle.seam_law_flow.specs.Prelude.{sends, offers, takes, Twice, once, twice}
+use Rattle.seam_law_calls.specs.Prelude.{Frame, here_at, Has, AtCell, Does, Acts, surveys, calls, readies, CellMoves, BaseMoves, Moves}
+use Rattle.seam_law_calls.specs.Prelude.{at_a_cell, at_a_base, real_in, desk_for, cell_order_from, real_desk, cell_post, cell_mail}
+use Rattle.seam_law_calls.specs.Prelude.{FindsTurn}
 use Rattle.seam_law_flow.proofs.SendLists.{sees_none, sees_after_silent, sees_one_here, sees_one_there}
-use Rattle.seam_order.specs.Held.{OrderView}
-use Rattle.seam_order.specs.Offers.{next_item}
-use Rattle.seam_law_flow.specs.Desks.{Desk, Post, Mail, Item}
-use Rattle.seam_law_flow.specs.CallMoves.{Quiet, Only, Passes, rests, sends, relays, offers, takes, lands, leaves, Twice, once, twice}
-use Rattle.seam_call.specs.declared.call.Call.{Call as CallData}
-use Rattle.seam_call.specs.declared.order.Order.{Order}
+use Rattle.seam_law_flow.specs.CallMoves.{relays, lands, leaves}
 use Rattle.seam_call.specs.declared.order.Order.TheVariants as order
-use Rattle.seam_call.specs.Senders.{rank_of}
-use Rattle.seam_entity.specs.Orders.{order_or, order_of}
-use Rattle.seam_entity.specs.Reals.{RealView}
-use Rattle.seam_entity.specs.declared.message.Msg.{Msg}
-use Rattle.seam_entity.specs.declared.message.Msg.TheVariants.{Call, BaseCall, Hand, Current, GhostSet, GhostDrop, Tick, Reap, Update}
-use Rattle.seam_entity.specs.Here.{Here, cell_count, base_numbers, base_of}
-use Rattle.seam_entity.specs.Calls.{order_is_ready, ready_order}
-use Rattle.seam_entity.specs.Executing.{may_call, with_offer, settled_to}
-use Rattle.seam_node_steps.specs.Slots.{NextPlace, SlotStep, slot_after}
-use Rattle.seam_node_steps.specs.Settle.{haunts_at, ghost_messages}
+use Rattle.seam_entity.specs.declared.message.Msg.TheVariants.{Call}
 use Rattle.seam_node_steps.specs.Settle as settle
-use Rattle.seam_node_steps.specs.CellCases.{current_to, stray_call, is_stray, may_come}
-use Rattle.seam_node_steps.specs.CellLooks.{shown_of, looks_with}
-use Rattle.seam_node_steps.specs.BaseCases.{tick_to}
-use Rattle.seam_law_calls.specs.Frames.{Frame, here_at}
-use Rattle.seam_law_calls.specs.Sights.{Has, AtCell}
 use Rattle.seam_law_calls.specs.CellMoves as move
-use Rattle.seam_law_calls.specs.CellMoves.{Does, Acts, surveys, calls, readies, CellMoves}
 use Rattle.seam_law_calls.specs.BaseMoves as base_move
-use Rattle.seam_law_calls.specs.BaseMoves.{BaseMoves}
-use Rattle.seam_law_calls.specs.Moves.{Moves, at_a_cell, at_a_base}
-use Rattle.seam_law_calls.specs.Ones.{real_in}
 use Rattle.seam_law_calls.proofs.Holds.{not_both}
 use Rattle.seam_law_calls.proofs.Plain.{SeesNoGhost, ghosts_silent, mapped_silent, numbered_silent}
 use Rattle.seam_law_calls.proofs.Handling.{FindsRoom}
-use Rattle.seam_law_calls.specs.CellTurns.{desk_for, cell_order_from, real_desk, cell_post, cell_mail, FindsTurn}
 use Rattle.seam_law_calls.proofs.DeskLemmas.{from_same, from_other, desk_executes, desk_holds, desk_keeps, desk_stays, desk_takes}
 
 -- a ready call is of the sender under whose place it is held

@@ -7,24 +7,17 @@ use Rattle.std.specs.Cmp.{unsigned_tied}
 use Rattle.std.specs.FinMap as table
 use Rattle.std.proofs.lemmas.Bool.{cases_eq, eq-eqb, ne_eqb}
 use Rattle.seam_table.proofs.Found.{found}
-use Rattle.seam_machine.specs.declared.machines.Input.{Input}
-use Rattle.seam_machine.specs.declared.machines.Input.TheVariants.{Task, From}
-use Rattle.seam_law_flow.specs.Flows.{letter_in}
-use Rattle.seam_entity.specs.Reals.{RealView}
-use Rattle.seam_entity.specs.declared.message.Msg.{Msg}
-use Rattle.seam_entity.specs.declared.message.Msg.TheVariants.{Call, BaseCall, Hand, Current, GhostSet, GhostDrop, Tick, Reap, Update}
-use Rattle.seam_node_steps.specs.Maps.{number_of}
-use Rattle.seam_entity.specs.Calls.{has_ready}
-use Rattle.seam_node_steps.specs.Slots.{Slot, SlotStep, slot_after}
-use Rattle.seam_node_steps.specs.CellCases.{about, slot_steps, stray_survey, stray_ready_call}
-use Rattle.seam_node_steps.specs.CellLooks.{stray_look}
-use Rattle.seam_node_steps.specs.Cells.{CellView, slot_of, after_slot, unlisted_by, stepped, cell_steps, cell_task, ready_next, look_next}
-use Rattle.seam_node_steps.specs.Cells.{cell_hears, ready_entity, real_is_ready, surveys, calls_ready, looks_around, known_to}
-use Rattle.seam_node_steps.specs.Valid.{AreUnderTheirEntities}
+use Rattle.seam_node_steps.specs.Prelude.{Input, Task, From, RealView, Msg, BaseCall, Hand, Current, GhostSet, GhostDrop, Tick, Reap}
+use Rattle.seam_node_steps.specs.Prelude.{Update, number_of, has_ready, Slot, SlotStep, slot_after, about, slot_steps, stray_survey}
+use Rattle.seam_node_steps.specs.Prelude.{stray_ready_call, stray_look, CellView, slot_of, after_slot, unlisted_by, stepped, cell_steps}
+use Rattle.seam_node_steps.specs.Prelude.{cell_task, ready_next, look_next, cell_hears, ready_entity, real_is_ready, surveys, calls_ready}
+use Rattle.seam_node_steps.specs.Prelude.{looks_around, known_to, AreUnderTheirEntities}
+use Rattle.seam_law_flow.specs.Prelude.{letter_in}
+use Rattle.seam_law_calls.specs.Prelude.{mine, concerning, times, AtCell, at_cell, unlisted_if, Does, CellMoves, looks_after_tick}
+use Rattle.seam_entity.specs.declared.message.Msg.TheVariants.{Call}
 use Rattle.seam_node_steps.proofs.Slots.{slot_stepped}
-use Rattle.seam_law_calls.specs.Sights.{mine, concerning, times, AtCell, at_cell}
 use Rattle.seam_law_calls.specs.CellMoves as move
-use Rattle.seam_law_calls.specs.CellMoves.{unlisted_if, after_step, Does, CellMoves, looks_after_tick}
+use Rattle.seam_law_calls.specs.CellMoves.{after_step}
 use Rattle.seam_law_calls.proofs.Lists.{AllAbout, mine_own, mine_other, concerning_own, concerning_other, times_own, times_other, times_without}
 use Rattle.seam_law_calls.proofs.Lists.{times_without_other}
 use Rattle.seam_law_calls.proofs.Sent.{slot_about, surveys_about, readies_about, looks_about}

@@ -1,32 +1,17 @@
 -- For callers: a step of a node is, for each entity, one of the moves, and so is an event of a world.
 use Rattle.std.proofs.Common.{ℕ, Option, refl, ◌∙◌, subst}
-use Rattle.seam_tree.specs.Division.{cells_of}
-use Rattle.seam_machine.specs.Nets.{happens}
-use Rattle.seam_machine.specs.Events.{Occurs}
-use Rattle.seam_machine.specs.Sends.{items_to}
-use Rattle.seam_machine.specs.declared.machines.Input.{Input}
-use Rattle.seam_machine.specs.declared.machines.Input.TheVariants.{Task, From}
-use Rattle.seam_machine.specs.declared.machines.Event.{Event}
+use Rattle.seam_node_steps.specs.Prelude.{cells_of, happens, Occurs, items_to, Input, Task, From, Event, Msg, cell_steps, BaseView}
+use Rattle.seam_node_steps.specs.Prelude.{base_steps, NodeView, World, node_steps, node_has_work, node_peers, Cell, Base, IsNode}
+use Rattle.seam_law_flow.specs.Prelude.{Goes, letter_in, letters_of}
+use Rattle.seam_law_calls.specs.Prelude.{Frame, IsAt, IsInFrame, Has, mine, concerning, at_cell, at_base, has_of, has_none, entity_flow}
+use Rattle.seam_law_calls.specs.Prelude.{CellMoves, BaseMoves, Moves, at_a_cell, at_a_base, MovesTo}
 use Rattle.seam_net_runs.specs.Sound.{MachineLaws}
 use Rattle.seam_net_runs.proofs.Keeping.{each_node}
 use Rattle.seam_net_runs.proofs.Soundness.{sound_sends, sound_happens}
-use Rattle.seam_law_flow.specs.Flows.{Goes, letter_in, letters_of}
 use Rattle.seam_law_flow.proofs.Bridge.{event_goes}
-use Rattle.seam_entity.specs.declared.message.Msg.{Msg}
-use Rattle.seam_node_steps.specs.Cells.{cell_steps}
-use Rattle.seam_node_steps.specs.Bases.{BaseView}
-use Rattle.seam_node_steps.specs.BaseCases.{base_steps}
-use Rattle.seam_node_steps.specs.Nodes.{NodeView, World, node_steps, node_has_work, node_peers}
-use Rattle.seam_node_steps.specs.Nodes.NodeView.{Cell, Base}
-use Rattle.seam_node_steps.specs.Valid.{IsNode}
 use Rattle.seam_node_steps.proofs.Peers.{peers_stay, node_stays_valid, cell_frame}
 use Rattle.seam_node_steps.proofs.Targets.{node_targets}
 use Rattle.seam_node_steps.proofs.ValidBases.{base_frame}
-use Rattle.seam_law_calls.specs.Frames.{Frame, IsAt, IsInFrame}
-use Rattle.seam_law_calls.specs.Sights.{Has, mine, concerning, at_cell, at_base, has_of, has_none, entity_flow}
-use Rattle.seam_law_calls.specs.CellMoves.{CellMoves}
-use Rattle.seam_law_calls.specs.BaseMoves.{BaseMoves}
-use Rattle.seam_law_calls.specs.Moves.{Moves, at_a_cell, at_a_base, MovesTo}
 use Rattle.seam_law_calls.proofs.Lists.{letters_are}
 use Rattle.seam_law_calls.proofs.CellSteps.{cell_moves}
 use Rattle.seam_law_calls.proofs.BaseSteps.{message_moves}

@@ -1,23 +1,13 @@
 -- Each call to a base part with a client once, over every list of events in which its witness tells no more than there is room for.
 use Rattle.std.proofs.Common.{◌≡◌, ℕ, ◌+◌, ◌≤◌, true, List, [], ◌∷◌, length, refl, sym, ap, subst, arith}
-use Rattle.seam_machine.specs.Nets.{happens, enabled, run, AllEnabled, LeadsTo}
-use Rattle.seam_machine.specs.declared.machines.Event.{Event}
+use Rattle.seam_node_steps.specs.Prelude.{happens, enabled, run, AllEnabled, LeadsTo, Event, Call as CallData, RealView, Msg, BaseCall}
+use Rattle.seam_node_steps.specs.Prelude.{may_show, World, node_steps, node_has_work}
+use Rattle.seam_law_calls.specs.Prelude.{Frame, IsInFrame, entity_flow, IsSpared, sent_of, sent_by, FindsPart, HasBaseCalls, EachReal}
+use Rattle.seam_law_calls.specs.Prelude.{HasToldAtMost, HasClient, HasRoomFor}
 use Rattle.seam_machine.proofs.Occurring.{occurs}
 use Rattle.seam_net_runs.proofs.Runs.{leads_keeps}
-use Rattle.seam_call.specs.declared.call.Call.{Call as CallData}
-use Rattle.seam_entity.specs.Reals.{RealView}
-use Rattle.seam_entity.specs.declared.message.Msg.{Msg}
-use Rattle.seam_entity.specs.declared.message.Msg.TheVariants.{BaseCall}
-use Rattle.seam_node_steps.specs.BaseCases.{may_show}
-use Rattle.seam_node_steps.specs.Nodes.{World, node_steps, node_has_work}
-use Rattle.seam_law_calls.specs.Frames.{Frame, IsInFrame}
-use Rattle.seam_law_calls.specs.Sights.{entity_flow}
 use Rattle.seam_law_calls.proofs.Classify.{frame_happens}
-use Rattle.seam_law_calls.specs.Ones.{IsSpared}
 use Rattle.seam_law_calls.proofs.OneReal.{one_leads, spared_happens}
-use Rattle.seam_law_calls.specs.WitnessMoves.{sent_of, sent_by}
-use Rattle.seam_law_calls.specs.BaseTurns.{FindsPart, HasBaseCalls}
-use Rattle.seam_law_calls.specs.Clients.{EachReal, HasToldAtMost, HasClient, HasRoomFor}
 use Rattle.seam_law_calls.proofs.PartEasing.{base_burden_happens}
 use Rattle.seam_law_calls.proofs.WitnessKept.{each_weaker, each_happens}
 use Rattle.seam_law_calls.proofs.BaseRuns.{finds, kept_happens}

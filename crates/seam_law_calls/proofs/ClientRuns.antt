@@ -8,45 +8,23 @@ use Rattle.std.specs.declared.cmp.Ordering.{Ordering}
 use Rattle.std.specs.declared.cmp.Ordering.TheVariants.{Less, Equal, Greater}
 use Rattle.std.proofs.lemmas.Bool.{cases_eq, eq-eqb}
 use Rattle.std.proofs.lemmas.List.{length-append}
-use Rattle.seam_machine.specs.Nets.{happens}
-use Rattle.seam_machine.specs.Events.{Occurs}
-use Rattle.seam_machine.specs.declared.machines.Event.{Event}
-use Rattle.seam_law_flow.specs.Flows.{Flow, Goes, comes, letters_of, more_letter}
-use Rattle.seam_law_flow.specs.Tokens.{carried_in, TokenPlace, In, On, SoleIn, Sole}
+use Rattle.seam_node_steps.specs.Prelude.{happens, Occurs, Event, item_at, next_item, after_item, Order, Shown, RealView, Msg, Hand, Update}
+use Rattle.seam_node_steps.specs.Prelude.{limit, may_rise, Here, may_offer, PartView, ProxyView, line_if, base_text, may_show, stray_update}
+use Rattle.seam_node_steps.specs.Prelude.{stray_proxy_update, offered_update, shows_next, World, node_steps}
+use Rattle.seam_law_flow.specs.Prelude.{Flow, Goes, comes, letters_of, more_letter, carried_in, TokenPlace, In, On, SoleIn, Sole, Delivery}
+use Rattle.seam_law_flow.specs.Prelude.{IsToward, Life, number_from, numbered}
+use Rattle.seam_law_calls.specs.Prelude.{Frame, here_at, Has, AtBase, entity_flow, MovesTo, real_in, real_of, IsSpared, IsOne, Missed}
+use Rattle.seam_law_calls.specs.Prelude.{sent_by, base_burden, home_of, tells, proxy_of, order_in, updates_at, shown_at, EachReal}
+use Rattle.seam_law_calls.specs.Prelude.{HasToldAtMost, HasClient, HasRoomFor, FindsClient}
 use Rattle.seam_law_flow.proofs.Following.{letters_kept, came}
 use Rattle.seam_law_flow.proofs.TokenLemmas.{one_more, first_is, sole_first, sole_here}
-use Rattle.seam_order.specs.Held.{item_at}
-use Rattle.seam_order.specs.Offers.{next_item, after_item}
-use Rattle.seam_law_flow.specs.Deliveries.{Delivery}
-use Rattle.seam_law_flow.specs.Lives.{IsToward, Life}
-use Rattle.seam_law_flow.specs.Numbered.{number_from, numbered}
 use Rattle.seam_law_flow.proofs.Numbers.{item_bounds}
 use Rattle.seam_law_flow.proofs.Delivering.{offer_next, offer_early, delivery_goes}
-use Rattle.seam_call.specs.declared.order.Order.{Order}
 use Rattle.seam_call.specs.declared.order.Order.TheVariants as order
-use Rattle.seam_call.specs.declared.shown.Shown.{Shown}
 use Rattle.seam_call.specs.declared.shown.Update.{Update as UpdateData}
-use Rattle.seam_entity.specs.Reals.{RealView}
-use Rattle.seam_entity.specs.declared.message.Msg.{Msg}
-use Rattle.seam_entity.specs.declared.message.Msg.TheVariants.{Hand, Update}
-use Rattle.seam_entity.specs.Numbers.{limit, may_rise}
-use Rattle.seam_entity.specs.Here.{Here}
-use Rattle.seam_entity.specs.Calls.{may_offer}
-use Rattle.seam_node_steps.specs.Bases.{PartView, ProxyView, line_if, base_text}
-use Rattle.seam_node_steps.specs.BaseCases.{may_show, stray_update, stray_proxy_update, offered_update, shows_next}
-use Rattle.seam_node_steps.specs.Nodes.{World, node_steps}
-use Rattle.seam_law_calls.specs.Frames.{Frame, here_at}
-use Rattle.seam_law_calls.specs.Sights.{Has, AtBase, entity_flow}
-use Rattle.seam_law_calls.specs.Moves.{MovesTo}
 use Rattle.seam_law_calls.proofs.Classify.{event_moves}
-use Rattle.seam_law_calls.specs.Ones.{real_in, real_of, IsSpared, IsOne}
 use Rattle.seam_law_calls.proofs.Holds.{all_two, below_is}
 use Rattle.seam_law_calls.proofs.OneReal.{one_happens, calm_of}
-use Rattle.seam_law_calls.specs.PartMoves.{Missed}
-use Rattle.seam_law_calls.specs.WitnessMoves.{sent_by}
-use Rattle.seam_law_calls.specs.BaseTurns.{base_burden, home_of}
-use Rattle.seam_law_calls.specs.Clients.{tells, proxy_of, order_in, updates_at, shown_at, EachReal}
-use Rattle.seam_law_calls.specs.Clients.{HasToldAtMost, HasClient, HasRoomFor, FindsClient}
 use Rattle.seam_law_calls.proofs.PartSteps.{equal_of, greater_of, part_moves}
 use Rattle.seam_law_calls.proofs.ClientSteps.{CallShown, as_it_was, lined, ClientAfter, keeps, calls, misses_it, is_told, is_shown}
 use Rattle.seam_law_calls.proofs.ClientSteps.{client_after}

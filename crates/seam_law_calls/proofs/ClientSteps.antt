@@ -2,21 +2,12 @@
 use Rattle.std.proofs.Common.{◌≡◌, ℕ, ◌+◌, Bool, true, List, ◌∷◌, Option, None, Some, refl, sym, ap, ◌∙◌}
 use Rattle.std.specs.Prelude.{option_map}
 use Rattle.std.specs.Ordering.{nat_cmp}
-use Rattle.seam_defs.specs.Tests.{changes}
-use Rattle.seam_order.specs.Offers.{next_item}
-use Rattle.seam_call.specs.declared.call.Call.{Call as CallData}
-use Rattle.seam_call.specs.declared.order.Order.{Order}
+use Rattle.seam_node_steps.specs.Prelude.{changes, next_item, Call as CallData, Order, Msg, Update, Here, type_at, is_ready, PartView}
+use Rattle.seam_node_steps.specs.Prelude.{ProxyView, line_if, base_text, with_deed, offered_update, shows_next}
+use Rattle.seam_law_calls.specs.Prelude.{AtBase, told, HasNoProxy, Missed, Offered, now, early, late, PartMoves, rests, refuses, offers}
+use Rattle.seam_law_calls.specs.Prelude.{sends, serves, executes, misses, updates, shows, ends}
 use Rattle.seam_call.specs.declared.order.Order.TheVariants as order
 use Rattle.seam_call.specs.declared.shown.Update.{Update as UpdateData}
-use Rattle.seam_entity.specs.declared.message.Msg.{Msg}
-use Rattle.seam_entity.specs.declared.message.Msg.TheVariants.{Update}
-use Rattle.seam_entity.specs.Here.{Here, type_at}
-use Rattle.seam_entity.specs.Calls.{is_ready}
-use Rattle.seam_node_steps.specs.Bases.{PartView, ProxyView, line_if, base_text}
-use Rattle.seam_node_steps.specs.BaseCases.{with_deed, offered_update, shows_next}
-use Rattle.seam_law_calls.specs.Sights.{AtBase}
-use Rattle.seam_law_calls.specs.PartMoves.{told, HasNoProxy, Missed, Offered, now, early, late}
-use Rattle.seam_law_calls.specs.PartMoves.{PartMoves, rests, refuses, offers, sends, serves, executes, misses, updates, shows, ends}
 
 -- the part with its client after a call: as it was, or with one version more and a line if that is due
 pub data CallShown (h : Here) (p q : PartView) : Type 0 where

@@ -10,39 +10,23 @@ use Rattle.std.specs.declared.cmp.Ordering.TheVariants.{Less, Equal, Greater}
 use Rattle.std.proofs.lemmas.Bool.{eq-eqb, ne_eqb}
 use Rattle.std.proofs.lemmas.Bool.Decides.{nat_tests}
 use Rattle.std.proofs.lemmas.List.{append-nil}
-use Rattle.seam_machine.specs.Sends.{items_to}
-use Rattle.seam_law_flow.specs.Flows.{letters_of}
-use Rattle.seam_law_flow.specs.Sent.{IsSilent}
-use Rattle.seam_law_flow.specs.Tokens.{carried_in, SendsNone}
+use Rattle.seam_node_steps.specs.Prelude.{items_to, with_item, after_offer, after_taking, next_item, Order, Shown, RealView, Msg, BaseCall}
+use Rattle.seam_node_steps.specs.Prelude.{Hand, Current, GhostSet, GhostDrop, Tick, Reap, Update, Here, cell_count, PartView, ProxyView}
+use Rattle.seam_node_steps.specs.Prelude.{line_if, base_text, offered_update, shows_next, numbered}
+use Rattle.seam_law_flow.specs.Prelude.{letters_of, IsSilent, carried_in, SendsNone, at_once, more_issued, number_from}
+use Rattle.seam_law_calls.specs.Prelude.{Frame, here_at, Has, Moves, at_a_cell, at_a_base, real_in, real_of, update_in, told, Missed}
+use Rattle.seam_law_calls.specs.Prelude.{sent_of, sent_by, WitnessMoves, home_of, with_number, tells, proxy_of, order_in, updates_at}
+use Rattle.seam_law_calls.specs.Prelude.{shown_in, lines_in, shown_at}
 use Rattle.seam_law_flow.proofs.Bridge.{letters_of-append}
 use Rattle.seam_law_flow.proofs.Following.{all_append}
 use Rattle.seam_law_flow.proofs.SendLists.{sees_none}
-use Rattle.seam_order.specs.Held.{with_item}
-use Rattle.seam_order.specs.Offers.{after_offer, after_taking, next_item}
-use Rattle.seam_law_flow.specs.Deliveries.{at_once, Passes, more_issued}
+use Rattle.seam_law_flow.specs.Deliveries.{Passes}
 use Rattle.seam_law_flow.specs.Deliveries as pass
-use Rattle.seam_law_flow.specs.Numbered.{number_from}
-use Rattle.seam_call.specs.declared.order.Order.{Order}
 use Rattle.seam_call.specs.declared.order.Order.TheVariants as order
-use Rattle.seam_call.specs.declared.shown.Shown.{Shown}
 use Rattle.seam_call.specs.declared.shown.Update.{Update as UpdateData}
-use Rattle.seam_entity.specs.Reals.{RealView}
-use Rattle.seam_entity.specs.declared.message.Msg.{Msg}
-use Rattle.seam_entity.specs.declared.message.Msg.TheVariants.{Call, BaseCall, Hand, Current, GhostSet, GhostDrop, Tick, Reap, Update}
-use Rattle.seam_entity.specs.Here.{Here, cell_count}
-use Rattle.seam_node_steps.specs.Bases.{PartView, ProxyView, line_if, base_text}
-use Rattle.seam_node_steps.specs.BaseCases.{offered_update, shows_next}
-use Rattle.seam_node_steps.specs.CellLooks.{numbered}
-use Rattle.seam_law_calls.specs.Frames.{Frame, here_at}
-use Rattle.seam_law_calls.specs.Sights.{Has}
-use Rattle.seam_law_calls.specs.Moves.{Moves, at_a_cell, at_a_base}
-use Rattle.seam_law_calls.specs.Ones.{real_in, real_of}
+use Rattle.seam_entity.specs.declared.message.Msg.TheVariants.{Call}
 use Rattle.seam_law_calls.proofs.Sparing.{items_all}
-use Rattle.seam_law_calls.specs.PartMoves.{update_in, told, Missed}
 use Rattle.seam_law_calls.specs.WitnessMoves as witness
-use Rattle.seam_law_calls.specs.WitnessMoves.{sent_of, sent_by, WitnessMoves}
-use Rattle.seam_law_calls.specs.BaseTurns.{home_of}
-use Rattle.seam_law_calls.specs.Clients.{with_number, tells, proxy_of, order_in, updates_at, shown_in, lines_in, shown_at}
 use Rattle.seam_law_calls.proofs.PartSteps.{equal_of, part_moves}
 use Rattle.seam_law_calls.proofs.ClientSteps.{CallShown, as_it_was, lined, ClientAfter, keeps, calls, misses_it, is_told, is_shown}
 use Rattle.seam_law_calls.proofs.ClientSteps.{client_after}

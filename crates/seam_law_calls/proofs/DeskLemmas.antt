@@ -4,17 +4,10 @@ use Rattle.std.specs.Cmp.{nat_cmp_total, unsigned_tied}
 use Rattle.std.specs.FinMap as table
 use Rattle.std.proofs.lemmas.Bool.{eq-eqb, ne_eqb}
 use Rattle.std.proofs.lemmas.List.{append-nil}
-use Rattle.seam_law_flow.specs.Flows.{letters_of, more_letter}
+use Rattle.seam_node_steps.specs.Prelude.{OrderView, after_offer, after_taking, Call as CallData, rank_of, Orders, order_or}
+use Rattle.seam_law_flow.specs.Prelude.{letters_of, more_letter, Desk, offered, taken}
+use Rattle.seam_law_calls.specs.Prelude.{kept_if, from_sender, desk_for}
 use Rattle.seam_law_flow.proofs.Bridge.{letters_of-append}
-use Rattle.seam_order.specs.Held.{OrderView}
-use Rattle.seam_order.specs.Offers.{after_offer, after_taking}
-use Rattle.seam_law_flow.specs.Desks.{Desk}
-use Rattle.seam_law_flow.specs.CallMoves.{offered, taken}
-use Rattle.seam_call.specs.declared.call.Call.{Call as CallData}
-use Rattle.seam_call.specs.Senders.{rank_of}
-use Rattle.seam_entity.specs.Orders.{Orders, order_or}
-use Rattle.seam_law_calls.specs.Sights.{kept_if}
-use Rattle.seam_law_calls.specs.CellTurns.{from_sender, desk_for}
 
 pub from_same : {A : Type 0} (s : ℕ) (c : CallData) (a : A) → rank_of c.sender ≡ s → kept_if (eqb (rank_of c.sender) s) a ≡ Some a
 from_same s c a is = ap (λ t. kept_if t a) (eq-eqb (rank_of c.sender) s is)

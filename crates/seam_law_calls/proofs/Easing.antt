@@ -1,27 +1,17 @@
 -- What no step raises no event raises; so what is yet to do, and a hand-over that comes has small numbers.
 use Rattle.std.proofs.Common.{◌≡◌, ℕ, ◌+◌, ◌<◌, ◌≤◌, Bool, true, false, cond, List, [], ◌∷◌, Some, refl, ap, arith}
-use Rattle.seam_machine.specs.Nets.{happens, enabled, LeadsTo}
-use Rattle.seam_machine.specs.Events.{Occurs}
-use Rattle.seam_machine.specs.Totals.{total}
-use Rattle.seam_machine.specs.declared.machines.Input.{Input}
-use Rattle.seam_machine.specs.declared.machines.Input.TheVariants.{Task, From}
-use Rattle.seam_machine.specs.declared.machines.Event.{Event}
+use Rattle.seam_node_steps.specs.Prelude.{happens, enabled, LeadsTo, Occurs, total, Input, Task, From, Event, RealView, Msg, Hand, Reap}
+use Rattle.seam_node_steps.specs.Prelude.{limit, NodeView, World, node_steps, node_has_work}
+use Rattle.seam_law_flow.specs.Prelude.{letter_in}
+use Rattle.seam_law_calls.specs.Prelude.{Frame, IsInFrame, Has, concerns, kept_if, mine, concerning, has_of, real_burden, letter_burden}
+use Rattle.seam_law_calls.specs.Prelude.{has_burden, node_burden, mine_burden, burden}
 use Rattle.seam_net_runs.specs.Sums.{weight_or}
 use Rattle.seam_net_runs.specs.Weights.{weight, input_weight, sent_weight}
 use Rattle.seam_machine.proofs.Occurring.{occurs}
 use Rattle.seam_net_runs.proofs.Runs.{leads_keeps}
 use Rattle.seam_net_runs.proofs.Soundness.{sound_sends}
 use Rattle.seam_net_runs.proofs.Weighing.{weight_moves, weight_bounds}
-use Rattle.seam_law_flow.specs.Flows.{letter_in}
-use Rattle.seam_entity.specs.Reals.{RealView}
-use Rattle.seam_entity.specs.declared.message.Msg.{Msg}
-use Rattle.seam_entity.specs.declared.message.Msg.TheVariants.{Hand, Reap}
-use Rattle.seam_entity.specs.Numbers.{limit}
-use Rattle.seam_node_steps.specs.Nodes.{NodeView, World, node_steps, node_has_work}
-use Rattle.seam_law_calls.specs.Frames.{Frame, IsInFrame}
-use Rattle.seam_law_calls.specs.Sights.{Has, concerns, kept_if, mine, concerning, has_of}
 use Rattle.seam_law_calls.proofs.Classify.{node_laws, node_moves, frame_happens}
-use Rattle.seam_law_calls.specs.Burdens.{real_burden, letter_burden, has_burden, node_burden, mine_burden, burden}
 use Rattle.seam_law_calls.proofs.Burdening.{eased}
 
 -- ---- numbers of what a node has of an entity and of messages about it, in a world

@@ -6,42 +6,21 @@ use Rattle.std.specs.Ordering.{nat_cmp}
 use Rattle.std.specs.FinMap as table
 use Rattle.std.proofs.lemmas.Bool.{cases_eq, eqb-true, ne_eqb}
 use Rattle.std.proofs.lemmas.List.Elements.{All-replicate}
-use Rattle.seam_law_flow.specs.Flows.{Flow, letters_of, more_letter}
-use Rattle.seam_law_flow.specs.Tokens.{In}
-use Rattle.seam_order.specs.Held.{item_at}
-use Rattle.seam_law_flow.specs.Numbered.{number_from, of_number}
+use Rattle.seam_node_steps.specs.Prelude.{item_at, Call as CallData, rank_of, Orders, order_or, RealView, Msg, limit, PartView, RouteView}
+use Rattle.seam_node_steps.specs.Prelude.{fits_base_part, World, node_peers, idle, two_cells, at_home, base_16}
+use Rattle.seam_law_flow.specs.Prelude.{Flow, letters_of, more_letter, In, number_from, of_number, Desk, AreInTurn}
+use Rattle.seam_law_calls.specs.Prelude.{here_at, IsInFrame, Has, no_base, kept_if, mine, has_of, has_none, entity_flow, burden, frame}
+use Rattle.seam_law_calls.specs.Prelude.{RealFits, IsFitHand, real_in, real_of, reaped_by, reaped_by_order, HasNoReaps, IsSpared, HasOne}
+use Rattle.seam_law_calls.specs.Prelude.{from_sender, numbered_from, from_one, base_call_of, calls_ordered, part_desk, base_mail}
+use Rattle.seam_law_calls.specs.Prelude.{as_base_sender, IsBaseCallOf, AreBaseCallsOf, BaseCallsInTurn, HasPart, base_burden, HasBaseCalls}
+use Rattle.seam_law_calls.specs.Prelude.{is_tick_order, HasNoLooks, IsBaseNumber, HasRoutes, pay, promote_1, calls_of, base_with}
 use Rattle.seam_law_flow.proofs.Numbers.{letters_of-number_from}
-use Rattle.seam_law_flow.specs.Desks.{Desk, AreInTurn}
 use Rattle.seam_law_flow.proofs.Ends.{loaded_in_turn}
-use Rattle.seam_call.specs.declared.call.Call.{Call as CallData}
 use Rattle.seam_call.specs.declared.order.Order.TheVariants as order
-use Rattle.seam_call.specs.Senders.{rank_of}
-use Rattle.seam_entity.specs.Orders.{Orders, order_or}
-use Rattle.seam_entity.specs.Reals.{RealView}
-use Rattle.seam_entity.specs.declared.message.Msg.{Msg}
-use Rattle.seam_entity.specs.Numbers.{limit}
-use Rattle.seam_node_steps.specs.Bases.{PartView, RouteView}
-use Rattle.seam_node_steps.specs.BaseCases.{fits_base_part}
-use Rattle.seam_node_steps.specs.Nodes.{World, node_peers}
-use Rattle.seam_node_steps.specs.Rows.{idle}
-use Rattle.seam_node_steps.specs.EarlyCall.{two_cells, at_home, base_16}
-use Rattle.seam_law_calls.specs.Frames.{here_at, IsInFrame}
-use Rattle.seam_law_calls.specs.Sights.{Has, no_base, kept_if, mine, has_of, has_none, entity_flow}
-use Rattle.seam_law_calls.specs.Burdens.{burden}
-use Rattle.seam_law_calls.specs.HandOverExample.{frame}
-use Rattle.seam_law_calls.specs.Fits.{RealFits, IsFitHand}
-use Rattle.seam_law_calls.specs.Ones.{real_in, real_of, reaped_by, reaped_by_order, HasNoReaps, IsSpared, HasOne}
 use Rattle.seam_law_calls.proofs.ExampleMet.{EachFrom, nodes_of, each_node, slots, no_row, no_link, none_there, one_is}
 use Rattle.seam_law_calls.proofs.ExampleMet.{one_there, number_is, route_low}
 use Rattle.seam_law_calls.proofs.ExampleMet.{peers_from, Q, idle_is}
-use Rattle.seam_law_calls.specs.CellTurns.{from_sender, numbered_from}
-use Rattle.seam_law_calls.specs.TurnsExample.{from_one}
-use Rattle.seam_law_calls.specs.PartMoves.{base_call_of, calls_ordered}
-use Rattle.seam_law_calls.specs.BaseTurns.{part_desk, base_mail, as_base_sender, IsBaseCallOf, AreBaseCallsOf, BaseCallsInTurn, HasPart}
-use Rattle.seam_law_calls.specs.BaseTurns.{base_burden, HasBaseCalls}
-use Rattle.seam_law_calls.specs.Clients.{is_tick_order, HasNoLooks}
-use Rattle.seam_law_calls.specs.Strays.{IsBaseNumber, HasRoutes}
-use Rattle.seam_law_calls.specs.BaseCallsExample.{pay, promote_1, promote_2, calls, calls_of, base_with, world_with}
+use Rattle.seam_law_calls.specs.BaseCallsExample.{promote_2, calls, world_with}
 
 -- ---- the calls
 

@@ -5,32 +5,19 @@ use Rattle.std.specs.List.{AllByRecursion}
 use Rattle.std.specs.Ordering.{nat_cmp}
 use Rattle.std.specs.FinMap as table
 use Rattle.std.proofs.lemmas.Bool.{cases_eq}
-use Rattle.seam_law_flow.specs.Flows.{letters_of}
-use Rattle.seam_law_flow.specs.Deliveries.{Delivery}
+use Rattle.seam_node_steps.specs.Prelude.{RealView, ProxyView, with_line, base_text, stray_base_call, loaded, new_proxy, empty_world, here}
+use Rattle.seam_node_steps.specs.Prelude.{made}
+use Rattle.seam_law_flow.specs.Prelude.{letters_of, Delivery}
+use Rattle.seam_law_calls.specs.Prelude.{here_at, entity_flow, burden, frame, RealFits, HasOne, from_one, sent_by, base_burden}
+use Rattle.seam_law_calls.specs.Prelude.{HasBaseCalls, HasNoClient, proxy_of, order_in, updates_at, shown_at, shown_in, lines_in, tells}
+use Rattle.seam_law_calls.specs.Prelude.{EachReal, HasNoLooks, HasToldAtMost, HasClient, HasRoomFor, HasRoutes, NothingIsStray, promote_1}
+use Rattle.seam_law_calls.specs.Prelude.{batch_with, calls_of, part_alone, real_told}
 use Rattle.seam_law_flow.proofs.Delivering.{delivery_starts}
-use Rattle.seam_entity.specs.Reals.{RealView}
 use Rattle.seam_call.specs.declared.order.Order.TheVariants as order
-use Rattle.seam_node_steps.specs.Bases.{ProxyView, with_line, base_text}
-use Rattle.seam_node_steps.specs.BaseCases.{stray_base_call}
-use Rattle.seam_node_steps.specs.Loads.{loaded, new_proxy}
-use Rattle.seam_node_steps.specs.Rows.{empty_world, here}
-use Rattle.seam_node_steps.specs.EarlyCall.{made}
 use Rattle.seam_node_steps.proofs.Tables.{computing}
-use Rattle.seam_law_calls.specs.Frames.{here_at}
-use Rattle.seam_law_calls.specs.Sights.{entity_flow}
-use Rattle.seam_law_calls.specs.Burdens.{burden}
-use Rattle.seam_law_calls.specs.HandOverExample.{frame}
-use Rattle.seam_law_calls.specs.Fits.{RealFits}
-use Rattle.seam_law_calls.specs.Ones.{HasOne}
 use Rattle.seam_law_calls.proofs.ExampleMet.{made_fits, frame_is}
-use Rattle.seam_law_calls.specs.TurnsExample.{from_one}
-use Rattle.seam_law_calls.specs.WitnessMoves.{sent_by}
-use Rattle.seam_law_calls.specs.BaseTurns.{base_burden, HasBaseCalls, HasNoClient}
-use Rattle.seam_law_calls.specs.Clients.{proxy_of, order_in, updates_at, shown_at, shown_in, lines_in, tells, EachReal, HasNoLooks}
-use Rattle.seam_law_calls.specs.Clients.{HasToldAtMost, HasClient, HasRoomFor}
-use Rattle.seam_law_calls.specs.Strays.{HasRoutes, NothingIsStray}
-use Rattle.seam_law_calls.specs.BaseCallsExample.{promote_1, world_bare}
-use Rattle.seam_law_calls.specs.BaseCallsExample.{batch_with, calls_of, part_alone, world_alone, real_told, part_shown, world_shown}
+use Rattle.seam_law_calls.specs.BaseCallsExample.{world_bare}
+use Rattle.seam_law_calls.specs.BaseCallsExample.{world_alone, part_shown, world_shown}
 use Rattle.seam_law_calls.proofs.ExampleBase.{has_one, has_routes, has_no_looks, has_calls, part_there, there, no_mail}
 
 pub load_alone : loaded empty_world (batch_with []) ≡ world_alone

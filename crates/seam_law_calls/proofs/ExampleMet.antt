@@ -9,35 +9,19 @@ use Rattle.std.proofs.lemmas.Bool.{eqb-true}
 use Rattle.std.specs.FinMap as table
 use Rattle.std.specs.FinSet as set
 use Rattle.std.proofs.lemmas.List.Elements.{All-nil, All-cons, All-replicate}
-use Rattle.seam_tree.specs.Division.{cut_after, area, IsTree}
-use Rattle.seam_geo.specs.Rect.{IsProper}
+use Rattle.seam_node_steps.specs.Prelude.{cut_after, area, IsTree, IsProper, are_of_group, link, run, AllEnabled, LeadsTo, IsSquare}
+use Rattle.seam_node_steps.specs.Prelude.{ArePeers, EachNode, Event, Msg, Map, properties, all_held, fits_cell_part, NodeView, World}
+use Rattle.seam_node_steps.specs.Prelude.{node_peers, node_has_work, node_steps, IsNode, holders, RouteView, idle, one, IsRow, two_cells}
+use Rattle.seam_node_steps.specs.Prelude.{made, at_home, with_cells, base_16, the_move, hit_1, hit_2}
+use Rattle.seam_law_flow.specs.Prelude.{slot_at, letters_of}
+use Rattle.seam_law_calls.specs.Prelude.{here_at, IsAt, IsInFrame, Has, mine, has_of, has_none, entity_flow, RealFits, IsFitReal, IsFitHand}
+use Rattle.seam_law_calls.specs.Prelude.{burden, real_in, reaped_by, HasNoReaps, IsSpared, AllFits, IsFrame, frame, events_of}
 use Rattle.seam_defs.specs.declared.flags.Group.TheVariants as group
 use Rattle.seam_defs.proofs.WellFormed.{builtin-are-defs}
-use Rattle.seam_defs.specs.Tests.{are_of_group}
 use Rattle.seam_defs.proofs.TestLemmas.{of_group-Decides}
-use Rattle.seam_machine.specs.Nets.{link, run, AllEnabled, LeadsTo, IsSquare, ArePeers}
-use Rattle.seam_machine.specs.Events.{EachNode}
-use Rattle.seam_machine.specs.declared.machines.Event.{Event}
-use Rattle.seam_law_flow.specs.Flows.{slot_at, letters_of}
 use Rattle.seam_call.specs.declared.order.Order.TheVariants as order
-use Rattle.seam_entity.specs.declared.message.Msg.{Msg}
-use Rattle.seam_node_steps.specs.Maps.{Map}
-use Rattle.seam_entity.specs.Here.{properties}
-use Rattle.seam_entity.specs.Calls.{all_held}
-use Rattle.seam_entity.specs.Executing.{fits_cell_part}
-use Rattle.seam_node_steps.specs.Nodes.{NodeView, World, node_peers, node_has_work, node_steps}
-use Rattle.seam_node_steps.specs.Valid.{IsNode}
-use Rattle.seam_node_steps.specs.Holders.{holders}
-use Rattle.seam_node_steps.specs.Bases.{RouteView}
-use Rattle.seam_node_steps.specs.Rows.{idle, one, IsRow}
-use Rattle.seam_node_steps.specs.EarlyCall.{two_cells, made, world_0, at_home, with_cells, base_16, base_17, the_move, hit_1, hit_2}
+use Rattle.seam_node_steps.specs.EarlyCall.{world_0, base_17}
 use Rattle.seam_node_steps.proofs.Tables.{computing}
-use Rattle.seam_law_calls.specs.Frames.{here_at, IsAt, IsInFrame}
-use Rattle.seam_law_calls.specs.Sights.{Has, mine, has_of, has_none, entity_flow}
-use Rattle.seam_law_calls.specs.Fits.{RealFits, IsFitReal, IsFitHand}
-use Rattle.seam_law_calls.specs.Burdens.{burden}
-use Rattle.seam_law_calls.specs.Ones.{real_in, reaped_by, HasNoReaps, IsSpared, AllFits, IsFrame}
-use Rattle.seam_law_calls.specs.HandOverExample.{frame, events_of}
 
 -- ---- lists of nodes, one by one
 

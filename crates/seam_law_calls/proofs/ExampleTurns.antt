@@ -6,30 +6,18 @@ use Rattle.std.specs.List.{AllByRecursion}
 use Rattle.std.specs.Ordering.{nat_cmp}
 use Rattle.std.specs.FinMap as table
 use Rattle.std.proofs.lemmas.Bool.{cases_eq, eqb-true, ne_eqb}
-use Rattle.seam_law_flow.specs.Flows.{Flow, letters_of, more_letter}
-use Rattle.seam_law_flow.specs.Numbered.{of_number, number_from}
+use Rattle.seam_node_steps.specs.Prelude.{item_at, Call as CallData, rank_of, order_or, Msg, fits_cell_part, idle, two_cells, made, at_home}
+use Rattle.seam_node_steps.specs.Prelude.{the_move, hit_1, hit_2, limit}
+use Rattle.seam_law_flow.specs.Prelude.{Flow, letters_of, more_letter, of_number, number_from, Desk, AreInTurn}
+use Rattle.seam_law_calls.specs.Prelude.{here_at, Has, kept_if, has_of, has_none, entity_flow, burden, real_in, frame, from_sender}
+use Rattle.seam_law_calls.specs.Prelude.{cell_order_from, real_desk, cell_mail, as_sender, IsCallOf, AreCallsOf, CellCallsInTurn, from_one}
 use Rattle.seam_law_flow.proofs.Numbers.{letters_of-number_from}
-use Rattle.seam_order.specs.Held.{item_at}
-use Rattle.seam_law_flow.specs.Desks.{Desk, AreInTurn}
 use Rattle.seam_law_flow.proofs.Ends.{loaded_in_turn}
-use Rattle.seam_call.specs.declared.call.Call.{Call as CallData}
 use Rattle.seam_call.specs.declared.order.Order.TheVariants as order
-use Rattle.seam_call.specs.Senders.{rank_of}
-use Rattle.seam_entity.specs.Orders.{order_or}
-use Rattle.seam_entity.specs.declared.message.Msg.{Msg}
-use Rattle.seam_entity.specs.Executing.{fits_cell_part}
-use Rattle.seam_node_steps.specs.Rows.{idle}
-use Rattle.seam_node_steps.specs.EarlyCall.{two_cells, made, world_0, at_home, the_move, hit_1, hit_2}
+use Rattle.seam_node_steps.specs.EarlyCall.{world_0}
 use Rattle.seam_node_steps.proofs.Tables.{computing}
-use Rattle.seam_law_calls.specs.Frames.{here_at}
-use Rattle.seam_law_calls.specs.Sights.{Has, kept_if, has_of, has_none, entity_flow}
-use Rattle.seam_entity.specs.Numbers.{limit}
-use Rattle.seam_law_calls.specs.Burdens.{burden}
-use Rattle.seam_law_calls.specs.Ones.{real_in}
-use Rattle.seam_law_calls.specs.HandOverExample.{frame}
 use Rattle.seam_law_calls.proofs.ExampleMet.{burden_is, EachFrom, nodes_of, node_0, node_16, node_17, each_node, slots, no_mail}
-use Rattle.seam_law_calls.specs.CellTurns.{from_sender, cell_order_from, real_desk, cell_mail, as_sender, IsCallOf, AreCallsOf, CellCallsInTurn}
-use Rattle.seam_law_calls.specs.TurnsExample.{calls_of, from_one}
+use Rattle.seam_law_calls.specs.TurnsExample.{calls_of}
 
 -- ---- the calls fit
 

@@ -2,13 +2,11 @@
 use Rattle.std.proofs.Common.{◌≡◌, ℕ, true, is_some, [], ◌∷◌, None, Some, refl, sym, ap, subst}
 use Rattle.std.specs.Ordering.{nat_cmp}
 use Rattle.std.specs.FinMap as table
-use Rattle.seam_node_steps.specs.Bases.{RouteView}
-use Rattle.seam_node_steps.specs.Rows.{idle, one}
-use Rattle.seam_node_steps.specs.EarlyCall.{two_cells, made, world_0, at_home}
+use Rattle.seam_node_steps.specs.Prelude.{RouteView, idle, one, two_cells, made, at_home}
+use Rattle.seam_law_calls.specs.Prelude.{Has, has_of, has_none, entity_flow, AllLead}
+use Rattle.seam_node_steps.specs.EarlyCall.{world_0}
 use Rattle.seam_node_steps.proofs.Tables.{computing}
-use Rattle.seam_law_calls.specs.Sights.{Has, has_of, has_none, entity_flow}
 use Rattle.seam_law_calls.proofs.ExampleMet.{EachFrom, nodes_of, node_0, node_16, node_17, each_node, slots, no_mail, one_is}
-use Rattle.seam_law_calls.specs.Ways.{AllLead}
 use Rattle.seam_law_calls.proofs.Finding.{starts_leading}
 
 abbrev W : ℕ → Has → Type 0

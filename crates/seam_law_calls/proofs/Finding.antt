@@ -2,21 +2,14 @@
 use Rattle.std.proofs.Common.{◌≡◌, ℕ, ◌<◌, Bool, true, false, not, ◌&&◌, ◌||◌, is_some, List, [], ◌∷◌, length, None, Some, refl}
 use Rattle.std.proofs.Common.{sym, ap, ◌∙◌, subst}
 use Rattle.std.specs.List.{AllByRecursion}
-use Rattle.seam_machine.specs.Nets.{happens, enabled, LeadsTo}
-use Rattle.seam_machine.specs.declared.machines.Event.{Event}
+use Rattle.seam_node_steps.specs.Prelude.{happens, enabled, LeadsTo, Event, Call as CallData, Msg, RouteView, World, node_steps}
+use Rattle.seam_node_steps.specs.Prelude.{node_has_work}
+use Rattle.seam_law_flow.specs.Prelude.{Flow, comes}
+use Rattle.seam_law_calls.specs.Prelude.{Frame, Has, entity_flow, IsSpared, IsFrame, HasOne, is_visited, follow, NamesVisited, AllLead}
 use Rattle.seam_machine.proofs.Occurring.{occurs}
 use Rattle.seam_net_runs.proofs.Runs.{leads_keeps}
-use Rattle.seam_law_flow.specs.Flows.{Flow, comes}
-use Rattle.seam_call.specs.declared.call.Call.{Call as CallData}
-use Rattle.seam_entity.specs.declared.message.Msg.{Msg}
 use Rattle.seam_entity.specs.declared.message.Msg.TheVariants.{Call}
-use Rattle.seam_node_steps.specs.Bases.{RouteView}
-use Rattle.seam_node_steps.specs.Nodes.{World, node_steps, node_has_work}
-use Rattle.seam_law_calls.specs.Frames.{Frame}
-use Rattle.seam_law_calls.specs.Sights.{Has, entity_flow}
-use Rattle.seam_law_calls.specs.Ones.{IsSpared, IsFrame, HasOne}
 use Rattle.seam_law_calls.proofs.OneReal.{goes, room, one_happens, calm_of, spared_happens}
-use Rattle.seam_law_calls.specs.Ways.{is_visited, follow, NamesVisited, AllLead}
 use Rattle.seam_law_calls.proofs.WayMoves.{leads}
 use Rattle.seam_law_calls.proofs.Leading.{lead_goes}
 

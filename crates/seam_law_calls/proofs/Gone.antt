@@ -2,31 +2,19 @@
 use Rattle.std.proofs.Common.{◌≡◌, ℕ, ◌+◌, Bool, true, false, not, List, Option, None, Some, refl, sym, ap, ◌∙◌}
 use Rattle.std.proofs.Common.{subst, arith}
 use Rattle.std.specs.List.{AllByRecursion}
-use Rattle.seam_machine.specs.Nets.{happens, enabled, LeadsTo}
-use Rattle.seam_machine.specs.Events.{Occurs}
-use Rattle.seam_machine.specs.declared.machines.Event.{Event}
+use Rattle.seam_node_steps.specs.Prelude.{happens, enabled, LeadsTo, Occurs, Event, RealView, Msg, Hand, Reap, limit, may_rise, is_stray}
+use Rattle.seam_node_steps.specs.Prelude.{World, node_steps, node_has_work}
+use Rattle.seam_law_flow.specs.Prelude.{Goes, comes, letter_in, letters_of, IsSilent, carried_in, Nobody, Handles, still, turns, lands}
+use Rattle.seam_law_flow.specs.Prelude.{leaves, relays}
+use Rattle.seam_law_calls.specs.Prelude.{Frame, here_at, IsInFrame, Has, AtCell, mine, has_of, entity_flow, Acts, surveys, calls, readies}
+use Rattle.seam_law_calls.specs.Prelude.{CellMoves, Moves, at_a_cell, at_a_base, MovesTo, Replays, real_in, real_of, IsFrame, HasOne}
 use Rattle.seam_machine.proofs.Occurring.{occurs}
 use Rattle.seam_net_runs.proofs.Runs.{leads_keeps}
-use Rattle.seam_law_flow.specs.Flows.{Goes, comes, letter_in, letters_of}
-use Rattle.seam_law_flow.specs.Sent.{IsSilent}
-use Rattle.seam_law_flow.specs.Tokens.{carried_in, Nobody, Handles, still, turns, lands, leaves, relays}
 use Rattle.seam_law_flow.proofs.Following.{came}
 use Rattle.seam_law_flow.proofs.SendLists.{sees_none}
 use Rattle.seam_law_flow.proofs.Lives.{nobody_still, nobody_ends}
-use Rattle.seam_entity.specs.Reals.{RealView}
-use Rattle.seam_entity.specs.declared.message.Msg.{Msg}
-use Rattle.seam_entity.specs.declared.message.Msg.TheVariants.{Hand, Reap}
-use Rattle.seam_entity.specs.Numbers.{limit, may_rise}
-use Rattle.seam_node_steps.specs.CellCases.{is_stray}
-use Rattle.seam_node_steps.specs.Nodes.{World, node_steps, node_has_work}
-use Rattle.seam_law_calls.specs.Frames.{Frame, here_at, IsInFrame}
-use Rattle.seam_law_calls.specs.Sights.{Has, AtCell, mine, has_of, entity_flow}
 use Rattle.seam_law_calls.specs.CellMoves as move
-use Rattle.seam_law_calls.specs.CellMoves.{Acts, surveys, calls, readies, CellMoves}
-use Rattle.seam_law_calls.specs.Moves.{Moves, at_a_cell, at_a_base, MovesTo}
 use Rattle.seam_law_calls.proofs.Classify.{frame_happens, event_moves, event_moves_with}
-use Rattle.seam_law_calls.specs.Replays.{Replays}
-use Rattle.seam_law_calls.specs.Ones.{real_in, real_of, IsFrame, HasOne}
 use Rattle.seam_law_calls.proofs.Holds.{below_is}
 use Rattle.seam_law_calls.proofs.Plain.{drops_silent}
 use Rattle.seam_law_calls.proofs.Handling.{reals_unseen, handled}

@@ -7,14 +7,12 @@ use Rattle.std.specs.declared.cmp.Ordering.TheVariants.{Less, Equal, Greater}
 use Rattle.std.specs.FinMap as table
 use Rattle.std.proofs.lemmas.Bool.Decides.{nat_tests}
 use Rattle.seam_table.proofs.Found.{found}
-use Rattle.seam_order.specs.Held.{OrderView, item_at, with_item, without}
-use Rattle.seam_order.specs.Offers.{next_item, after_offer, after_item, after_taking}
+use Rattle.seam_node_steps.specs.Prelude.{OrderView, item_at, with_item, next_item, after_offer, after_item, after_taking, Call, Orders}
+use Rattle.seam_node_steps.specs.Prelude.{order_or, order_is_ready, ready_order}
+use Rattle.seam_law_calls.specs.Prelude.{held_of, held_in}
+use Rattle.seam_order.specs.Held.{without}
 use Rattle.seam_net_runs.specs.Sums.{weight_or}
 use Rattle.seam_net_runs.proofs.MapSums.{total_of_insert}
-use Rattle.seam_call.specs.declared.call.Call.{Call}
-use Rattle.seam_entity.specs.Orders.{Orders, order_or}
-use Rattle.seam_entity.specs.Calls.{order_is_ready, ready_order}
-use Rattle.seam_law_calls.specs.Burdens.{held_of, held_in}
 
 with_by : (n : ℕ) (c : Call) (p : ℕ × Call) (ps : List (ℕ × Call)) (b : Bool) → length (with_item n c ps) ≡ length ps + 1 →
     length (cond b ((n, c) ∷ p ∷ ps) (p ∷ with_item n c ps)) ≡ length (p ∷ ps) + 1

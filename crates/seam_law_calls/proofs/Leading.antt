@@ -3,22 +3,16 @@ use Rattle.std.proofs.Common.{◌≡◌, ℕ, Bool, true, false, not, ◌&&◌, 
 use Rattle.std.proofs.Common.{refl, sym, ap, ◌∙◌, subst, inl, inr}
 use Rattle.std.specs.List.{AllByRecursion}
 use Rattle.std.proofs.lemmas.Bool.{cases_eq}
-use Rattle.seam_machine.specs.Sends.{items_to}
+use Rattle.seam_node_steps.specs.Prelude.{items_to, Call as CallData, RealView, Msg, BaseCall, Hand, Current, GhostSet, GhostDrop, Tick}
+use Rattle.seam_node_steps.specs.Prelude.{Reap, Update, NextPlace, RouteView}
+use Rattle.seam_law_flow.specs.Prelude.{Flow, Goes, comes, IsSilent}
+use Rattle.seam_law_calls.specs.Prelude.{Has, is_visited, is_call, is_hand, has_hand, follow, NamesVisited, AllLead}
 use Rattle.seam_machine.proofs.SendLemmas.{items_to-append}
-use Rattle.seam_law_flow.specs.Flows.{Flow, Goes, comes}
-use Rattle.seam_law_flow.specs.Sent.{IsSilent}
 use Rattle.seam_law_flow.proofs.Following.{Rest, whole, tail, More, own, none, change, came, letters_kept}
 use Rattle.seam_law_flow.proofs.SendLists.{one_here, one_there}
-use Rattle.seam_call.specs.declared.call.Call.{Call as CallData}
-use Rattle.seam_entity.specs.Reals.{RealView}
-use Rattle.seam_entity.specs.declared.message.Msg.{Msg}
-use Rattle.seam_entity.specs.declared.message.Msg.TheVariants.{Call, BaseCall, Hand, Current, GhostSet, GhostDrop, Tick, Reap, Update}
-use Rattle.seam_node_steps.specs.Slots.{NextPlace}
-use Rattle.seam_node_steps.specs.Bases.{RouteView}
-use Rattle.seam_law_calls.specs.Sights.{Has}
+use Rattle.seam_entity.specs.declared.message.Msg.TheVariants.{Call}
 use Rattle.seam_law_calls.proofs.Sparing.{items_all}
 use Rattle.seam_law_calls.proofs.Holds.{both}
-use Rattle.seam_law_calls.specs.Ways.{is_visited, is_call, is_hand, has_hand, follow, NamesVisited, AllLead}
 use Rattle.seam_law_calls.proofs.Following.{follow_more, follow_append, has_append, has_later, or_left, or_right}
 use Rattle.seam_law_calls.proofs.WayMoves.{kept, call_in, route_in, Way, by_next, by_route, Sends, plain, tells, one_call, Leads}
 

@@ -2,13 +2,9 @@
 use Rattle.std.proofs.Common.{◌≡◌, ℕ, ◌+◌, Bool, true, false, not, cond, eqb, List, [], ◌∷◌, filter, Option, None, Some, refl, sym, ap, ◌∙◌}
 use Rattle.std.specs.List.{AllByRecursion}
 use Rattle.std.proofs.lemmas.Bool.{eq-eqb, ne_eqb, eqb-true}
-use Rattle.seam_machine.specs.Sends.{items_to}
-use Rattle.seam_law_flow.specs.Flows.{letters_of, more_letter}
-use Rattle.seam_call.specs.declared.order.Order.{Order}
-use Rattle.seam_entity.specs.declared.message.Msg.{Msg}
-use Rattle.seam_node_steps.specs.CellCases.{about}
-use Rattle.seam_node_steps.specs.Cells.{without}
-use Rattle.seam_law_calls.specs.Sights.{concerned, concerns, kept_if, mine, concerning, order_concerns, orders_of, one_more_if, times}
+use Rattle.seam_node_steps.specs.Prelude.{items_to, Order, Msg, about, without}
+use Rattle.seam_law_flow.specs.Prelude.{letters_of, more_letter}
+use Rattle.seam_law_calls.specs.Prelude.{concerned, concerns, kept_if, mine, concerning, order_concerns, orders_of, one_more_if, times}
 
 -- ---- filters
 

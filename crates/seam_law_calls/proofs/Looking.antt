@@ -7,31 +7,19 @@ use Rattle.std.specs.FinMap as table
 use Rattle.std.specs.declared.cmp.Ordering.{Ordering}
 use Rattle.std.specs.declared.cmp.Ordering.TheVariants.{Less, Equal, Greater}
 use Rattle.std.proofs.lemmas.Bool.{cases_eq, eq-eqb, ne_eqb}
-use Rattle.seam_machine.specs.declared.machines.Input.{Input}
-use Rattle.seam_machine.specs.declared.machines.Input.TheVariants.{Task, From}
-use Rattle.seam_order.specs.Held.{OrderView}
-use Rattle.seam_order.specs.Offers.{next_item}
-use Rattle.seam_tree.specs.Division.{Division}
-use Rattle.seam_law_flow.specs.Flows.{letter_in}
-use Rattle.seam_call.specs.declared.call.Call.{Call as CallData}
-use Rattle.seam_call.specs.declared.shown.Shown.{Shown}
-use Rattle.seam_entity.specs.Calls.{ready_order}
-use Rattle.seam_entity.specs.Orders.{order_of}
-use Rattle.seam_entity.specs.Executing.{executed, executed_ready, shows}
-use Rattle.seam_entity.specs.Reals.{RealView, WitnessView}
-use Rattle.seam_entity.specs.declared.message.Msg.{Msg}
-use Rattle.seam_entity.specs.declared.message.Msg.TheVariants.{Call, BaseCall, Hand, Current, GhostSet, GhostDrop, Tick, Reap, Update}
-use Rattle.seam_entity.specs.Here.{Here, base_of}
-use Rattle.seam_node_steps.specs.Slots.{Slot, NextPlace, SlotStep, slot_after, unless_stray}
-use Rattle.seam_node_steps.specs.Settle.{settled, settled_by, home_after}
-use Rattle.seam_node_steps.specs.CellCases.{about, slot_steps, is_stray, case_of, call, call_next_place, offered, ghost_set, reap}
-use Rattle.seam_node_steps.specs.CellCases.{survey_task, stray_survey, ready_call_task, stray_ready_call, ready_in, executes_ready}
-use Rattle.seam_node_steps.specs.CellLooks.{Known, numbered, shown_of, looks_of, after_looking, look_task, look_by, stray_look, stray_look_by}
-use Rattle.seam_node_steps.specs.Cells.{CellView, slot_of, after_slot, unlisted_by, stepped, cell_steps, cell_task, ready_next, look_next}
-use Rattle.seam_node_steps.specs.Cells.{cell_hears, ready_entity, surveys, calls_ready, looks_around, known_to}
-use Rattle.seam_node_steps.specs.Valid.{AreUnderTheirEntities}
+use Rattle.seam_node_steps.specs.Prelude.{Input, Task, From, OrderView, next_item, Division, Call as CallData, Shown, ready_order, order_of}
+use Rattle.seam_node_steps.specs.Prelude.{executed, executed_ready, shows, RealView, WitnessView, Msg, BaseCall, Hand, Current, GhostSet}
+use Rattle.seam_node_steps.specs.Prelude.{GhostDrop, Tick, Reap, Update, Here, base_of, Slot, NextPlace, SlotStep, slot_after, unless_stray}
+use Rattle.seam_node_steps.specs.Prelude.{settled, settled_by, home_after, about, slot_steps, is_stray, call_next_place, ghost_set, reap}
+use Rattle.seam_node_steps.specs.Prelude.{survey_task, stray_survey, ready_call_task, stray_ready_call, ready_in, executes_ready, Known}
+use Rattle.seam_node_steps.specs.Prelude.{numbered, shown_of, looks_of, after_looking, look_task, look_by, stray_look, stray_look_by}
+use Rattle.seam_node_steps.specs.Prelude.{CellView, slot_of, after_slot, unlisted_by, stepped, cell_steps, cell_task, ready_next, look_next}
+use Rattle.seam_node_steps.specs.Prelude.{cell_hears, ready_entity, surveys, calls_ready, looks_around, known_to, AreUnderTheirEntities}
+use Rattle.seam_law_flow.specs.Prelude.{letter_in}
+use Rattle.seam_law_calls.specs.Prelude.{mine, concerning, times, AtCell, at_cell}
+use Rattle.seam_entity.specs.declared.message.Msg.TheVariants.{Call}
+use Rattle.seam_node_steps.specs.CellCases.{case_of, call, offered}
 use Rattle.seam_node_steps.proofs.Slots.{slot_stepped}
-use Rattle.seam_law_calls.specs.Sights.{mine, concerning, times, AtCell, at_cell}
 use Rattle.seam_law_calls.proofs.Lists.{AllAbout, concerning_own, concerning_other, times_own}
 use Rattle.seam_law_calls.proofs.Sent.{slot_about, surveys_about, readies_about, looks_about}
 

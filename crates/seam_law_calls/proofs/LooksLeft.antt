@@ -5,40 +5,24 @@ use Rattle.std.specs.List.{range_with_len}
 use Rattle.std.specs.FinSet as set
 use Rattle.std.proofs.lemmas.List.FromFn.{length-range_with_len}
 use Rattle.seam_law_flow.proofs.Following.{all_append}
-use Rattle.seam_tree.specs.Division.{cells_of}
-use Rattle.seam_machine.specs.Nets.{happens}
-use Rattle.seam_machine.specs.Totals.{total}
-use Rattle.seam_machine.specs.Events.{Occurs}
-use Rattle.seam_machine.specs.declared.machines.Event.{Event}
+use Rattle.seam_node_steps.specs.Prelude.{cells_of, happens, total, Occurs, Event, Shown, RealView, Msg, BaseCall, Hand, Current, GhostSet}
+use Rattle.seam_node_steps.specs.Prelude.{GhostDrop, Tick, Reap, Update, Here, base_numbers, cell_count, SlotStep, haunts_at}
+use Rattle.seam_node_steps.specs.Prelude.{ghost_messages, current_to, tick_to, Known, numbered, World, node_steps}
+use Rattle.seam_law_flow.specs.Prelude.{letter_in, IsSilent}
+use Rattle.seam_law_calls.specs.Prelude.{Frame, here_at, IsInFrame, Has, AtCell, AtBase, mine, concerning, has_of, unlisted_if, Does, Acts}
+use Rattle.seam_law_calls.specs.Prelude.{surveys, calls, readies, CellMoves, looks_after_tick, has_witness, BaseMoves, Moves, at_a_cell}
+use Rattle.seam_law_calls.specs.Prelude.{at_a_base, tick_in, order_looks, node_looks, mine_looks, looks_left}
 use Rattle.seam_net_runs.specs.Sums.{weight_or}
 use Rattle.seam_net_runs.proofs.Soundness.{sound_sends}
 use Rattle.seam_net_runs.proofs.Weighing.{weight_moves}
-use Rattle.seam_law_flow.specs.Flows.{letter_in}
-use Rattle.seam_law_flow.specs.Sent.{IsSilent}
-use Rattle.seam_call.specs.declared.shown.Shown.{Shown}
-use Rattle.seam_entity.specs.Reals.{RealView}
-use Rattle.seam_entity.specs.declared.message.Msg.{Msg}
-use Rattle.seam_entity.specs.declared.message.Msg.TheVariants.{Call, BaseCall, Hand, Current, GhostSet, GhostDrop, Tick, Reap, Update}
-use Rattle.seam_entity.specs.Here.{Here, base_numbers, cell_count}
-use Rattle.seam_node_steps.specs.Slots.{SlotStep}
-use Rattle.seam_node_steps.specs.Settle.{haunts_at, ghost_messages}
-use Rattle.seam_node_steps.specs.CellCases.{current_to}
-use Rattle.seam_node_steps.specs.BaseCases.{tick_to}
-use Rattle.seam_node_steps.specs.CellLooks.{Known, numbered}
-use Rattle.seam_node_steps.specs.Nodes.{World, node_steps}
-use Rattle.seam_law_calls.specs.Frames.{Frame, here_at, IsInFrame}
-use Rattle.seam_law_calls.specs.Sights.{Has, AtCell, AtBase, mine, concerning, has_of}
+use Rattle.seam_entity.specs.declared.message.Msg.TheVariants.{Call}
 use Rattle.seam_law_calls.specs.CellMoves as move
-use Rattle.seam_law_calls.specs.CellMoves.{unlisted_if, Does, Acts, surveys, calls, readies, CellMoves, looks_after_tick, has_witness}
-use Rattle.seam_law_calls.specs.BaseMoves.{BaseMoves}
-use Rattle.seam_law_calls.specs.Moves.{Moves, at_a_cell, at_a_base}
 use Rattle.seam_law_calls.proofs.Classify.{node_laws, node_moves}
 use Rattle.seam_law_calls.proofs.Easing.{sent_is, event_eases}
 use Rattle.seam_law_calls.proofs.Paying.{OrdersPay, base_paid}
 use Rattle.seam_law_calls.proofs.Plain.{ghosts_silent, drops_silent, mapped_silent}
-use Rattle.seam_law_calls.specs.Clients.{tick_in}
 use Rattle.seam_law_calls.proofs.NoLooks.{no_tick}
-use Rattle.seam_law_calls.specs.Telling.{order_looks, letter_looks, has_looks, node_looks, mine_looks, looks_left}
+use Rattle.seam_law_calls.specs.Telling.{letter_looks, has_looks}
 use Rattle.seam_law_calls.proofs.Looking.{LooksAt}
 
 -- ---- what is sent

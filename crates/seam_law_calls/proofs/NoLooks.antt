@@ -2,35 +2,21 @@
 use Rattle.std.proofs.Common.{◌≡◌, ℕ, ◌≤◌, Bool, true, false, List, [], ◌∷◌, Option, None, Some, refl, sym, ap, ◌∙◌, subst, arith}
 use Rattle.std.specs.List.{AllByRecursion}
 use Rattle.std.specs.FinSet as set
-use Rattle.seam_machine.specs.Nets.{happens, enabled, LeadsTo}
-use Rattle.seam_machine.specs.declared.machines.Event.{Event}
+use Rattle.seam_node_steps.specs.Prelude.{happens, enabled, LeadsTo, Event, Order, RealView, Msg, Tick, base_numbers, SlotStep, haunts_at}
+use Rattle.seam_node_steps.specs.Prelude.{ghost_messages, current_to, World, node_steps, node_has_work}
+use Rattle.seam_law_flow.specs.Prelude.{comes, IsSilent}
+use Rattle.seam_law_calls.specs.Prelude.{Frame, here_at, IsInFrame, Has, AtCell, AtBase, entity_flow, unlisted_if, Does, Acts, surveys}
+use Rattle.seam_law_calls.specs.Prelude.{calls, readies, CellMoves, BaseMoves, Moves, at_a_cell, at_a_base, sent_of, sent_by, is_tick_order}
+use Rattle.seam_law_calls.specs.Prelude.{tick_in, HasToldAtMost, HasNoLooks}
 use Rattle.seam_machine.proofs.Occurring.{occurs}
 use Rattle.seam_net_runs.proofs.Runs.{leads_keeps}
-use Rattle.seam_law_flow.specs.Flows.{comes}
-use Rattle.seam_law_flow.specs.Sent.{IsSilent}
 use Rattle.seam_law_flow.proofs.Following.{all_append, slots_kept, letters_kept, came}
-use Rattle.seam_call.specs.declared.order.Order.{Order}
 use Rattle.seam_call.specs.declared.order.Order.TheVariants as order
-use Rattle.seam_entity.specs.Reals.{RealView}
-use Rattle.seam_entity.specs.declared.message.Msg.{Msg}
-use Rattle.seam_entity.specs.declared.message.Msg.TheVariants.{Tick}
-use Rattle.seam_entity.specs.Here.{base_numbers}
-use Rattle.seam_node_steps.specs.Slots.{SlotStep}
-use Rattle.seam_node_steps.specs.Settle.{haunts_at, ghost_messages}
-use Rattle.seam_node_steps.specs.CellCases.{current_to}
-use Rattle.seam_node_steps.specs.Nodes.{World, node_steps, node_has_work}
-use Rattle.seam_law_calls.specs.Frames.{Frame, here_at, IsInFrame}
-use Rattle.seam_law_calls.specs.Sights.{Has, AtCell, AtBase, entity_flow}
 use Rattle.seam_law_calls.specs.CellMoves as move
-use Rattle.seam_law_calls.specs.CellMoves.{unlisted_if, Does, Acts, surveys, calls, readies, CellMoves}
 use Rattle.seam_law_calls.specs.BaseMoves as base_move
-use Rattle.seam_law_calls.specs.BaseMoves.{BaseMoves}
-use Rattle.seam_law_calls.specs.Moves.{Moves, at_a_cell, at_a_base}
 use Rattle.seam_law_calls.proofs.Classify.{event_moves, frame_happens}
 use Rattle.seam_law_calls.proofs.Plain.{SeesNoGhost, ghosts_silent, drops_silent, mapped_silent}
 use Rattle.seam_law_calls.proofs.Sparing.{items_all}
-use Rattle.seam_law_calls.specs.WitnessMoves.{sent_of, sent_by}
-use Rattle.seam_law_calls.specs.Clients.{is_tick_order, tick_in, HasToldAtMost, HasNoLooks}
 use Rattle.seam_law_calls.proofs.WitnessKept.{each_happens}
 
 pub no_tick : SeesNoGhost tick_in

@@ -6,28 +6,20 @@ use Rattle.std.specs.List.{All, AllByRecursion}
 use Rattle.std.proofs.lemmas.Bool.{cases_eq, eqb-true}
 use Rattle.std.proofs.lemmas.List.Elements.{All-nil, All-head, All-get_or, filter_passes}
 use Rattle.std.proofs.lemmas.Option.{slice_get_within, get_or_from_slice_get}
-use Rattle.seam_law_flow.specs.Flows.{letters_of, slot_at}
-use Rattle.seam_call.specs.declared.call.Call.{Call as CallData}
-use Rattle.seam_call.specs.declared.order.Order.{Order}
+use Rattle.seam_node_steps.specs.Prelude.{Call as CallData, Order, Msg, BaseCall, Hand, Current, GhostSet, GhostDrop, Tick, Reap, Update}
+use Rattle.seam_node_steps.specs.Prelude.{limit, cell_count, peers_of, BaseView, PartView, RouteView, may_show, stray_base_call}
+use Rattle.seam_node_steps.specs.Prelude.{stray_current, stray_update, stray_proxy_update, is_base_node_of, NodeView, World, node_peers}
+use Rattle.seam_node_steps.specs.Prelude.{Cell, Base}
+use Rattle.seam_law_flow.specs.Prelude.{letters_of, slot_at}
+use Rattle.seam_law_calls.specs.Prelude.{Frame, here_at, IsInFrame, Has, has_of, has_none, order_concerns, entity_flow, strays_at, is_stuck}
+use Rattle.seam_law_calls.specs.Prelude.{base_call_of, calls_ordered, HasNoProxy, home_of, FindsPart, HasBaseCalls, IsBaseNumber}
+use Rattle.seam_law_calls.specs.Prelude.{is_for_cells, IsForNode, HasRoutes, LinesHaveRoom, no_client, client, NothingIsStray}
 use Rattle.seam_call.specs.declared.order.Order.TheVariants as order
 use Rattle.seam_call.specs.declared.shown.Update.{Update as UpdateData}
-use Rattle.seam_entity.specs.declared.message.Msg.{Msg}
-use Rattle.seam_entity.specs.declared.message.Msg.TheVariants.{Call, BaseCall, Hand, Current, GhostSet, GhostDrop, Tick, Reap, Update}
-use Rattle.seam_entity.specs.Numbers.{limit}
-use Rattle.seam_entity.specs.Here.{cell_count, peers_of}
-use Rattle.seam_node_steps.specs.Bases.{BaseView, PartView, RouteView}
-use Rattle.seam_node_steps.specs.BaseCases.{may_show, may_execute, stray_base_call, stray_current, stray_update, stray_proxy_update}
-use Rattle.seam_node_steps.specs.BaseCases.{is_base_node_of}
-use Rattle.seam_node_steps.specs.Nodes.{NodeView, World, node_peers}
-use Rattle.seam_node_steps.specs.Nodes.NodeView.{Cell, Base}
-use Rattle.seam_law_calls.specs.Frames.{Frame, here_at, IsInFrame}
-use Rattle.seam_law_calls.specs.Sights.{Has, has_of, has_none, order_concerns, entity_flow}
-use Rattle.seam_law_calls.specs.BaseMoves.{strays_at, is_stuck}
+use Rattle.seam_entity.specs.declared.message.Msg.TheVariants.{Call}
+use Rattle.seam_node_steps.specs.BaseCases.{may_execute}
 use Rattle.seam_law_calls.proofs.ExampleMet.{slots}
 use Rattle.seam_law_calls.proofs.Holds.{all_two, below_is}
-use Rattle.seam_law_calls.specs.PartMoves.{base_call_of, calls_ordered, HasNoProxy}
-use Rattle.seam_law_calls.specs.BaseTurns.{home_of, FindsPart, HasBaseCalls}
-use Rattle.seam_law_calls.specs.Strays.{IsBaseNumber, is_for_cells, IsForNode, HasRoutes, LinesHaveRoom, no_client, client, NothingIsStray}
 use Rattle.seam_law_calls.proofs.BaseRuns.{finds, finds_ordered, version_may_rise}
 use Rattle.seam_law_calls.proofs.AloneRuns.{no_lines}
 use Rattle.seam_law_calls.proofs.ClientRuns.{part_may_show, finds_client}

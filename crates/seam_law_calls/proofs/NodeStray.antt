@@ -2,21 +2,15 @@
 use Rattle.std.proofs.Common.{◌≡◌, ℕ, ◌&&◌, is_none, Some, refl, sym, ap, ◌∙◌}
 use Rattle.std.specs.Prelude.{slice_get}
 use Rattle.std.specs.FinMap as table
-use Rattle.seam_law_flow.specs.Flows.{letters_of, more_letter, slot_at}
-use Rattle.seam_call.specs.declared.order.Order.{Order}
+use Rattle.seam_node_steps.specs.Prelude.{Order, Msg, BaseCall, Hand, Current, GhostSet, GhostDrop, Tick, Reap, Update, about, BaseView}
+use Rattle.seam_node_steps.specs.Prelude.{stray_order, stray_base_call, stray_current, stray_update, is_base_node_of, World, Base}
+use Rattle.seam_law_flow.specs.Prelude.{letters_of, more_letter, slot_at}
+use Rattle.seam_law_calls.specs.Prelude.{Frame, here_at, IsInFrame, mine, order_about, orders_of, at_base, has_of, has_none, entity_flow}
+use Rattle.seam_law_calls.specs.Prelude.{strays_at, is_stuck, NothingIsStray, NoneIsStray}
 use Rattle.seam_call.specs.declared.order.Order.TheVariants as order
-use Rattle.seam_entity.specs.declared.message.Msg.{Msg}
-use Rattle.seam_entity.specs.declared.message.Msg.TheVariants.{Call, BaseCall, Hand, Current, GhostSet, GhostDrop, Tick, Reap, Update}
-use Rattle.seam_node_steps.specs.CellCases.{about}
-use Rattle.seam_node_steps.specs.Bases.{BaseView}
-use Rattle.seam_node_steps.specs.BaseCases.{is_stray, stray_order, stray_base_call, stray_current, stray_update, is_base_node_of}
-use Rattle.seam_node_steps.specs.Nodes.{World}
-use Rattle.seam_node_steps.specs.Nodes.NodeView.{Base}
-use Rattle.seam_law_calls.specs.Frames.{Frame, here_at, IsInFrame}
-use Rattle.seam_law_calls.specs.Sights.{mine, order_about, orders_of, at_base, has_of, has_none, entity_flow}
-use Rattle.seam_law_calls.specs.BaseMoves.{strays_at, is_stuck}
+use Rattle.seam_entity.specs.declared.message.Msg.TheVariants.{Call}
+use Rattle.seam_node_steps.specs.BaseCases.{is_stray}
 use Rattle.seam_law_calls.proofs.Lists.{concerned_own, mine_own, orders_own}
-use Rattle.seam_law_calls.specs.Strays.{NothingIsStray, NoneIsStray}
 
 entity_is : (x e : ℕ) → Some x ≡ Some e → e ≡ x
 entity_is x e is = cc

@@ -4,37 +4,23 @@ use Rattle.std.proofs.Common.{None, Some, refl, sym, ap, ◌∙◌, subst, arith
 use Rattle.std.specs.List.{AllByRecursion, list_all}
 use Rattle.std.specs.FinSet as set
 use Rattle.std.proofs.lemmas.Bool.{cases_eq}
-use Rattle.seam_tree.specs.Division.{cells_of}
+use Rattle.seam_node_steps.specs.Prelude.{cells_of, AreDefs, happens, enabled, run, AllEnabled, LeadsTo, Occurs, items_to, Input, Task}
+use Rattle.seam_node_steps.specs.Prelude.{From, Event, RealView, Msg, BaseCall, Hand, Current, GhostSet, GhostDrop, Tick, Reap, Update}
+use Rattle.seam_node_steps.specs.Prelude.{limit, cell_numbers, properties, is_cell_if, may_come, World, node_steps, node_has_work}
+use Rattle.seam_law_flow.specs.Prelude.{Goes, comes, letter_in, letters_of, carried_in, TokenPlace, On, Sole, Handles, still, turns, lands}
+use Rattle.seam_law_flow.specs.Prelude.{leaves, relays, place_after, token_after}
+use Rattle.seam_law_calls.specs.Prelude.{Frame, here_at, IsInFrame, Has, concerns, kept_if, mine, entity_flow, MovesTo, Replays, RealFits}
+use Rattle.seam_law_calls.specs.Prelude.{IsFitReal, IsFitHand, real_burden, real_in, real_of, reaped_by, HasNoReaps, IsSpared, AllFits}
+use Rattle.seam_law_calls.specs.Prelude.{IsFrame, HasOne, OneFrom, reaps, NoReapComes}
 use Rattle.seam_defs.specs.declared.flags.Group.TheVariants as group
-use Rattle.seam_defs.specs.Types.{AreDefs}
 use Rattle.seam_defs.proofs.TestLemmas.{of_group-Decides}
-use Rattle.seam_machine.specs.Nets.{happens, enabled, run, AllEnabled, LeadsTo}
-use Rattle.seam_machine.specs.Events.{Occurs}
-use Rattle.seam_machine.specs.Sends.{items_to}
-use Rattle.seam_machine.specs.declared.machines.Input.{Input}
-use Rattle.seam_machine.specs.declared.machines.Input.TheVariants.{Task, From}
-use Rattle.seam_machine.specs.declared.machines.Event.{Event}
 use Rattle.seam_machine.proofs.Occurring.{occurs}
 use Rattle.seam_net_runs.proofs.Runs.{leads_keeps}
-use Rattle.seam_law_flow.specs.Flows.{Goes, comes, letter_in, letters_of}
-use Rattle.seam_law_flow.specs.Tokens.{carried_in, TokenPlace, On, Sole, Handles, still, turns, lands, leaves, relays, place_after, token_after}
 use Rattle.seam_law_flow.proofs.Following.{slots_kept, letters_kept, came}
 use Rattle.seam_law_flow.proofs.TokenLemmas.{sole_came, sole_goes, token_turns}
-use Rattle.seam_entity.specs.Reals.{RealView}
-use Rattle.seam_entity.specs.declared.message.Msg.{Msg}
-use Rattle.seam_entity.specs.declared.message.Msg.TheVariants.{Call, BaseCall, Hand, Current, GhostSet, GhostDrop, Tick, Reap, Update}
-use Rattle.seam_entity.specs.Numbers.{limit}
-use Rattle.seam_entity.specs.Here.{cell_numbers, properties}
-use Rattle.seam_node_steps.specs.CellCases.{haunts_cell, is_cell_if, may_come}
-use Rattle.seam_node_steps.specs.Nodes.{World, node_steps, node_has_work}
-use Rattle.seam_law_calls.specs.Frames.{Frame, here_at, IsInFrame}
-use Rattle.seam_law_calls.specs.Sights.{Has, concerns, kept_if, mine, entity_flow}
-use Rattle.seam_law_calls.specs.Moves.{MovesTo}
+use Rattle.seam_entity.specs.declared.message.Msg.TheVariants.{Call}
+use Rattle.seam_node_steps.specs.CellCases.{haunts_cell}
 use Rattle.seam_law_calls.proofs.Classify.{frame_happens, event_moves_with}
-use Rattle.seam_law_calls.specs.Replays.{Replays}
-use Rattle.seam_law_calls.specs.Fits.{RealFits, IsFitReal, IsFitHand}
-use Rattle.seam_law_calls.specs.Burdens.{real_burden}
-use Rattle.seam_law_calls.specs.Ones.{real_in, real_of, reaped_by, HasNoReaps, IsSpared, AllFits, IsFrame, HasOne, OneFrom, reaps, NoReapComes}
 use Rattle.seam_law_calls.proofs.Holds.{all_two, below_is}
 use Rattle.seam_law_calls.proofs.Replaying.{replays_none, replays_on}
 use Rattle.seam_law_calls.proofs.Handling.{FindsRoom, StillFits, Handled, handled}

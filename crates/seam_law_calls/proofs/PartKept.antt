@@ -2,23 +2,13 @@
 use Rattle.std.proofs.Common.{◌≡◌, ℕ, Bool, true, false, cond, eqb, List, [], ◌∷◌, Option, None, Some, refl, sym, ap, ◌∙◌, subst, inl, inr}
 use Rattle.std.specs.List.{AllByRecursion}
 use Rattle.std.proofs.lemmas.Bool.{cases_eq, eqb-true}
-use Rattle.seam_machine.specs.Sends.{items_to}
-use Rattle.seam_law_flow.specs.Flows.{Goes, comes}
-use Rattle.seam_law_flow.specs.Sent.{IsSilent}
+use Rattle.seam_node_steps.specs.Prelude.{items_to, Call as CallData, Order, Msg, Here, PartView, World}
+use Rattle.seam_law_flow.specs.Prelude.{Goes, comes, IsSilent}
+use Rattle.seam_law_calls.specs.Prelude.{Frame, here_at, IsInFrame, AtBase, entity_flow, MovesTo, base_call_in, Offered, now, early, late}
+use Rattle.seam_law_calls.specs.Prelude.{PartMoves, rests, refuses, offers, sends, serves, executes, misses, updates, shows, ends, home_of}
+use Rattle.seam_law_calls.specs.Prelude.{IsHomeward, HasPart}
 use Rattle.seam_law_flow.proofs.Following.{slots_kept, letters_kept}
-use Rattle.seam_call.specs.declared.call.Call.{Call as CallData}
-use Rattle.seam_call.specs.declared.order.Order.{Order}
 use Rattle.seam_call.specs.declared.order.Order.TheVariants as order
-use Rattle.seam_entity.specs.declared.message.Msg.{Msg}
-use Rattle.seam_entity.specs.Here.{Here}
-use Rattle.seam_node_steps.specs.Bases.{PartView}
-use Rattle.seam_node_steps.specs.Nodes.{World}
-use Rattle.seam_law_calls.specs.Frames.{Frame, here_at, IsInFrame}
-use Rattle.seam_law_calls.specs.Sights.{AtBase, entity_flow}
-use Rattle.seam_law_calls.specs.Moves.{MovesTo}
-use Rattle.seam_law_calls.specs.PartMoves.{base_call_in, Offered, now, early, late}
-use Rattle.seam_law_calls.specs.PartMoves.{PartMoves, rests, refuses, offers, sends, serves, executes, misses, updates, shows, ends}
-use Rattle.seam_law_calls.specs.BaseTurns.{home_of, IsHomeward, HasPart}
 use Rattle.seam_law_calls.proofs.PartSteps.{part_moves}
 
 -- the part stays as it is, or becomes another of its type

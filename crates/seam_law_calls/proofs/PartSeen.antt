@@ -5,36 +5,21 @@ use Rattle.std.specs.FinMap as table
 use Rattle.std.proofs.lemmas.Bool.{cases_eq, ne_eqb}
 use Rattle.std.proofs.lemmas.List.{append-nil}
 use Rattle.seam_table.proofs.Found.{found}
-use Rattle.seam_machine.specs.Sends.{items_to}
-use Rattle.seam_law_flow.specs.Flows.{letters_of, more_letter}
-use Rattle.seam_law_flow.specs.Sent.{IsSilent}
-use Rattle.seam_law_flow.specs.Tokens.{carried_in}
+use Rattle.seam_node_steps.specs.Prelude.{items_to, OrderView, next_item, after_offer, Call as CallData, Order, rank_of, order_or, Msg}
+use Rattle.seam_node_steps.specs.Prelude.{BaseCall, Here, base_of, order_is_ready, ready_order, PartView, stray_base_call}
+use Rattle.seam_law_flow.specs.Prelude.{letters_of, more_letter, IsSilent, carried_in, Desk, Post, Mail, Item, Quiet, Only, Passes}
+use Rattle.seam_law_calls.specs.Prelude.{Frame, here_at, Has, AtBase, numbered_from, desk_for, base_call_in, calls_ordered, called, Offered}
+use Rattle.seam_law_calls.specs.Prelude.{now, early, late, PartMoves, rests, refuses, offers, sends, serves, executes, misses, updates}
+use Rattle.seam_law_calls.specs.Prelude.{shows, ends, part_desk, base_post, base_mail, FindsPart}
 use Rattle.seam_law_flow.proofs.SendLists.{sees_none, sees_one_here, sees_one_there}
-use Rattle.seam_order.specs.Held.{OrderView}
-use Rattle.seam_order.specs.Offers.{next_item, after_offer}
 use Rattle.seam_law_flow.proofs.Delivering.{offer_late}
-use Rattle.seam_law_flow.specs.Desks.{Desk, Post, Mail, Item}
 use Rattle.seam_law_flow.specs.CallMoves as turn
-use Rattle.seam_law_flow.specs.CallMoves.{Quiet, Only, Passes}
-use Rattle.seam_call.specs.declared.call.Call.{Call as CallData}
-use Rattle.seam_call.specs.declared.order.Order.{Order}
 use Rattle.seam_call.specs.declared.order.Order.TheVariants as order
-use Rattle.seam_call.specs.Senders.{rank_of}
-use Rattle.seam_entity.specs.Orders.{order_or}
-use Rattle.seam_entity.specs.declared.message.Msg.{Msg}
-use Rattle.seam_entity.specs.declared.message.Msg.TheVariants.{BaseCall}
-use Rattle.seam_entity.specs.Here.{Here, base_of}
-use Rattle.seam_entity.specs.Calls.{order_is_ready, ready_order}
-use Rattle.seam_node_steps.specs.Bases.{PartView}
-use Rattle.seam_node_steps.specs.BaseCases.{may_call, stray_base_call}
-use Rattle.seam_law_calls.specs.Frames.{Frame, here_at}
-use Rattle.seam_law_calls.specs.Sights.{Has, AtBase}
-use Rattle.seam_law_calls.specs.CellTurns.{numbered_from, desk_for}
+use Rattle.seam_node_steps.specs.BaseCases.{may_call}
 use Rattle.seam_law_calls.proofs.Holds.{not_both}
 use Rattle.seam_law_calls.proofs.DeskLemmas.{from_same, from_other, desk_executes, desk_holds, desk_keeps, desk_stays, desk_takes}
-use Rattle.seam_law_calls.specs.PartMoves.{base_call_in, calls_ordered, called, Offered, now, early, late, Refused}
-use Rattle.seam_law_calls.specs.PartMoves.{PartMoves, rests, refuses, offers, sends, serves, executes, misses, updates, shows, ends}
-use Rattle.seam_law_calls.specs.BaseTurns.{part_desk, base_post, item_from, base_mail, FindsPart}
+use Rattle.seam_law_calls.specs.PartMoves.{Refused}
+use Rattle.seam_law_calls.specs.BaseTurns.{item_from}
 
 -- a ready call is of the sender under whose place it is held
 abbrev pub HoldsOwnCalls : AtBase → Type 0

@@ -6,34 +6,23 @@ use Rattle.std.specs.declared.cmp.Ordering.{Ordering}
 use Rattle.std.specs.declared.cmp.Ordering.TheVariants.{Less, Equal, Greater}
 use Rattle.std.specs.FinSet as set
 use Rattle.std.proofs.lemmas.Bool.Decides.{nat_tests}
-use Rattle.seam_law_flow.specs.Flows.{letters_of, more_letter}
-use Rattle.seam_law_flow.specs.Sent.{IsSilent}
+use Rattle.seam_node_steps.specs.Prelude.{Call as CallData, Order, order_of, RealView, Msg, BaseCall, Hand, Current, GhostSet, GhostDrop}
+use Rattle.seam_node_steps.specs.Prelude.{Tick, Reap, Update, Here, cell_count, base_numbers, base_of, PartView, ProxyView, offered}
+use Rattle.seam_node_steps.specs.Prelude.{after_showing, tick_to, SlotStep, haunts_at, ghost_messages, current_to}
+use Rattle.seam_law_flow.specs.Prelude.{letters_of, more_letter, IsSilent}
+use Rattle.seam_law_calls.specs.Prelude.{Frame, here_at, Has, AtCell, Does, Acts, surveys, calls, readies, CellMoves, BaseMoves, strays_at}
+use Rattle.seam_law_calls.specs.Prelude.{updated, Moves, at_a_cell, at_a_base, base_call_in, update_in, base_call_of, calls_ordered, called}
+use Rattle.seam_law_calls.specs.Prelude.{told, Offered, now, early, late, PartMoves, rests, refuses, offers, sends, serves, executes}
+use Rattle.seam_law_calls.specs.Prelude.{misses, updates, shows, ends}
 use Rattle.seam_law_flow.proofs.Following.{all_append}
-use Rattle.seam_call.specs.declared.call.Call.{Call as CallData}
-use Rattle.seam_call.specs.declared.order.Order.{Order}
 use Rattle.seam_call.specs.declared.order.Order.TheVariants as order
 use Rattle.seam_call.specs.declared.shown.Update.{Update as UpdateData}
-use Rattle.seam_entity.specs.Orders.{order_of}
-use Rattle.seam_entity.specs.Reals.{RealView}
-use Rattle.seam_entity.specs.declared.message.Msg.{Msg}
-use Rattle.seam_entity.specs.declared.message.Msg.TheVariants.{Call, BaseCall, Hand, Current, GhostSet, GhostDrop, Tick, Reap, Update}
-use Rattle.seam_entity.specs.Here.{Here, cell_count, base_numbers, base_of}
-use Rattle.seam_node_steps.specs.Bases.{PartView, ProxyView}
-use Rattle.seam_node_steps.specs.BaseCases.{offered, after_showing, tick_to}
-use Rattle.seam_node_steps.specs.Slots.{SlotStep}
+use Rattle.seam_entity.specs.declared.message.Msg.TheVariants.{Call}
 use Rattle.seam_node_steps.specs.Slots as slot_step
-use Rattle.seam_node_steps.specs.Settle.{haunts_at, ghost_messages}
-use Rattle.seam_node_steps.specs.CellCases.{current_to}
-use Rattle.seam_law_calls.specs.Frames.{Frame, here_at}
-use Rattle.seam_law_calls.specs.Sights.{Has, AtCell}
 use Rattle.seam_law_calls.specs.CellMoves as move
-use Rattle.seam_law_calls.specs.CellMoves.{Does, Acts, surveys, calls, readies, CellMoves}
 use Rattle.seam_law_calls.specs.BaseMoves as base_move
-use Rattle.seam_law_calls.specs.BaseMoves.{BaseMoves, strays_at, proxy_updated, updated, client_is_ready}
-use Rattle.seam_law_calls.specs.Moves.{Moves, at_a_cell, at_a_base}
+use Rattle.seam_law_calls.specs.BaseMoves.{proxy_updated, client_is_ready}
 use Rattle.seam_law_calls.proofs.Plain.{SeesNoGhost, ghosts_silent, drops_silent, mapped_silent, numbered_silent}
-use Rattle.seam_law_calls.specs.PartMoves.{base_call_in, update_in, base_call_of, calls_ordered, called, told, Offered, now, early, late}
-use Rattle.seam_law_calls.specs.PartMoves.{PartMoves, rests, refuses, offers, sends, serves, executes, misses, updates, shows, ends}
 
 no_ghosts : SeesNoGhost base_call_in
 no_ghosts = record { sets = λ e n c. refl; drops = λ e n. refl }

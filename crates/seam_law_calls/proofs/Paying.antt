@@ -1,16 +1,10 @@
 -- Where no order weighs less than what is sent for it, no move of a base node raises what its orders and its sends weigh.
 use Rattle.std.proofs.Common.{◌≡◌, ℕ, ◌+◌, ◌≤◌, List, [], ◌∷◌, map, Option, ap, arith}
 use Rattle.std.specs.List.{range_with_len}
-use Rattle.seam_machine.specs.Totals.{total}
-use Rattle.seam_call.specs.declared.call.Call.{Call as CallData}
-use Rattle.seam_call.specs.declared.order.Order.{Order}
+use Rattle.seam_node_steps.specs.Prelude.{total, Call as CallData, Order, Here, Msg, BaseCall, Reap, tick_to}
+use Rattle.seam_law_calls.specs.Prelude.{AtBase, BaseMoves}
 use Rattle.seam_call.specs.declared.order.Order.TheVariants as order
-use Rattle.seam_entity.specs.Here.{Here}
-use Rattle.seam_entity.specs.declared.message.Msg.{Msg}
-use Rattle.seam_entity.specs.declared.message.Msg.TheVariants.{Call, BaseCall, Reap}
-use Rattle.seam_node_steps.specs.BaseCases.{tick_to}
-use Rattle.seam_law_calls.specs.Sights.{AtBase}
-use Rattle.seam_law_calls.specs.BaseMoves.{BaseMoves}
+use Rattle.seam_entity.specs.declared.message.Msg.TheVariants.{Call}
 use Rattle.seam_law_calls.specs.BaseMoves as base_move
 
 module _ (ordered : Order → ℕ) (letter : Msg → ℕ) (cells : ℕ) where

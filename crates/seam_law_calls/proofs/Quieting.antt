@@ -5,30 +5,17 @@ use Rattle.std.specs.Prelude.{option_map}
 use Rattle.std.specs.List.{list_all}
 use Rattle.std.specs.Ordering.{nat_cmp}
 use Rattle.std.specs.FinMap as table
-use Rattle.seam_machine.specs.Nets.{IsQuiet}
+use Rattle.seam_node_steps.specs.Prelude.{IsQuiet, OrderView, next_item, Call as CallData, Orders, order_or, RealView, number_of, has_any}
+use Rattle.seam_node_steps.specs.Prelude.{order_is_ready, has_ready, CellView, real_is_ready, cell_has_work, BaseView, base_has_work}
+use Rattle.seam_node_steps.specs.Prelude.{NodeView, World, node_has_work, Cell, Base}
+use Rattle.seam_law_flow.specs.Prelude.{letters_of, Desk, desk_of, parcel_of, IsStill}
+use Rattle.seam_law_calls.specs.Prelude.{Frame, IsInFrame, Has, mine, has_of, has_none, orders_of, entity_flow, real_in, from_sender}
+use Rattle.seam_law_calls.specs.Prelude.{desk_for, cell_order_from, real_desk, cell_mail, as_sender, CellCallsInTurn}
 use Rattle.seam_machine.proofs.Quiet.{quiet_links, quiet_tasks}
-use Rattle.seam_law_flow.specs.Flows.{letters_of}
 use Rattle.seam_law_flow.proofs.TokenLemmas.{sole_here}
-use Rattle.seam_order.specs.Held.{OrderView}
-use Rattle.seam_order.specs.Offers.{next_item}
-use Rattle.seam_law_flow.specs.Desks.{Desk, desk_of, parcel_of, IsStill}
 use Rattle.seam_law_flow.proofs.Ends.{all_done}
-use Rattle.seam_call.specs.declared.call.Call.{Call as CallData}
-use Rattle.seam_entity.specs.Orders.{Orders, order_or}
-use Rattle.seam_entity.specs.Reals.{RealView}
-use Rattle.seam_node_steps.specs.Maps.{number_of, has_any}
-use Rattle.seam_entity.specs.Calls.{order_is_ready, has_ready}
-use Rattle.seam_node_steps.specs.Cells.{CellView, real_is_ready, cell_has_work}
-use Rattle.seam_node_steps.specs.Bases.{BaseView}
-use Rattle.seam_node_steps.specs.BaseCases.{base_has_work}
-use Rattle.seam_node_steps.specs.Nodes.{NodeView, World, node_has_work}
-use Rattle.seam_node_steps.specs.Nodes.NodeView.{Cell, Base}
-use Rattle.seam_law_calls.specs.Frames.{Frame, IsInFrame}
-use Rattle.seam_law_calls.specs.Sights.{Has, mine, has_of, has_none, orders_of, entity_flow}
-use Rattle.seam_law_calls.specs.Ones.{real_in}
 use Rattle.seam_law_calls.proofs.ExampleMet.{slots}
 use Rattle.seam_law_calls.proofs.Holds.{got_passes}
-use Rattle.seam_law_calls.specs.CellTurns.{from_sender, desk_for, cell_order_from, real_desk, cell_mail, as_sender, CellCallsInTurn}
 
 pub neither : (a b : Bool) → (a || b) ≡ false → (a ≡ false) × (b ≡ false)
 neither true b h = cc

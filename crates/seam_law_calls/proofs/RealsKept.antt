@@ -4,40 +4,22 @@ use Rattle.std.proofs.Common.{Some, cond, refl, sym, ◌∙◌, subst, arith}
 use Rattle.std.specs.FinMap as table
 use Rattle.std.specs.FinSet as set
 use Rattle.std.proofs.lemmas.Bool.Decides.{nat_tests}
-use Rattle.seam_geo.specs.declared.pos.Pos.{Pos}
-use Rattle.seam_tree.specs.Division.{leaf_at, cells_of}
-use Rattle.seam_tree.specs.Cells.{Cells}
+use Rattle.seam_node_steps.specs.Prelude.{Pos, leaf_at, cells_of, Cells, haunts_of, Part, TypeDef, State, Deed, Move, Method, method_of}
+use Rattle.seam_node_steps.specs.Prelude.{AreDefs, IsType, fits_deed, fit_values, after, IsOfGroup, OrderView, next_item, Call, rank_of}
+use Rattle.seam_node_steps.specs.Prelude.{is_for, order_of, RealView, is_inside, can_do, Here, type_at, order_passes, order_is_ready}
+use Rattle.seam_node_steps.specs.Prelude.{ready_order, fits_cell_part, may_call, with_offer, executed, executed_ready, settled_to}
+use Rattle.seam_node_steps.specs.Prelude.{home_after, haunts_at}
+use Rattle.seam_law_calls.specs.Prelude.{Frame, here_at, RealFits}
 use Rattle.seam_tree.proofs.Leaves.{leaf_is_cell}
-use Rattle.seam_haunt.specs.Haunts.{is_haunt, haunts_of}
+use Rattle.seam_haunt.specs.Haunts.{is_haunt}
 use Rattle.seam_haunt.proofs.Chosen.{contains_chosen}
-use Rattle.seam_defs.specs.declared.flags.Part.{Part}
 use Rattle.seam_defs.specs.declared.flags.Part.TheVariants as part
 use Rattle.seam_defs.specs.declared.flags.Group.TheVariants as group
-use Rattle.seam_defs.specs.declared.types.TypeDef.{TypeDef}
-use Rattle.seam_defs.specs.declared.states.State.{State}
-use Rattle.seam_defs.specs.declared.states.Deed.{Deed}
-use Rattle.seam_defs.specs.declared.states.Deed.TheVariants.{Move, Method}
 use Rattle.seam_defs.specs.Groups.{held_by}
-use Rattle.seam_defs.specs.Types.{method_of, AreDefs, IsType}
-use Rattle.seam_defs.specs.Tests.{fits_deed, fit_values, same_part}
-use Rattle.seam_defs.specs.Deeds.{after, IsOfGroup}
+use Rattle.seam_defs.specs.Tests.{same_part}
 use Rattle.seam_defs.proofs.Numbers.{type_of-is}
 use Rattle.seam_defs.proofs.Keeping.{method-keeps}
 use Rattle.seam_defs.proofs.TestLemmas.{fit-Decides}
-use Rattle.seam_order.specs.Held.{OrderView}
-use Rattle.seam_order.specs.Offers.{next_item}
-use Rattle.seam_call.specs.declared.call.Call.{Call}
-use Rattle.seam_call.specs.Senders.{rank_of}
-use Rattle.seam_call.specs.Calls.{is_for}
-use Rattle.seam_entity.specs.Orders.{order_of}
-use Rattle.seam_entity.specs.Reals.{RealView}
-use Rattle.seam_entity.specs.Fitting.{is_inside, can_do}
-use Rattle.seam_entity.specs.Here.{Here, type_at}
-use Rattle.seam_entity.specs.Calls.{order_passes, order_is_ready, ready_order}
-use Rattle.seam_entity.specs.Executing.{fits_cell_part, may_call, with_offer, executed, executed_ready, settled_to}
-use Rattle.seam_node_steps.specs.Settle.{home_after, haunts_at}
-use Rattle.seam_law_calls.specs.Frames.{Frame, here_at}
-use Rattle.seam_law_calls.specs.Fits.{RealFits}
 use Rattle.seam_law_calls.proofs.Holds.{both, picked_passes, item_passes_too, held_offered, held_taken}
 
 -- ---- deeds

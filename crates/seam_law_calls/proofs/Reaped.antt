@@ -6,33 +6,20 @@ use Rattle.std.specs.Cmp.{nat_cmp_total, unsigned_tied}
 use Rattle.std.specs.FinMap as table
 use Rattle.std.specs.List.{AllByRecursion}
 use Rattle.std.proofs.lemmas.Bool.{eq-eqb}
-use Rattle.seam_machine.specs.Nets.{happens, enabled, LeadsTo}
-use Rattle.seam_machine.specs.Events.{Occurs}
-use Rattle.seam_machine.specs.declared.machines.Input.TheVariants.{Task}
-use Rattle.seam_machine.specs.declared.machines.Event.{Event}
+use Rattle.seam_node_steps.specs.Prelude.{happens, enabled, LeadsTo, Occurs, Task, Event, Call as CallData, Order, Msg, Reap, Here, base_of}
+use Rattle.seam_node_steps.specs.Prelude.{order_if, reap_ordered_at, with_reap, reaps_loaded, BaseView, RouteView, on_route, base_task}
+use Rattle.seam_node_steps.specs.Prelude.{base_steps, NodeView, World, node_steps, node_has_work, Cell, Base}
+use Rattle.seam_law_flow.specs.Prelude.{comes, letters_of, more_letter, slot_at, IsSilent}
+use Rattle.seam_law_calls.specs.Prelude.{Frame, here_at, IsInFrame, AtBase, order_concerns, at_base, has_of, has_none, entity_flow}
+use Rattle.seam_law_calls.specs.Prelude.{base_call_in, base_call_of, calls_ordered, PartMoves, rests, refuses, offers, sends, serves}
+use Rattle.seam_law_calls.specs.Prelude.{executes, misses, updates, shows, ends, HasNoBaseCalls, HasNoPart}
 use Rattle.seam_machine.proofs.Occurring.{occurs}
 use Rattle.seam_net_runs.proofs.Runs.{leads_keeps}
-use Rattle.seam_law_flow.specs.Flows.{comes, letters_of, more_letter, slot_at}
-use Rattle.seam_law_flow.specs.Sent.{IsSilent}
 use Rattle.seam_law_flow.proofs.Following.{slots_kept, letters_kept}
-use Rattle.seam_call.specs.declared.call.Call.{Call as CallData}
-use Rattle.seam_call.specs.declared.order.Order.{Order}
 use Rattle.seam_call.specs.declared.order.Order.TheVariants as order
-use Rattle.seam_entity.specs.declared.message.Msg.{Msg}
-use Rattle.seam_entity.specs.declared.message.Msg.TheVariants.{Reap}
-use Rattle.seam_entity.specs.Here.{Here, base_of}
-use Rattle.seam_node_steps.specs.Loads.{order_if, reap_ordered_at, with_reap, reaps_loaded}
-use Rattle.seam_node_steps.specs.Bases.{BaseView, RouteView}
-use Rattle.seam_node_steps.specs.BaseCases.{unless_stray, on_route, base_task, base_steps}
-use Rattle.seam_node_steps.specs.Nodes.{NodeView, World, node_steps, node_has_work}
-use Rattle.seam_node_steps.specs.Nodes.NodeView.{Cell, Base}
-use Rattle.seam_law_calls.specs.Frames.{Frame, here_at, IsInFrame}
-use Rattle.seam_law_calls.specs.Sights.{AtBase, order_concerns, at_base, has_of, has_none, entity_flow}
+use Rattle.seam_node_steps.specs.BaseCases.{unless_stray}
 use Rattle.seam_law_calls.proofs.Classify.{event_moves, frame_happens}
 use Rattle.seam_law_calls.proofs.Sparing.{items_all}
-use Rattle.seam_law_calls.specs.PartMoves.{base_call_in, base_call_of, calls_ordered}
-use Rattle.seam_law_calls.specs.PartMoves.{PartMoves, rests, refuses, offers, sends, serves, executes, misses, updates, shows, ends}
-use Rattle.seam_law_calls.specs.Reaps.{HasNoBaseCalls, HasNoPart}
 use Rattle.seam_law_calls.proofs.PartSteps.{part_moves}
 
 -- ---- the order to reap

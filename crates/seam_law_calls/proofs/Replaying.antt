@@ -1,14 +1,8 @@
 -- Reals replay their calls.
 use Rattle.std.proofs.Common.{◌≡◌, ℕ, Bool, List, [], ◌∷◌, ◌++◌, Option, refl, sym, ap, ◌∙◌}
-use Rattle.seam_defs.specs.declared.types.TypeDef.{TypeDef}
-use Rattle.seam_defs.specs.Types.{type_of}
-use Rattle.seam_call.specs.declared.call.Call.{Call}
-use Rattle.seam_entity.specs.Reals.{RealView}
-use Rattle.seam_entity.specs.declared.message.Msg.{Msg}
-use Rattle.seam_law_calls.specs.Frames.{Frame, here_at}
-use Rattle.seam_law_calls.specs.Sights.{AtCell}
-use Rattle.seam_law_calls.specs.CellMoves.{Acts, surveys, calls, readies}
-use Rattle.seam_law_calls.specs.Replays.{Account, account_of, after_call, after_calls, Replays}
+use Rattle.seam_node_steps.specs.Prelude.{TypeDef, type_of, Call, RealView, Msg}
+use Rattle.seam_law_calls.specs.Prelude.{Frame, here_at, AtCell, Acts, surveys, calls, readies, Account, account_of, after_call}
+use Rattle.seam_law_calls.specs.Prelude.{after_calls, Replays}
 
 after_more : (t : TypeDef) (a : Account) (ks ls : List Call) → after_calls t a (ks ++ ls) ≡ after_calls t (after_calls t a ks) ls
 after_more t a [] ls = refl

@@ -6,33 +6,16 @@ use Rattle.std.specs.Prelude.{filter_map, ◌==◌, ◌||◌}
 use Rattle.std.specs.List.{AllByRecursion, range_with_len, cons_option}
 use Rattle.std.specs.FinSet as set
 use Rattle.std.proofs.lemmas.Nat.{mod_below}
-use Rattle.seam_geo.specs.declared.pos.Pos.{Pos}
-use Rattle.seam_tree.specs.Cells.{Cells}
-use Rattle.seam_tree.specs.Division.{IsTree, leaf_at, cells_of}
+use Rattle.seam_node_steps.specs.Prelude.{Pos, Cells, IsTree, leaf_at, cells_of, GhostCopy, Shown, RealView, Msg, BaseCall, Hand, Current}
+use Rattle.seam_node_steps.specs.Prelude.{GhostSet, GhostDrop, Tick, Update, limit, Here, cell_count, base_of, copy_of_real, NextPlace}
+use Rattle.seam_node_steps.specs.Prelude.{SlotStep, told, told_unless, ghost_message, ghost_messages, haunts_at, home_after, current_to}
+use Rattle.seam_node_steps.specs.Prelude.{drop_if, drop_at, drops, numbered, shown_of, RouteView, tick_to}
+use Rattle.seam_law_calls.specs.Prelude.{Frame, here_at, Has, AtCell, Does, CellMoves, BaseMoves, Moves, at_a_cell, at_a_base, IsBaseNumber}
+use Rattle.seam_law_calls.specs.Prelude.{is_for_cells, IsForNode}
 use Rattle.seam_tree.proofs.Leaves.{leaf_is_cell}
 use Rattle.seam_law_flow.proofs.Following.{all_append}
-use Rattle.seam_call.specs.declared.shown.GhostCopy.{GhostCopy}
-use Rattle.seam_call.specs.declared.shown.Shown.{Shown}
-use Rattle.seam_entity.specs.Reals.{RealView}
-use Rattle.seam_entity.specs.declared.message.Msg.{Msg}
-use Rattle.seam_entity.specs.declared.message.Msg.TheVariants.{BaseCall, Hand, Current, GhostSet, GhostDrop, Tick, Update}
-use Rattle.seam_entity.specs.Numbers.{limit}
-use Rattle.seam_entity.specs.Here.{Here, cell_count, base_of}
-use Rattle.seam_entity.specs.Executing.{copy_of_real}
-use Rattle.seam_node_steps.specs.Slots.{NextPlace, SlotStep}
-use Rattle.seam_node_steps.specs.Settle.{told, told_unless, ghost_message, ghost_messages, haunts_at, home_after}
-use Rattle.seam_node_steps.specs.CellCases.{current_to, drop_if, drop_at, drops}
-use Rattle.seam_node_steps.specs.CellLooks.{numbered, shown_of}
-use Rattle.seam_node_steps.specs.Bases.{RouteView}
-use Rattle.seam_node_steps.specs.BaseCases.{tick_to}
-use Rattle.seam_law_calls.specs.Frames.{Frame, here_at}
-use Rattle.seam_law_calls.specs.Sights.{Has, AtCell}
 use Rattle.seam_law_calls.specs.CellMoves as move
-use Rattle.seam_law_calls.specs.CellMoves.{Does, CellMoves}
 use Rattle.seam_law_calls.specs.BaseMoves as base_move
-use Rattle.seam_law_calls.specs.BaseMoves.{BaseMoves}
-use Rattle.seam_law_calls.specs.Moves.{Moves, at_a_cell, at_a_base}
-use Rattle.seam_law_calls.specs.Strays.{IsBaseNumber, is_for_cells, IsForNode}
 
 -- ---- lists over a range
 

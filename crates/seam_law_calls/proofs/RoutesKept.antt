@@ -1,28 +1,15 @@
 -- Each base node keeps a route to the entity, and messages go where they belong, after each event.
 use Rattle.std.proofs.Common.{◌≡◌, ℕ, ◌<◌, ◌≤◌, List, length, Option, Some, sym, ap, ◌∙◌, subst, arith}
 use Rattle.std.specs.List.{AllByRecursion}
-use Rattle.seam_machine.specs.Nets.{happens}
-use Rattle.seam_machine.specs.Events.{Occurs}
-use Rattle.seam_machine.specs.declared.machines.Event.{Event}
-use Rattle.seam_law_flow.specs.Flows.{comes, letter_in}
+use Rattle.seam_node_steps.specs.Prelude.{happens, Occurs, Event, Msg, Reap, Here, cell_count, NextPlace, RouteView, NodeView, World}
+use Rattle.seam_node_steps.specs.Prelude.{node_steps, Cell, Base, IsNode}
+use Rattle.seam_law_flow.specs.Prelude.{comes, letter_in}
+use Rattle.seam_law_calls.specs.Prelude.{Frame, here_at, IsAt, IsInFrame, Has, AtBase, mine, has_of, has_none, entity_flow, BaseMoves}
+use Rattle.seam_law_calls.specs.Prelude.{Moves, at_a_cell, at_a_base, IsFrame, HasOne, IsBaseNumber, IsForNode, HasRoutes}
 use Rattle.seam_law_flow.proofs.Following.{slots_kept, letters_kept}
-use Rattle.seam_entity.specs.declared.message.Msg.{Msg}
-use Rattle.seam_entity.specs.declared.message.Msg.TheVariants.{Reap}
-use Rattle.seam_entity.specs.Here.{Here, cell_count}
-use Rattle.seam_node_steps.specs.Slots.{NextPlace}
-use Rattle.seam_node_steps.specs.Bases.{RouteView}
-use Rattle.seam_node_steps.specs.Nodes.{NodeView, World, node_steps}
-use Rattle.seam_node_steps.specs.Nodes.NodeView.{Cell, Base}
-use Rattle.seam_node_steps.specs.Valid.{IsNode}
-use Rattle.seam_law_calls.specs.Frames.{Frame, here_at, IsAt, IsInFrame}
-use Rattle.seam_law_calls.specs.Sights.{Has, AtBase, mine, has_of, has_none, entity_flow}
 use Rattle.seam_law_calls.specs.BaseMoves as move
-use Rattle.seam_law_calls.specs.BaseMoves.{BaseMoves}
-use Rattle.seam_law_calls.specs.Moves.{Moves, at_a_cell, at_a_base}
-use Rattle.seam_law_calls.specs.Ones.{IsFrame, HasOne}
 use Rattle.seam_law_calls.proofs.ExampleMet.{slots}
 use Rattle.seam_law_calls.proofs.OneReal.{goes}
-use Rattle.seam_law_calls.specs.Strays.{IsBaseNumber, IsForNode, HasRoutes}
 use Rattle.seam_law_calls.proofs.PartKept.{targets_all}
 use Rattle.seam_law_calls.proofs.RightNodes.{sends_right}
 

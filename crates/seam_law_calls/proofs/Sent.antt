@@ -6,27 +6,16 @@ use Rattle.std.specs.Ordering.{nat_cmp}
 use Rattle.std.specs.declared.cmp.Ordering.{Ordering}
 use Rattle.std.specs.declared.cmp.Ordering.TheVariants.{Less, Equal, Greater}
 use Rattle.std.specs.FinSet as set
-use Rattle.seam_tree.specs.Division.{Division}
-use Rattle.seam_tree.specs.Cells.{Cells}
-use Rattle.seam_order.specs.Held.{OrderView}
-use Rattle.seam_order.specs.Offers.{next_item}
+use Rattle.seam_node_steps.specs.Prelude.{Division, Cells, OrderView, next_item, Call as CallData, GhostCopy, Shown, order_of, RealView}
+use Rattle.seam_node_steps.specs.Prelude.{WitnessView, Msg, BaseCall, Hand, Current, GhostSet, GhostDrop, Tick, Reap, Update, Here}
+use Rattle.seam_node_steps.specs.Prelude.{cell_numbers, base_numbers, base_of, ready_order, executed, executed_ready, shows, copy_of_real}
+use Rattle.seam_node_steps.specs.Prelude.{settled_to, Slot, NextPlace, SlotStep, unless_stray, home_after, haunts_at, told, told_unless}
+use Rattle.seam_node_steps.specs.Prelude.{ghost_message, ghost_messages, settled_by, settled, stays, goes, about, slot_steps, is_stray}
+use Rattle.seam_node_steps.specs.Prelude.{Known, numbered, look_by, look_task}
 use Rattle.seam_law_flow.proofs.Following.{all_append}
-use Rattle.seam_call.specs.declared.call.Call.{Call as CallData}
-use Rattle.seam_call.specs.declared.shown.GhostCopy.{GhostCopy}
-use Rattle.seam_call.specs.declared.shown.Shown.{Shown}
-use Rattle.seam_entity.specs.Orders.{order_of}
-use Rattle.seam_entity.specs.Reals.{RealView, WitnessView}
-use Rattle.seam_entity.specs.declared.message.Msg.{Msg}
-use Rattle.seam_entity.specs.declared.message.Msg.TheVariants.{Call, BaseCall, Hand, Current, GhostSet, GhostDrop, Tick, Reap, Update}
-use Rattle.seam_entity.specs.Here.{Here, cell_numbers, base_numbers, base_of}
-use Rattle.seam_entity.specs.Calls.{ready_order}
-use Rattle.seam_entity.specs.Executing.{executed, executed_ready, shows, copy_of_real, settled_to}
-use Rattle.seam_node_steps.specs.Slots.{Slot, NextPlace, SlotStep, unless_stray}
-use Rattle.seam_node_steps.specs.Settle.{home_after, haunts_at, told, told_unless, ghost_message, ghost_messages, settled_by, settled, stays}
-use Rattle.seam_node_steps.specs.Settle.{goes}
+use Rattle.seam_entity.specs.declared.message.Msg.TheVariants.{Call}
 use Rattle.seam_node_steps.specs.CellCases
-use Rattle.seam_node_steps.specs.CellCases.{about, slot_steps, case_of, is_stray}
-use Rattle.seam_node_steps.specs.CellLooks.{Known, numbered, look_by, look_task}
+use Rattle.seam_node_steps.specs.CellCases.{case_of}
 use Rattle.seam_law_calls.proofs.Lists.{AllAbout}
 
 abbrev IsAbout : ℕ → Option (ℕ × Msg) → Type 0

@@ -2,34 +2,22 @@
 use Rattle.std.proofs.Common.{◌≡◌, ℕ, ◌+◌, ◌≤◌, true, false, is_some, List, Option, None, Some, refl, sym, ap, ◌∙◌, subst}
 use Rattle.std.proofs.Common.{arith}
 use Rattle.std.specs.List.{AllByRecursion}
-use Rattle.seam_tree.specs.Division.{cells_of}
-use Rattle.seam_machine.specs.Nets.{happens, enabled, LeadsTo}
-use Rattle.seam_machine.specs.Events.{Occurs}
-use Rattle.seam_machine.specs.declared.machines.Event.{Event}
+use Rattle.seam_node_steps.specs.Prelude.{cells_of, happens, enabled, LeadsTo, Occurs, Event, RealView, WitnessView, Msg, cell_count, World}
+use Rattle.seam_node_steps.specs.Prelude.{node_steps, node_has_work}
+use Rattle.seam_law_flow.specs.Prelude.{letter_in, slot_at, IsSilent}
+use Rattle.seam_law_calls.specs.Prelude.{Frame, here_at, IsInFrame, Has, AtCell, mine, concerning, has_of, has_none, Moves, at_a_cell}
+use Rattle.seam_law_calls.specs.Prelude.{at_a_base, real_in, update_in, WitnessMoves, EachReal, node_looks, mine_looks, looks_left}
+use Rattle.seam_law_calls.specs.Prelude.{IsToldNothing}
 use Rattle.seam_machine.proofs.Occurring.{occurs}
 use Rattle.seam_net_runs.proofs.Runs.{leads_keeps}
 use Rattle.seam_net_runs.proofs.Weighing.{weight_bounds}
-use Rattle.seam_law_flow.specs.Flows.{letter_in, slot_at}
-use Rattle.seam_law_flow.specs.Sent.{IsSilent}
 use Rattle.seam_law_flow.proofs.Following.{all_append, letters_kept}
-use Rattle.seam_entity.specs.Reals.{RealView, WitnessView}
-use Rattle.seam_entity.specs.declared.message.Msg.{Msg}
-use Rattle.seam_entity.specs.Here.{cell_count}
-use Rattle.seam_node_steps.specs.Nodes.{World, node_steps, node_has_work}
-use Rattle.seam_law_calls.specs.Frames.{Frame, here_at, IsInFrame}
-use Rattle.seam_law_calls.specs.Sights.{Has, AtCell, mine, concerning, has_of, has_none}
-use Rattle.seam_law_calls.specs.Moves.{Moves, at_a_cell, at_a_base}
 use Rattle.seam_law_calls.proofs.Classify.{node_moves, frame_happens}
-use Rattle.seam_law_calls.specs.Ones.{real_in}
 use Rattle.seam_law_calls.proofs.Sparing.{items_all}
-use Rattle.seam_law_calls.specs.PartMoves.{update_in}
 use Rattle.seam_law_calls.specs.WitnessMoves as witness
-use Rattle.seam_law_calls.specs.WitnessMoves.{WitnessMoves}
-use Rattle.seam_law_calls.specs.Clients.{EachReal}
 use Rattle.seam_law_calls.proofs.BaseSilent.{sees_no_update, base_silent}
 use Rattle.seam_law_calls.proofs.WitnessKept.{IsSeen, each_happens}
 use Rattle.seam_law_calls.proofs.WitnessSteps.{witness_moves}
-use Rattle.seam_law_calls.specs.Telling.{node_looks, mine_looks, looks_left, IsToldNothing}
 use Rattle.seam_law_calls.proofs.LooksLeft.{looks_left_happens}
 use Rattle.seam_law_calls.proofs.Telling.{event_fact}
 

@@ -5,28 +5,17 @@ use Rattle.std.specs.declared.cmp.Ordering.{Ordering}
 use Rattle.std.specs.declared.cmp.Ordering.TheVariants.{Less, Equal, Greater}
 use Rattle.std.proofs.lemmas.Bool.{eqb-true, eqb-false}
 use Rattle.std.proofs.lemmas.Bool.Decides.{nat_tests}
-use Rattle.seam_tree.specs.Division.{Division}
-use Rattle.seam_order.specs.Held.{OrderView}
-use Rattle.seam_order.specs.Offers.{next_item}
-use Rattle.seam_call.specs.declared.call.Call.{Call as CallData}
-use Rattle.seam_call.specs.declared.shown.GhostCopy.{GhostCopy}
-use Rattle.seam_entity.specs.Orders.{order_of}
-use Rattle.seam_entity.specs.Reals.{RealView, WitnessView}
-use Rattle.seam_entity.specs.declared.message.Msg.{Msg}
-use Rattle.seam_entity.specs.declared.message.Msg.TheVariants.{Call, BaseCall, Hand, Current, GhostSet, GhostDrop, Tick, Reap, Update}
-use Rattle.seam_entity.specs.Numbers.{is_small, may_rise}
-use Rattle.seam_entity.specs.Here.{Here}
-use Rattle.seam_entity.specs.Calls.{has_ready, ready_order}
-use Rattle.seam_entity.specs.Executing.{may_settle, may_execute, may_call, executed, executed_ready, shows}
-use Rattle.seam_node_steps.specs.Slots.{Slot, NextPlace, unless_stray}
-use Rattle.seam_node_steps.specs.Settle.{home_after, settled_by, settled}
+use Rattle.seam_node_steps.specs.Prelude.{Division, OrderView, next_item, Call as CallData, GhostCopy, order_of, RealView, WitnessView, Msg}
+use Rattle.seam_node_steps.specs.Prelude.{BaseCall, Hand, Current, GhostSet, GhostDrop, Tick, Reap, Update, is_small, may_rise, Here}
+use Rattle.seam_node_steps.specs.Prelude.{has_ready, ready_order, may_settle, may_execute, may_call, executed, executed_ready, shows, Slot}
+use Rattle.seam_node_steps.specs.Prelude.{NextPlace, unless_stray, home_after, settled_by, settled, about, slot_steps, is_stray, may_come}
+use Rattle.seam_node_steps.specs.Prelude.{stray_survey, stray_ready_call, survey_task, ready_call_task, Known, shown_of, look_by, look_task}
+use Rattle.seam_node_steps.specs.Prelude.{stray_look, stray_look_by}
+use Rattle.seam_law_calls.specs.Prelude.{AtCell, Does, Acts, CellMoves, surveys, calls, readies}
+use Rattle.seam_entity.specs.declared.message.Msg.TheVariants.{Call}
 use Rattle.seam_node_steps.specs.CellCases
-use Rattle.seam_node_steps.specs.CellCases.{about, slot_steps, case_of, is_stray, may_come, stray_survey, stray_ready_call, survey_task}
-use Rattle.seam_node_steps.specs.CellCases.{ready_call_task}
-use Rattle.seam_node_steps.specs.CellLooks.{Known, shown_of, look_by, look_task, stray_look, stray_look_by}
-use Rattle.seam_law_calls.specs.Sights.{AtCell}
+use Rattle.seam_node_steps.specs.CellCases.{case_of}
 use Rattle.seam_law_calls.specs.CellMoves as move
-use Rattle.seam_law_calls.specs.CellMoves.{Does, Acts, CellMoves, surveys, calls, readies}
 
 less_of : (a b : ℕ) → nat_cmp a b ≡ Less → a < b
 less_of a b is = grind (arith, nat_tests)

@@ -2,25 +2,15 @@
 use Rattle.std.proofs.Common.{◌≡◌, ℕ, Bool, true, false, cond, eqb, List, [], ◌∷◌, Option, None, refl, sym, ap, ◌∙◌, subst}
 use Rattle.std.specs.List.{AllByRecursion, range_with_len}
 use Rattle.std.specs.FinSet as set
-use Rattle.seam_machine.specs.Sends.{items_to}
-use Rattle.seam_law_flow.specs.Sent.{IsSilent}
+use Rattle.seam_node_steps.specs.Prelude.{items_to, Order, Msg, base_numbers, base_of, SlotStep, haunts_at, ghost_messages, current_to}
+use Rattle.seam_node_steps.specs.Prelude.{tick_to}
+use Rattle.seam_law_flow.specs.Prelude.{IsSilent}
+use Rattle.seam_law_calls.specs.Prelude.{Frame, here_at, Has, AtCell, AtBase, Does, CellMoves, BaseMoves, Moves, at_a_cell, at_a_base}
+use Rattle.seam_law_calls.specs.Prelude.{reaped_by, reaped_by_order, HasNoReaps}
 use Rattle.seam_law_flow.proofs.Following.{all_append}
-use Rattle.seam_call.specs.declared.order.Order.{Order}
 use Rattle.seam_call.specs.declared.order.Order.TheVariants as order
-use Rattle.seam_entity.specs.declared.message.Msg.{Msg}
-use Rattle.seam_entity.specs.Here.{base_numbers, base_of}
-use Rattle.seam_node_steps.specs.Slots.{SlotStep}
-use Rattle.seam_node_steps.specs.Settle.{haunts_at, ghost_messages}
-use Rattle.seam_node_steps.specs.CellCases.{current_to}
-use Rattle.seam_node_steps.specs.BaseCases.{tick_to}
-use Rattle.seam_law_calls.specs.Frames.{Frame, here_at}
-use Rattle.seam_law_calls.specs.Sights.{Has, AtCell, AtBase}
 use Rattle.seam_law_calls.specs.CellMoves as move
-use Rattle.seam_law_calls.specs.CellMoves.{Does, CellMoves}
 use Rattle.seam_law_calls.specs.BaseMoves as base_move
-use Rattle.seam_law_calls.specs.BaseMoves.{BaseMoves}
-use Rattle.seam_law_calls.specs.Moves.{Moves, at_a_cell, at_a_base}
-use Rattle.seam_law_calls.specs.Ones.{reaped_by, reaped_by_order, HasNoReaps}
 use Rattle.seam_law_calls.proofs.Plain.{SeesNoGhost, ghosts_silent, drops_silent, mapped_silent, numbered_silent}
 
 no_ghosts : SeesNoGhost reaped_by

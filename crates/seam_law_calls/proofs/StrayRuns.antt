@@ -1,18 +1,12 @@
 -- Nothing about the entity is stray at a base node, over every list of events.
 use Rattle.std.proofs.Common.{◌≡◌, ℕ, ◌<◌, ◌≤◌, true, List, length, arith}
-use Rattle.seam_machine.specs.Nets.{happens, enabled, LeadsTo}
-use Rattle.seam_machine.specs.declared.machines.Event.{Event}
+use Rattle.seam_node_steps.specs.Prelude.{happens, enabled, LeadsTo, Event, Call as CallData, World, node_steps, node_has_work}
+use Rattle.seam_law_calls.specs.Prelude.{Frame, IsInFrame, IsFrame, IsSpared, HasOne, base_burden, HasBaseCalls, HasNoClient, HasClient}
+use Rattle.seam_law_calls.specs.Prelude.{HasToldAtMost, HasRoomFor, HasRoutes, no_client, client, NothingIsStray}
 use Rattle.seam_machine.proofs.Occurring.{occurs}
 use Rattle.seam_net_runs.proofs.Runs.{leads_keeps}
-use Rattle.seam_call.specs.declared.call.Call.{Call as CallData}
-use Rattle.seam_node_steps.specs.Nodes.{World, node_steps, node_has_work}
-use Rattle.seam_law_calls.specs.Frames.{Frame, IsInFrame}
-use Rattle.seam_law_calls.specs.Ones.{IsFrame, IsSpared, HasOne}
 use Rattle.seam_law_calls.proofs.Easing.{falls_lead}
 use Rattle.seam_law_calls.proofs.OneReal.{one_happens, calm_of, spared_happens}
-use Rattle.seam_law_calls.specs.BaseTurns.{base_burden, HasBaseCalls, HasNoClient}
-use Rattle.seam_law_calls.specs.Clients.{HasClient, HasToldAtMost, HasRoomFor}
-use Rattle.seam_law_calls.specs.Strays.{HasRoutes, no_client, client, NothingIsStray}
 use Rattle.seam_law_calls.proofs.PartEasing.{base_burden_happens}
 use Rattle.seam_law_calls.proofs.RoutesKept.{routes_happen}
 use Rattle.seam_law_calls.proofs.AloneRuns.{alone_leads}

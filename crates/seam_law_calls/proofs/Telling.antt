@@ -8,47 +8,27 @@ use Rattle.std.specs.FinMap as table
 use Rattle.std.specs.FinSet as set
 use Rattle.std.proofs.lemmas.Bool.{cases_lt}
 use Rattle.std.proofs.lemmas.List.{length-map}
-use Rattle.seam_tree.specs.Division.{cells_of}
-use Rattle.seam_machine.specs.Nets.{happens, enabled, LeadsTo}
-use Rattle.seam_machine.specs.Events.{Occurs}
-use Rattle.seam_machine.specs.declared.machines.Event.{Event}
+use Rattle.seam_node_steps.specs.Prelude.{cells_of, happens, enabled, LeadsTo, Occurs, Event, copy_in, GhostCopy, Shown, RealView}
+use Rattle.seam_node_steps.specs.Prelude.{WitnessView, Msg, Hand, Here, base_numbers, base_of, cell_count, SlotStep, slot_after, haunts_at}
+use Rattle.seam_node_steps.specs.Prelude.{ghost_messages, current_to, Known, seen_as, shown_for, own_due, looks_of, shown_of, after_looking}
+use Rattle.seam_node_steps.specs.Prelude.{CellView, known_to, NodeView, World, node_steps, node_has_work, Cell, Base, IsNode}
+use Rattle.seam_law_flow.specs.Prelude.{Goes, comes, letter_in, slot_at, IsSilent}
+use Rattle.seam_law_calls.specs.Prelude.{Frame, here_at, IsInFrame, Has, AtCell, mine, concerning, has_of, has_none, entity_flow, Does}
+use Rattle.seam_law_calls.specs.Prelude.{Acts, surveys, calls, readies, CellMoves, Moves, at_a_cell, at_a_base, MovesTo, real_in, real_of}
+use Rattle.seam_law_calls.specs.Prelude.{sent_of, sent_by, EachReal, HasToldAtMost, most_entities, HasFewEntities, IsFewView, SeesFew}
+use Rattle.seam_law_calls.specs.Prelude.{looks_left, most_shown}
 use Rattle.seam_machine.proofs.Occurring.{occurs}
 use Rattle.seam_net_runs.proofs.Runs.{leads_keeps}
 use Rattle.seam_net_runs.proofs.Soundness.{sound_sends}
-use Rattle.seam_law_flow.specs.Flows.{Goes, comes, letter_in, slot_at}
-use Rattle.seam_law_flow.specs.Sent.{IsSilent}
 use Rattle.seam_law_flow.proofs.Bridge.{event_goes}
 use Rattle.seam_law_flow.proofs.Following.{all_append, slots_kept, letters_kept, came}
-use Rattle.seam_ghosts.specs.Book.{copy_in}
-use Rattle.seam_call.specs.declared.shown.GhostCopy.{GhostCopy}
-use Rattle.seam_call.specs.declared.shown.Shown.{Shown}
-use Rattle.seam_entity.specs.Reals.{RealView, WitnessView}
-use Rattle.seam_entity.specs.declared.message.Msg.{Msg}
-use Rattle.seam_entity.specs.declared.message.Msg.TheVariants.{Hand}
-use Rattle.seam_entity.specs.Here.{Here, base_numbers, base_of, cell_count}
-use Rattle.seam_node_steps.specs.Slots.{SlotStep, slot_after}
-use Rattle.seam_node_steps.specs.Settle.{haunts_at, ghost_messages}
-use Rattle.seam_node_steps.specs.CellCases.{current_to}
-use Rattle.seam_node_steps.specs.CellLooks.{Known, seen_as, shown_for, own_due, looks_of, shown_of, after_looking}
-use Rattle.seam_node_steps.specs.Cells.{CellView, known_to}
-use Rattle.seam_node_steps.specs.Nodes.{NodeView, World, node_steps, node_has_work}
-use Rattle.seam_node_steps.specs.Nodes.NodeView.{Cell, Base}
-use Rattle.seam_node_steps.specs.Valid.{IsNode}
-use Rattle.seam_law_calls.specs.Frames.{Frame, here_at, IsInFrame}
-use Rattle.seam_law_calls.specs.Sights.{Has, AtCell, mine, concerning, has_of, has_none, entity_flow}
 use Rattle.seam_law_calls.specs.CellMoves as move
-use Rattle.seam_law_calls.specs.CellMoves.{Does, Acts, surveys, calls, readies, CellMoves}
-use Rattle.seam_law_calls.specs.Moves.{Moves, at_a_cell, at_a_base, MovesTo}
 use Rattle.seam_law_calls.proofs.Classify.{node_laws, node_moves, frame_happens}
 use Rattle.seam_law_calls.proofs.Lists.{letters_are}
-use Rattle.seam_law_calls.specs.Ones.{real_in, real_of}
 use Rattle.seam_law_calls.proofs.Plain.{SeesNoGhost, ghosts_silent, drops_silent, mapped_silent}
 use Rattle.seam_law_calls.proofs.Sparing.{items_all}
-use Rattle.seam_law_calls.specs.WitnessMoves.{sent_of, sent_by}
-use Rattle.seam_law_calls.specs.Clients.{EachReal, HasToldAtMost}
 use Rattle.seam_law_calls.proofs.BaseSilent.{sees_no_real, numbered_unreal, base_silent}
 use Rattle.seam_law_calls.proofs.WitnessKept.{OfReal, none_carried, each_weaker, ByWitness}
-use Rattle.seam_law_calls.specs.Telling.{most_entities, HasFewEntities, IsFewView, SeesFew, looks_left, most_shown}
 use Rattle.seam_law_calls.proofs.Below.{AllBelow, known_to_below, known_to_few, view_few, few_after_looks, looks_few, mapped_few}
 use Rattle.seam_law_calls.proofs.Absent.{absent_happens}
 use Rattle.seam_law_calls.proofs.Looking.{NotTaken, as_often, gone, ticked, looked_at, LooksAt, Look, still, elsewhere, looks, cell_looks}

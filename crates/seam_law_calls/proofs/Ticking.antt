@@ -6,11 +6,8 @@ use Rattle.std.specs.Cmp.{unsigned_tied}
 use Rattle.std.specs.FinMap as table
 use Rattle.std.specs.FinMap.Entries.{is_sorted, below_all, find as key_find}
 use Rattle.std.proofs.lemmas.Bool.{cases_eq, eq-eqb, ne_eqb}
-use Rattle.seam_entity.specs.Reals.{RealView}
-use Rattle.seam_node_steps.specs.Maps.{number_of}
-use Rattle.seam_node_steps.specs.Cells.{CellView, witnesses, has_witness as entry_has_witness}
-use Rattle.seam_law_calls.specs.Sights.{times, one_more_if}
-use Rattle.seam_law_calls.specs.CellMoves.{looks_after_tick}
+use Rattle.seam_node_steps.specs.Prelude.{RealView, number_of, CellView, witnesses, has_witness as entry_has_witness}
+use Rattle.seam_law_calls.specs.Prelude.{times, one_more_if, looks_after_tick}
 use Rattle.std.specs.Ordering.{is_lt}
 use Rattle.std.specs.declared.cmp.Ordering.{Ordering}
 use Rattle.std.specs.declared.cmp.Ordering.TheVariants.{Less, Equal, Greater}

@@ -1,28 +1,17 @@
 -- What is true of each real of an entity by its witness stays true.
 use Rattle.std.proofs.Common.{◌≡◌, ℕ, ◌+◌, Bool, true, is_some, List, [], ◌∷◌, length, Option, Some, refl, sym, ap, ◌∙◌, subst}
 use Rattle.std.specs.List.{AllByRecursion}
-use Rattle.seam_machine.specs.Nets.{happens, enabled, LeadsTo}
-use Rattle.seam_machine.specs.Events.{Occurs}
-use Rattle.seam_machine.specs.declared.machines.Event.{Event}
+use Rattle.seam_node_steps.specs.Prelude.{happens, enabled, LeadsTo, Occurs, Event, Shown, RealView, WitnessView, Msg, Hand, World}
+use Rattle.seam_node_steps.specs.Prelude.{node_steps, node_has_work}
+use Rattle.seam_law_flow.specs.Prelude.{comes, IsSilent}
+use Rattle.seam_law_calls.specs.Prelude.{Frame, here_at, IsInFrame, Has, AtCell, entity_flow, Moves, at_a_cell, at_a_base, real_in, real_of}
+use Rattle.seam_law_calls.specs.Prelude.{WitnessMoves, EachReal}
 use Rattle.seam_machine.proofs.Occurring.{occurs}
 use Rattle.seam_net_runs.proofs.Runs.{leads_keeps}
-use Rattle.seam_law_flow.specs.Flows.{comes}
-use Rattle.seam_law_flow.specs.Sent.{IsSilent}
 use Rattle.seam_law_flow.proofs.Following.{all_append, slots_kept, letters_kept, came}
-use Rattle.seam_call.specs.declared.shown.Shown.{Shown}
-use Rattle.seam_entity.specs.Reals.{RealView, WitnessView}
-use Rattle.seam_entity.specs.declared.message.Msg.{Msg}
-use Rattle.seam_entity.specs.declared.message.Msg.TheVariants.{Hand}
-use Rattle.seam_node_steps.specs.Nodes.{World, node_steps, node_has_work}
-use Rattle.seam_law_calls.specs.Frames.{Frame, here_at, IsInFrame}
-use Rattle.seam_law_calls.specs.Sights.{Has, AtCell, entity_flow}
-use Rattle.seam_law_calls.specs.Moves.{Moves, at_a_cell, at_a_base}
 use Rattle.seam_law_calls.proofs.Classify.{event_moves, frame_happens}
-use Rattle.seam_law_calls.specs.Ones.{real_in, real_of}
 use Rattle.seam_law_calls.proofs.Sparing.{items_all}
 use Rattle.seam_law_calls.specs.WitnessMoves as witness
-use Rattle.seam_law_calls.specs.WitnessMoves.{WitnessMoves}
-use Rattle.seam_law_calls.specs.Clients.{EachReal}
 use Rattle.seam_law_calls.proofs.WitnessSteps.{witness_moves}
 use Rattle.seam_law_calls.proofs.BaseSilent.{sees_no_real, numbered_unreal, base_silent}
 

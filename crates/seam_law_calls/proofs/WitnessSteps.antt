@@ -2,23 +2,14 @@
 use Rattle.std.proofs.Common.{◌≡◌, ℕ, ◌+◌, ◌<◌, Bool, true, nat_lt, List, length, Option, None, Some, refl, sym, ap, ◌∙◌, subst, arith}
 use Rattle.std.specs.FinSet as set
 use Rattle.std.proofs.lemmas.Bool.Decides.{nat_tests}
-use Rattle.seam_law_flow.specs.Sent.{IsSilent}
-use Rattle.seam_entity.specs.Reals.{RealView}
-use Rattle.seam_entity.specs.declared.message.Msg.{Msg}
-use Rattle.seam_entity.specs.Numbers.{limit}
-use Rattle.seam_entity.specs.Here.{base_numbers, base_of}
-use Rattle.seam_node_steps.specs.Slots.{SlotStep, slot_after}
-use Rattle.seam_node_steps.specs.Settle.{haunts_at, ghost_messages}
-use Rattle.seam_node_steps.specs.CellCases.{current_to}
-use Rattle.seam_node_steps.specs.CellLooks.{numbered, shown_of}
-use Rattle.seam_law_calls.specs.Frames.{Frame, here_at}
-use Rattle.seam_law_calls.specs.Sights.{Has, AtCell}
+use Rattle.seam_node_steps.specs.Prelude.{RealView, Msg, limit, base_numbers, base_of, SlotStep, slot_after, haunts_at, ghost_messages}
+use Rattle.seam_node_steps.specs.Prelude.{current_to, numbered, shown_of}
+use Rattle.seam_law_flow.specs.Prelude.{IsSilent}
+use Rattle.seam_law_calls.specs.Prelude.{Frame, here_at, Has, AtCell, Does, Acts, surveys, calls, readies, CellMoves, real_of, update_in}
+use Rattle.seam_law_calls.specs.Prelude.{WitnessMoves}
 use Rattle.seam_law_calls.specs.CellMoves as move
-use Rattle.seam_law_calls.specs.CellMoves.{Does, Acts, surveys, calls, readies, CellMoves}
-use Rattle.seam_law_calls.specs.Ones.{real_of}
 use Rattle.seam_law_calls.proofs.Plain.{SeesNoGhost, ghosts_silent, drops_silent, mapped_silent}
-use Rattle.seam_law_calls.specs.PartMoves.{update_in}
-use Rattle.seam_law_calls.specs.WitnessMoves.{WitnessMoves, rests, lands, leaves, looks}
+use Rattle.seam_law_calls.specs.WitnessMoves.{rests, lands, leaves, looks}
 
 no_update : SeesNoGhost update_in
 no_update = record { sets = λ e n c. refl; drops = λ e n. refl }

@@ -1,23 +1,14 @@
 -- An entity with calls to its base part of two senders, one at its own base node and one at another, without a client and with one, in
 -- worlds of two cells that loads make: what the laws ask of a world is true of them.
 use Rattle.std.specs.Prelude.{ℕ, pos, List, [], ◌∷◌}
-use Rattle.seam_value.specs.declared.values.Value.TheVariants.{Number}
+use Rattle.seam_node_steps.specs.Prelude.{Number, Deed, Method, Call as CallData, Batch, RealView, PartView, NodeView, World, Base}
+use Rattle.seam_node_steps.specs.Prelude.{new_part, with_proxy, with_witness, no, one, here, idle, two_cells, made, at_home, base_16}
+use Rattle.seam_node_steps.specs.Prelude.{with_cells}
+use Rattle.seam_law_flow.specs.Prelude.{letters_of}
 use Rattle.seam_defs.specs.declared.flags.Part.TheVariants as part
-use Rattle.seam_defs.specs.declared.states.Deed.{Deed}
-use Rattle.seam_defs.specs.declared.states.Deed.TheVariants.{Method}
-use Rattle.seam_law_flow.specs.Flows.{letters_of}
 use Rattle.seam_call.specs.declared.sender.Sender.TheVariants as sender
-use Rattle.seam_call.specs.declared.call.Call.{Call as CallData}
 use Rattle.seam_call.specs.declared.order.Order.TheVariants as order
-use Rattle.seam_call.specs.declared.order.Batch.{Batch}
-use Rattle.seam_entity.specs.Reals.{RealView}
-use Rattle.seam_node_steps.specs.Bases.{PartView}
-use Rattle.seam_node_steps.specs.Nodes.{NodeView, World}
-use Rattle.seam_node_steps.specs.Nodes.NodeView.{Base}
-use Rattle.seam_node_steps.specs.Loads.{new_part, with_proxy, with_witness}
-use Rattle.seam_node_steps.specs.Rows.{no, one, here, idle}
 use Rattle.seam_node_steps.specs.EarlyCall as early
-use Rattle.seam_node_steps.specs.EarlyCall.{two_cells, made, at_home, base_16, with_cells}
 use Rattle.seam_law_calls.specs.CellTurns.{from_sender}
 
 -- base sender b's n-th call to the base part of entity 1

@@ -2,20 +2,14 @@
 use Rattle.std.specs.Prelude.{◌≡◌, ℕ, Bool, true, false, ◌&&◌, nat_lt, is_none, if◌then◌else◌, List, [], ◌∷◌, map, Option, None, Some}
 use Rattle.std.specs.List.{range_with_len}
 use Rattle.std.specs.Ordering.{nat_cmp}
-use Rattle.seam_order.specs.Held.{OrderView}
-use Rattle.seam_order.specs.Offers.{next_item, after_taking}
-use Rattle.seam_call.specs.declared.call.Call.{Call as CallData}
-use Rattle.seam_call.specs.declared.order.Order.{Order}
+use Rattle.seam_node_steps.specs.Prelude.{OrderView, next_item, after_taking, Call as CallData, Order, order_of, Msg, BaseCall, Hand}
+use Rattle.seam_node_steps.specs.Prelude.{Current, GhostSet, GhostDrop, Tick, Reap, Update, Here, base_of, is_ready, has_ready, ready_order}
+use Rattle.seam_node_steps.specs.Prelude.{RouteView, PartView, ProxyView, may_show, offered, with_order, after_showing, offered_update}
+use Rattle.seam_node_steps.specs.Prelude.{is_base_node_of, tick_to, stray_base_call, stray_current, stray_update}
 use Rattle.seam_call.specs.declared.order.Order.TheVariants as order
 use Rattle.seam_call.specs.declared.shown.Update.{Update as UpdateData}
-use Rattle.seam_entity.specs.Orders.{order_of}
-use Rattle.seam_entity.specs.declared.message.Msg.{Msg}
-use Rattle.seam_entity.specs.declared.message.Msg.TheVariants.{Call, BaseCall, Hand, Current, GhostSet, GhostDrop, Tick, Reap, Update}
-use Rattle.seam_entity.specs.Here.{Here, base_of}
-use Rattle.seam_entity.specs.Calls.{is_ready, has_ready, ready_order}
-use Rattle.seam_node_steps.specs.Bases.{RouteView, PartView, ProxyView}
-use Rattle.seam_node_steps.specs.BaseCases.{may_call, may_execute, may_show, offered, with_order, executed, after_showing, offered_update}
-use Rattle.seam_node_steps.specs.BaseCases.{is_base_node_of, tick_to, stray_base_call, stray_current, stray_update}
+use Rattle.seam_entity.specs.declared.message.Msg.TheVariants.{Call}
+use Rattle.seam_node_steps.specs.BaseCases.{may_call, may_execute, executed}
 use Rattle.seam_law_calls.specs.Sights.{AtBase}
 
 -- stray input, by what the base node has of the entity that it is about

@@ -3,19 +3,10 @@ use Rattle.std.specs.Prelude.{◌≡◌, ℕ, ◌+◌, ◌<◌, ◌≤◌, true,
 use Rattle.std.specs.List.{AllByRecursion}
 use Rattle.seam_net_runs.specs.Sums.{weight_or}
 use Rattle.seam_net_runs.specs.Weights.{weight}
-use Rattle.seam_law_flow.specs.Flows.{Flow, letters_of}
-use Rattle.seam_law_flow.specs.Narrow.{narrow}
-use Rattle.seam_law_flow.specs.Tokens.{one_if}
-use Rattle.seam_law_flow.specs.Desks.{Desk, Post, Mail, Item, AreInTurn}
-use Rattle.seam_call.specs.declared.call.Call.{Call as CallData}
-use Rattle.seam_call.specs.Senders.{rank_of}
-use Rattle.seam_entity.specs.Orders.{order_of}
-use Rattle.seam_entity.specs.declared.message.Msg.{Msg}
-use Rattle.seam_entity.specs.Numbers.{limit}
-use Rattle.seam_entity.specs.Here.{base_of}
-use Rattle.seam_node_steps.specs.Bases.{PartView}
-use Rattle.seam_node_steps.specs.BaseCases.{fits_base_part, may_call}
-use Rattle.seam_node_steps.specs.Nodes.{NodeView, World}
+use Rattle.seam_node_steps.specs.Prelude.{Call as CallData, rank_of, order_of, Msg, limit, base_of, PartView, fits_base_part, NodeView}
+use Rattle.seam_node_steps.specs.Prelude.{World}
+use Rattle.seam_law_flow.specs.Prelude.{Flow, letters_of, narrow, one_if, Desk, Post, Mail, Item, AreInTurn}
+use Rattle.seam_node_steps.specs.BaseCases.{may_call}
 use Rattle.seam_law_calls.specs.Frames.{Frame, here_at, IsInFrame}
 use Rattle.seam_law_calls.specs.Sights.{Has, AtBase, kept_if, mine, has_of, entity_flow}
 use Rattle.seam_law_calls.specs.Burdens.{held_in}

@@ -1,24 +1,13 @@
 -- What a cell may do with one entity, a constructor a kind of move.
 use Rattle.std.specs.Prelude.{◌≡◌, ℕ, ◌+◌, ◌<◌, Bool, true, false, if◌then◌else◌, is_some, List, [], ◌∷◌, length, Option, None, Some}
-use Rattle.seam_tree.specs.Division.{Division}
-use Rattle.seam_order.specs.Held.{OrderView}
-use Rattle.seam_order.specs.Offers.{next_item}
-use Rattle.seam_call.specs.declared.call.Call.{Call as CallData}
-use Rattle.seam_call.specs.declared.shown.GhostCopy.{GhostCopy}
-use Rattle.seam_entity.specs.Orders.{order_of}
-use Rattle.seam_entity.specs.Reals.{RealView, WitnessView}
-use Rattle.seam_entity.specs.declared.message.Msg.{Msg}
-use Rattle.seam_entity.specs.declared.message.Msg.TheVariants.{Call, Hand, GhostSet, GhostDrop, Tick, Reap}
-use Rattle.seam_entity.specs.Numbers.{is_small, may_rise}
-use Rattle.seam_entity.specs.Here.{Here}
-use Rattle.seam_entity.specs.Calls.{has_ready, ready_order}
-use Rattle.seam_entity.specs.Executing.{may_settle, may_execute, may_call, with_offer, executed, executed_ready, shows}
-use Rattle.seam_node_steps.specs.Slots.{NextPlace, SlotStep, slot_after, becomes, heard}
+use Rattle.seam_node_steps.specs.Prelude.{Division, OrderView, next_item, Call as CallData, GhostCopy, order_of, RealView, WitnessView, Msg}
+use Rattle.seam_node_steps.specs.Prelude.{Hand, GhostSet, GhostDrop, Tick, Reap, is_small, may_rise, Here, has_ready, ready_order}
+use Rattle.seam_node_steps.specs.Prelude.{may_settle, may_execute, may_call, with_offer, executed, executed_ready, shows, NextPlace}
+use Rattle.seam_node_steps.specs.Prelude.{SlotStep, slot_after, becomes, heard, home_after, is_stray, may_come, hand_over_comes, reap}
+use Rattle.seam_node_steps.specs.Prelude.{stray_survey, Known, shown_of, looks_with, stray_look}
+use Rattle.seam_entity.specs.declared.message.Msg.TheVariants.{Call}
 use Rattle.seam_node_steps.specs.Slots as slot_step
-use Rattle.seam_node_steps.specs.Settle.{home_after}
 use Rattle.seam_node_steps.specs.Settle as settle
-use Rattle.seam_node_steps.specs.CellCases.{is_stray, may_come, hand_over_comes, reap, stray_survey}
-use Rattle.seam_node_steps.specs.CellLooks.{Known, shown_of, looks_with, stray_look}
 use Rattle.seam_law_calls.specs.Sights.{AtCell}
 
 abbrev pub unlisted_if : Bool → ℕ → ℕ

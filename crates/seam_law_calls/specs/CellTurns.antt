@@ -2,20 +2,11 @@
 use Rattle.std.specs.Prelude.{◌≡◌, ℕ, ◌<◌, ◌≤◌, ◌==◌, Bool, true, List, Option, None, Some}
 use Rattle.std.specs.List.{AllByRecursion}
 use Rattle.std.specs.FinMap as table
-use Rattle.seam_law_flow.specs.Flows.{Flow, letters_of}
-use Rattle.seam_law_flow.specs.Narrow.{narrow}
-use Rattle.seam_law_flow.specs.Desks.{Desk, Post, Mail, Item, Parcel, AreInTurn}
-use Rattle.seam_call.specs.declared.call.Call.{Call as CallData}
-use Rattle.seam_call.specs.declared.order.Order.{Order}
+use Rattle.seam_node_steps.specs.Prelude.{Call as CallData, Order, rank_of, Orders, order_or, order_of, RealView, Msg, BaseCall, Hand}
+use Rattle.seam_node_steps.specs.Prelude.{Current, GhostSet, GhostDrop, Tick, Reap, Update, cell_count, fits_cell_part, may_call, World}
+use Rattle.seam_law_flow.specs.Prelude.{Flow, letters_of, narrow, Desk, Post, Mail, Item, Parcel, AreInTurn}
 use Rattle.seam_call.specs.declared.order.Order.TheVariants as order
-use Rattle.seam_call.specs.Senders.{rank_of}
-use Rattle.seam_entity.specs.Orders.{Orders, order_or, order_of}
-use Rattle.seam_entity.specs.Reals.{RealView}
-use Rattle.seam_entity.specs.declared.message.Msg.{Msg}
-use Rattle.seam_entity.specs.declared.message.Msg.TheVariants.{Call, BaseCall, Hand, Current, GhostSet, GhostDrop, Tick, Reap, Update}
-use Rattle.seam_entity.specs.Here.{cell_count}
-use Rattle.seam_entity.specs.Executing.{fits_cell_part, may_call}
-use Rattle.seam_node_steps.specs.Nodes.{World}
+use Rattle.seam_entity.specs.declared.message.Msg.TheVariants.{Call}
 use Rattle.seam_law_calls.specs.Frames.{Frame, here_at}
 use Rattle.seam_law_calls.specs.Sights.{Has, kept_if, entity_flow}
 use Rattle.seam_law_calls.specs.Ones.{real_in}

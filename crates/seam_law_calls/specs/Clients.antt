@@ -1,24 +1,13 @@
 -- An entity's client: what its witness told, which the proxy at the base node shows it in order.
 use Rattle.std.specs.Prelude.{◌≡◌, ℕ, ◌+◌, ◌<◌, ◌≤◌, Bool, true, false, List, [], length, Option, None, Some, option_map}
 use Rattle.std.specs.List.{AllByRecursion}
-use Rattle.seam_law_flow.specs.Flows.{letters_of}
-use Rattle.seam_order.specs.Held.{OrderView}
-use Rattle.seam_law_flow.specs.Deliveries.{Delivery}
-use Rattle.seam_call.specs.declared.order.Order.{Order}
+use Rattle.seam_node_steps.specs.Prelude.{OrderView, Order, Shown, Line, ClientText, new_order, RealView, Msg, BaseCall, Hand, Current}
+use Rattle.seam_node_steps.specs.Prelude.{GhostSet, GhostDrop, Tick, Reap, Update, limit, PartView, ProxyView, stray_update, World}
+use Rattle.seam_law_flow.specs.Prelude.{letters_of, Delivery}
 use Rattle.seam_call.specs.declared.order.Order.TheVariants as order
-use Rattle.seam_call.specs.declared.shown.Shown.{Shown}
-use Rattle.seam_call.specs.declared.shown.Line.{Line}
-use Rattle.seam_call.specs.declared.shown.ClientText.{ClientText}
 use Rattle.seam_call.specs.declared.shown.ClientText.TheVariants as text
 use Rattle.seam_call.specs.declared.shown.Update.{Update as UpdateData}
-use Rattle.seam_entity.specs.Orders.{new_order}
-use Rattle.seam_entity.specs.Reals.{RealView}
-use Rattle.seam_entity.specs.declared.message.Msg.{Msg}
-use Rattle.seam_entity.specs.declared.message.Msg.TheVariants.{Call, BaseCall, Hand, Current, GhostSet, GhostDrop, Tick, Reap, Update}
-use Rattle.seam_entity.specs.Numbers.{limit}
-use Rattle.seam_node_steps.specs.Bases.{PartView, ProxyView}
-use Rattle.seam_node_steps.specs.BaseCases.{stray_update}
-use Rattle.seam_node_steps.specs.Nodes.{World}
+use Rattle.seam_entity.specs.declared.message.Msg.TheVariants.{Call}
 use Rattle.seam_law_calls.specs.Frames.{Frame}
 use Rattle.seam_law_calls.specs.Sights.{Has, AtBase, entity_flow}
 use Rattle.seam_law_calls.specs.Ones.{real_in, real_of, IsFrame, HasOne}

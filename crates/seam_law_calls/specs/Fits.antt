@@ -1,16 +1,8 @@
 -- What fits: an entity's real, its calls, and what each node has of it and each link brings about it.
 use Rattle.std.specs.Prelude.{◌≡◌, ℕ, ◌<◌, true, Option, Some}
 use Rattle.std.specs.FinSet as set
-use Rattle.seam_tree.specs.Division.{cells_of}
+use Rattle.seam_node_steps.specs.Prelude.{cells_of, IsOfGroup, RealView, Msg, Hand, is_inside, properties, all_held, fits_cell_part}
 use Rattle.seam_defs.specs.declared.flags.Group.TheVariants as group
-use Rattle.seam_defs.specs.Deeds.{IsOfGroup}
-use Rattle.seam_entity.specs.Reals.{RealView}
-use Rattle.seam_entity.specs.declared.message.Msg.{Msg}
-use Rattle.seam_entity.specs.declared.message.Msg.TheVariants.{Hand}
-use Rattle.seam_entity.specs.Fitting.{is_inside}
-use Rattle.seam_entity.specs.Here.{properties}
-use Rattle.seam_entity.specs.Calls.{all_held}
-use Rattle.seam_entity.specs.Executing.{fits_cell_part}
 use Rattle.seam_law_calls.specs.Frames.{Frame, here_at}
 
 -- the real is one of entity e and of type ty, has values of the group, is in the space, and each call that it holds fits; it is in cell

@@ -1,17 +1,8 @@
 -- What all nodes of a world go by in a round.
 use Rattle.std.specs.Prelude.{◌≡◌, ℕ, ◌<◌, ◌≤◌, List}
-use Rattle.seam_tree.specs.Division.{Division, cells_of}
-use Rattle.seam_defs.specs.declared.types.TypeDef.{TypeDef}
-use Rattle.seam_defs.specs.declared.settings.Settings.{Settings}
-use Rattle.seam_machine.specs.Events.{EachNode}
+use Rattle.seam_node_steps.specs.Prelude.{Division, cells_of, TypeDef, Settings, EachNode, Here, cell_count, CellView, BaseView, NodeView}
+use Rattle.seam_node_steps.specs.Prelude.{World, node_peers, Cell, Base, here_of, IsNode}
 use Rattle.seam_net_runs.specs.Sound.{IsSound}
-use Rattle.seam_entity.specs.Here.{Here, cell_count}
-use Rattle.seam_node_steps.specs.Cells.{CellView}
-use Rattle.seam_node_steps.specs.Bases.{BaseView}
-use Rattle.seam_node_steps.specs.Nodes.{NodeView, World, node_peers}
-use Rattle.seam_node_steps.specs.Nodes.NodeView.{Cell, Base}
-use Rattle.seam_node_steps.specs.Loads.{here_of}
-use Rattle.seam_node_steps.specs.Valid.{IsNode}
 
 -- the definitions, the settings, and the tree that applies in the round
 pub record Frame : Type 0 where

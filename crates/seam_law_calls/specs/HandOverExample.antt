@@ -1,10 +1,6 @@
 -- A world of two cells with one entity and three calls, of which one hands it over: what the laws ask of a world is true of it.
 use Rattle.std.specs.Prelude.{List, map}
-use Rattle.seam_machine.specs.declared.machines.Event.{Event}
-use Rattle.seam_defs.specs.Builtin.{builtin}
-use Rattle.seam_defs.specs.Settings.{standard}
-use Rattle.seam_node_steps.specs.Nodes.{World}
-use Rattle.seam_node_steps.specs.EarlyCall.{two_cells}
+use Rattle.seam_node_steps.specs.Prelude.{Event, builtin, standard, World, two_cells}
 use Rattle.seam_law_calls.specs.Frames.{Frame}
 
 abbrev pub frame : Frame

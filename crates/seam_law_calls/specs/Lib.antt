@@ -19,3 +19,4 @@ pub mod Strays
 pub mod Reaps
 pub mod BaseCallsExample
 pub mod Telling
+pub mod Prelude

@@ -1,9 +1,6 @@
 -- What a node may do with one entity.
 use Rattle.std.specs.Prelude.{◌≡◌, ℕ, ◌<◌, ◌≤◌, List, Option}
-use Rattle.seam_tree.specs.Division.{cells_of}
-use Rattle.seam_machine.specs.Sends.{items_to}
-use Rattle.seam_entity.specs.declared.message.Msg.{Msg}
-use Rattle.seam_entity.specs.Here.{cell_count}
+use Rattle.seam_node_steps.specs.Prelude.{cells_of, items_to, Msg, cell_count}
 use Rattle.seam_law_calls.specs.Frames.{Frame, here_at}
 use Rattle.seam_law_calls.specs.Sights.{Has}
 use Rattle.seam_law_calls.specs.CellMoves.{CellMoves}

@@ -1,20 +1,11 @@
 -- Exactly one real: where it is, and what it is.
 use Rattle.std.specs.Prelude.{◌≡◌, ℕ, ◌<◌, Bool, false, ◌&&◌, is_some, List, [], ◌∷◌, Option, None, Some}
 use Rattle.std.specs.List.{AllByRecursion}
-use Rattle.seam_tree.specs.Division.{IsTree}
-use Rattle.seam_defs.specs.Types.{AreDefs}
-use Rattle.seam_law_flow.specs.Tokens.{TokenPlace, Sole}
-use Rattle.seam_call.specs.declared.order.Order.{Order}
+use Rattle.seam_node_steps.specs.Prelude.{IsTree, AreDefs, Order, RealView, Msg, BaseCall, Hand, Current, GhostSet, GhostDrop, Tick, Reap}
+use Rattle.seam_node_steps.specs.Prelude.{Update, limit, input_from, happens, Input, Task, From, Event, World, node_steps}
+use Rattle.seam_law_flow.specs.Prelude.{TokenPlace, Sole}
 use Rattle.seam_call.specs.declared.order.Order.TheVariants as order
-use Rattle.seam_entity.specs.Reals.{RealView}
-use Rattle.seam_entity.specs.declared.message.Msg.{Msg}
-use Rattle.seam_entity.specs.declared.message.Msg.TheVariants.{Call, BaseCall, Hand, Current, GhostSet, GhostDrop, Tick, Reap, Update}
-use Rattle.seam_entity.specs.Numbers.{limit}
-use Rattle.seam_machine.specs.Nets.{input_from, happens}
-use Rattle.seam_machine.specs.declared.machines.Input.{Input}
-use Rattle.seam_machine.specs.declared.machines.Input.TheVariants.{Task, From}
-use Rattle.seam_machine.specs.declared.machines.Event.{Event}
-use Rattle.seam_node_steps.specs.Nodes.{World, node_steps}
+use Rattle.seam_entity.specs.declared.message.Msg.TheVariants.{Call}
 use Rattle.seam_law_calls.specs.Frames.{Frame, IsInFrame}
 use Rattle.seam_law_calls.specs.Sights.{Has, concerns, entity_flow}
 use Rattle.seam_law_calls.specs.Fits.{IsFitReal, IsFitHand}

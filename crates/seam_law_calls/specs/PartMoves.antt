@@ -1,23 +1,15 @@
 -- What a step does with an entity's base part and the calls to it: the moves of a node with all else left out.
 use Rattle.std.specs.Prelude.{◌≡◌, ℕ, ◌<◌, true, List, [], ◌∷◌, ◌⊎◌, Option, None, Some}
 use Rattle.std.specs.Ordering.{nat_cmp}
-use Rattle.seam_order.specs.Held.{OrderView}
-use Rattle.seam_order.specs.Offers.{next_item, after_taking}
-use Rattle.seam_law_flow.specs.Flows.{letters_of}
-use Rattle.seam_law_flow.specs.Sent.{IsSilent}
-use Rattle.seam_law_flow.specs.Tokens.{carried_in}
-use Rattle.seam_call.specs.declared.call.Call.{Call as CallData}
-use Rattle.seam_call.specs.declared.order.Order.{Order}
+use Rattle.seam_node_steps.specs.Prelude.{OrderView, next_item, after_taking, Call as CallData, Order, order_of, Msg, BaseCall, Hand}
+use Rattle.seam_node_steps.specs.Prelude.{Current, GhostSet, GhostDrop, Tick, Reap, Update, Here, cell_count, base_of, is_ready}
+use Rattle.seam_node_steps.specs.Prelude.{ready_order, PartView, ProxyView, with_order, offered_update, shows_next, is_base_node_of}
+use Rattle.seam_node_steps.specs.Prelude.{stray_base_call, stray_update}
+use Rattle.seam_law_flow.specs.Prelude.{letters_of, IsSilent, carried_in}
 use Rattle.seam_call.specs.declared.order.Order.TheVariants as order
 use Rattle.seam_call.specs.declared.shown.Update.{Update as UpdateData}
-use Rattle.seam_entity.specs.Orders.{order_of}
-use Rattle.seam_entity.specs.declared.message.Msg.{Msg}
-use Rattle.seam_entity.specs.declared.message.Msg.TheVariants.{Call, BaseCall, Hand, Current, GhostSet, GhostDrop, Tick, Reap, Update}
-use Rattle.seam_entity.specs.Here.{Here, cell_count, base_of}
-use Rattle.seam_entity.specs.Calls.{is_ready, ready_order}
-use Rattle.seam_node_steps.specs.Bases.{PartView, ProxyView}
-use Rattle.seam_node_steps.specs.BaseCases.{may_call, with_order, with_offer, executed, offered_update, shows_next, is_base_node_of}
-use Rattle.seam_node_steps.specs.BaseCases.{stray_base_call, stray_update}
+use Rattle.seam_entity.specs.declared.message.Msg.TheVariants.{Call}
+use Rattle.seam_node_steps.specs.BaseCases.{may_call, with_offer, executed}
 use Rattle.seam_law_calls.specs.Sights.{AtBase}
 
 -- the call that a message brings to a base part

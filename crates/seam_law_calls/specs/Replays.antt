@@ -1,13 +1,6 @@
 -- What a real has become of another by calls.
 use Rattle.std.specs.Prelude.{◌≡◌, ℕ, ◌+◌, List, [], ◌∷◌, ◌++◌}
-use Rattle.seam_defs.specs.declared.types.TypeDef.{TypeDef}
-use Rattle.seam_defs.specs.declared.states.State.{State}
-use Rattle.seam_defs.specs.Deeds.{after}
-use Rattle.seam_defs.specs.Tests.{changes}
-use Rattle.seam_defs.specs.Types.{type_of}
-use Rattle.seam_call.specs.declared.call.Call.{Call}
-use Rattle.seam_entity.specs.Reals.{RealView}
-use Rattle.seam_entity.specs.Executing.{public_after}
+use Rattle.seam_node_steps.specs.Prelude.{TypeDef, State, after, changes, type_of, Call, RealView, public_after}
 use Rattle.seam_law_calls.specs.Frames.{Frame}
 
 -- what calls change of a real: its state, its version, its public version, and the list of the calls that it executed

@@ -1,16 +1,10 @@
 -- A world as one entity sees it: what each node has of the entity, and the messages about it on each link.
 use Rattle.std.specs.Prelude.{ℕ, ◌+◌, ◌==◌, Bool, true, if◌then◌else◌, List, [], ◌∷◌, filter, Option, None, Some}
 use Rattle.std.specs.FinMap as table
-use Rattle.seam_law_flow.specs.Flows.{Flow, flow_of}
-use Rattle.seam_call.specs.declared.order.Order.{Order}
+use Rattle.seam_node_steps.specs.Prelude.{Order, Msg, Slot, about, CellView, slot_of, BaseView, RouteView, PartView, NodeView, World, Cell}
+use Rattle.seam_node_steps.specs.Prelude.{Base}
+use Rattle.seam_law_flow.specs.Prelude.{Flow, flow_of}
 use Rattle.seam_call.specs.declared.order.Order.TheVariants as order
-use Rattle.seam_entity.specs.declared.message.Msg.{Msg}
-use Rattle.seam_node_steps.specs.Slots.{Slot}
-use Rattle.seam_node_steps.specs.CellCases.{about}
-use Rattle.seam_node_steps.specs.Cells.{CellView, slot_of}
-use Rattle.seam_node_steps.specs.Bases.{BaseView, RouteView, PartView}
-use Rattle.seam_node_steps.specs.Nodes.{NodeView, World}
-use Rattle.seam_node_steps.specs.Nodes.NodeView.{Cell, Base}
 
 -- ---- what is about the entity
 

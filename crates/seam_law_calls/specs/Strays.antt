@@ -2,16 +2,10 @@
 use Rattle.std.specs.Prelude.{◌≡◌, ℕ, ◌+◌, ◌<◌, ◌≤◌, Bool, true, false, List, ◌∷◌, Some}
 use Rattle.std.specs.List.{AllByRecursion}
 use Rattle.std.specs.FinMap as table
-use Rattle.seam_machine.specs.Nets.{link}
-use Rattle.seam_call.specs.declared.order.Order.{Order}
-use Rattle.seam_entity.specs.declared.message.Msg.{Msg}
-use Rattle.seam_entity.specs.declared.message.Msg.TheVariants.{Call, BaseCall, Hand, Current, GhostSet, GhostDrop, Tick, Reap, Update}
-use Rattle.seam_entity.specs.Numbers.{limit}
-use Rattle.seam_entity.specs.Here.{cell_count}
-use Rattle.seam_node_steps.specs.CellCases.{about}
-use Rattle.seam_node_steps.specs.Bases.{BaseView, PartView, RouteView}
-use Rattle.seam_node_steps.specs.BaseCases.{may_execute, is_stray, stray_order}
-use Rattle.seam_node_steps.specs.Nodes.{World}
+use Rattle.seam_node_steps.specs.Prelude.{link, Order, Msg, BaseCall, Hand, Current, GhostSet, GhostDrop, Tick, Reap, Update, limit}
+use Rattle.seam_node_steps.specs.Prelude.{cell_count, about, BaseView, PartView, RouteView, stray_order, World}
+use Rattle.seam_entity.specs.declared.message.Msg.TheVariants.{Call}
+use Rattle.seam_node_steps.specs.BaseCases.{may_execute, is_stray}
 use Rattle.seam_law_calls.specs.Frames.{Frame, here_at}
 use Rattle.seam_law_calls.specs.Sights.{order_about, entity_flow}
 use Rattle.seam_law_calls.specs.BaseMoves.{strays_at, is_stuck}

@@ -1,18 +1,13 @@
 -- What bounds the updates that a witness tells: how many entities there may be, and how often it is to look.
 use Rattle.std.specs.Prelude.{◌≡◌, ℕ, ◌+◌, ◌*◌, ◌^◌, ◌<◌, ◌≤◌, None, Some}
 use Rattle.std.specs.List.{AllByRecursion}
-use Rattle.seam_machine.specs.Totals.{total}
+use Rattle.seam_node_steps.specs.Prelude.{total, copy_in, Order, RealView, WitnessView, Msg, BaseCall, Hand, Current, GhostSet, GhostDrop}
+use Rattle.seam_node_steps.specs.Prelude.{Tick, Reap, Update, cell_count, NodeView, World}
 use Rattle.seam_net_runs.specs.Sums.{weight_or}
 use Rattle.seam_net_runs.specs.Weights.{weight}
-use Rattle.seam_ghosts.specs.Book.{copy_in}
 use Rattle.seam_view.specs.Replica.{Replica, IsView}
-use Rattle.seam_call.specs.declared.order.Order.{Order}
 use Rattle.seam_call.specs.declared.order.Order.TheVariants as order
-use Rattle.seam_entity.specs.Reals.{RealView, WitnessView}
-use Rattle.seam_entity.specs.declared.message.Msg.{Msg}
-use Rattle.seam_entity.specs.declared.message.Msg.TheVariants.{Call, BaseCall, Hand, Current, GhostSet, GhostDrop, Tick, Reap, Update}
-use Rattle.seam_entity.specs.Here.{cell_count}
-use Rattle.seam_node_steps.specs.Nodes.{NodeView, World}
+use Rattle.seam_entity.specs.declared.message.Msg.TheVariants.{Call}
 use Rattle.seam_law_calls.specs.Sights.{Has, mine, has_of, entity_flow}
 use Rattle.seam_law_calls.specs.Ones.{real_in}
 use Rattle.seam_law_calls.specs.PartMoves.{update_in}

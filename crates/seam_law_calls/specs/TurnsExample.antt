@@ -1,8 +1,7 @@
 -- The calls of two senders in a world of two cells that a load made: what the laws ask of them is true.
 use Rattle.std.specs.Prelude.{ℕ, List, [], ◌∷◌}
-use Rattle.seam_law_flow.specs.Flows.{letters_of}
-use Rattle.seam_call.specs.declared.call.Call.{Call as CallData}
-use Rattle.seam_node_steps.specs.EarlyCall.{the_move, hit_1, hit_2}
+use Rattle.seam_node_steps.specs.Prelude.{Call as CallData, the_move, hit_1, hit_2}
+use Rattle.seam_law_flow.specs.Prelude.{letters_of}
 use Rattle.seam_law_calls.specs.CellTurns.{from_sender}
 
 -- the calls of each sender

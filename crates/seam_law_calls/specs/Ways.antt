@@ -1,11 +1,9 @@
 -- Calls find their way: where a call is sent, the entity's real is, was, or comes before it.
 use Rattle.std.specs.Prelude.{◌≡◌, ℕ, Bool, true, false, not, ◌&&◌, ◌||◌, is_some, List, [], ◌∷◌, Some}
 use Rattle.std.specs.List.{AllByRecursion}
-use Rattle.seam_law_flow.specs.Flows.{Flow}
-use Rattle.seam_entity.specs.declared.message.Msg.{Msg}
-use Rattle.seam_entity.specs.declared.message.Msg.TheVariants.{Call, BaseCall, Hand, Current, GhostSet, GhostDrop, Tick, Reap, Update}
-use Rattle.seam_node_steps.specs.Slots.{NextPlace}
-use Rattle.seam_node_steps.specs.Bases.{RouteView}
+use Rattle.seam_node_steps.specs.Prelude.{Msg, BaseCall, Hand, Current, GhostSet, GhostDrop, Tick, Reap, Update, NextPlace, RouteView}
+use Rattle.seam_law_flow.specs.Prelude.{Flow}
+use Rattle.seam_entity.specs.declared.message.Msg.TheVariants.{Call}
 use Rattle.seam_law_calls.specs.Sights.{Has}
 use Rattle.seam_law_calls.specs.Ones.{real_of}
 

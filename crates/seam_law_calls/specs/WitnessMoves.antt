@@ -1,13 +1,7 @@
 -- What a step does with an entity's witness and what it tells its client: the moves of a node with all else left out.
 use Rattle.std.specs.Prelude.{◌≡◌, ℕ, ◌+◌, ◌<◌, List, [], ◌∷◌, ◌++◌, length, Option, None, Some}
-use Rattle.seam_law_flow.specs.Sent.{IsSilent}
-use Rattle.seam_call.specs.declared.shown.Shown.{Shown}
-use Rattle.seam_entity.specs.Reals.{RealView, WitnessView}
-use Rattle.seam_entity.specs.declared.message.Msg.{Msg}
-use Rattle.seam_entity.specs.declared.message.Msg.TheVariants.{Hand}
-use Rattle.seam_entity.specs.Numbers.{limit}
-use Rattle.seam_entity.specs.Here.{Here, base_of}
-use Rattle.seam_node_steps.specs.CellLooks.{numbered}
+use Rattle.seam_node_steps.specs.Prelude.{Shown, RealView, WitnessView, Msg, Hand, limit, Here, base_of, numbered}
+use Rattle.seam_law_flow.specs.Prelude.{IsSilent}
 use Rattle.seam_law_calls.specs.Sights.{AtCell}
 use Rattle.seam_law_calls.specs.Ones.{real_of}
 use Rattle.seam_law_calls.specs.PartMoves.{update_in}

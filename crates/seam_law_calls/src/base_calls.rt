@@ -22,34 +22,17 @@
 
 ghost use Rattle.std.specs.Prelude.{◌≡◌, ℕ, ◌<◌, ◌≤◌, List, [], ◌∷◌, length, true, None, Some, is_some, slice_get};
 ghost use Rattle.std.specs.FinMap as table;
-ghost use Rattle.seam_machine.specs.Nets.{IsQuiet, LeadsTo};
-ghost use Rattle.seam_machine.specs.declared.machines.Event.{Event};
-ghost use Rattle.seam_machine.specs.declared.machines.Input.TheVariants.{Task};
-ghost use Rattle.seam_law_flow.specs.Flows.{letters_of};
-ghost use Rattle.seam_call.specs.declared.call.Call.{Call as CallData};
-ghost use Rattle.seam_call.specs.declared.order.Order.{Order};
+ghost use Rattle.seam_node_steps.specs.Prelude.{IsQuiet, LeadsTo, Event, Task, Call as CallData, Order, Msg, BaseCall, Update, BaseView};
+ghost use Rattle.seam_node_steps.specs.Prelude.{PartView, base_steps, loaded, reaps_loaded, empty_world, World, node_steps, node_has_work};
+ghost use Rattle.seam_node_steps.specs.Prelude.{Base};
+ghost use Rattle.seam_law_flow.specs.Prelude.{letters_of};
+ghost use Rattle.seam_law_calls.specs.Prelude.{Frame, here_at, IsInFrame, strays_at, entity_flow, frame, IsFrame, IsSpared, HasOne};
+ghost use Rattle.seam_law_calls.specs.Prelude.{from_sender, from_one, base_burden, home_of, FindsPart, HasBaseCalls, HasNoClient, shown_at};
+ghost use Rattle.seam_law_calls.specs.Prelude.{HasClient, HasNoLooks, HasToldAtMost, HasRoomFor, FindsClient, HasNoBaseCalls, HasNoPart};
+ghost use Rattle.seam_law_calls.specs.Prelude.{HasRoutes, LinesHaveRoom, NoneIsStray, NothingIsStray};
 ghost use Rattle.seam_call.specs.declared.order.Order.TheVariants as order;
 ghost use Rattle.seam_call.specs.declared.shown.Update.{Update as UpdateData};
-ghost use Rattle.seam_entity.specs.declared.message.Msg.{Msg};
-ghost use Rattle.seam_entity.specs.declared.message.Msg.TheVariants.{BaseCall, Update};
-ghost use Rattle.seam_node_steps.specs.Bases.{BaseView, PartView};
-ghost use Rattle.seam_node_steps.specs.BaseCases.{base_steps};
-ghost use Rattle.seam_node_steps.specs.Loads.{loaded, reaps_loaded};
-ghost use Rattle.seam_node_steps.specs.Rows.{empty_world};
-ghost use Rattle.seam_node_steps.specs.Nodes.{World, node_steps, node_has_work};
-ghost use Rattle.seam_node_steps.specs.Nodes.NodeView.{Base};
-ghost use Rattle.seam_law_calls.specs.Frames.{Frame, here_at, IsInFrame};
-ghost use Rattle.seam_law_calls.specs.BaseMoves.{strays_at};
-ghost use Rattle.seam_law_calls.specs.Sights.{entity_flow};
-ghost use Rattle.seam_law_calls.specs.HandOverExample.{frame};
-ghost use Rattle.seam_law_calls.specs.Ones.{IsFrame, IsSpared, HasOne};
-ghost use Rattle.seam_law_calls.specs.CellTurns.{from_sender};
-ghost use Rattle.seam_law_calls.specs.TurnsExample.{from_one};
-ghost use Rattle.seam_law_calls.specs.BaseTurns.{base_burden, home_of, FindsPart, HasBaseCalls, HasNoClient};
-ghost use Rattle.seam_law_calls.specs.Clients.{shown_at, HasClient, HasNoLooks, HasToldAtMost, HasRoomFor, FindsClient};
 ghost use Rattle.seam_law_calls.specs.BaseCallsExample as example;
-ghost use Rattle.seam_law_calls.specs.Reaps.{HasNoBaseCalls, HasNoPart};
-ghost use Rattle.seam_law_calls.specs.Strays.{HasRoutes, LinesHaveRoom, NoneIsStray, NothingIsStray};
 
 /// In a world that has an entity's base part with its calls in turn, no one reaping it, it has so after every list of events: `alone`
 /// where the entity has no client, `client` where it has one whose witness has told at most n updates in the end, for which there is room,

@@ -8,17 +8,9 @@
 //! `Lists` (what of a list concerns the entity).
 
 ghost use Rattle.std.specs.Prelude.{◌≡◌, ℕ, true};
-ghost use Rattle.seam_machine.specs.Nets.{happens, enabled};
-ghost use Rattle.seam_machine.specs.Events.{Occurs};
-ghost use Rattle.seam_machine.specs.declared.machines.Input.{Input};
-ghost use Rattle.seam_machine.specs.declared.machines.Event.{Event};
-ghost use Rattle.seam_law_flow.specs.Flows.{Goes, letter_in};
-ghost use Rattle.seam_entity.specs.declared.message.Msg.{Msg};
-ghost use Rattle.seam_node_steps.specs.Nodes.{NodeView, World, node_steps};
-ghost use Rattle.seam_node_steps.specs.Valid.{IsNode};
-ghost use Rattle.seam_law_calls.specs.Frames.{Frame, IsAt, IsInFrame};
-ghost use Rattle.seam_law_calls.specs.Sights.{mine, concerning, has_of, entity_flow};
-ghost use Rattle.seam_law_calls.specs.Moves.{Moves, MovesTo};
+ghost use Rattle.seam_node_steps.specs.Prelude.{happens, enabled, Occurs, Input, Event, Msg, NodeView, World, node_steps, IsNode};
+ghost use Rattle.seam_law_flow.specs.Prelude.{Goes, letter_in};
+ghost use Rattle.seam_law_calls.specs.Prelude.{Frame, IsAt, IsInFrame, mine, concerning, has_of, entity_flow, Moves, MovesTo};
 
 /// A step of a node is, for each entity, one of the moves.
 pub fn a_step_is_a_move()

@@ -12,24 +12,14 @@
 //! `Quieting` (what is not there in a quiet world) are for callers.
 
 ghost use Rattle.std.specs.Prelude.{◌≡◌, ℕ, ◌+◌, ◌<◌, List, ◌∷◌, length, Some};
-ghost use Rattle.seam_machine.specs.Nets.{IsQuiet, LeadsTo};
-ghost use Rattle.seam_machine.specs.declared.machines.Event.{Event};
-ghost use Rattle.seam_law_flow.specs.Flows.{letters_of};
-ghost use Rattle.seam_call.specs.declared.call.Call.{Call as CallData};
-ghost use Rattle.seam_entity.specs.Reals.{RealView};
-ghost use Rattle.seam_entity.specs.declared.message.Msg.{Msg};
+ghost use Rattle.seam_node_steps.specs.Prelude.{IsQuiet, LeadsTo, Event, Call as CallData, RealView, Msg, limit, World, node_steps};
+ghost use Rattle.seam_node_steps.specs.Prelude.{node_has_work};
+ghost use Rattle.seam_law_flow.specs.Prelude.{letters_of};
+ghost use Rattle.seam_law_calls.specs.Prelude.{Frame, entity_flow, burden, frame, real_in, HasOne, IsSpared, IsFrame, AllLead, from_sender};
+ghost use Rattle.seam_law_calls.specs.Prelude.{AreCallsOf, CellCallsInTurn, FindsTurn, from_one};
 ghost use Rattle.seam_entity.specs.declared.message.Msg.TheVariants.{Call};
-ghost use Rattle.seam_entity.specs.Numbers.{limit};
 ghost use Rattle.seam_node_steps.specs.EarlyCall as early;
-ghost use Rattle.seam_node_steps.specs.Nodes.{World, node_steps, node_has_work};
-ghost use Rattle.seam_law_calls.specs.Frames.{Frame};
-ghost use Rattle.seam_law_calls.specs.Sights.{entity_flow};
-ghost use Rattle.seam_law_calls.specs.Burdens.{burden};
-ghost use Rattle.seam_law_calls.specs.HandOverExample.{frame};
-ghost use Rattle.seam_law_calls.specs.Ones.{real_in, HasOne, IsSpared, IsFrame};
-ghost use Rattle.seam_law_calls.specs.Ways.{AllLead};
-ghost use Rattle.seam_law_calls.specs.CellTurns.{from_sender, AreCallsOf, CellCallsInTurn, FindsTurn};
-ghost use Rattle.seam_law_calls.specs.TurnsExample.{calls_of, from_one};
+ghost use Rattle.seam_law_calls.specs.TurnsExample.{calls_of};
 
 /// In a world of an entity that fits, has one real and is not reaped, where calls find their way, each sender's calls to the cell part
 /// are in turn, and the numbers have room for one more, they are in turn after every list of events.

@@ -14,24 +14,13 @@
 //! `HeldCounts` (held calls after an offer) and `Holds` (that they all pass a test, and what two tests pass).
 
 ghost use Rattle.std.specs.Prelude.{◌≡◌, ℕ, ◌<◌, ◌≤◌, List, length, Some};
-ghost use Rattle.seam_machine.specs.Nets.{happens, run, AllEnabled, LeadsTo};
-ghost use Rattle.seam_machine.specs.Events.{Occurs};
-ghost use Rattle.seam_machine.specs.declared.machines.Event.{Event};
-ghost use Rattle.seam_law_flow.specs.Flows.{letter_in};
-ghost use Rattle.seam_law_flow.specs.Tokens.{TokenPlace, Nobody};
-ghost use Rattle.seam_entity.specs.Reals.{RealView};
-ghost use Rattle.seam_entity.specs.declared.message.Msg.TheVariants.{Reap};
-ghost use Rattle.seam_node_steps.specs.Holders.{holders};
-ghost use Rattle.seam_node_steps.specs.Nodes.{World, node_steps, node_has_work};
-ghost use Rattle.seam_node_steps.specs.Loads.{loaded};
-ghost use Rattle.seam_node_steps.specs.Rows.{empty_world};
+ghost use Rattle.seam_node_steps.specs.Prelude.{happens, run, AllEnabled, LeadsTo, Occurs, Event, RealView, Reap, holders, World};
+ghost use Rattle.seam_node_steps.specs.Prelude.{node_steps, node_has_work, loaded, empty_world};
+ghost use Rattle.seam_law_flow.specs.Prelude.{letter_in, TokenPlace, Nobody};
+ghost use Rattle.seam_law_calls.specs.Prelude.{Frame, IsInFrame, mine, has_of, entity_flow, burden, events_of, real_in, real_of, IsOne};
+ghost use Rattle.seam_law_calls.specs.Prelude.{IsSpared, AllFits, IsFrame, HasOne, OneFrom, NoReapComes};
 ghost use Rattle.seam_node_steps.specs.EarlyCall as early;
-ghost use Rattle.seam_law_calls.specs.Frames.{Frame, IsInFrame};
-ghost use Rattle.seam_law_calls.specs.Sights.{mine, has_of, entity_flow};
-ghost use Rattle.seam_law_calls.specs.Burdens.{burden};
 ghost use Rattle.seam_law_calls.specs.HandOverExample as example;
-ghost use Rattle.seam_law_calls.specs.HandOverExample.{events_of};
-ghost use Rattle.seam_law_calls.specs.Ones.{real_in, real_of, IsOne, IsSpared, AllFits, IsFrame, HasOne, OneFrom, NoReapComes};
 
 /// An entity that fits, has one holder and is not reaped has one holder after every list of events.
 pub fn exactly_one_real()

@@ -9,13 +9,9 @@
 //! `Silent` (when it tells nothing) are for callers.
 
 ghost use Rattle.std.specs.Prelude.{◌≡◌, ℕ, ◌+◌, ◌*◌, List};
-ghost use Rattle.seam_machine.specs.Nets.{LeadsTo};
-ghost use Rattle.seam_machine.specs.declared.machines.Event.{Event};
-ghost use Rattle.seam_node_steps.specs.Nodes.{World, node_steps, node_has_work};
-ghost use Rattle.seam_law_calls.specs.Frames.{Frame, IsInFrame};
-ghost use Rattle.seam_law_calls.specs.Ones.{IsFrame};
-ghost use Rattle.seam_law_calls.specs.Clients.{EachReal, HasToldAtMost};
-ghost use Rattle.seam_law_calls.specs.Telling.{HasFewEntities, SeesFew, looks_left, most_shown, IsToldNothing};
+ghost use Rattle.seam_node_steps.specs.Prelude.{LeadsTo, Event, World, node_steps, node_has_work};
+ghost use Rattle.seam_law_calls.specs.Prelude.{Frame, IsInFrame, IsFrame, EachReal, HasToldAtMost, HasFewEntities, SeesFew, looks_left};
+ghost use Rattle.seam_law_calls.specs.Prelude.{most_shown, IsToldNothing};
 
 /// In a world whose entities have numbers below the bound, an entity's witness tells at most so many updates for each look that is left of
 /// the ticks ordered, on their way, or come.

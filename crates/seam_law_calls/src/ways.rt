@@ -7,21 +7,12 @@
 //! Crates above cite these modules of `proofs`: `Finding` (a list of events), `Leading` (an event), `WayMoves` (what each move does).
 
 ghost use Rattle.std.specs.Prelude.{◌≡◌, ℕ, ◌<◌, List, [], ◌∷◌, length, true, None, Some, is_some};
-ghost use Rattle.seam_machine.specs.Nets.{LeadsTo};
-ghost use Rattle.seam_machine.specs.declared.machines.Event.{Event};
-ghost use Rattle.seam_law_flow.specs.Flows.{Flow};
-ghost use Rattle.seam_law_flow.specs.Tokens.{TokenPlace};
-ghost use Rattle.seam_call.specs.declared.call.Call.{Call as CallData};
-ghost use Rattle.seam_entity.specs.Reals.{RealView};
-ghost use Rattle.seam_entity.specs.declared.message.Msg.{Msg};
+ghost use Rattle.seam_node_steps.specs.Prelude.{LeadsTo, Event, Call as CallData, RealView, Msg, RouteView, World, node_steps};
+ghost use Rattle.seam_node_steps.specs.Prelude.{node_has_work};
+ghost use Rattle.seam_law_flow.specs.Prelude.{Flow, TokenPlace};
+ghost use Rattle.seam_law_calls.specs.Prelude.{Frame, Has, entity_flow, IsOne, IsSpared, AllFits, IsFrame, is_visited, AllLead};
 ghost use Rattle.seam_entity.specs.declared.message.Msg.TheVariants.{Call};
-ghost use Rattle.seam_node_steps.specs.Bases.{RouteView};
 ghost use Rattle.seam_node_steps.specs.EarlyCall as early;
-ghost use Rattle.seam_node_steps.specs.Nodes.{World, node_steps, node_has_work};
-ghost use Rattle.seam_law_calls.specs.Frames.{Frame};
-ghost use Rattle.seam_law_calls.specs.Sights.{Has, entity_flow};
-ghost use Rattle.seam_law_calls.specs.Ones.{IsOne, IsSpared, AllFits, IsFrame};
-ghost use Rattle.seam_law_calls.specs.Ways.{is_visited, AllLead};
 
 /// In a world of an entity that fits and is not reaped, where all that leads to a cell leads to where the real is, was or comes, it does so
 /// after every list of events.

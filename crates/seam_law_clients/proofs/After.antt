@@ -10,29 +10,16 @@ use Rattle.seam_view.specs.declared.Seen.{Seen}
 use Rattle.seam_view.specs.declared.Look.{Look}
 use Rattle.seam_view.specs.declared.Look.TheVariants as look
 use Rattle.seam_view.specs.Replica.{Replica, IsView, seen_of, after_showing, after_look, after_looks}
-use Rattle.seam_defs.specs.declared.states.State.{State}
-use Rattle.seam_defs.specs.declared.types.Property.{Property}
+use Rattle.seam_node_steps.specs.Prelude.{State, Property, ghost_of, other_of, own_of, projected, type_of, GhostCopy, Shown, Own, Set}
+use Rattle.seam_node_steps.specs.Prelude.{Enter, Leave, RealView, WitnessView, Known, seen_as, known_of, shown_for, own_due, after_looking}
+use Rattle.seam_node_steps.specs.Prelude.{looks_of, shown_of, CellView, known_to, is_another, RouteView, World, Cell}
+use Rattle.seam_law_calls.specs.Prelude.{Frame, here_at, entity_flow, real_in, IsBaseNumber}
+use Rattle.seam_law_rounds.specs.Prelude.{IsBetweenRounds}
+use Rattle.seam_law_ghosts.specs.Prelude.{AreCopiesBetweenRounds}
+use Rattle.seam_law_clients.specs.Prelude.{version_in, own_now, FitsWitness}
 use Rattle.seam_defs.specs.declared.flags.Group.TheVariants as group
-use Rattle.seam_defs.specs.Deeds.{ghost_of, other_of, own_of, projected}
-use Rattle.seam_defs.specs.Types.{type_of}
-use Rattle.seam_call.specs.declared.shown.GhostCopy.{GhostCopy}
-use Rattle.seam_call.specs.declared.shown.Shown.{Shown}
-use Rattle.seam_call.specs.declared.shown.Shown.TheVariants.{Own, Set, Enter, Leave}
-use Rattle.seam_entity.specs.Reals.{RealView, WitnessView}
-use Rattle.seam_node_steps.specs.CellLooks.{Known, seen_as, known_of, shown_for, own_due, after_looking, looks_of, shown_of}
-use Rattle.seam_node_steps.specs.Cells.{CellView, known_to, is_another}
-use Rattle.seam_node_steps.specs.Bases.{RouteView}
-use Rattle.seam_node_steps.specs.Nodes.{World}
-use Rattle.seam_node_steps.specs.Nodes.NodeView.{Cell}
-use Rattle.seam_law_calls.specs.Frames.{Frame, here_at}
-use Rattle.seam_law_calls.specs.Sights.{entity_flow}
-use Rattle.seam_law_calls.specs.Ones.{real_in}
-use Rattle.seam_law_rounds.specs.Between.{IsBetweenRounds}
 use Rattle.seam_law_rounds.proofs.Shape.{Somewhere, Nowhere, search_real}
-use Rattle.seam_law_calls.specs.Strays.{IsBaseNumber}
-use Rattle.seam_law_ghosts.specs.Copies.{AreCopiesBetweenRounds}
 use Rattle.seam_rule_clients.specs.Clients.{ClientReplica, with_copy_shown, after_shown, after_all_shown}
-use Rattle.seam_law_clients.specs.Witnesses.{version_in, own_now, FitsWitness}
 use Rattle.seam_node_steps.proofs.Sorted.{tied_same}
 use Rattle.seam_law_clients.proofs.Near.{as_seen, seen_found, known_found}
 use Rattle.seam_node_steps.proofs.Knowing.{known_at, known_to_is}

@@ -1,20 +1,12 @@
 -- A witness tells rightly, over every list of events.
 use Rattle.std.proofs.Common.{ℕ, List, Some, sym, subst}
 use Rattle.std.proofs.lemmas.List.Sums.{fold-append}
-use Rattle.seam_machine.specs.Nets.{LeadsTo}
-use Rattle.seam_machine.specs.declared.machines.Event.{Event}
-use Rattle.seam_call.specs.declared.shown.Shown.{Shown}
-use Rattle.seam_entity.specs.Reals.{RealView, WitnessView}
-use Rattle.seam_node_steps.specs.CellLooks.{shown_of, looks_of, after_looking}
-use Rattle.seam_node_steps.specs.Cells.{known_to}
-use Rattle.seam_node_steps.specs.Nodes.{World, node_steps, node_has_work}
-use Rattle.seam_law_calls.specs.Frames.{Frame}
-use Rattle.seam_law_calls.specs.Ones.{IsSpared}
-use Rattle.seam_law_calls.specs.Clients.{HasClient, HasToldAtMost, HasRoomFor}
+use Rattle.seam_node_steps.specs.Prelude.{LeadsTo, Event, Shown, RealView, WitnessView, shown_of, looks_of, after_looking, known_to, World}
+use Rattle.seam_node_steps.specs.Prelude.{node_steps, node_has_work}
+use Rattle.seam_law_calls.specs.Prelude.{Frame, IsSpared, HasClient, HasToldAtMost, HasRoomFor}
+use Rattle.seam_law_clients.specs.Prelude.{FitsWithin, ComesBetween, IsTrueBetween, TellsRightly}
 use Rattle.seam_rule_clients.specs.Clients.{ClientReplica, after_shown, after_all_shown}
 use Rattle.seam_rule_clients.specs.Lines.{Truth, ShowsRightly}
-use Rattle.seam_law_clients.specs.Fits.{FitsWithin}
-use Rattle.seam_law_clients.specs.Telling.{ComesBetween, IsTrueBetween, TellsRightly}
 use Rattle.seam_law_clients.proofs.Looking.{look_shows, look_fits}
 use Rattle.seam_law_clients.proofs.Reals.{fits_on}
 use Rattle.seam_law_clients.proofs.InTurn.{rightly_append}

@@ -11,10 +11,7 @@ use Rattle.seam_view.specs.declared.Look.TheVariants as look
 use Rattle.seam_view.specs.Replica.{placed, without, entity_of}
 use Rattle.seam_view.specs.ViewLooks.{in_view}
 use Rattle.seam_view.proofs.Kept.{get_by_shown}
-use Rattle.seam_call.specs.declared.shown.GhostCopy.{GhostCopy}
-use Rattle.seam_call.specs.declared.shown.Shown.{Shown}
-use Rattle.seam_call.specs.declared.shown.Shown.TheVariants.{Enter, Set, Leave}
-use Rattle.seam_node_steps.specs.CellLooks.{Known, known_of, shown_for}
+use Rattle.seam_node_steps.specs.Prelude.{GhostCopy, Shown, Enter, Set, Leave, Known, known_of, shown_for}
 use Rattle.seam_rule_clients.specs.Clients.{ClientReplica, after_shown}
 use Rattle.seam_rule_clients.specs.Lines.{IsNear, MayEnter, MaySet, MayShow, MayShowAll}
 

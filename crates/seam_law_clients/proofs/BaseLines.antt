@@ -8,41 +8,26 @@ use Rattle.std.specs.declared.cmp.Ordering.{Ordering}
 use Rattle.std.specs.declared.cmp.Ordering.TheVariants.{Less, Equal, Greater}
 use Rattle.std.proofs.lemmas.List.{append-nil, map-append}
 use Rattle.std.proofs.lemmas.List.Sums.{fold-append}
-use Rattle.seam_machine.specs.Nets.{happens, enabled, LeadsTo}
-use Rattle.seam_machine.specs.declared.machines.Event.{Event}
+use Rattle.seam_node_steps.specs.Prelude.{happens, enabled, LeadsTo, Event, State, client_of, changes, next_item, after_offer, after_taking}
+use Rattle.seam_node_steps.specs.Prelude.{Call as CallData, Order, Shown, Line, ClientText, Msg, Here, type_at, properties, Orders}
+use Rattle.seam_node_steps.specs.Prelude.{PartView, ProxyView, base_text, with_line, line_if, with_deed, with_order, offered_update}
+use Rattle.seam_node_steps.specs.Prelude.{shows_next, World, node_steps, node_has_work}
+use Rattle.seam_law_flow.specs.Prelude.{comes, more_letter}
+use Rattle.seam_law_calls.specs.Prelude.{Frame, here_at, IsInFrame, AtBase, entity_flow, IsSpared, Offered, now, early, late, PartMoves}
+use Rattle.seam_law_calls.specs.Prelude.{rests, refuses, offers, sends, serves, executes, misses, updates, shows, ends}
+use Rattle.seam_law_clients.specs.Prelude.{base_in, base_lines, number_of_line, line_where, state_with, state_after, lines_after}
+use Rattle.seam_law_clients.specs.Prelude.{ShowsItsPart}
 use Rattle.seam_machine.proofs.Occurring.{occurs}
 use Rattle.seam_net_runs.proofs.Runs.{leads_keeps}
-use Rattle.seam_law_flow.specs.Flows.{comes, more_letter}
 use Rattle.seam_law_flow.proofs.Following.{slots_kept}
-use Rattle.seam_defs.specs.declared.states.State.{State}
-use Rattle.seam_defs.specs.Deeds.{client_of}
-use Rattle.seam_defs.specs.Tests.{changes}
-use Rattle.seam_order.specs.Offers.{next_item, after_offer, after_taking}
-use Rattle.seam_call.specs.declared.call.Call.{Call as CallData}
-use Rattle.seam_call.specs.declared.order.Order.{Order}
 use Rattle.seam_call.specs.declared.order.Order.TheVariants as order
-use Rattle.seam_call.specs.declared.shown.Shown.{Shown}
-use Rattle.seam_call.specs.declared.shown.Line.{Line}
 use Rattle.seam_call.specs.declared.shown.Update.{Update as UpdateData}
-use Rattle.seam_call.specs.declared.shown.ClientText.{ClientText}
 use Rattle.seam_call.specs.declared.shown.ClientText.TheVariants as text
-use Rattle.seam_entity.specs.declared.message.Msg.{Msg}
-use Rattle.seam_entity.specs.Here.{Here, type_at, properties}
-use Rattle.seam_entity.specs.Orders.{Orders}
-use Rattle.seam_node_steps.specs.Bases.{PartView, ProxyView, base_text, with_line, line_if}
-use Rattle.seam_node_steps.specs.BaseCases.{with_deed, executed, with_order, with_offer, offered_update, shows_next}
-use Rattle.seam_node_steps.specs.Nodes.{World, node_steps, node_has_work}
-use Rattle.seam_law_calls.specs.Frames.{Frame, here_at, IsInFrame}
-use Rattle.seam_law_calls.specs.Sights.{AtBase, entity_flow}
+use Rattle.seam_node_steps.specs.BaseCases.{executed, with_offer}
 use Rattle.seam_law_calls.proofs.Classify.{event_moves, frame_happens}
-use Rattle.seam_law_calls.specs.Ones.{IsSpared}
 use Rattle.seam_law_calls.proofs.OneReal.{spared_happens}
-use Rattle.seam_law_calls.specs.PartMoves.{Offered, now, early, late}
-use Rattle.seam_law_calls.specs.PartMoves.{PartMoves, rests, refuses, offers, sends, serves, executes, misses, updates, shows, ends}
 use Rattle.seam_law_calls.proofs.PartSteps.{part_moves}
 use Rattle.seam_law_calls.proofs.BaseRuns.{unordered}
-use Rattle.seam_law_clients.specs.BaseLines.{base_in, base_lines, number_of_line, line_where, state_with, state_after, lines_after}
-use Rattle.seam_law_clients.specs.BaseLines.{ShowsItsPart}
 
 -- ---- lists
 

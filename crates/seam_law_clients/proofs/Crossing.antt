@@ -4,16 +4,12 @@ use Rattle.std.specs.Ordering.{nat_cmp, eq_by_cmp}
 use Rattle.std.specs.Cmp.{nat_cmp_total}
 use Rattle.std.specs.FinMap as table
 use Rattle.std.proofs.lemmas.Bool.Decides.{nat_tests}
-use Rattle.seam_machine.specs.Nets.{happens, enabled, IsQuiet}
-use Rattle.seam_node_steps.specs.Maps.{Map}
-use Rattle.seam_node_steps.specs.Nodes.{node_steps, node_has_work}
-use Rattle.seam_node_steps.specs.Holders.{holders}
-use Rattle.seam_node_steps.specs.Loads.{loaded}
-use Rattle.seam_node_steps.specs.Rows.{IsRow, empty_world, task, mail}
+use Rattle.seam_node_steps.specs.Prelude.{happens, enabled, IsQuiet, Map, node_steps, node_has_work, holders, loaded, IsRow, empty_world}
+use Rattle.seam_node_steps.specs.Prelude.{task, mail}
+use Rattle.seam_law_clients.specs.Prelude.{batch, steps}
 use Rattle.seam_node_steps.proofs.Tables.{computing}
 use Rattle.seam_node_steps.proofs.Quiet.{is_quiet, quiet_of}
-use Rattle.seam_law_clients.specs.Crossing.{batch, world_0, world_1, world_2, world_3, world_4, world_5, world_6, world_7, world_8, world_9}
-use Rattle.seam_law_clients.specs.Crossing.{steps}
+use Rattle.seam_law_clients.specs.Crossing.{world_0, world_1, world_2, world_3, world_4, world_5, world_6, world_7, world_8, world_9}
 
 -- ---- how maps of three entries compute
 

@@ -1,15 +1,11 @@
 -- The witnesses on both sides of the boundary look, event by event.
 use Rattle.std.proofs.Common.{◌≡◌, true, [], ◌∷◌, Some, refl}
-use Rattle.seam_machine.specs.Nets.{happens, enabled, IsQuiet}
-use Rattle.seam_node_steps.specs.Nodes.{node_steps, node_has_work}
-use Rattle.seam_node_steps.specs.Holders.{holders}
-use Rattle.seam_node_steps.specs.Loads.{look_loaded}
-use Rattle.seam_node_steps.specs.Rows.{IsRow, task, mail, lines_of_client}
-use Rattle.seam_node_steps.specs.ViewRounds.{base_line, line, other_at}
+use Rattle.seam_node_steps.specs.Prelude.{happens, enabled, IsQuiet, node_steps, node_has_work, holders, look_loaded, IsRow, task, mail}
+use Rattle.seam_node_steps.specs.Prelude.{lines_of_client, base_line, line, other_at, Enter}
+use Rattle.seam_law_clients.specs.Prelude.{look_steps}
 use Rattle.seam_node_steps.proofs.Quiet.{is_quiet, quiet_of}
-use Rattle.seam_call.specs.declared.shown.Shown.TheVariants.{Enter}
 use Rattle.seam_law_clients.specs.Crossing.{world_9, own_at, look_0, look_1, look_2, look_3, look_4, look_5, look_6, look_7, look_8, look_9}
-use Rattle.seam_law_clients.specs.Crossing.{look_10, look_11, look_steps}
+use Rattle.seam_law_clients.specs.Crossing.{look_10, look_11}
 use Rattle.seam_law_clients.proofs.Crossing.{of_three}
 
 pub load : look_loaded world_9 ≡ look_0

@@ -5,52 +5,28 @@ use Rattle.std.specs.List.{AllByRecursion}
 use Rattle.std.specs.Ordering.{nat_cmp, eq_by_cmp}
 use Rattle.std.specs.Cmp.{nat_cmp_total}
 use Rattle.std.specs.FinMap as table
-use Rattle.seam_machine.specs.Nets.{happens, enabled, IsQuiet, LeadsTo}
-use Rattle.seam_machine.specs.declared.machines.Event.{Event}
+use Rattle.seam_node_steps.specs.Prelude.{happens, enabled, IsQuiet, LeadsTo, Event, TypeDef, changes, type_of, Call, Batch, GhostCopy}
+use Rattle.seam_node_steps.specs.Prelude.{Shown, Own, Enter, Set, Leave, public_after, RealView, WitnessView, Msg, RouteView, loaded, World}
+use Rattle.seam_node_steps.specs.Prelude.{node_steps, node_has_work}
+use Rattle.seam_law_flow.specs.Prelude.{comes}
+use Rattle.seam_law_calls.specs.Prelude.{Frame, here_at, IsInFrame, Has, AtBase, entity_flow, BaseMoves, Moves, at_a_cell, at_a_base}
+use Rattle.seam_law_calls.specs.Prelude.{real_in, real_of, IsSpared, HasOne, Account, account_of, after_call, after_calls, Replays}
+use Rattle.seam_law_calls.specs.Prelude.{IsBaseNumber, home_of, shown_at, HasClient, IsAbsent}
+use Rattle.seam_law_rounds.specs.Prelude.{IsBetweenRounds, IsFitting, framed}
+use Rattle.seam_law_ghosts.specs.Prelude.{IsTrue, present}
+use Rattle.seam_law_clients.specs.Prelude.{FitsWitness, FitsWithin, TellsRightly, WasOther, true_between}
 use Rattle.seam_machine.proofs.Occurring.{occurs}
 use Rattle.seam_net_runs.proofs.Runs.{leads_keeps}
-use Rattle.seam_law_flow.specs.Flows.{comes}
 use Rattle.seam_law_flow.proofs.Following.{slots_kept}
 use Rattle.seam_law_flow.proofs.TokenLemmas.{sole_here}
-use Rattle.seam_defs.specs.declared.types.TypeDef.{TypeDef}
-use Rattle.seam_defs.specs.Tests.{changes}
-use Rattle.seam_defs.specs.Types.{type_of}
-use Rattle.seam_call.specs.declared.call.Call.{Call}
-use Rattle.seam_call.specs.declared.order.Batch.{Batch}
-use Rattle.seam_call.specs.declared.shown.GhostCopy.{GhostCopy}
-use Rattle.seam_call.specs.declared.shown.Shown.{Shown}
-use Rattle.seam_call.specs.declared.shown.Shown.TheVariants.{Own, Enter, Set, Leave}
-use Rattle.seam_entity.specs.Executing.{public_after}
-use Rattle.seam_entity.specs.Reals.{RealView, WitnessView}
-use Rattle.seam_entity.specs.declared.message.Msg.{Msg}
-use Rattle.seam_node_steps.specs.Bases.{RouteView}
-use Rattle.seam_node_steps.specs.Loads.{loaded}
-use Rattle.seam_node_steps.specs.Nodes.{World, node_steps, node_has_work}
-use Rattle.seam_law_calls.specs.Frames.{Frame, here_at, IsInFrame}
-use Rattle.seam_law_calls.specs.Sights.{Has, AtBase, entity_flow}
 use Rattle.seam_law_calls.specs.BaseMoves as move
-use Rattle.seam_law_calls.specs.BaseMoves.{BaseMoves}
-use Rattle.seam_law_calls.specs.Moves.{Moves, at_a_cell, at_a_base}
 use Rattle.seam_law_calls.proofs.Classify.{event_moves, frame_happens}
-use Rattle.seam_law_calls.specs.Ones.{real_in, real_of, IsSpared, HasOne}
-use Rattle.seam_law_calls.specs.Replays.{Account, account_of, after_call, after_calls, Replays}
 use Rattle.seam_law_calls.proofs.OneReal.{one_leads, spared_happens}
-use Rattle.seam_law_rounds.specs.Between.{IsBetweenRounds, IsFitting, framed}
 use Rattle.seam_law_rounds.proofs.Going.{frame_loaded, settled_loaded, spared_loaded}
 use Rattle.seam_law_rounds.proofs.Shape.{Somewhere, Nowhere, search_real}
-use Rattle.seam_law_ghosts.specs.Truths.{IsTrue}
-use Rattle.seam_law_calls.specs.Strays.{IsBaseNumber}
-use Rattle.seam_law_calls.specs.BaseTurns.{home_of}
-use Rattle.seam_law_calls.specs.Clients.{shown_at, HasClient}
-use Rattle.seam_law_ghosts.specs.Copies.{present}
 use Rattle.seam_rule_clients.specs.Clients.{ClientReplica, after_shown, after_all_shown}
 use Rattle.seam_rule_clients.specs.Lines.{Truth, ShowsTruth}
-use Rattle.seam_law_clients.specs.Witnesses.{FitsWitness}
 use Rattle.seam_node_steps.proofs.Sorted.{tied_same}
-use Rattle.seam_law_calls.specs.Telling.{IsAbsent}
-use Rattle.seam_law_clients.specs.Fits.{FitsWithin}
-use Rattle.seam_law_clients.specs.Telling.{TellsRightly}
-use Rattle.seam_law_clients.specs.RoundTruths.{WasOther, true_between}
 use Rattle.seam_law_clients.proofs.Starts.{shown_rightly, fits_shown}
 use Rattle.seam_law_clients.proofs.RoundTruth.{absent_leads}
 

@@ -4,43 +4,26 @@ use Rattle.std.proofs.Common.{refl, sym, ap, ◌∙◌, subst, arith, inl, inr}
 use Rattle.std.specs.List.{IsDistinct, range_with_len}
 use Rattle.std.specs.FinMap as table
 use Rattle.std.proofs.lemmas.Bool.{cases_eq, ne_eqb}
-use Rattle.seam_machine.specs.Nets.{LeadsTo}
+use Rattle.seam_node_steps.specs.Prelude.{LeadsTo, builtin, standard, fits_cell_part, RealView, Map, PartView, holders, new_part}
+use Rattle.seam_node_steps.specs.Prelude.{with_proxy, loaded, look_loaded, NodeView, node_steps, node_has_work, empty_world, here, idle, no}
+use Rattle.seam_node_steps.specs.Prelude.{two_cells}
+use Rattle.seam_law_flow.specs.Prelude.{number_from}
+use Rattle.seam_law_calls.specs.Prelude.{here_at, Has, has_of, entity_flow, events_of, real_in, home_of}
+use Rattle.seam_law_rounds.specs.Prelude.{IsFitting, IsForReal, AreNumbered, calls_of, calls_at, framed, AreReapable, opening}
+use Rattle.seam_law_rounds.specs.Prelude.{base_calls_of, base_calls_at, AreBaseNumbered, IsForPart, FitsParts, MayBeLoaded}
+use Rattle.seam_law_ghosts.specs.Prelude.{GoesThroughRound, AreCopiesBetweenRounds}
+use Rattle.seam_law_clients.specs.Prelude.{ClientsFit, clients_loaded, batch, steps, look_0, look_11, look_steps}
 use Rattle.seam_net_runs.proofs.Runs.{leads_nowhere}
-use Rattle.seam_law_flow.specs.Numbered.{number_from}
-use Rattle.seam_defs.specs.Builtin.{builtin}
-use Rattle.seam_defs.specs.Settings.{standard}
 use Rattle.seam_call.specs.declared.order.Order.TheVariants as order
-use Rattle.seam_entity.specs.Executing.{fits_cell_part}
-use Rattle.seam_entity.specs.Reals.{RealView}
-use Rattle.seam_node_steps.specs.Maps.{Map}
-use Rattle.seam_node_steps.specs.Bases.{PartView}
-use Rattle.seam_node_steps.specs.Holders.{holders}
-use Rattle.seam_node_steps.specs.Loads.{new_part, with_proxy, loaded, look_loaded}
-use Rattle.seam_node_steps.specs.Nodes.{NodeView, node_steps, node_has_work}
-use Rattle.seam_node_steps.specs.Rows.{empty_world, here, idle, no}
-use Rattle.seam_node_steps.specs.EarlyCall.{two_cells}
-use Rattle.seam_law_calls.specs.Frames.{here_at}
-use Rattle.seam_law_calls.specs.Sights.{Has, has_of, entity_flow}
-use Rattle.seam_law_calls.specs.HandOverExample.{events_of}
-use Rattle.seam_law_calls.specs.Ones.{real_in}
 use Rattle.seam_law_calls.proofs.ExampleMet.{EachFrom, each_node, slots, none_there, row_leads, frame_is}
-use Rattle.seam_law_rounds.specs.Between.{IsFitting, IsForReal, AreNumbered, calls_of, calls_at, framed}
 use Rattle.seam_law_rounds.proofs.Loading.{set_keeps}
-use Rattle.seam_law_rounds.specs.LastPhases.{AreReapable}
-use Rattle.seam_law_calls.specs.BaseTurns.{home_of}
-use Rattle.seam_law_rounds.specs.FirstBatchExample.{opening}
-use Rattle.seam_law_rounds.specs.Parts.{base_calls_of, base_calls_at, AreBaseNumbered, IsForPart, FitsParts, MayBeLoaded}
 use Rattle.seam_law_rounds.proofs.FirstBatchFits.{between, is_new, no_real, parts_between}
 use Rattle.seam_law_rounds.proofs.ExampleRound.{next_is_one}
 use Rattle.seam_law_rounds.proofs.BaseCallsEnd.{calls_end_small}
-use Rattle.seam_law_ghosts.specs.RealPlaces.{GoesThroughRound}
-use Rattle.seam_law_ghosts.specs.Copies.{AreCopiesBetweenRounds}
 use Rattle.seam_law_ghosts.proofs.Ending.{opened_copied}
 use Rattle.seam_rule_clients.specs.Clients.{new_client}
-use Rattle.seam_law_clients.specs.Witnesses.{ClientsFit}
-use Rattle.seam_law_clients.specs.Clients.{clients_loaded}
-use Rattle.seam_law_clients.specs.Crossing.{the_move, batch, only, and_third, watcher_1, watcher_2, walker, crossed, cell_0, cell_1, base_16}
-use Rattle.seam_law_clients.specs.Crossing.{base_17, route, world_0, world_9, steps, look_0, look_11, look_steps}
+use Rattle.seam_law_clients.specs.Crossing.{the_move, only, and_third, watcher_1, watcher_2, walker, crossed, cell_0, cell_1, base_16}
+use Rattle.seam_law_clients.specs.Crossing.{base_17, route, world_0, world_9}
 use Rattle.seam_law_clients.proofs.Loading.{clients_fit_loaded}
 use Rattle.seam_law_clients.proofs.CrossingLooks as looks
 use Rattle.seam_law_clients.proofs.Room.{small_of}

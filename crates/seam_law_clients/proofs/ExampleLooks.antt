@@ -4,45 +4,29 @@ use Rattle.std.proofs.Common.{refl, sym, ap, ◌∙◌, subst, arith}
 use Rattle.std.specs.List.{IsDistinct, range_with_len}
 use Rattle.std.specs.Ordering.{nat_cmp}
 use Rattle.std.specs.FinMap as table
-use Rattle.seam_geo.specs.Rect.{IsProper}
-use Rattle.seam_tree.specs.Division.{area, IsTree}
-use Rattle.seam_defs.specs.Builtin.{builtin}
-use Rattle.seam_defs.specs.Settings.{standard}
-use Rattle.seam_machine.specs.Nets.{LeadsTo}
-use Rattle.seam_entity.specs.Orders.{order_or}
-use Rattle.seam_entity.specs.Reals.{RealView, WitnessView}
-use Rattle.seam_node_steps.specs.Holders.{holders}
-use Rattle.seam_node_steps.specs.Nodes.{NodeView, node_steps, node_has_work}
-use Rattle.seam_node_steps.specs.Loads.{loaded, one_cell}
+use Rattle.seam_node_steps.specs.Prelude.{IsProper, area, IsTree, builtin, standard, LeadsTo, order_or, RealView, WitnessView, holders}
+use Rattle.seam_node_steps.specs.Prelude.{NodeView, node_steps, node_has_work, loaded, one_cell, empty_world, idle, batch_1, first_steps}
+use Rattle.seam_node_steps.specs.Prelude.{watcher, blind, still, space, both, part_of, base_line, Cell, is_small, shown_of, CellView}
+use Rattle.seam_node_steps.specs.Prelude.{known_to}
+use Rattle.seam_law_calls.specs.Prelude.{Frame, Has, has_of, entity_flow, events_of, real_in, IsFrame}
+use Rattle.seam_law_rounds.specs.Prelude.{AreNumbered, IsBetweenRounds, IsFitting, next_from, first_frame}
+use Rattle.seam_law_ghosts.specs.Prelude.{AreCopiesBetweenRounds}
+use Rattle.seam_law_clients.specs.Prelude.{HaveRoomToLook, FitsWitness}
 use Rattle.std.specs.Ordering.{eq_by_cmp}
 use Rattle.std.specs.Cmp.{nat_cmp_total}
 use Rattle.seam_node_steps.proofs.Sorted.{tied_same}
-use Rattle.seam_node_steps.specs.Rows.{empty_world, idle}
 use Rattle.seam_node_steps.specs.Rows as rows
-use Rattle.seam_node_steps.specs.ViewRounds.{batch_1, first_0, first_2, first_steps, watcher, blind, still, space, both}
-use Rattle.seam_node_steps.specs.ViewRounds.{base_16, base_17, part_of, base_line}
+use Rattle.seam_node_steps.specs.ViewRounds.{first_0, first_2}
+use Rattle.seam_node_steps.specs.ViewRounds.{base_16, base_17}
 use Rattle.seam_node_steps.proofs.Tables.{computing}
 use Rattle.seam_node_steps.proofs.Views.{first_load, first_row, first_quiet}
-use Rattle.seam_law_calls.specs.Frames.{Frame}
-use Rattle.seam_law_calls.specs.Sights.{Has, has_of, entity_flow}
-use Rattle.seam_law_calls.specs.HandOverExample.{events_of}
-use Rattle.seam_law_calls.specs.Ones.{real_in, IsFrame}
 use Rattle.seam_law_calls.proofs.ExampleMet.{EachFrom, each_node, slots, none_there, row_leads, frame_is}
-use Rattle.seam_law_rounds.specs.Between.{AreNumbered, IsBetweenRounds, IsFitting, next_from}
-use Rattle.seam_law_rounds.specs.LastPhases.{first_frame}
 use Rattle.seam_law_rounds.proofs.Opened.{opened_is_new, opened_has_none, opened_between}
 use Rattle.seam_law_rounds.proofs.CallsEnd.{calls_end_between}
-use Rattle.seam_law_ghosts.specs.Copies.{AreCopiesBetweenRounds}
 use Rattle.seam_law_ghosts.proofs.Rounding.{calls_end_copied}
 use Rattle.seam_law_ghosts.proofs.Ending.{opened_copied}
 use Rattle.seam_rule_clients.specs.Clients.{new_client}
 use Rattle.std.specs.Prelude.{slice_get, length}
-use Rattle.seam_node_steps.specs.Nodes.NodeView.{Cell}
-use Rattle.seam_entity.specs.Numbers.{is_small}
-use Rattle.seam_node_steps.specs.CellLooks.{shown_of}
-use Rattle.seam_node_steps.specs.Cells.{CellView, known_to}
-use Rattle.seam_law_clients.specs.Phases.{HaveRoomToLook}
-use Rattle.seam_law_clients.specs.Witnesses.{FitsWitness}
 
 abbrev pub first : Frame
 first = first_frame builtin standard

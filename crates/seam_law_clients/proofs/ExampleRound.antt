@@ -4,32 +4,22 @@ use Rattle.std.specs.Prelude.{slice_get}
 use Rattle.std.specs.List.{IsDistinct}
 use Rattle.std.specs.Ordering.{nat_cmp}
 use Rattle.std.specs.FinMap as table
-use Rattle.seam_defs.specs.Builtin.{builtin}
-use Rattle.seam_defs.specs.Settings.{standard}
-use Rattle.seam_entity.specs.Executing.{real_begins}
-use Rattle.seam_entity.specs.Here.{Here}
-use Rattle.seam_entity.specs.WitnessLooks.{new_witness}
-use Rattle.seam_entity.specs.Reals.{RealView, WitnessView}
-use Rattle.seam_law_flow.specs.Flows.{slot_at}
+use Rattle.seam_node_steps.specs.Prelude.{builtin, standard, real_begins, Here, new_witness, RealView, WitnessView, loaded, World}
+use Rattle.seam_node_steps.specs.Prelude.{empty_world, batch_1, watcher, blind}
+use Rattle.seam_law_flow.specs.Prelude.{slot_at}
+use Rattle.seam_law_calls.specs.Prelude.{Frame, here_at, has_of, has_none, entity_flow, real_in}
+use Rattle.seam_law_rounds.specs.Prelude.{framed, opening}
+use Rattle.seam_law_ghosts.specs.Prelude.{AreCopiesBetweenRounds}
+use Rattle.seam_law_clients.specs.Prelude.{FitsWitness, ClientsFit}
 use Rattle.seam_node_steps.proofs.Tables.{computing}
 use Rattle.seam_node_steps.proofs.Views.{first_load}
-use Rattle.seam_node_steps.specs.Loads.{loaded}
-use Rattle.seam_node_steps.specs.Nodes.{World}
-use Rattle.seam_node_steps.specs.Rows.{empty_world}
-use Rattle.seam_node_steps.specs.ViewRounds.{batch_1, first_0, watcher, blind}
-use Rattle.seam_law_calls.specs.Frames.{Frame, here_at}
-use Rattle.seam_law_calls.specs.Sights.{has_of, has_none, entity_flow}
-use Rattle.seam_law_calls.specs.Ones.{real_in}
-use Rattle.seam_law_rounds.specs.Between.{framed}
-use Rattle.seam_law_rounds.specs.FirstBatchExample.{opening}
+use Rattle.seam_node_steps.specs.ViewRounds.{first_0}
 use Rattle.seam_law_rounds.proofs.Joining.{is_among, unseen_peopled}
 use Rattle.seam_law_rounds.proofs.Attaching.{real_if, real_there}
 use Rattle.seam_law_rounds.proofs.FirstBatchFits.{is_new}
 use Rattle.seam_law_rounds.proofs.ExampleRound.{may_be_loaded}
-use Rattle.seam_law_ghosts.specs.Copies.{AreCopiesBetweenRounds}
 use Rattle.seam_law_ghosts.proofs.Ending.{opened_copied}
 use Rattle.seam_rule_clients.specs.Clients.{new_client}
-use Rattle.seam_law_clients.specs.Witnesses.{FitsWitness, ClientsFit}
 
 -- ---- a new client fits a new witness
 

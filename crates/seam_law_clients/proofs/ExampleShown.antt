@@ -1,24 +1,15 @@
 -- A worked world with a client that was shown nothing yet.
 use Rattle.std.proofs.Common.{◌≡◌, List, Some, refl}
 use Rattle.std.specs.List.{IsDistinct}
-use Rattle.seam_machine.specs.Nets.{LeadsTo}
-use Rattle.seam_machine.specs.declared.machines.Event.{Event}
-use Rattle.seam_defs.specs.Settings.{standard}
-use Rattle.seam_entity.specs.Reals.{WitnessView}
-use Rattle.seam_entity.specs.WitnessLooks.{new_witness}
+use Rattle.seam_node_steps.specs.Prelude.{LeadsTo, Event, standard, WitnessView, new_witness, World, node_steps, node_has_work}
+use Rattle.seam_law_calls.specs.Prelude.{entity_flow, real_in, frame, real_told}
+use Rattle.seam_law_clients.specs.Prelude.{FitsWithin, TellsRightly, known_between}
 use Rattle.seam_node_steps.proofs.Tables.{computing}
-use Rattle.seam_node_steps.specs.Nodes.{World, node_steps, node_has_work}
-use Rattle.seam_law_calls.specs.Sights.{entity_flow}
-use Rattle.seam_law_calls.specs.Ones.{real_in}
-use Rattle.seam_law_calls.specs.HandOverExample.{frame}
-use Rattle.seam_law_calls.specs.BaseCallsExample.{real_told, world_shown}
+use Rattle.seam_law_calls.specs.BaseCallsExample.{world_shown}
 use Rattle.seam_law_calls.proofs.ExampleClient.{client_shown, calls_shown, one_shown, no_looks_shown, told_none, room_shown}
 use Rattle.seam_law_calls.proofs.NoLooks.{looks_lead}
 use Rattle.seam_rule_clients.specs.Clients.{new_client}
 use Rattle.seam_rule_clients.specs.Lines.{Truth}
-use Rattle.seam_law_clients.specs.Fits.{FitsWithin}
-use Rattle.seam_law_clients.specs.Telling.{TellsRightly}
-use Rattle.seam_law_clients.specs.RoundTruths.{known_between}
 use Rattle.seam_law_clients.proofs.Starts.{rightly_starts}
 use Rattle.seam_law_clients.proofs.Along.{rightly_leads}
 

@@ -1,30 +1,19 @@
 -- No update comes without a client: of an entity that is there, by the laws of its client; of one that is not, since none tells it.
 use Rattle.std.proofs.Common.{◌≡◌, ℕ, ◌⊎◌, List, [], ◌∷◌, None, Some, sym, ap, ◌∙◌, subst, inl, inr}
 use Rattle.std.specs.List.{AllByRecursion}
-use Rattle.seam_machine.specs.Nets.{LeadsTo}
-use Rattle.seam_machine.specs.declared.machines.Event.{Event}
+use Rattle.seam_node_steps.specs.Prelude.{LeadsTo, Event, Batch, RealView, Msg, Update, World, node_steps, node_has_work, ordered_at}
+use Rattle.seam_node_steps.specs.Prelude.{loaded, look_loaded}
+use Rattle.seam_law_flow.specs.Prelude.{letters_of}
+use Rattle.seam_law_calls.specs.Prelude.{Frame, IsInFrame, mine, entity_flow, real_in, real_of, update_in, FindsClient}
+use Rattle.seam_law_rounds.specs.Prelude.{IsBetweenRounds, framed, HasPartsBetweenRounds, MayBeLoaded, HasSmallNumbers}
 use Rattle.seam_machine.proofs.Quiet.{quiet_links}
-use Rattle.seam_law_flow.specs.Flows.{letters_of}
-use Rattle.seam_call.specs.declared.order.Batch.{Batch}
 use Rattle.seam_call.specs.declared.shown.Update.{Update as UpdateData}
-use Rattle.seam_entity.specs.Reals.{RealView}
-use Rattle.seam_entity.specs.declared.message.Msg.{Msg}
-use Rattle.seam_entity.specs.declared.message.Msg.TheVariants.{Update}
-use Rattle.seam_node_steps.specs.Nodes.{World, node_steps, node_has_work}
-use Rattle.seam_node_steps.specs.Loads.{ordered_at, loaded, look_loaded}
-use Rattle.seam_law_calls.specs.Frames.{Frame, IsInFrame}
-use Rattle.seam_law_calls.specs.Sights.{mine, entity_flow}
-use Rattle.seam_law_calls.specs.Ones.{real_in, real_of}
-use Rattle.seam_law_rounds.specs.Between.{IsBetweenRounds, framed}
 use Rattle.seam_law_rounds.proofs.Framing.{in_frame}
 use Rattle.seam_law_rounds.proofs.Loaded.{no_mail}
 use Rattle.seam_law_rounds.proofs.Shape.{Somewhere, Nowhere, search_real}
 use Rattle.seam_law_rounds.proofs.Giving.{look_framed, look_cell, reals_stay}
 use Rattle.seam_law_rounds.proofs.Looking.{tick}
-use Rattle.seam_law_calls.specs.PartMoves.{update_in}
-use Rattle.seam_law_calls.specs.Clients.{FindsClient}
 use Rattle.seam_law_calls.proofs.Silent.{unseen_told_none}
-use Rattle.seam_law_rounds.specs.Parts.{HasPartsBetweenRounds, MayBeLoaded, HasSmallNumbers}
 use Rattle.seam_law_rounds.proofs.PartsGoing.{update_finds_it}
 use Rattle.seam_law_rounds.proofs.Calms.{look_finds}
 

@@ -2,33 +2,21 @@
 use Rattle.std.proofs.Common.{◌≡◌, ℕ, Bool, true, false, cond, eqb, List, [], ◌++◌, Option, None, Some, refl, sym, ap, ◌∙◌, subst}
 use Rattle.std.specs.Prelude.{option_map, slice_get}
 use Rattle.std.specs.List.{AllByRecursion, list_any}
-use Rattle.seam_machine.specs.Nets.{IsQuiet, LeadsTo}
-use Rattle.seam_machine.specs.declared.machines.Event.{Event}
-use Rattle.seam_law_flow.specs.Flows.{slot_at, letters_of}
+use Rattle.seam_node_steps.specs.Prelude.{IsQuiet, LeadsTo, Event, properties_of, Batch, Here, properties, RealView, has_any, PartView}
+use Rattle.seam_node_steps.specs.Prelude.{ProxyView, line_if, base_text, World, node_steps, node_has_work, new_proxy, proxy_begins}
+use Rattle.seam_node_steps.specs.Prelude.{part_begins, loaded}
+use Rattle.seam_law_flow.specs.Prelude.{slot_at, letters_of}
+use Rattle.seam_law_calls.specs.Prelude.{Frame, here_at, has_of, has_none, entity_flow, real_in, from_sender, home_of}
+use Rattle.seam_law_rounds.specs.Prelude.{MayBeMade, framed, base_calls_of, MayBeLoaded}
+use Rattle.seam_law_clients.specs.Prelude.{base_lines, line_where, first_lines, ShowsItsPart}
 use Rattle.seam_defs.specs.declared.flags.Group.TheVariants as group
-use Rattle.seam_defs.specs.Deeds.{properties_of}
-use Rattle.seam_call.specs.declared.order.Batch.{Batch}
-use Rattle.seam_entity.specs.Here.{Here, properties}
-use Rattle.seam_entity.specs.Reals.{RealView}
-use Rattle.seam_node_steps.specs.Maps.{has_any}
-use Rattle.seam_node_steps.specs.Bases.{PartView, ProxyView, line_if, base_text}
-use Rattle.seam_node_steps.specs.Nodes.{World, node_steps, node_has_work}
-use Rattle.seam_node_steps.specs.Loads.{new_proxy, proxy_begins, part_begins, loaded}
-use Rattle.seam_law_calls.specs.Frames.{Frame, here_at}
-use Rattle.seam_law_calls.specs.Sights.{has_of, has_none, entity_flow}
-use Rattle.seam_law_calls.specs.Ones.{real_in}
-use Rattle.seam_law_calls.specs.CellTurns.{from_sender}
-use Rattle.seam_law_rounds.specs.Between.{MayBeMade, framed}
 use Rattle.seam_law_rounds.proofs.Framing.{in_frame}
 use Rattle.seam_law_rounds.proofs.Going.{spared_loaded}
 use Rattle.seam_law_rounds.proofs.Making.{Creation, nowhere, once, creation_of, middle}
-use Rattle.seam_law_calls.specs.BaseTurns.{home_of}
-use Rattle.seam_law_rounds.specs.Parts.{base_calls_of, MayBeLoaded}
 use Rattle.seam_law_rounds.proofs.PartLoads.{part_at}
 use Rattle.seam_law_rounds.proofs.Joining.{is_among, part_peopled, bare_peopled}
 use Rattle.seam_law_rounds.proofs.Attaching.{part_if, PartFrom, part_there}
 use Rattle.seam_law_rounds.proofs.PartsGoing.{its_part, executed_then}
-use Rattle.seam_law_clients.specs.BaseLines.{base_lines, line_where, first_lines, ShowsItsPart}
 use Rattle.seam_law_clients.proofs.BaseLines.{shows_its_part}
 use Rattle.seam_law_clients.proofs.Loading.{among_is}
 

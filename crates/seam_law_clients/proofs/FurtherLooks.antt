@@ -9,32 +9,22 @@ use Rattle.std.specs.FinMap as table
 use Rattle.std.specs.FinMap.Entries.{same_entries}
 use Rattle.std.proofs.lemmas.Bool.Decides.{nat_tests}
 use Rattle.std.proofs.lemmas.List.Sums.{fold-append}
-use Rattle.seam_machine.specs.Nets.{IsQuiet, LeadsTo}
-use Rattle.seam_machine.specs.declared.machines.Event.{Event}
+use Rattle.seam_node_steps.specs.Prelude.{IsQuiet, LeadsTo, Event, Shown, Own, RealView, WitnessView, Known, seen_as, shown_for, CellView}
+use Rattle.seam_node_steps.specs.Prelude.{look_loaded, World, node_steps, node_has_work}
+use Rattle.seam_law_calls.specs.Prelude.{Frame, here_at, entity_flow, real_in}
+use Rattle.seam_law_rounds.specs.Prelude.{IsBetweenRounds}
+use Rattle.seam_law_ghosts.specs.Prelude.{WasThere}
+use Rattle.seam_law_clients.specs.Prelude.{row_of_real, rows_at, row_in, rows_of, looked_by, having_looked, HaveRoomToLook}
 use Rattle.seam_view.specs.declared.Seen.{Seen}
 use Rattle.seam_view.specs.declared.Look.{Look}
 use Rattle.seam_view.specs.Replica.{IsView, seen_of, after_looks}
 use Rattle.seam_view.specs.Plain.{plain_look}
-use Rattle.seam_call.specs.declared.shown.Shown.{Shown}
-use Rattle.seam_call.specs.declared.shown.Shown.TheVariants.{Own}
-use Rattle.seam_entity.specs.Reals.{RealView, WitnessView}
-use Rattle.seam_node_steps.specs.CellLooks.{Known, seen_as, shown_for}
-use Rattle.seam_node_steps.specs.Cells.{CellView}
-use Rattle.seam_node_steps.specs.Loads.{look_loaded}
-use Rattle.seam_node_steps.specs.Nodes.{World, node_steps, node_has_work}
-use Rattle.seam_law_calls.specs.Frames.{Frame, here_at}
-use Rattle.seam_law_calls.specs.Sights.{entity_flow}
-use Rattle.seam_law_calls.specs.Ones.{real_in}
-use Rattle.seam_law_rounds.specs.Between.{IsBetweenRounds}
 use Rattle.seam_law_rounds.proofs.Shape.{Somewhere, Nowhere, search_real}
 use Rattle.seam_law_rounds.proofs.Looking.{look_ends_between}
-use Rattle.seam_law_ghosts.specs.RealPlaces.{WasThere}
 use Rattle.seam_rule_clients.specs.Clients.{ClientReplica, after_shown, after_all_shown}
 use Rattle.seam_rule_clients.specs.Looks as replica
 use Rattle.seam_rule_clients.specs.Looks.{Row, row_of, rows_but, seen, is_newer, own_shown, look_at, look_by, one_look}
 use Rattle.seam_rule_clients.proofs.EachOne.{turned}
-use Rattle.seam_law_clients.specs.Tables.{row_of_real, rows_at, row_in, rows_of}
-use Rattle.seam_law_clients.specs.Phases.{looked_by, having_looked, HaveRoomToLook}
 use Rattle.seam_node_steps.proofs.Sorted.{each_found, find_entries}
 use Rattle.seam_law_clients.proofs.Near.{as_seen, seen_found}
 use Rattle.seam_law_clients.proofs.Rows.{found_in, others, others_rise, seen_others, lines_of_others}

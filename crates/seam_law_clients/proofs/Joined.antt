@@ -3,39 +3,26 @@ use Rattle.std.proofs.Common.{◌≡◌, ℕ, ◌+◌, ◌⊎◌, Bool, true, fa
 use Rattle.std.proofs.Common.{subst, arith, inl, inr}
 use Rattle.std.specs.Prelude.{option_map, slice_get}
 use Rattle.std.specs.List.{AllByRecursion}
-use Rattle.seam_machine.specs.Nets.{LeadsTo}
-use Rattle.seam_machine.specs.declared.machines.Event.{Event}
+use Rattle.seam_node_steps.specs.Prelude.{LeadsTo, Event, properties_of, Batch, Shown, RealView, WitnessView, Here, properties, has_any}
+use Rattle.seam_node_steps.specs.Prelude.{PartView, ProxyView, line_if, base_text, new_proxy, proxy_begins, part_begins, loaded, World}
+use Rattle.seam_node_steps.specs.Prelude.{node_steps, node_has_work}
+use Rattle.seam_law_flow.specs.Prelude.{slot_at, letters_of}
+use Rattle.seam_law_calls.specs.Prelude.{Frame, here_at, has_of, has_none, entity_flow, real_in, real_of, HasNoProxy, sent_by, home_of}
+use Rattle.seam_law_calls.specs.Prelude.{proxy_of, order_in, updates_at, shown_in, lines_in, shown_at, HasClient, HasRoomFor}
+use Rattle.seam_law_rounds.specs.Prelude.{MayBeMade, framed, AreInStep, AreFor, MayBeLoaded, IsServed, bare, served}
+use Rattle.seam_law_clients.specs.Prelude.{FitsWitness, ClientsFit, FitsWithin, IsTrueBetween, TellsRightly, true_between}
 use Rattle.seam_net_runs.proofs.Runs.{leads_nowhere}
-use Rattle.seam_law_flow.specs.Flows.{slot_at, letters_of}
 use Rattle.seam_law_flow.proofs.TokenLemmas.{sole_here}
 use Rattle.seam_defs.specs.declared.flags.Group.TheVariants as group
-use Rattle.seam_defs.specs.Deeds.{properties_of}
-use Rattle.seam_call.specs.declared.order.Batch.{Batch}
-use Rattle.seam_call.specs.declared.shown.Shown.{Shown}
-use Rattle.seam_entity.specs.Reals.{RealView, WitnessView}
-use Rattle.seam_entity.specs.Here.{Here, properties}
-use Rattle.seam_node_steps.specs.Maps.{has_any}
-use Rattle.seam_node_steps.specs.Bases.{PartView, ProxyView, line_if, base_text}
-use Rattle.seam_node_steps.specs.Loads.{new_proxy, proxy_begins, part_begins, loaded}
-use Rattle.seam_node_steps.specs.Nodes.{World, node_steps, node_has_work}
-use Rattle.seam_law_calls.specs.Frames.{Frame, here_at}
-use Rattle.seam_law_calls.specs.Sights.{has_of, has_none, entity_flow}
-use Rattle.seam_law_calls.specs.Ones.{real_in, real_of}
 use Rattle.seam_law_calls.proofs.Gone.{gone_leads}
-use Rattle.seam_law_rounds.specs.Between.{MayBeMade, framed}
 use Rattle.seam_law_rounds.proofs.Framing.{in_frame}
 use Rattle.seam_law_rounds.proofs.Going.{frame_loaded, spared_loaded}
 use Rattle.seam_law_rounds.proofs.Loaded.{no_mail}
 use Rattle.seam_law_rounds.proofs.Making.{Creation, nowhere, once, creation_of, middle}
 use Rattle.seam_law_rounds.proofs.Shape.{Somewhere, Nowhere, search_real}
-use Rattle.seam_law_calls.specs.PartMoves.{HasNoProxy}
-use Rattle.seam_law_calls.specs.WitnessMoves.{sent_by}
-use Rattle.seam_law_calls.specs.BaseTurns.{home_of}
-use Rattle.seam_law_calls.specs.Clients.{proxy_of, order_in, updates_at, shown_in, lines_in, shown_at, HasClient, HasRoomFor}
 use Rattle.seam_law_calls.proofs.AloneRuns.{bare_leads}
 use Rattle.seam_law_calls.proofs.ClientLeads.{client_leads}
 use Rattle.seam_law_calls.proofs.WitnessKept.{seen_leads}
-use Rattle.seam_law_rounds.specs.Parts.{AreInStep, AreFor, MayBeLoaded, IsServed, bare, served}
 use Rattle.seam_law_rounds.proofs.PartLoads.{part_at}
 use Rattle.seam_law_rounds.proofs.Joining.{is_among, part_peopled, bare_peopled}
 use Rattle.seam_law_rounds.proofs.Attaching.{part_if, PartFrom, part_there, are_for_loaded}
@@ -44,10 +31,6 @@ use Rattle.seam_law_rounds.proofs.PartTurns.{few_more}
 use Rattle.seam_law_rounds.proofs.PartsGoing.{its_part, few_lines, told, serves_after}
 use Rattle.seam_rule_clients.specs.Clients.{ClientReplica, after_all_shown}
 use Rattle.seam_rule_clients.specs.Lines.{ShowsRightly}
-use Rattle.seam_law_clients.specs.Witnesses.{FitsWitness, ClientsFit}
-use Rattle.seam_law_clients.specs.Fits.{FitsWithin}
-use Rattle.seam_law_clients.specs.Telling.{IsTrueBetween, TellsRightly}
-use Rattle.seam_law_clients.specs.RoundTruths.{true_between}
 use Rattle.seam_law_clients.proofs.Starts.{rightly_starts, shown_rightly}
 use Rattle.seam_law_clients.proofs.Along.{rightly_leads}
 

@@ -9,19 +9,13 @@ use Rattle.std.specs.FinMap as table
 use Rattle.std.specs.FinMap.Entries.{is_sorted, below_all}
 use Rattle.std.proofs.lemmas.Bool.Decides.{nat_tests}
 use Rattle.std.proofs.lemmas.Map.Keys.{IsDistinct-head, IsDistinct-tail}
-use Rattle.seam_geo.specs.declared.pos.Pos.{Pos}
-use Rattle.seam_geo.specs.Pos.{distance}
+use Rattle.seam_node_steps.specs.Prelude.{Pos, distance, State, GhostCopy, Shown, Enter, Set, Leave, Known, seen_as, shown_for}
 use Rattle.seam_law_flow.proofs.Following.{all_append}
 use Rattle.seam_view.specs.declared.Seen.{Seen}
 use Rattle.seam_view.specs.declared.Look.{Look}
 use Rattle.seam_view.specs.declared.Look.TheVariants as look
 use Rattle.seam_view.specs.Replica.{Replica, IsView, seen_of, entity_of}
 use Rattle.seam_view.specs.ViewLooks.{is_far, leaves, has_changed, in_view, not_older, enters, leaving, changed, entering, one_look}
-use Rattle.seam_defs.specs.declared.states.State.{State}
-use Rattle.seam_call.specs.declared.shown.GhostCopy.{GhostCopy}
-use Rattle.seam_call.specs.declared.shown.Shown.{Shown}
-use Rattle.seam_call.specs.declared.shown.Shown.TheVariants.{Enter, Set, Leave}
-use Rattle.seam_node_steps.specs.CellLooks.{Known, seen_as, shown_for}
 use Rattle.seam_rule_clients.specs.Clients.{ClientReplica}
 use Rattle.seam_rule_clients.specs.Lines.{IsNear, MayShow, MayShowAll, Truth, ShowsTruth}
 use Rattle.seam_node_steps.proofs.Sorted.{each_found}

@@ -5,39 +5,23 @@ use Rattle.std.specs.Prelude.{option_map, slice_get}
 use Rattle.std.specs.List.{AllByRecursion, list_any}
 use Rattle.std.specs.Ordering.{nat_cmp, eq_by_cmp}
 use Rattle.std.specs.FinMap as table
-use Rattle.seam_tree.specs.Division.{Division, leaf_at, cells_of}
-use Rattle.seam_call.specs.declared.create.Create.{Create}
-use Rattle.seam_call.specs.declared.order.Order.{Order}
-use Rattle.seam_call.specs.declared.order.Batch.{Batch}
-use Rattle.seam_entity.specs.Executing.{real_begins}
-use Rattle.seam_entity.specs.Here.{Here, cell_count, base_of}
-use Rattle.seam_entity.specs.WitnessLooks.{new_witness}
-use Rattle.seam_entity.specs.Reals.{RealView, WitnessView}
-use Rattle.seam_law_flow.specs.Flows.{slot_at}
-use Rattle.seam_node_steps.specs.Maps.{Map, set_at}
-use Rattle.seam_node_steps.specs.Bases.{BaseView, RouteView}
-use Rattle.seam_node_steps.specs.Nodes.{NodeView, World}
-use Rattle.seam_node_steps.specs.Nodes.NodeView.{Cell, Base}
-use Rattle.seam_node_steps.specs.Loads.{part_if, with_route, created_at, attached, cell_round, base_round, order_if, ordered_at, loaded}
+use Rattle.seam_node_steps.specs.Prelude.{Division, leaf_at, cells_of, Create, Order, Batch, real_begins, Here, cell_count, base_of}
+use Rattle.seam_node_steps.specs.Prelude.{new_witness, RealView, WitnessView, Map, set_at, BaseView, RouteView, NodeView, World, Cell, Base}
+use Rattle.seam_node_steps.specs.Prelude.{part_if, with_route, created_at, attached, cell_round, base_round, order_if, ordered_at, loaded}
+use Rattle.seam_law_flow.specs.Prelude.{slot_at}
+use Rattle.seam_law_calls.specs.Prelude.{Frame, here_at, has_of, has_none, entity_flow, real_in, IsBaseNumber}
+use Rattle.seam_law_rounds.specs.Prelude.{MayBeMade, framed, each, node_loaded, MayBeLoaded}
+use Rattle.seam_law_clients.specs.Prelude.{FitsWitness, ClientsFit, clients_loaded}
 use Rattle.seam_node_steps.proofs.Slots.{get-set_at}
-use Rattle.seam_law_calls.specs.Frames.{Frame, here_at}
-use Rattle.seam_law_calls.specs.Sights.{has_of, has_none, entity_flow}
-use Rattle.seam_law_calls.specs.Ones.{real_in}
-use Rattle.seam_law_rounds.specs.Between.{MayBeMade, framed}
-use Rattle.seam_law_rounds.specs.Loaded.{each, node_loaded}
 use Rattle.seam_law_rounds.proofs.Loading.{each_keeps, Any, any}
 use Rattle.seam_law_rounds.proofs.Loaded.{slot_is}
 use Rattle.seam_law_rounds.proofs.Making.{Creation, nowhere, once, creation_of, middle}
 use Rattle.seam_law_rounds.proofs.Giving.{some_base}
-use Rattle.seam_law_calls.specs.Strays.{IsBaseNumber}
-use Rattle.seam_law_rounds.specs.Parts.{MayBeLoaded}
 use Rattle.seam_law_rounds.proofs.Joining.{is_among, real_peopled, unseen_peopled}
 use Rattle.seam_law_rounds.proofs.Attaching.{real_if, RealFrom, real_there}
 use Rattle.seam_rule_clients.specs.Clients.{ClientReplica, new_client}
-use Rattle.seam_law_clients.specs.Witnesses.{FitsWitness, ClientsFit}
 use Rattle.seam_law_clients.proofs.Ending.{some_route}
 use Rattle.seam_law_clients.proofs.ExampleRound.{new_fits}
-use Rattle.seam_law_clients.specs.Clients.{clients_loaded}
 
 -- ---- a base node keeps a route
 

@@ -4,23 +4,17 @@ use Rattle.std.proofs.Common.{refl, ap, ◌∙◌, arith, inl, inr}
 use Rattle.std.specs.List.{range_with_len}
 use Rattle.std.specs.FinMap as table
 use Rattle.std.proofs.lemmas.Bool.{cases_eq, cases_lt, ne_eqb, eq-eqb}
-use Rattle.seam_machine.specs.Views.{Stepped}
-use Rattle.seam_machine.specs.Sends.{items_to}
-use Rattle.seam_machine.specs.declared.machines.Input.TheVariants.{Task, From}
-use Rattle.seam_call.specs.declared.call.Call.{Call as CallData}
+use Rattle.seam_node_steps.specs.Prelude.{Stepped, items_to, Task, From, Call as CallData, Shown, Msg, BaseCall, Hand, Current, GhostSet}
+use Rattle.seam_node_steps.specs.Prelude.{GhostDrop, Tick, Reap, Update, Here, cell_count, base_of, numbered, BaseView, PartView, ProxyView}
+use Rattle.seam_node_steps.specs.Prelude.{RouteView, with_part, sends_none, part_called, newer_route, current, updated_proxy, update}
+use Rattle.seam_node_steps.specs.Prelude.{case_of, ready_part, ready_proxy, proxy_task, task_without_orders, base_task, base_steps, tick_to}
+use Rattle.seam_node_steps.specs.Prelude.{may_show, after_ready, after_showing, ready_order}
 use Rattle.seam_call.specs.declared.order.Order.TheVariants as order
-use Rattle.seam_call.specs.declared.shown.Shown.{Shown}
 use Rattle.seam_call.specs.declared.shown.Update.{Update as UpdateData}
-use Rattle.seam_entity.specs.declared.message.Msg.{Msg}
-use Rattle.seam_entity.specs.declared.message.Msg.TheVariants.{Call, BaseCall, Hand, Current, GhostSet, GhostDrop, Tick, Reap, Update}
-use Rattle.seam_entity.specs.Here.{Here, cell_count, base_of}
-use Rattle.seam_node_steps.specs.CellLooks.{numbered}
-use Rattle.seam_node_steps.specs.Bases.{BaseView, PartView, ProxyView, RouteView, with_part}
-use Rattle.seam_node_steps.specs.BaseCases.{sends_none, unless_stray, part_called, newer_route, current, updated_proxy, update}
-use Rattle.seam_node_steps.specs.BaseCases.{case_of, is_stray}
-use Rattle.seam_node_steps.specs.BaseCases.{ready_part, ready_proxy, proxy_task, task_without_orders, base_task, base_steps, tick_to}
-use Rattle.seam_node_steps.specs.BaseCases.{may_execute, may_show, after_ready, after_showing, ready_part}
-use Rattle.seam_entity.specs.Calls.{ready_order}
+use Rattle.seam_entity.specs.declared.message.Msg.TheVariants.{Call}
+use Rattle.seam_node_steps.specs.BaseCases.{unless_stray}
+use Rattle.seam_node_steps.specs.BaseCases.{is_stray}
+use Rattle.seam_node_steps.specs.BaseCases.{may_execute}
 
 -- the step leaves the orders, and sends nothing
 abbrev pub IsStill : BaseView → Stepped BaseView Msg → Type 0

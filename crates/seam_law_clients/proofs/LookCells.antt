@@ -10,21 +10,13 @@ use Rattle.std.specs.FinMap as table
 use Rattle.std.specs.FinMap.Entries.{is_sorted, is_some-find, same_entries}
 use Rattle.std.proofs.lemmas.Bool.Decides.{nat_tests}
 use Rattle.seam_table.proofs.Found.{found}
-use Rattle.seam_machine.specs.Views.{Stepped}
-use Rattle.seam_ghosts.specs.Book.{copy_in}
-use Rattle.seam_entity.specs.Here.{Here, base_of}
-use Rattle.seam_entity.specs.Numbers.{is_small}
-use Rattle.seam_entity.specs.Calls.{has_ready}
-use Rattle.seam_entity.specs.Reals.{RealView, WitnessView}
-use Rattle.seam_entity.specs.declared.message.Msg.{Msg}
-use Rattle.seam_node_steps.specs.Maps.{number_of, has_any}
-use Rattle.seam_node_steps.specs.Slots.{unless_stray}
-use Rattle.seam_node_steps.specs.CellLooks.{other_of_real, other_of_copy, looks_of, shown_of, after_looking, looks_with, look_by}
-use Rattle.seam_node_steps.specs.CellLooks.{stray_look_by, numbered}
-use Rattle.seam_node_steps.specs.Cells.{CellView, slot_of, stepped, known_to, has_witness, witnesses, tick, cell_task, ready_next, look_next}
-use Rattle.seam_node_steps.specs.Cells.{ready_entity, real_is_ready, looks_around, cell_has_work}
+use Rattle.seam_node_steps.specs.Prelude.{Stepped, copy_in, Here, base_of, is_small, has_ready, RealView, WitnessView, Msg, number_of}
+use Rattle.seam_node_steps.specs.Prelude.{has_any, unless_stray, other_of_real, other_of_copy, looks_of, shown_of, after_looking}
+use Rattle.seam_node_steps.specs.Prelude.{looks_with, look_by, stray_look_by, numbered, CellView, slot_of, stepped, known_to, has_witness}
+use Rattle.seam_node_steps.specs.Prelude.{witnesses, tick, cell_task, ready_next, look_next, ready_entity, real_is_ready, looks_around}
+use Rattle.seam_node_steps.specs.Prelude.{cell_has_work}
+use Rattle.seam_law_clients.specs.Prelude.{witness_looked, looked_by, having_looked}
 use Rattle.seam_node_steps.proofs.Slots.{get-set_at}
-use Rattle.seam_law_clients.specs.Phases.{witness_looked, looked_by, having_looked}
 use Rattle.seam_node_steps.proofs.Sorted.{first, second}
 use Rattle.seam_node_steps.proofs.Sorted.{tied_same, none_below, passing, find_filter, sorted_filter, or_else}
 use Rattle.seam_node_steps.proofs.Knowing.{known_by, known_at, unless_self, known_rises, known_to_is}

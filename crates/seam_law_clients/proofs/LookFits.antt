@@ -2,32 +2,22 @@
 use Rattle.std.proofs.Common.{◌≡◌, ℕ, Bool, true, false, List, Option, None, Some, refl, sym, ap, ◌∙◌, subst, arith}
 use Rattle.std.specs.Prelude.{option_map, slice_get}
 use Rattle.std.proofs.lemmas.Option.{slice_get-map}
-use Rattle.seam_machine.specs.Nets.{happens, enabled, IsQuiet, LeadsTo}
-use Rattle.seam_machine.specs.declared.machines.Event.{Event}
+use Rattle.seam_node_steps.specs.Prelude.{happens, enabled, IsQuiet, LeadsTo, Event, RealView, WitnessView, BaseView, CellView, NodeView}
+use Rattle.seam_node_steps.specs.Prelude.{World, node_steps, node_has_work, Cell, Base, order_if, ordered_at, look_loaded}
+use Rattle.seam_law_flow.specs.Prelude.{comes, slot_at}
+use Rattle.seam_law_calls.specs.Prelude.{Frame, IsInFrame, has_of, has_none, entity_flow, real_in}
+use Rattle.seam_law_rounds.specs.Prelude.{IsBetweenRounds}
+use Rattle.seam_law_ghosts.specs.Prelude.{WasThere}
+use Rattle.seam_law_clients.specs.Prelude.{rows_of, FitsWitness, ClientsFit, witness_looked, looked_by, having_looked, HaveRoomToLook}
 use Rattle.seam_machine.proofs.Occurring.{occurs}
 use Rattle.seam_net_runs.proofs.Runs.{leads_keeps}
-use Rattle.seam_law_flow.specs.Flows.{comes, slot_at}
 use Rattle.seam_law_flow.proofs.Following.{slots_kept}
 use Rattle.seam_call.specs.declared.order.Order.TheVariants as order
-use Rattle.seam_entity.specs.Reals.{RealView, WitnessView}
-use Rattle.seam_node_steps.specs.Bases.{BaseView}
-use Rattle.seam_node_steps.specs.Cells.{CellView}
-use Rattle.seam_node_steps.specs.Nodes.{NodeView, World, node_steps, node_has_work}
-use Rattle.seam_node_steps.specs.Nodes.NodeView.{Cell, Base}
-use Rattle.seam_node_steps.specs.Loads.{order_if, ordered_at, look_loaded}
-use Rattle.seam_law_calls.specs.Frames.{Frame, IsInFrame}
-use Rattle.seam_law_calls.specs.Sights.{has_of, has_none, entity_flow}
 use Rattle.seam_law_calls.proofs.Classify.{event_moves, frame_happens}
-use Rattle.seam_law_calls.specs.Ones.{real_in}
-use Rattle.seam_law_rounds.specs.Between.{IsBetweenRounds}
 use Rattle.seam_law_rounds.proofs.Giving.{look_framed}
 use Rattle.seam_law_calls.proofs.RoutesKept.{HasRoute, route_moves}
-use Rattle.seam_law_ghosts.specs.RealPlaces.{WasThere}
 use Rattle.seam_rule_clients.specs.Clients.{ClientReplica, after_all_shown}
 use Rattle.seam_rule_clients.specs.Looks.{one_look}
-use Rattle.seam_law_clients.specs.Tables.{rows_of}
-use Rattle.seam_law_clients.specs.Witnesses.{FitsWitness, ClientsFit}
-use Rattle.seam_law_clients.specs.Phases.{witness_looked, looked_by, having_looked, HaveRoomToLook}
 use Rattle.seam_law_clients.proofs.LookRuns.{tick_order}
 use Rattle.seam_law_clients.proofs.LookEnds.{looked}
 

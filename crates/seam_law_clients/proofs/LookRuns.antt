@@ -5,40 +5,24 @@ use Rattle.std.specs.Prelude.{option_map, slice_get, drop}
 use Rattle.std.specs.List.{AllByRecursion, range_with_len}
 use Rattle.std.specs.FinMap as table
 use Rattle.std.proofs.lemmas.Bool.{cases_eq, cases_lt, ne_eqb, eq-eqb}
-use Rattle.seam_tree.specs.Division.{cells_of}
-use Rattle.seam_machine.specs.Nets.{link, letter, input_from, happens, enabled}
-use Rattle.seam_machine.specs.Events.{Occurs, is_from, link_left, link_added}
-use Rattle.seam_machine.specs.Sends.{items_to}
-use Rattle.seam_machine.specs.declared.machines.Event.{Event}
-use Rattle.seam_machine.specs.declared.machines.Input.{Input}
-use Rattle.seam_machine.specs.declared.machines.Input.TheVariants.{Task, From}
+use Rattle.seam_node_steps.specs.Prelude.{cells_of, link, letter, input_from, happens, enabled, Occurs, items_to, Event, Input, Task, From}
+use Rattle.seam_node_steps.specs.Prelude.{Order, RealView, has_ready, Msg, Tick, cell_count, base_of, number_of, has_any, BaseView}
+use Rattle.seam_node_steps.specs.Prelude.{base_steps, tick_to, CellView, cell_steps, cell_has_work, ready_entity, real_is_ready, witnesses}
+use Rattle.seam_node_steps.specs.Prelude.{tick, NodeView, World, node_steps, node_has_work, Cell, Base}
+use Rattle.seam_law_flow.specs.Prelude.{slot_at}
+use Rattle.seam_law_calls.specs.Prelude.{Frame, IsInFrame, has_of, has_none, real_in}
+use Rattle.seam_law_rounds.specs.Prelude.{IsBetweenRounds}
+use Rattle.seam_law_clients.specs.Prelude.{having_looked}
+use Rattle.seam_machine.specs.Events.{is_from, link_left, link_added}
 use Rattle.seam_machine.proofs.Occurring.{occurs, occurs_works, node_here, node_there}
 use Rattle.seam_machine.proofs.Quiet.{quiet_tasks}
 use Rattle.seam_net_runs.proofs.Keeping.{link_is_exact}
 use Rattle.seam_net_runs.proofs.Soundness.{sound_sends}
-use Rattle.seam_law_flow.specs.Flows.{slot_at}
-use Rattle.seam_call.specs.declared.order.Order.{Order}
 use Rattle.seam_call.specs.declared.order.Order.TheVariants as order
-use Rattle.seam_entity.specs.Reals.{RealView}
-use Rattle.seam_entity.specs.Calls.{has_ready}
-use Rattle.seam_entity.specs.declared.message.Msg.{Msg}
-use Rattle.seam_entity.specs.declared.message.Msg.TheVariants.{Tick}
-use Rattle.seam_entity.specs.Here.{cell_count, base_of}
-use Rattle.seam_node_steps.specs.Maps.{number_of, has_any}
-use Rattle.seam_node_steps.specs.Bases.{BaseView}
-use Rattle.seam_node_steps.specs.BaseCases.{base_steps, tick_to}
-use Rattle.seam_node_steps.specs.Cells.{CellView, cell_steps, cell_has_work, ready_entity, real_is_ready, witnesses, tick}
-use Rattle.seam_node_steps.specs.Nodes.{NodeView, World, node_steps, node_has_work}
-use Rattle.seam_node_steps.specs.Nodes.NodeView.{Cell, Base}
-use Rattle.seam_law_calls.specs.Frames.{Frame, IsInFrame}
-use Rattle.seam_law_calls.specs.Sights.{has_of, has_none}
 use Rattle.seam_law_calls.proofs.Classify.{node_laws, frame_happens}
-use Rattle.seam_law_calls.specs.Ones.{real_in}
 use Rattle.seam_law_calls.proofs.Quieting.{neither, none_left, none_some, got_fails}
-use Rattle.seam_law_rounds.specs.Between.{IsBetweenRounds}
 use Rattle.seam_law_clients.proofs.LookCells.{MayLook, IsMidway, work_is, step_is, now, next_midway, tick_midway}
 use Rattle.seam_law_clients.proofs.LookBases.{hears_still, task_still, tick_sends, ticks_beyond, ticks_within, updates_away, base_is_high}
-use Rattle.seam_law_clients.specs.Phases.{having_looked}
 
 abbrev pub tick_order : ℕ × Order
 tick_order = (cell_count, order.Tick)

@@ -9,23 +9,17 @@ use Rattle.std.proofs.lemmas.Bool.Decides.{nat_tests}
 use Rattle.seam_view.specs.declared.Look.{Look}
 use Rattle.seam_view.specs.Replica.{after_looks}
 use Rattle.seam_view.proofs.Kept.{view_after_looks}
-use Rattle.seam_defs.specs.declared.states.State.{State}
-use Rattle.seam_call.specs.declared.shown.GhostCopy.{GhostCopy}
-use Rattle.seam_call.specs.declared.shown.Shown.{Shown}
-use Rattle.seam_call.specs.declared.shown.Shown.TheVariants.{Own}
-use Rattle.seam_entity.specs.Reals.{RealView, WitnessView}
-use Rattle.seam_node_steps.specs.CellLooks.{Known, seen_as, shown_for, own_due, after_looking, looks_of, shown_of}
-use Rattle.seam_node_steps.specs.Cells.{CellView, known_to}
-use Rattle.seam_law_calls.specs.Frames.{Frame, here_at}
+use Rattle.seam_node_steps.specs.Prelude.{State, GhostCopy, Shown, Own, RealView, WitnessView, Known, seen_as, shown_for, own_due}
+use Rattle.seam_node_steps.specs.Prelude.{after_looking, looks_of, shown_of, CellView, known_to}
+use Rattle.seam_law_calls.specs.Prelude.{Frame, here_at}
+use Rattle.seam_law_clients.specs.Prelude.{version_in, own_now, FitsWithin, KnowsTruth}
 use Rattle.seam_rule_clients.specs.Clients.{ClientReplica, after_shown, after_all_shown}
 use Rattle.seam_rule_clients.specs.Looks.{is_newer}
 use Rattle.seam_rule_clients.specs.Lines.{Truth, ShowsRightly}
-use Rattle.seam_law_clients.specs.Witnesses.{version_in, own_now}
 use Rattle.seam_law_clients.proofs.Near.{known_found}
 use Rattle.seam_node_steps.proofs.Knowing.{known_at, known_rises, known_to_is}
 use Rattle.seam_law_clients.proofs.OneLook.{own_by}
 use Rattle.seam_law_clients.proofs.After.{same_distances, follows}
-use Rattle.seam_law_clients.specs.Fits.{FitsWithin, KnowsTruth}
 use Rattle.seam_law_clients.proofs.Lines.{looks_may_be_shown, looks_are_true}
 
 same_yes : (a : ℕ) → eqb a a ≡ true

@@ -9,18 +9,13 @@ use Rattle.std.specs.FinMap as table
 use Rattle.std.specs.FinMap.Entries.{is_sorted, same_entries}
 use Rattle.std.proofs.lemmas.Bool.Decides.{nat_tests}
 use Rattle.seam_law_flow.proofs.Following.{all_append}
-use Rattle.seam_geo.specs.declared.pos.Pos.{Pos}
-use Rattle.seam_geo.specs.Pos.{distance}
+use Rattle.seam_node_steps.specs.Prelude.{Pos, distance, GhostCopy, Shown, Set, Enter, Known, seen_as, known_of, shown_for}
 use Rattle.seam_view.specs.declared.Seen.{Seen}
 use Rattle.seam_view.specs.declared.Look.{Look}
 use Rattle.seam_view.specs.declared.Look.TheVariants as look
 use Rattle.seam_view.specs.Replica.{Replica, seen_of}
 use Rattle.seam_view.specs.ViewLooks.{is_far, has_changed, in_view}
 use Rattle.seam_view.specs.Plain.{is_gone, is_new, plain_look}
-use Rattle.seam_call.specs.declared.shown.GhostCopy.{GhostCopy}
-use Rattle.seam_call.specs.declared.shown.Shown.{Shown}
-use Rattle.seam_call.specs.declared.shown.Shown.TheVariants.{Set, Enter}
-use Rattle.seam_node_steps.specs.CellLooks.{Known, seen_as, known_of, shown_for}
 pub use Rattle.seam_node_steps.proofs.Knowing.{known_found}
 use Rattle.seam_node_steps.proofs.Sorted.{tied_same, passing, find_filter, sorted_filter, each_found}
 

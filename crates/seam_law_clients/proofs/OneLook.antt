@@ -8,44 +8,29 @@ use Rattle.std.specs.FinMap as table
 use Rattle.std.specs.FinSet as set
 use Rattle.std.proofs.lemmas.Bool.{cases_eq}
 use Rattle.std.proofs.lemmas.Bool.Decides.{nat_tests}
-use Rattle.seam_geo.specs.declared.pos.Pos.{Pos}
-use Rattle.seam_geo.specs.Pos.{gap, distance}
+use Rattle.seam_node_steps.specs.Prelude.{Pos, distance, State, Property, ghost_of, other_of, own_of, projected, type_of, copy_in}
+use Rattle.seam_node_steps.specs.Prelude.{GhostCopy, Own, Here, cell_count, properties, RealView, WitnessView, Known, seen_as}
+use Rattle.seam_node_steps.specs.Prelude.{other_of_real, other_of_copy, shown_for, own_due, all_shown, shown_of, CellView, known_to}
+use Rattle.seam_node_steps.specs.Prelude.{is_another, copy_if, holders, World, node_has_work, Cell}
+use Rattle.seam_law_flow.specs.Prelude.{slot_at, letters_of}
+use Rattle.seam_law_calls.specs.Prelude.{Frame, here_at, has_of, has_none, mine, entity_flow, real_in, real_of}
+use Rattle.seam_law_rounds.specs.Prelude.{IsBetweenRounds}
+use Rattle.seam_law_ghosts.specs.Prelude.{present, copy_at, AreCopiesBetweenRounds}
+use Rattle.seam_law_clients.specs.Prelude.{row_of_real, rows_of, version_in, FitsWitness}
+use Rattle.seam_geo.specs.Pos.{gap}
 use Rattle.seam_machine.proofs.Quiet.{quiet_links}
-use Rattle.seam_law_flow.specs.Flows.{slot_at, letters_of}
 use Rattle.seam_view.specs.declared.Seen.{Seen}
 use Rattle.seam_view.specs.declared.Look.{Look}
 use Rattle.seam_view.specs.Replica.{Replica, IsView}
 use Rattle.seam_view.specs.ViewLooks as view
 use Rattle.seam_view.specs.ViewLooks.{is_far, not_older}
 use Rattle.seam_view.specs.Plain.{plain_look, AreNotOlder}
-use Rattle.seam_defs.specs.declared.states.State.{State}
-use Rattle.seam_defs.specs.declared.types.Property.{Property}
 use Rattle.seam_defs.specs.declared.flags.Group.TheVariants as group
-use Rattle.seam_defs.specs.Deeds.{ghost_of, other_of, own_of, projected}
-use Rattle.seam_defs.specs.Types.{type_of}
-use Rattle.seam_ghosts.specs.Book.{copy_in}
-use Rattle.seam_call.specs.declared.shown.GhostCopy.{GhostCopy}
-use Rattle.seam_call.specs.declared.shown.Shown.TheVariants.{Own}
-use Rattle.seam_entity.specs.Here.{Here, cell_count, properties}
-use Rattle.seam_entity.specs.Reals.{RealView, WitnessView}
-use Rattle.seam_node_steps.specs.CellLooks.{Known, seen_as, other_of_real, other_of_copy, shown_for, own_due, all_shown, shown_of}
-use Rattle.seam_node_steps.specs.Cells.{CellView, known_to, is_another}
-use Rattle.seam_node_steps.specs.Settle.{copy_if}
-use Rattle.seam_node_steps.specs.Holders.{holders}
-use Rattle.seam_node_steps.specs.Nodes.{World, node_has_work}
-use Rattle.seam_node_steps.specs.Nodes.NodeView.{Cell}
-use Rattle.seam_law_calls.specs.Frames.{Frame, here_at}
-use Rattle.seam_law_calls.specs.Sights.{has_of, has_none, mine, entity_flow}
-use Rattle.seam_law_calls.specs.Ones.{real_in, real_of}
 use Rattle.seam_law_calls.proofs.Counting.{none_counts}
-use Rattle.seam_law_rounds.specs.Between.{IsBetweenRounds}
 use Rattle.seam_law_rounds.proofs.Shape.{Somewhere, Nowhere, search_real}
-use Rattle.seam_law_ghosts.specs.Copies.{present, copy_at, AreCopiesBetweenRounds}
 use Rattle.seam_rule_clients.specs.Clients.{ClientReplica}
 use Rattle.seam_rule_clients.specs.Looks as replica
 use Rattle.seam_rule_clients.specs.Looks.{Row, row_of, rows_but, seen, is_newer, own_shown, look_at, look_by, one_look}
-use Rattle.seam_law_clients.specs.Tables.{row_of_real, rows_of}
-use Rattle.seam_law_clients.specs.Witnesses.{version_in, FitsWitness}
 use Rattle.seam_node_steps.proofs.Sorted.{each_found}
 use Rattle.seam_law_clients.proofs.Near.{near, AreAlike, lines_alike}
 use Rattle.seam_node_steps.proofs.Knowing.{known_by, known_at, known_rises, known_to_is}

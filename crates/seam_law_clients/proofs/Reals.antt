@@ -3,26 +3,14 @@ use Rattle.std.proofs.Common.{◌≡◌, ℕ, ◌+◌, List, [], ◌∷◌, leng
 use Rattle.std.specs.Prelude.{option_map}
 use Rattle.std.specs.List.{AllByRecursion}
 use Rattle.std.proofs.lemmas.Bool.{cases_eq}
-use Rattle.seam_law_flow.specs.Flows.{letters_of, more_letter}
-use Rattle.seam_law_flow.specs.Tokens.{TokenPlace, In, On}
+use Rattle.seam_node_steps.specs.Prelude.{State, own_of, type_of, Call, RealView, WitnessView, Msg, World}
+use Rattle.seam_law_flow.specs.Prelude.{letters_of, more_letter, TokenPlace, In, On}
+use Rattle.seam_law_calls.specs.Prelude.{Frame, entity_flow, real_in, real_of, IsOne, Replays, account_of, after_calls, EachReal}
+use Rattle.seam_law_clients.specs.Prelude.{version_in, own_now, FitsWithin}
 use Rattle.seam_law_flow.proofs.TokenLemmas.{sole_here}
-use Rattle.seam_defs.specs.declared.states.State.{State}
-use Rattle.seam_defs.specs.Deeds.{own_of}
-use Rattle.seam_defs.specs.Types.{type_of}
-use Rattle.seam_call.specs.declared.call.Call.{Call}
-use Rattle.seam_entity.specs.Reals.{RealView, WitnessView}
-use Rattle.seam_entity.specs.declared.message.Msg.{Msg}
-use Rattle.seam_node_steps.specs.Nodes.{World}
-use Rattle.seam_law_calls.specs.Frames.{Frame}
-use Rattle.seam_law_calls.specs.Sights.{entity_flow}
-use Rattle.seam_law_calls.specs.Ones.{real_in, real_of, IsOne}
-use Rattle.seam_law_calls.specs.Replays.{Replays, account_of, after_calls}
 use Rattle.seam_law_ghosts.proofs.Present.{replay_version}
-use Rattle.seam_law_calls.specs.Clients.{EachReal}
 use Rattle.seam_law_calls.proofs.WitnessKept.{OfReal}
 use Rattle.seam_rule_clients.specs.Clients.{ClientReplica}
-use Rattle.seam_law_clients.specs.Witnesses.{version_in, own_now}
-use Rattle.seam_law_clients.specs.Fits.{FitsWithin}
 
 module _ (P : RealView → Type 0) where
   hands_by : (m : Msg) (ms : List Msg) (o : Option RealView) → real_of m ≡ o → AllByRecursion P (more_letter o (letters_of real_of ms)) →

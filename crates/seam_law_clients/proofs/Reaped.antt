@@ -6,54 +6,32 @@ use Rattle.std.specs.List.{AllByRecursion}
 use Rattle.std.specs.FinMap as table
 use Rattle.std.proofs.lemmas.Bool.{cases_eq, eq-eqb}
 use Rattle.std.proofs.lemmas.Option.{slice_get-map}
-use Rattle.seam_machine.specs.Nets.{happens, enabled, IsQuiet, LeadsTo}
-use Rattle.seam_machine.specs.Totals.{total}
-use Rattle.seam_machine.specs.declared.machines.Event.{Event}
+use Rattle.seam_node_steps.specs.Prelude.{happens, enabled, IsQuiet, LeadsTo, total, Event, OrderView, Call as CallData, Order, Shown}
+use Rattle.seam_node_steps.specs.Prelude.{is_ready, order_or, RealView, WitnessView, Msg, BaseCall, Update, Here, PartView, ProxyView}
+use Rattle.seam_node_steps.specs.Prelude.{holders, NodeView, World, node_steps, node_has_work, with_nodes, reap_ordered_at, reaps_loaded}
+use Rattle.seam_law_flow.specs.Prelude.{comes, slot_at}
+use Rattle.seam_law_calls.specs.Prelude.{Frame, here_at, IsInFrame, Has, AtBase, times, has_of, has_none, entity_flow, BaseMoves, updated}
+use Rattle.seam_law_calls.specs.Prelude.{Moves, at_a_cell, at_a_base, real_in, base_call_in, update_in, calls_ordered, PartMoves, rests}
+use Rattle.seam_law_calls.specs.Prelude.{refuses, offers, sends, serves, executes, misses, updates, shows, ends, home_of, HasNoBaseCalls}
+use Rattle.seam_law_calls.specs.Prelude.{HasNoPart}
+use Rattle.seam_law_rounds.specs.Prelude.{IsBetweenRounds, each, AreReapable, AreFor, HasSettledPart, HasPartsBetweenRounds}
 use Rattle.seam_machine.proofs.Occurring.{occurs}
 use Rattle.seam_machine.proofs.Quiet.{quiet_tasks}
 use Rattle.seam_net_runs.proofs.Runs.{leads_nowhere, leads_extend, leads_keeps}
-use Rattle.seam_law_flow.specs.Flows.{comes, slot_at}
 use Rattle.seam_law_flow.proofs.Following.{slots_kept, came}
-use Rattle.seam_order.specs.Held.{OrderView}
-use Rattle.seam_call.specs.declared.call.Call.{Call as CallData}
-use Rattle.seam_call.specs.declared.order.Order.{Order}
 use Rattle.seam_call.specs.declared.order.Order.TheVariants as order
-use Rattle.seam_call.specs.declared.shown.Shown.{Shown}
 use Rattle.seam_call.specs.declared.shown.Update.{Update as UpdateData}
-use Rattle.seam_entity.specs.Calls.{is_ready}
-use Rattle.seam_entity.specs.Orders.{order_or}
-use Rattle.seam_entity.specs.Reals.{RealView, WitnessView}
-use Rattle.seam_entity.specs.declared.message.Msg.{Msg}
-use Rattle.seam_entity.specs.declared.message.Msg.TheVariants.{BaseCall, Update}
-use Rattle.seam_entity.specs.Here.{Here}
-use Rattle.seam_node_steps.specs.Bases.{PartView, ProxyView}
-use Rattle.seam_node_steps.specs.Holders.{holders}
-use Rattle.seam_node_steps.specs.Nodes.{NodeView, World, node_steps, node_has_work}
-use Rattle.seam_node_steps.specs.Loads.{with_nodes, reap_ordered_at, reaps_loaded}
-use Rattle.seam_law_calls.specs.Frames.{Frame, here_at, IsInFrame}
-use Rattle.seam_law_calls.specs.Sights.{Has, AtBase, times, has_of, has_none, entity_flow}
 use Rattle.seam_law_calls.specs.BaseMoves as move
-use Rattle.seam_law_calls.specs.BaseMoves.{BaseMoves, updated}
-use Rattle.seam_law_calls.specs.Moves.{Moves, at_a_cell, at_a_base}
 use Rattle.seam_law_calls.proofs.Classify.{event_moves, frame_happens}
-use Rattle.seam_law_calls.specs.Ones.{real_in}
-use Rattle.seam_law_rounds.specs.Between.{IsBetweenRounds}
-use Rattle.seam_law_rounds.specs.Loaded.{each}
 use Rattle.seam_law_rounds.proofs.Ready.{quiet_home}
-use Rattle.seam_law_rounds.specs.LastPhases.{AreReapable}
 use Rattle.seam_law_rounds.proofs.Calm.{order_reaps}
 use Rattle.seam_law_rounds.proofs.CalmMoves.{none_ready}
 use Rattle.seam_law_rounds.proofs.Starting.{idle_orders}
 use Rattle.seam_law_rounds.proofs.Giving.{reaps_framed, reaps_given}
 use Rattle.seam_law_rounds.proofs.Reaping as reaping
-use Rattle.seam_law_calls.specs.PartMoves.{base_call_in, update_in, calls_ordered}
-use Rattle.seam_law_calls.specs.PartMoves.{PartMoves, rests, refuses, offers, sends, serves, executes, misses, updates, shows, ends}
-use Rattle.seam_law_calls.specs.BaseTurns.{home_of}
-use Rattle.seam_law_calls.specs.Reaps.{HasNoBaseCalls, HasNoPart}
 use Rattle.seam_law_calls.proofs.PartSteps.{part_moves}
 use Rattle.seam_law_calls.proofs.BaseQuiet.{no_call_left}
 use Rattle.seam_law_calls.proofs.Reaped.{no_call_comes, reaps_without_calls}
-use Rattle.seam_law_rounds.specs.Parts.{AreFor, HasSettledPart, HasPartsBetweenRounds}
 use Rattle.seam_law_rounds.proofs.Calms.{reaps_part, reaps_tell_none}
 
 -- ---- a part for which nothing waits stays, or ends

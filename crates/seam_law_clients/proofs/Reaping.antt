@@ -3,34 +3,26 @@ use Rattle.std.proofs.Common.{◌≡◌, ℕ, ◌≤◌, true, is_some, List, []
 use Rattle.std.specs.Prelude.{option_map, slice_get}
 use Rattle.std.specs.List.{AllByRecursion}
 use Rattle.std.proofs.lemmas.Option.{slice_get-map}
-use Rattle.seam_machine.specs.Nets.{happens, enabled, LeadsTo}
-use Rattle.seam_machine.specs.declared.machines.Event.{Event}
+use Rattle.seam_node_steps.specs.Prelude.{happens, enabled, LeadsTo, Event, RealView, WitnessView, NodeView, World, node_steps}
+use Rattle.seam_node_steps.specs.Prelude.{node_has_work, with_nodes, reap_ordered_at, reaps_loaded}
+use Rattle.seam_law_flow.specs.Prelude.{slot_at, letters_of}
+use Rattle.seam_law_calls.specs.Prelude.{Frame, IsInFrame, mine, has_of, has_none, entity_flow, real_in, real_of, sent_by, tick_in}
+use Rattle.seam_law_calls.specs.Prelude.{EachReal, HasToldAtMost, HasNoLooks}
+use Rattle.seam_law_rounds.specs.Prelude.{IsBetweenRounds, each, AreReapable}
+use Rattle.seam_law_ghosts.specs.Prelude.{WasThere}
+use Rattle.seam_law_clients.specs.Prelude.{FitsWitness, ClientsFit}
 use Rattle.seam_machine.proofs.Occurring.{occurs}
 use Rattle.seam_machine.proofs.Quiet.{quiet_links, quiet_tasks}
 use Rattle.seam_net_runs.proofs.Runs.{leads_keeps}
-use Rattle.seam_law_flow.specs.Flows.{slot_at, letters_of}
-use Rattle.seam_entity.specs.Reals.{RealView, WitnessView}
-use Rattle.seam_node_steps.specs.Nodes.{NodeView, World, node_steps, node_has_work}
-use Rattle.seam_node_steps.specs.Loads.{with_nodes, reap_ordered_at, reaps_loaded}
-use Rattle.seam_law_calls.specs.Frames.{Frame, IsInFrame}
-use Rattle.seam_law_calls.specs.Sights.{mine, has_of, has_none, entity_flow}
-use Rattle.seam_law_calls.specs.Ones.{real_in, real_of}
-use Rattle.seam_law_rounds.specs.Between.{IsBetweenRounds}
-use Rattle.seam_law_rounds.specs.Loaded.{each}
-use Rattle.seam_law_rounds.specs.LastPhases.{AreReapable}
 use Rattle.seam_law_rounds.proofs.Starting.{idle_orders}
 use Rattle.seam_law_rounds.proofs.Giving.{reaps_framed, reaps_given, reaps_cell, reals_stay}
 use Rattle.seam_law_rounds.proofs.Reaping as reaping
-use Rattle.seam_law_calls.specs.WitnessMoves.{sent_by}
-use Rattle.seam_law_calls.specs.Clients.{tick_in, EachReal, HasToldAtMost, HasNoLooks}
 use Rattle.seam_law_calls.proofs.NoLooks.{NoTicks, WithoutLooks, looks_lead}
 use Rattle.seam_law_calls.proofs.WitnessKept.{each_happens}
 use Rattle.seam_law_rounds.proofs.Calms.{reaps_without_ticks}
 use Rattle.seam_law_rounds.proofs.Ticking.{idle_looks}
-use Rattle.seam_law_ghosts.specs.RealPlaces.{WasThere}
 use Rattle.seam_law_ghosts.proofs.Ends.{reaps_leave}
 use Rattle.seam_rule_clients.specs.Clients.{ClientReplica}
-use Rattle.seam_law_clients.specs.Witnesses.{FitsWitness, ClientsFit}
 use Rattle.seam_law_clients.proofs.OneLook.{same_real}
 use Rattle.seam_law_clients.proofs.Ending.{some_route, routes_stay}
 

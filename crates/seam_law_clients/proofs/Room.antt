@@ -4,24 +4,13 @@ use Rattle.std.specs.Prelude.{slice_get}
 use Rattle.std.specs.FinMap as table
 use Rattle.std.proofs.lemmas.Bool.{cases_lt}
 use Rattle.std.proofs.lemmas.Bool.Decides.{nat_tests}
-use Rattle.seam_law_flow.specs.Flows.{slot_at}
-use Rattle.seam_ghosts.specs.Book.{copy_in}
-use Rattle.seam_call.specs.declared.shown.GhostCopy.{GhostCopy}
-use Rattle.seam_entity.specs.Numbers.{limit, is_small}
-use Rattle.seam_entity.specs.Reals.{RealView}
-use Rattle.seam_node_steps.specs.CellLooks.{shown_of}
-use Rattle.seam_node_steps.specs.Cells.{CellView, known_to}
-use Rattle.seam_node_steps.specs.Nodes.{World}
-use Rattle.seam_node_steps.specs.Nodes.NodeView.{Cell}
-use Rattle.seam_law_calls.specs.Frames.{Frame}
-use Rattle.seam_law_calls.specs.Sights.{has_of, has_none}
-use Rattle.seam_law_calls.specs.Ones.{real_in}
-use Rattle.seam_law_calls.specs.WitnessMoves.{sent_of}
-use Rattle.seam_law_calls.specs.Telling.{most_entities}
+use Rattle.seam_node_steps.specs.Prelude.{copy_in, GhostCopy, limit, is_small, RealView, shown_of, CellView, known_to, World, Cell}
+use Rattle.seam_law_flow.specs.Prelude.{slot_at}
+use Rattle.seam_law_calls.specs.Prelude.{Frame, has_of, has_none, real_in, sent_of, most_entities}
+use Rattle.seam_law_rounds.specs.Prelude.{HasPartsBetweenRounds, HasSmallNumbers}
+use Rattle.seam_law_clients.specs.Prelude.{HaveRoomToLook}
 use Rattle.seam_law_calls.proofs.Below.{known_to_few}
 use Rattle.seam_law_calls.proofs.Telling.{told_few}
-use Rattle.seam_law_rounds.specs.Parts.{HasPartsBetweenRounds, HasSmallNumbers}
-use Rattle.seam_law_clients.specs.Phases.{HaveRoomToLook}
 
 pub small_of : (n : ℕ) → n < limit → is_small n ≡ true
 small_of n lt = grind (arith, nat_tests, lt)

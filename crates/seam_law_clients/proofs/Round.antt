@@ -2,35 +2,23 @@
 use Rattle.std.proofs.Common.{◌≡◌, ℕ, ◌++◌, Option, None, Some, refl, sym, ap, ◌∙◌, subst}
 use Rattle.std.specs.Prelude.{slice_get}
 use Rattle.std.proofs.lemmas.List.Sums.{fold-append}
-use Rattle.seam_machine.specs.Nets.{IsQuiet}
-use Rattle.seam_law_flow.specs.Flows.{letters_of}
-use Rattle.seam_call.specs.declared.order.Batch.{Batch}
-use Rattle.seam_entity.specs.Reals.{RealView, WitnessView}
-use Rattle.seam_node_steps.specs.Nodes.{World, node_has_work}
-use Rattle.seam_law_calls.specs.Frames.{Frame}
-use Rattle.seam_law_calls.specs.Sights.{entity_flow}
-use Rattle.seam_law_calls.specs.Ones.{real_in}
-use Rattle.seam_law_rounds.specs.Between.{IsBetweenRounds, framed}
+use Rattle.seam_node_steps.specs.Prelude.{IsQuiet, Batch, RealView, WitnessView, World, node_has_work}
+use Rattle.seam_law_flow.specs.Prelude.{letters_of}
+use Rattle.seam_law_calls.specs.Prelude.{Frame, entity_flow, real_in, home_of, proxy_of, shown_in, lines_in, shown_at}
+use Rattle.seam_law_rounds.specs.Prelude.{IsBetweenRounds, framed, MayBeLoaded, HasPartsBetweenRounds, HasSmallNumbers}
+use Rattle.seam_law_ghosts.specs.Prelude.{AreCopiesBetweenRounds, GoesThroughRound, WasThere, ArePlaced}
+use Rattle.seam_law_clients.specs.Prelude.{rows_of, FitsWitness, ClientsFit, looked_by, having_looked, HaveRoomToLook, clients_shown}
 use Rattle.seam_law_rounds.proofs.CallsEnd.{calls_end_between}
 use Rattle.seam_law_rounds.proofs.Reaping.{reaps_end_between}
-use Rattle.seam_law_calls.specs.BaseTurns.{home_of}
-use Rattle.seam_law_calls.specs.Clients.{proxy_of, shown_in, lines_in, shown_at}
-use Rattle.seam_law_rounds.specs.Parts.{MayBeLoaded, HasPartsBetweenRounds, HasSmallNumbers}
 use Rattle.seam_law_rounds.proofs.BaseCallsEnd.{calls_end_with_parts, calls_end_small}
 use Rattle.seam_law_rounds.proofs.Calms.{reaps_end_with_parts, reaps_end_small}
-use Rattle.seam_law_ghosts.specs.Copies.{AreCopiesBetweenRounds}
 use Rattle.seam_law_ghosts.proofs.Rounding.{calls_end_copied}
 use Rattle.seam_law_ghosts.proofs.Ending.{reaps_end_copied}
-use Rattle.seam_law_ghosts.specs.RealPlaces.{GoesThroughRound, WasThere, ArePlaced}
 use Rattle.seam_law_ghosts.proofs.Ends.{calls_place, reaps_leave, looks_leave, stays_placed}
 use Rattle.seam_rule_clients.specs.Clients.{ClientReplica, after_shown, after_all_shown}
 use Rattle.seam_rule_clients.specs.Looks.{one_look}
-use Rattle.seam_law_clients.specs.Tables.{rows_of}
-use Rattle.seam_law_clients.specs.Witnesses.{FitsWitness, ClientsFit}
-use Rattle.seam_law_clients.specs.Phases.{looked_by, having_looked, HaveRoomToLook}
 use Rattle.seam_law_clients.proofs.LookEnds.{looked}
 use Rattle.seam_law_clients.proofs.ShownOnce.{cell_at}
-use Rattle.seam_law_clients.specs.Clients.{clients_shown}
 use Rattle.seam_law_clients.proofs.Reaping.{clients_fit_reaped}
 use Rattle.seam_law_clients.proofs.Reaped.{part_same}
 use Rattle.seam_law_clients.proofs.Room.{have_room}

@@ -5,47 +5,27 @@ use Rattle.std.specs.Prelude.{slice_get}
 use Rattle.std.specs.List.{AllByRecursion}
 use Rattle.std.specs.FinMap as table
 use Rattle.std.proofs.lemmas.Bool.{cases_lt}
-use Rattle.seam_machine.specs.Nets.{happens, enabled, LeadsTo}
-use Rattle.seam_machine.specs.declared.machines.Event.{Event}
+use Rattle.seam_node_steps.specs.Prelude.{happens, enabled, LeadsTo, Event, State, Property, ghost_of, other_of, projected, type_of}
+use Rattle.seam_node_steps.specs.Prelude.{copy_in, Batch, GhostCopy, RealView, cell_count, other_of_real, other_of_copy, CellView, known_to}
+use Rattle.seam_node_steps.specs.Prelude.{is_another, holders, loaded, NodeView, World, node_steps, node_has_work, Cell, Base}
+use Rattle.seam_law_flow.specs.Prelude.{slot_at, letters_of}
+use Rattle.seam_law_calls.specs.Prelude.{Frame, here_at, IsInFrame, has_of, has_none, entity_flow, real_in, real_of, IsAbsent, BringsNone}
+use Rattle.seam_law_rounds.specs.Prelude.{IsBetweenRounds, IsFitting, framed}
+use Rattle.seam_law_ghosts.specs.Prelude.{book_entry, IsTrueCopy, IsTrue, present, copy_at, AreCopiesBetweenRounds}
+use Rattle.seam_law_clients.specs.Prelude.{ComesBetween, IsTrueBetween, WasOther, true_between}
 use Rattle.seam_machine.proofs.Occurring.{occurs}
 use Rattle.seam_net_runs.proofs.Runs.{leads_keeps}
-use Rattle.seam_law_flow.specs.Flows.{slot_at, letters_of}
 use Rattle.seam_law_flow.proofs.TokenLemmas.{sole_here}
-use Rattle.seam_defs.specs.declared.states.State.{State}
-use Rattle.seam_defs.specs.declared.types.Property.{Property}
 use Rattle.seam_defs.specs.declared.flags.Group.TheVariants as group
-use Rattle.seam_defs.specs.Deeds.{ghost_of, other_of, projected}
-use Rattle.seam_defs.specs.Types.{type_of}
-use Rattle.seam_ghosts.specs.Book.{copy_in}
-use Rattle.seam_call.specs.declared.order.Batch.{Batch}
-use Rattle.seam_call.specs.declared.shown.GhostCopy.{GhostCopy}
-use Rattle.seam_entity.specs.Reals.{RealView}
-use Rattle.seam_entity.specs.Here.{cell_count}
-use Rattle.seam_node_steps.specs.CellLooks.{other_of_real, other_of_copy}
-use Rattle.seam_node_steps.specs.Cells.{CellView, known_to, is_another}
-use Rattle.seam_node_steps.specs.Holders.{holders}
-use Rattle.seam_node_steps.specs.Loads.{loaded}
-use Rattle.seam_node_steps.specs.Nodes.{NodeView, World, node_steps, node_has_work}
-use Rattle.seam_node_steps.specs.Nodes.NodeView.{Cell, Base}
-use Rattle.seam_law_calls.specs.Frames.{Frame, here_at, IsInFrame}
-use Rattle.seam_law_calls.specs.Sights.{has_of, has_none, entity_flow}
 use Rattle.seam_law_calls.proofs.Classify.{frame_happens}
-use Rattle.seam_law_calls.specs.Ones.{real_in, real_of}
 use Rattle.seam_law_calls.proofs.Counting.{none_counts}
-use Rattle.seam_law_rounds.specs.Between.{IsBetweenRounds, IsFitting, framed}
 use Rattle.seam_law_rounds.proofs.Loaded.{no_mail}
 use Rattle.seam_law_rounds.proofs.Going.{settled_loaded}
 use Rattle.seam_law_rounds.proofs.Shape.{Somewhere, Nowhere, search_real, frame_leads}
-use Rattle.seam_law_ghosts.specs.Entries.{book_entry}
-use Rattle.seam_law_ghosts.specs.Truths.{IsTrueCopy, IsTrue}
 use Rattle.seam_law_ghosts.proofs.Present.{true_more, present_first}
-use Rattle.seam_law_calls.specs.Telling.{IsAbsent, BringsNone}
 use Rattle.seam_law_calls.proofs.Absent.{absent_happens}
-use Rattle.seam_law_ghosts.specs.Copies.{present, copy_at, AreCopiesBetweenRounds}
 use Rattle.seam_law_clients.proofs.Near.{known_found}
 use Rattle.seam_node_steps.proofs.Knowing.{known_by, known_at, known_to_is}
-use Rattle.seam_law_clients.specs.Telling.{ComesBetween, IsTrueBetween}
-use Rattle.seam_law_clients.specs.RoundTruths.{WasOther, true_between}
 
 -- ---- an entity that is nowhere
 

@@ -7,22 +7,16 @@ use Rattle.std.specs.Ordering.{nat_cmp, eq_by_cmp}
 use Rattle.std.specs.FinMap as table
 use Rattle.std.specs.FinMap.Entries.{is_sorted}
 use Rattle.std.proofs.lemmas.Bool.Decides.{nat_tests}
-use Rattle.seam_law_flow.specs.Flows.{slot_at}
+use Rattle.seam_node_steps.specs.Prelude.{Shown, Set, Enter, RealView, CellView, is_another, is_of_another, Known, seen_as, known_of}
+use Rattle.seam_node_steps.specs.Prelude.{shown_of_known, NodeView, World, Cell, Base}
+use Rattle.seam_law_flow.specs.Prelude.{slot_at}
+use Rattle.seam_law_calls.specs.Prelude.{has_of, has_none, real_in}
+use Rattle.seam_law_clients.specs.Prelude.{row_of_real, rows_at, row_in, rows_of}
 use Rattle.seam_view.specs.declared.Look.{Look}
 use Rattle.seam_view.specs.declared.Look.TheVariants as look
-use Rattle.seam_call.specs.declared.shown.Shown.{Shown}
-use Rattle.seam_call.specs.declared.shown.Shown.TheVariants.{Set, Enter}
-use Rattle.seam_entity.specs.Reals.{RealView}
-use Rattle.seam_node_steps.specs.Cells.{CellView, is_another, is_of_another}
 use Rattle.seam_node_steps.specs.CellLooks as known
-use Rattle.seam_node_steps.specs.CellLooks.{Known, seen_as, known_of, shown_of_known}
-use Rattle.seam_node_steps.specs.Nodes.{NodeView, World}
-use Rattle.seam_node_steps.specs.Nodes.NodeView.{Cell, Base}
-use Rattle.seam_law_calls.specs.Sights.{has_of, has_none}
-use Rattle.seam_law_calls.specs.Ones.{real_in}
 use Rattle.seam_rule_clients.specs.Looks as replica
 use Rattle.seam_rule_clients.specs.Looks.{Row, row_of, rows_but, seen}
-use Rattle.seam_law_clients.specs.Tables.{row_of_real, rows_at, row_in, rows_of}
 use Rattle.seam_node_steps.proofs.Sorted.{passing, find_filter, sorted_filter, each_found, or_else, find_mapped, sorted_mapped}
 use Rattle.seam_node_steps.proofs.Sorted.{find_append, find_entries}
 use Rattle.seam_law_clients.proofs.Near.{lines_agree}

@@ -6,47 +6,33 @@ use Rattle.std.specs.Ordering.{nat_cmp, eq_by_cmp}
 use Rattle.std.specs.FinMap as table
 use Rattle.std.proofs.lemmas.Bool.Decides.{nat_tests}
 use Rattle.std.proofs.lemmas.List.{length-append, append-nil, append_assoc}
-use Rattle.seam_machine.specs.Nets.{IsQuiet, LeadsTo}
-use Rattle.seam_machine.specs.declared.machines.Event.{Event}
+use Rattle.seam_node_steps.specs.Prelude.{IsQuiet, LeadsTo, Event, Shown, cell_count, RealView, WitnessView, has_any, ProxyView, shown_of}
+use Rattle.seam_node_steps.specs.Prelude.{CellView, known_to, cell_has_work, ready_entity, ordered_at, look_loaded, NodeView, World}
+use Rattle.seam_node_steps.specs.Prelude.{node_steps, node_has_work, Cell, Base}
+use Rattle.seam_law_flow.specs.Prelude.{slot_at, letters_of}
+use Rattle.seam_law_calls.specs.Prelude.{Frame, Has, one_more_if, times, has_of, has_none, entity_flow, real_in, real_of, home_of, sent_of}
+use Rattle.seam_law_calls.specs.Prelude.{sent_by, proxy_of, order_in, shown_in, lines_in, shown_at, HasClient, HasToldAtMost}
+use Rattle.seam_law_rounds.specs.Prelude.{IsBetweenRounds, HasSettledPart, HasPartsBetweenRounds, HasSmallNumbers, AreInStep, AreFor}
+use Rattle.seam_law_rounds.specs.Prelude.{IsServed, bare, served}
+use Rattle.seam_law_clients.specs.Prelude.{witness_looked, looked_by, having_looked, HaveRoomToLook, ComesBetween}
 use Rattle.seam_machine.proofs.Quiet.{quiet_tasks}
 use Rattle.seam_net_runs.proofs.Runs.{leads_nowhere}
-use Rattle.seam_law_flow.specs.Flows.{slot_at, letters_of}
 use Rattle.seam_law_flow.proofs.TokenLemmas.{sole_here}
-use Rattle.seam_call.specs.declared.shown.Shown.{Shown}
-use Rattle.seam_entity.specs.Here.{cell_count}
-use Rattle.seam_entity.specs.Reals.{RealView, WitnessView}
-use Rattle.seam_node_steps.specs.Maps.{has_any}
-use Rattle.seam_node_steps.specs.Bases.{ProxyView}
-use Rattle.seam_node_steps.specs.CellLooks.{shown_of}
-use Rattle.seam_node_steps.specs.Cells.{CellView, known_to, cell_has_work, ready_entity}
-use Rattle.seam_node_steps.specs.Loads.{ordered_at, look_loaded}
-use Rattle.seam_node_steps.specs.Nodes.{NodeView, World, node_steps, node_has_work}
-use Rattle.seam_node_steps.specs.Nodes.NodeView.{Cell, Base}
-use Rattle.seam_law_calls.specs.Frames.{Frame}
-use Rattle.seam_law_calls.specs.Sights.{Has, one_more_if, times, has_of, has_none, entity_flow}
-use Rattle.seam_law_calls.specs.Ones.{real_in, real_of}
 use Rattle.seam_law_calls.proofs.Quieting.{neither, none_left}
-use Rattle.seam_law_rounds.specs.Between.{IsBetweenRounds}
 use Rattle.seam_law_rounds.proofs.Giving.{look_framed, look_given}
 use Rattle.seam_law_rounds.proofs.Looking as looking
 use Rattle.seam_law_rounds.proofs.Looking.{tick}
-use Rattle.seam_law_calls.specs.BaseTurns.{home_of}
-use Rattle.seam_law_calls.specs.WitnessMoves.{sent_of, sent_by}
-use Rattle.seam_law_calls.specs.Clients.{proxy_of, order_in, shown_in, lines_in, shown_at, HasClient, HasToldAtMost}
 use Rattle.seam_law_calls.proofs.ClientLeads.{client_leads}
 use Rattle.seam_law_calls.proofs.ClientRuns.{one_of}
-use Rattle.seam_law_rounds.specs.Parts.{HasSettledPart, HasPartsBetweenRounds, HasSmallNumbers, AreInStep, AreFor, IsServed, bare, served}
 use Rattle.seam_law_rounds.proofs.PartLoads.{parts_ordered}
 use Rattle.seam_law_rounds.proofs.Ticking.{most_told}
 use Rattle.seam_law_rounds.proofs.Serving.{HasItStill, HasNumbers, each_real}
 use Rattle.seam_law_rounds.proofs.Idling.{still_then}
 use Rattle.seam_law_rounds.proofs.Calms.{look_serves, look_numbers}
-use Rattle.seam_law_clients.specs.Phases.{witness_looked, looked_by, having_looked, HaveRoomToLook}
 use Rattle.seam_law_clients.proofs.OneLook.{same_real}
 use Rattle.seam_law_clients.proofs.LookCells.{is_in, IsMidway, known_to_same}
 use Rattle.seam_law_clients.proofs.LookRuns.{unready, CellAt, ordered, told, midway, IsLooking}
 use Rattle.seam_law_clients.proofs.LookEnds as ends
-use Rattle.seam_law_clients.specs.Telling.{ComesBetween}
 use Rattle.seam_law_clients.proofs.Starts.{none_of, all_told}
 use Rattle.seam_law_clients.proofs.Tells.{Tells, AsksOfLook, tells_lead}
 

@@ -4,32 +4,16 @@ use Rattle.std.specs.Prelude.{option_map}
 use Rattle.std.specs.List.{AllByRecursion}
 use Rattle.std.specs.FinSet as set
 use Rattle.std.proofs.lemmas.Bool.{eq-eqb}
-use Rattle.seam_machine.specs.Sends.{items_to}
-use Rattle.seam_law_flow.specs.Flows.{letters_of}
-use Rattle.seam_law_flow.specs.Sent.{IsSilent}
+use Rattle.seam_node_steps.specs.Prelude.{items_to, OrderView, Shown, RealView, WitnessView, Msg, Hand, base_numbers, SlotStep, slot_after}
+use Rattle.seam_node_steps.specs.Prelude.{haunts_at, ghost_messages, current_to, numbered}
+use Rattle.seam_law_flow.specs.Prelude.{letters_of, IsSilent, more_issued, number_from}
+use Rattle.seam_law_calls.specs.Prelude.{Frame, here_at, Has, AtCell, Does, Acts, surveys, calls, readies, CellMoves, Moves, at_a_cell}
+use Rattle.seam_law_calls.specs.Prelude.{at_a_base, real_in, real_of, update_in, with_number, tells}
 use Rattle.seam_law_flow.proofs.Following.{all_append}
-use Rattle.seam_order.specs.Held.{OrderView}
-use Rattle.seam_law_flow.specs.Deliveries.{Passes, more_issued}
+use Rattle.seam_law_flow.specs.Deliveries.{Passes}
 use Rattle.seam_law_flow.specs.Deliveries as pass
-use Rattle.seam_law_flow.specs.Numbered.{number_from}
-use Rattle.seam_call.specs.declared.shown.Shown.{Shown}
-use Rattle.seam_entity.specs.Reals.{RealView, WitnessView}
-use Rattle.seam_entity.specs.declared.message.Msg.{Msg}
-use Rattle.seam_entity.specs.declared.message.Msg.TheVariants.{Hand}
-use Rattle.seam_entity.specs.Here.{base_numbers}
-use Rattle.seam_node_steps.specs.Slots.{SlotStep, slot_after}
-use Rattle.seam_node_steps.specs.Settle.{haunts_at, ghost_messages}
-use Rattle.seam_node_steps.specs.CellCases.{current_to}
-use Rattle.seam_node_steps.specs.CellLooks.{numbered}
-use Rattle.seam_law_calls.specs.Frames.{Frame, here_at}
-use Rattle.seam_law_calls.specs.Sights.{Has, AtCell}
 use Rattle.seam_law_calls.specs.CellMoves as move
-use Rattle.seam_law_calls.specs.CellMoves.{Does, Acts, surveys, calls, readies, CellMoves}
-use Rattle.seam_law_calls.specs.Moves.{Moves, at_a_cell, at_a_base}
-use Rattle.seam_law_calls.specs.Ones.{real_in, real_of}
 use Rattle.seam_law_calls.proofs.Plain.{SeesNoGhost, ghosts_silent, drops_silent, mapped_silent}
-use Rattle.seam_law_calls.specs.PartMoves.{update_in}
-use Rattle.seam_law_calls.specs.Clients.{with_number, tells}
 use Rattle.seam_law_calls.proofs.BaseSilent.{sees_no_update, sees_no_real, base_silent}
 use Rattle.seam_law_calls.proofs.WitnessKept.{OfReal, none_carried}
 use Rattle.seam_law_calls.proofs.Looking.{NotTaken, as_often, gone, ticked}

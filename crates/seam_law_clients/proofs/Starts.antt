@@ -1,24 +1,16 @@
 -- Where a client's witness begins to tell, and where it was shown all.
 use Rattle.std.proofs.Common.{◌≡◌, ℕ, ◌+◌, List, [], ◌∷◌, length, Some, refl, sym, ap, ◌∙◌, subst, arith}
-use Rattle.seam_machine.specs.Nets.{IsQuiet}
+use Rattle.seam_node_steps.specs.Prelude.{IsQuiet, Shown, RealView, WitnessView, World, node_has_work}
+use Rattle.seam_law_flow.specs.Prelude.{Delivery}
+use Rattle.seam_law_calls.specs.Prelude.{Frame, entity_flow, real_in, real_of, sent_of, sent_by, home_of, updates_at, shown_at, tells}
+use Rattle.seam_law_calls.specs.Prelude.{HasClient}
+use Rattle.seam_law_clients.specs.Prelude.{FitsWithin, TellsRightly}
 use Rattle.seam_law_flow.proofs.TokenLemmas.{sole_here}
-use Rattle.seam_law_flow.specs.Deliveries.{Delivery}
-use Rattle.seam_call.specs.declared.shown.Shown.{Shown}
-use Rattle.seam_entity.specs.Reals.{RealView, WitnessView}
-use Rattle.seam_node_steps.specs.Nodes.{World, node_has_work}
-use Rattle.seam_law_calls.specs.Frames.{Frame}
-use Rattle.seam_law_calls.specs.Sights.{entity_flow}
-use Rattle.seam_law_calls.specs.Ones.{real_in, real_of}
-use Rattle.seam_law_calls.specs.WitnessMoves.{sent_of, sent_by}
-use Rattle.seam_law_calls.specs.BaseTurns.{home_of}
-use Rattle.seam_law_calls.specs.Clients.{updates_at, shown_at, tells, HasClient}
 use Rattle.seam_law_calls.proofs.WitnessKept.{each_weaker}
 use Rattle.seam_law_calls.proofs.ClientRuns.{one_of}
 use Rattle.seam_law_calls.proofs.BaseQuiet.{all_shown}
 use Rattle.seam_rule_clients.specs.Clients.{ClientReplica, after_all_shown}
 use Rattle.seam_rule_clients.specs.Lines.{Truth, ShowsRightly}
-use Rattle.seam_law_clients.specs.Fits.{FitsWithin}
-use Rattle.seam_law_clients.specs.Telling.{TellsRightly}
 use Rattle.seam_law_clients.proofs.Reals.{each_of}
 use Rattle.seam_law_clients.proofs.Tells.{Tells}
 use Rattle.seam_law_clients.proofs.InTurn.{rightly_first}

@@ -3,42 +3,24 @@ use Rattle.std.proofs.Common.{◌≡◌, ℕ, ◌+◌, true, List, [], ◌∷◌
 use Rattle.std.specs.Prelude.{slice_get}
 use Rattle.std.specs.List.{AllByRecursion}
 use Rattle.std.proofs.lemmas.List.{length-append, append-nil}
-use Rattle.seam_machine.specs.Nets.{happens, enabled, LeadsTo}
-use Rattle.seam_machine.specs.Events.{Occurs}
-use Rattle.seam_machine.specs.Sends.{items_to}
-use Rattle.seam_machine.specs.declared.machines.Event.{Event}
+use Rattle.seam_node_steps.specs.Prelude.{happens, enabled, LeadsTo, Occurs, items_to, Event, Shown, RealView, WitnessView, Msg, Hand}
+use Rattle.seam_node_steps.specs.Prelude.{Update, base_of, Known, numbered, shown_of, looks_of, after_looking, CellView, known_to, NodeView}
+use Rattle.seam_node_steps.specs.Prelude.{World, node_steps, node_has_work, Cell, Base, IsNode}
+use Rattle.seam_law_flow.specs.Prelude.{Goes, comes, letter_in, letters_of, IsSilent, carried_in, Delivery, more_issued, number_from}
+use Rattle.seam_law_flow.specs.Prelude.{slot_at}
+use Rattle.seam_law_calls.specs.Prelude.{Frame, here_at, Has, mine, concerning, has_of, entity_flow, MovesTo, real_in, real_of, IsSpared}
+use Rattle.seam_law_calls.specs.Prelude.{OneFrom, update_in, sent_of, sent_by, home_of, updates_at, shown_at, tells, EachReal, HasClient}
+use Rattle.seam_law_calls.specs.Prelude.{HasToldAtMost, HasRoomFor, FindsClient, HasOne, Replays, has_none}
+use Rattle.seam_law_clients.specs.Prelude.{ComesBetween}
 use Rattle.seam_machine.proofs.Occurring.{occurs}
 use Rattle.seam_net_runs.proofs.Runs.{leads_nowhere, leads_by_one, leads_join}
-use Rattle.seam_law_flow.specs.Flows.{Goes, comes, letter_in, letters_of}
-use Rattle.seam_law_flow.specs.Sent.{IsSilent}
-use Rattle.seam_law_flow.specs.Tokens.{carried_in}
 use Rattle.seam_law_flow.proofs.Following.{slots_kept, letters_kept, came}
 use Rattle.seam_law_flow.proofs.SendLists.{sees_none}
 use Rattle.seam_law_flow.proofs.TokenLemmas.{first_is, sole_here}
-use Rattle.seam_law_flow.specs.Deliveries.{Delivery, more_issued}
-use Rattle.seam_law_flow.specs.Numbered.{number_from}
 use Rattle.seam_law_flow.proofs.Delivering.{delivery_goes}
-use Rattle.seam_call.specs.declared.shown.Shown.{Shown}
 use Rattle.seam_call.specs.declared.shown.Update.{Update as UpdateData}
-use Rattle.seam_entity.specs.Reals.{RealView, WitnessView}
-use Rattle.seam_entity.specs.declared.message.Msg.{Msg}
-use Rattle.seam_entity.specs.declared.message.Msg.TheVariants.{Hand, Update}
-use Rattle.seam_entity.specs.Here.{base_of}
-use Rattle.seam_node_steps.specs.CellLooks.{Known, numbered, shown_of, looks_of, after_looking}
-use Rattle.seam_node_steps.specs.Cells.{CellView, known_to}
-use Rattle.seam_node_steps.specs.Nodes.{NodeView, World, node_steps, node_has_work}
-use Rattle.seam_node_steps.specs.Nodes.NodeView.{Cell, Base}
-use Rattle.seam_node_steps.specs.Valid.{IsNode}
-use Rattle.seam_law_calls.specs.Frames.{Frame, here_at}
-use Rattle.seam_law_calls.specs.Sights.{Has, mine, concerning, has_of, entity_flow}
-use Rattle.seam_law_calls.specs.Moves.{MovesTo}
-use Rattle.seam_law_calls.specs.Ones.{real_in, real_of, IsSpared, OneFrom}
 use Rattle.seam_law_calls.proofs.Sparing.{items_all}
 use Rattle.seam_law_calls.proofs.OneReal.{one_happens, calm_of, spared_happens}
-use Rattle.seam_law_calls.specs.PartMoves.{update_in}
-use Rattle.seam_law_calls.specs.WitnessMoves.{sent_of, sent_by}
-use Rattle.seam_law_calls.specs.BaseTurns.{home_of}
-use Rattle.seam_law_calls.specs.Clients.{updates_at, shown_at, tells, EachReal, HasClient, HasToldAtMost, HasRoomFor, FindsClient}
 use Rattle.seam_law_calls.proofs.PartEasing.{base_burden_happens}
 use Rattle.seam_law_calls.proofs.WitnessKept.{OfReal}
 use Rattle.seam_law_calls.proofs.BaseRuns.{unordered}
@@ -47,12 +29,7 @@ use Rattle.seam_law_calls.proofs.ClientRuns.{one_of, finds_client, never_missed,
 use Rattle.seam_law_calls.proofs.Looking.{NotTaken, as_often, LooksAt, Look, still, elsewhere, looks, cell_looks}
 use Rattle.seam_law_calls.proofs.Telling.{event_fact}
 use Rattle.seam_law_clients.proofs.Silent.{moves_hold, untold, numbered_here, same_items, issued_is}
-use Rattle.seam_law_calls.specs.Ones.{HasOne}
-use Rattle.seam_law_calls.specs.Replays.{Replays}
-use Rattle.seam_law_clients.specs.Telling.{ComesBetween}
 use Rattle.seam_law_clients.proofs.Reals.{each_of}
-use Rattle.seam_law_flow.specs.Flows.{slot_at}
-use Rattle.seam_law_calls.specs.Sights.{has_none}
 
 -- what the witness of an entity told, in updates that are numbered from `first` on, so that P is true of it, of the real and of the witness
 pub record Tells (f : Frame) (e ty first : ℕ) (P : List Shown → RealView → WitnessView → Type 0) (w : World) : Type 0 where

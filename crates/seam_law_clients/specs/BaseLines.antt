@@ -2,17 +2,10 @@
 use Rattle.std.specs.Prelude.{◌≡◌, ℕ, ◌+◌, Bool, if◌then◌else◌, List, [], ◌∷◌, ◌++◌, map, length, fold, Option, None, Some}
 use Rattle.std.specs.List.{range_with_len}
 use Rattle.seam_defs.specs.declared.flags.Group.TheVariants as group
-use Rattle.seam_defs.specs.declared.states.State.{State}
-use Rattle.seam_defs.specs.Deeds.{properties_of, client_of, after}
-use Rattle.seam_defs.specs.Tests.{changes}
-use Rattle.seam_law_flow.specs.Flows.{letters_of}
-use Rattle.seam_call.specs.declared.call.Call.{Call as CallData}
-use Rattle.seam_call.specs.declared.shown.ClientText.{ClientText}
+use Rattle.seam_node_steps.specs.Prelude.{State, properties_of, client_of, after, changes, Call as CallData, ClientText, Line, Here}
+use Rattle.seam_node_steps.specs.Prelude.{type_at, properties, has_any, PartView, ProxyView, base_text}
+use Rattle.seam_law_flow.specs.Prelude.{letters_of}
 use Rattle.seam_call.specs.declared.shown.ClientText.TheVariants as text
-use Rattle.seam_call.specs.declared.shown.Line.{Line}
-use Rattle.seam_entity.specs.Here.{Here, type_at, properties}
-use Rattle.seam_node_steps.specs.Maps.{has_any}
-use Rattle.seam_node_steps.specs.Bases.{PartView, ProxyView, base_text}
 
 -- the base line that a line is, if it is one
 abbrev pub base_by : ClientText → Option ClientText

@@ -1,12 +1,8 @@
 -- What clients show along a round.
 use Rattle.std.specs.Prelude.{ℕ, ◌==◌, if◌then◌else◌}
 use Rattle.std.specs.List.{list_any}
-use Rattle.seam_call.specs.declared.order.Batch.{Batch}
-use Rattle.seam_node_steps.specs.Nodes.{World}
-use Rattle.seam_law_calls.specs.Frames.{Frame}
-use Rattle.seam_law_calls.specs.Sights.{entity_flow}
-use Rattle.seam_law_calls.specs.BaseTurns.{home_of}
-use Rattle.seam_law_calls.specs.Clients.{shown_at}
+use Rattle.seam_node_steps.specs.Prelude.{Batch, World}
+use Rattle.seam_law_calls.specs.Prelude.{Frame, entity_flow, home_of, shown_at}
 use Rattle.seam_rule_clients.specs.Clients.{ClientReplica, new_client, after_all_shown}
 
 -- as a batch is loaded: a client that it attaches shows nothing, and each other what it showed

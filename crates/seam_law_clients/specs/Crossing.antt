@@ -2,35 +2,17 @@
 use Rattle.std.specs.Prelude.{ℕ, pos, false, List, [], ◌∷◌, None, Some}
 use Rattle.std.specs.FinMap as table
 use Rattle.std.specs.FinSet as set
-use Rattle.seam_machine.specs.declared.machines.Event.{Event}
+use Rattle.seam_node_steps.specs.Prelude.{Event, Number, Move, Ghost, Call as CallData, GhostCopy, Line, Shown, Own, Enter, Order, Batch}
+use Rattle.seam_node_steps.specs.Prelude.{created, RealView, Msg, Hand, Current, GhostSet, Tick, Update, Map, NextPlace, RouteView}
+use Rattle.seam_node_steps.specs.Prelude.{PartView, NodeView, World, Cell, Base, new_part, with_proxy, at, no, here, cell, copy_at, ghost}
+use Rattle.seam_node_steps.specs.Prelude.{next_place, Way, world, task, mail, two_cells, order as in_order, made_at, witness, other_at}
+use Rattle.seam_node_steps.specs.Prelude.{base_line, line}
 use Rattle.seam_defs.specs.declared.flags.Part.TheVariants as part
-use Rattle.seam_value.specs.declared.values.Value.TheVariants.{Number}
-use Rattle.seam_defs.specs.declared.states.Deed.TheVariants.{Move}
-use Rattle.seam_ghosts.specs.declared.Ghost.{Ghost}
 use Rattle.seam_call.specs.declared.sender.Sender.TheVariants as sender
-use Rattle.seam_call.specs.declared.call.Call.{Call as CallData}
-use Rattle.seam_call.specs.declared.shown.GhostCopy.{GhostCopy}
-use Rattle.seam_call.specs.declared.shown.Line.{Line}
-use Rattle.seam_call.specs.declared.shown.Shown.{Shown}
-use Rattle.seam_call.specs.declared.shown.Shown.TheVariants.{Own, Enter}
-use Rattle.seam_call.specs.declared.order.Order.{Order}
 use Rattle.seam_call.specs.declared.order.Order.TheVariants as order
-use Rattle.seam_call.specs.declared.order.Batch.{Batch}
-use Rattle.seam_entity.specs.Executing.{created}
 use Rattle.seam_entity.specs.WitnessLooks.{with_witness}
-use Rattle.seam_entity.specs.Reals.{RealView}
-use Rattle.seam_entity.specs.declared.message.Msg.{Msg}
-use Rattle.seam_entity.specs.declared.message.Msg.TheVariants.{Call, Hand, Current, GhostSet, Tick, Update}
-use Rattle.seam_node_steps.specs.Maps.{Map}
-use Rattle.seam_node_steps.specs.Slots.{NextPlace}
-use Rattle.seam_node_steps.specs.Bases.{RouteView, PartView}
-use Rattle.seam_node_steps.specs.Nodes.{NodeView, World}
-use Rattle.seam_node_steps.specs.Nodes.NodeView.{Cell, Base}
-use Rattle.seam_node_steps.specs.Loads.{new_part, with_proxy}
-use Rattle.seam_node_steps.specs.Rows.{at, no, here, cell, copy_at, ghost, next_place, Way, world, task, mail}
-use Rattle.seam_node_steps.specs.EarlyCall.{two_cells}
-use Rattle.seam_node_steps.specs.Rows.{order as in_order}
-use Rattle.seam_node_steps.specs.ViewRounds.{made_at, moves, witness, other_at, base_line, line}
+use Rattle.seam_entity.specs.declared.message.Msg.TheVariants.{Call}
+use Rattle.seam_node_steps.specs.ViewRounds.{moves}
 
 -- maps of some of the entities 1, 2 and 3
 abbrev pub only : {X : Type 0} → ℕ → X → Map X

@@ -1,12 +1,8 @@
 -- What a client shows within a round: it fits its witness, whose cell knows what is true.
 use Rattle.std.specs.Prelude.{◌≡◌, ℕ, ◌≤◌, Some, option_map}
 use Rattle.seam_view.specs.Replica.{IsView}
-use Rattle.seam_defs.specs.declared.states.State.{State}
-use Rattle.seam_call.specs.declared.shown.GhostCopy.{GhostCopy}
-use Rattle.seam_entity.specs.Reals.{RealView, WitnessView}
-use Rattle.seam_node_steps.specs.CellLooks.{known_of}
-use Rattle.seam_node_steps.specs.Cells.{CellView, known_to}
-use Rattle.seam_law_calls.specs.Frames.{Frame}
+use Rattle.seam_node_steps.specs.Prelude.{State, GhostCopy, RealView, WitnessView, known_of, CellView, known_to}
+use Rattle.seam_law_calls.specs.Prelude.{Frame}
 use Rattle.seam_rule_clients.specs.Clients.{ClientReplica}
 use Rattle.seam_rule_clients.specs.Lines.{Truth}
 use Rattle.seam_law_clients.specs.Witnesses.{version_in, own_now}

@@ -7,3 +7,4 @@ pub mod RoundTruths
 pub mod Clients
 pub mod BaseLines
 pub mod Crossing
+pub mod Prelude

@@ -1,13 +1,8 @@
 -- The phase of looks: what a real is after its witness looked.
 use Rattle.std.specs.Prelude.{◌≡◌, ℕ, ◌+◌, true, length, slice_get, Option, None, Some}
-use Rattle.seam_entity.specs.Numbers.{is_small}
-use Rattle.seam_entity.specs.Reals.{RealView, WitnessView}
-use Rattle.seam_node_steps.specs.CellLooks.{looks_of, shown_of, after_looking}
-use Rattle.seam_node_steps.specs.Cells.{CellView, known_to}
-use Rattle.seam_node_steps.specs.Nodes.{World}
-use Rattle.seam_node_steps.specs.Nodes.NodeView.{Cell}
-use Rattle.seam_law_calls.specs.Sights.{entity_flow}
-use Rattle.seam_law_calls.specs.Ones.{real_in}
+use Rattle.seam_node_steps.specs.Prelude.{is_small, RealView, WitnessView, looks_of, shown_of, after_looking, CellView, known_to, World}
+use Rattle.seam_node_steps.specs.Prelude.{Cell}
+use Rattle.seam_law_calls.specs.Prelude.{entity_flow, real_in}
 
 -- the witness of entity e's real r after one look at what the cell knows of others
 abbrev pub witness_looked : CellView → ℕ → RealView → WitnessView → WitnessView

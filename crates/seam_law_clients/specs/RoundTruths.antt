@@ -1,18 +1,9 @@
 -- What is true in a round: what each entity was since the load, and nothing before.
 use Rattle.std.specs.Prelude.{◌≡◌, ℕ, ◌≤◌, Some, slice_get}
-use Rattle.seam_law_flow.specs.Tokens.{TokenPlace}
-use Rattle.seam_defs.specs.declared.states.State.{State}
-use Rattle.seam_call.specs.declared.shown.GhostCopy.{GhostCopy}
-use Rattle.seam_entity.specs.Reals.{RealView}
-use Rattle.seam_node_steps.specs.CellLooks.{known_of, other_of_copy}
-use Rattle.seam_node_steps.specs.Cells.{CellView, known_to}
-use Rattle.seam_node_steps.specs.Nodes.{World}
-use Rattle.seam_node_steps.specs.Nodes.NodeView.{Cell}
-use Rattle.seam_law_calls.specs.Frames.{Frame, here_at}
-use Rattle.seam_law_calls.specs.Sights.{entity_flow}
-use Rattle.seam_law_calls.specs.Ones.{real_in, IsOne}
-use Rattle.seam_law_calls.specs.Replays.{Replays}
-use Rattle.seam_law_ghosts.specs.Truths.{IsTrueCopy}
+use Rattle.seam_node_steps.specs.Prelude.{State, GhostCopy, RealView, known_of, other_of_copy, CellView, known_to, World, Cell}
+use Rattle.seam_law_flow.specs.Prelude.{TokenPlace}
+use Rattle.seam_law_calls.specs.Prelude.{Frame, here_at, entity_flow, real_in, IsOne, Replays}
+use Rattle.seam_law_ghosts.specs.Prelude.{IsTrueCopy}
 use Rattle.seam_rule_clients.specs.Lines.{Truth}
 use Rattle.seam_law_clients.specs.Witnesses.{own_now}
 use Rattle.seam_law_clients.specs.Telling.{ComesBetween}

@@ -3,12 +3,7 @@ use Rattle.std.specs.Prelude.{ℕ, List, [], map}
 use Rattle.std.specs.List.{flat_map}
 use Rattle.std.specs.Ordering.{nat_cmp}
 use Rattle.std.specs.FinMap as table
-use Rattle.seam_defs.specs.Deeds.{own_of}
-use Rattle.seam_entity.specs.Reals.{RealView}
-use Rattle.seam_entity.specs.Here.{Here, properties}
-use Rattle.seam_node_steps.specs.CellLooks.{other_of_real}
-use Rattle.seam_node_steps.specs.Nodes.{NodeView, World}
-use Rattle.seam_node_steps.specs.Nodes.NodeView.{Cell, Base}
+use Rattle.seam_node_steps.specs.Prelude.{own_of, RealView, Here, properties, other_of_real, NodeView, World, Cell, Base}
 use Rattle.seam_rule_clients.specs.Looks.{Row}
 
 -- the row of a real: its version and what its own client is shown at it; its public version and what other clients are shown at that

@@ -1,18 +1,8 @@
 -- What a witness tells its client over a list of events, and what its cells know all the while.
 use Rattle.std.specs.Prelude.{◌≡◌, ℕ, ◌+◌, List, length, Some, slice_get}
-use Rattle.seam_machine.specs.Nets.{LeadsTo}
-use Rattle.seam_machine.specs.declared.machines.Event.{Event}
-use Rattle.seam_law_flow.specs.Deliveries.{Delivery}
-use Rattle.seam_call.specs.declared.shown.Shown.{Shown}
-use Rattle.seam_entity.specs.Reals.{RealView, WitnessView}
-use Rattle.seam_node_steps.specs.Cells.{CellView}
-use Rattle.seam_node_steps.specs.Nodes.{World, node_steps, node_has_work}
-use Rattle.seam_node_steps.specs.Nodes.NodeView.{Cell}
-use Rattle.seam_law_calls.specs.Frames.{Frame}
-use Rattle.seam_law_calls.specs.Sights.{entity_flow}
-use Rattle.seam_law_calls.specs.Ones.{real_in, HasOne}
-use Rattle.seam_law_calls.specs.BaseTurns.{home_of}
-use Rattle.seam_law_calls.specs.Clients.{updates_at, shown_at, tells}
+use Rattle.seam_node_steps.specs.Prelude.{LeadsTo, Event, Shown, RealView, WitnessView, CellView, World, node_steps, node_has_work, Cell}
+use Rattle.seam_law_flow.specs.Prelude.{Delivery}
+use Rattle.seam_law_calls.specs.Prelude.{Frame, entity_flow, real_in, HasOne, home_of, updates_at, shown_at, tells}
 use Rattle.seam_rule_clients.specs.Clients.{ClientReplica, after_all_shown}
 use Rattle.seam_rule_clients.specs.Lines.{Truth, ShowsRightly}
 use Rattle.seam_law_clients.specs.Witnesses.{own_now}

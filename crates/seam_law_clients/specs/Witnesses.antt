@@ -2,16 +2,8 @@
 use Rattle.std.specs.Prelude.{◌≡◌, ℕ, ◌≤◌, Some, option_map}
 use Rattle.std.specs.FinMap as table
 use Rattle.seam_view.specs.Replica.{IsView}
-use Rattle.seam_defs.specs.declared.states.State.{State}
-use Rattle.seam_defs.specs.Deeds.{own_of}
-use Rattle.seam_defs.specs.Types.{type_of}
-use Rattle.seam_entity.specs.Reals.{RealView, WitnessView}
-use Rattle.seam_node_steps.specs.Bases.{RouteView}
-use Rattle.seam_node_steps.specs.Nodes.{World}
-use Rattle.seam_law_calls.specs.Frames.{Frame}
-use Rattle.seam_law_calls.specs.Sights.{entity_flow}
-use Rattle.seam_law_calls.specs.Ones.{real_in}
-use Rattle.seam_law_calls.specs.Strays.{IsBaseNumber}
+use Rattle.seam_node_steps.specs.Prelude.{State, own_of, type_of, RealView, WitnessView, RouteView, World}
+use Rattle.seam_law_calls.specs.Prelude.{Frame, entity_flow, real_in, IsBaseNumber}
 use Rattle.seam_rule_clients.specs.Clients.{ClientReplica}
 
 -- the version of an own line

@@ -12,46 +12,22 @@
 
 ghost use Rattle.std.specs.Prelude.{◌≡◌, ℕ, ◌==◌, ◌≤◌, List, [], ◌∷◌, ◌++◌, Some, if◌then◌else◌};
 ghost use Rattle.std.specs.List.{AllByRecursion, list_any};
-ghost use Rattle.seam_machine.specs.Nets.{IsQuiet, LeadsTo};
-ghost use Rattle.seam_machine.specs.declared.machines.Event.{Event};
-ghost use Rattle.seam_law_flow.specs.Flows.{letters_of};
-ghost use Rattle.seam_defs.specs.declared.settings.Settings.{Settings};
-ghost use Rattle.seam_defs.specs.declared.types.TypeDef.{TypeDef};
-ghost use Rattle.seam_defs.specs.Settings.{GhostsReach, standard};
-ghost use Rattle.seam_call.specs.declared.order.Batch.{Batch};
-ghost use Rattle.seam_call.specs.declared.shown.Shown.TheVariants.{Enter};
+ghost use Rattle.seam_node_steps.specs.Prelude.{IsQuiet, LeadsTo, Event, Settings, TypeDef, GhostsReach, standard, Batch, Enter, RealView};
+ghost use Rattle.seam_node_steps.specs.Prelude.{Msg, Update, PartView, ProxyView, empty_world, lines_of_client, World, node_steps};
+ghost use Rattle.seam_node_steps.specs.Prelude.{node_has_work, opened, loaded, reaps_loaded, look_loaded};
+ghost use Rattle.seam_law_flow.specs.Prelude.{letters_of};
+ghost use Rattle.seam_law_calls.specs.Prelude.{Frame, here_at, IsInFrame, entity_flow, real_in, IsFrame, IsSpared, events_of, from_sender};
+ghost use Rattle.seam_law_calls.specs.Prelude.{home_of, FindsClient, HasNoPart, IsToldNothing};
+ghost use Rattle.seam_law_rounds.specs.Prelude.{IsBetweenRounds, framed, first_frame, AreReapable, base_calls_of, HasPartsBetweenRounds};
+ghost use Rattle.seam_law_rounds.specs.Prelude.{HasSmallNumbers, MayBeLoaded, opening};
+ghost use Rattle.seam_law_ghosts.specs.Prelude.{AreCopiesBetweenRounds, ArePlaced, GoesThroughRound};
+ghost use Rattle.seam_law_clients.specs.Prelude.{rows_of, ClientsFit, HaveRoomToLook, clients_loaded, clients_shown, base_lines};
+ghost use Rattle.seam_law_clients.specs.Prelude.{first_lines, ShowsItsPart};
 ghost use Rattle.seam_call.specs.declared.shown.Update.{Update as UpdateData};
-ghost use Rattle.seam_entity.specs.Reals.{RealView};
-ghost use Rattle.seam_entity.specs.declared.message.Msg.{Msg};
-ghost use Rattle.seam_entity.specs.declared.message.Msg.TheVariants.{Update};
-ghost use Rattle.seam_node_steps.specs.Bases.{PartView, ProxyView};
-ghost use Rattle.seam_node_steps.specs.Rows.{empty_world, lines_of_client};
 ghost use Rattle.seam_node_steps.specs.ViewRounds as view;
-ghost use Rattle.seam_node_steps.specs.Nodes.{World, node_steps, node_has_work};
-ghost use Rattle.seam_node_steps.specs.Loads.{opened, loaded, reaps_loaded, look_loaded};
-ghost use Rattle.seam_law_calls.specs.Frames.{Frame, here_at, IsInFrame};
-ghost use Rattle.seam_law_calls.specs.Sights.{entity_flow};
-ghost use Rattle.seam_law_calls.specs.Ones.{real_in, IsFrame, IsSpared};
-ghost use Rattle.seam_law_calls.specs.HandOverExample.{events_of};
-ghost use Rattle.seam_law_calls.specs.CellTurns.{from_sender};
-ghost use Rattle.seam_law_rounds.specs.Between.{IsBetweenRounds, framed};
-ghost use Rattle.seam_law_rounds.specs.LastPhases.{first_frame, AreReapable};
-ghost use Rattle.seam_law_calls.specs.BaseTurns.{home_of};
-ghost use Rattle.seam_law_calls.specs.Clients.{FindsClient};
-ghost use Rattle.seam_law_calls.specs.Reaps.{HasNoPart};
-ghost use Rattle.seam_law_calls.specs.Telling.{IsToldNothing};
-ghost use Rattle.seam_law_rounds.specs.Parts.{base_calls_of, HasPartsBetweenRounds, HasSmallNumbers, MayBeLoaded};
-ghost use Rattle.seam_law_rounds.specs.FirstBatchExample.{opening};
-ghost use Rattle.seam_law_ghosts.specs.Copies.{AreCopiesBetweenRounds};
-ghost use Rattle.seam_law_ghosts.specs.RealPlaces.{ArePlaced, GoesThroughRound};
 ghost use Rattle.seam_rule_clients.specs.Clients.{ClientReplica, new_client, after_all_shown};
 ghost use Rattle.seam_rule_clients.specs.Looks.{one_look};
-ghost use Rattle.seam_law_clients.specs.Tables.{rows_of};
-ghost use Rattle.seam_law_clients.specs.Witnesses.{ClientsFit};
-ghost use Rattle.seam_law_clients.specs.Phases.{HaveRoomToLook};
-ghost use Rattle.seam_law_clients.specs.Clients.{clients_loaded, clients_shown};
 ghost use Rattle.seam_law_clients.specs.Crossing as crossing;
-ghost use Rattle.seam_law_clients.specs.BaseLines.{base_lines, first_lines, ShowsItsPart};
 
 /// The record of clients holds of a world as it is opened, whatever clients show: there is none. It holds again of a loaded world, in which
 /// the batch's clients show nothing yet (`load`); where its calls leave the world quiet, of the clients that were shown what their proxies

@@ -10,32 +10,16 @@
 //! phase of looks: a cell, a base node, every list of events, its quiet end, and its clients).
 
 ghost use Rattle.std.specs.Prelude.{◌≡◌, ℕ, ◌≤◌, List, None, Some, slice_get};
-ghost use Rattle.seam_machine.specs.Nets.{IsQuiet, LeadsTo};
-ghost use Rattle.seam_machine.specs.declared.machines.Event.{Event};
-ghost use Rattle.seam_defs.specs.declared.settings.Settings.{Settings};
-ghost use Rattle.seam_defs.specs.declared.types.TypeDef.{TypeDef};
-ghost use Rattle.seam_defs.specs.Builtin.{builtin};
-ghost use Rattle.seam_defs.specs.Settings.{GhostsReach, standard};
-ghost use Rattle.seam_entity.specs.Reals.{RealView, WitnessView};
-ghost use Rattle.seam_node_steps.specs.Holders.{holders};
-ghost use Rattle.seam_node_steps.specs.CellLooks.{looks_of, shown_of, after_looking};
-ghost use Rattle.seam_node_steps.specs.Cells.{CellView, known_to};
-ghost use Rattle.seam_node_steps.specs.Nodes.{World, node_steps, node_has_work};
-ghost use Rattle.seam_node_steps.specs.Loads.{opened, look_loaded};
-ghost use Rattle.seam_node_steps.specs.Nodes.NodeView.{Cell};
+ghost use Rattle.seam_node_steps.specs.Prelude.{IsQuiet, LeadsTo, Event, Settings, TypeDef, builtin, GhostsReach, standard, RealView};
+ghost use Rattle.seam_node_steps.specs.Prelude.{WitnessView, holders, looks_of, shown_of, after_looking, CellView, known_to, World};
+ghost use Rattle.seam_node_steps.specs.Prelude.{node_steps, node_has_work, opened, look_loaded, Cell};
+ghost use Rattle.seam_law_calls.specs.Prelude.{Frame, here_at, entity_flow, real_in, IsFrame};
+ghost use Rattle.seam_law_rounds.specs.Prelude.{IsBetweenRounds, first_frame};
+ghost use Rattle.seam_law_ghosts.specs.Prelude.{ArePlaced, AreCopiesBetweenRounds};
+ghost use Rattle.seam_law_clients.specs.Prelude.{row_of_real, rows_of, FitsWitness, ClientsFit, having_looked, HaveRoomToLook};
 ghost use Rattle.seam_node_steps.specs.ViewRounds as view;
-ghost use Rattle.seam_law_calls.specs.Frames.{Frame, here_at};
-ghost use Rattle.seam_law_calls.specs.Sights.{entity_flow};
-ghost use Rattle.seam_law_calls.specs.Ones.{real_in, IsFrame};
-ghost use Rattle.seam_law_rounds.specs.Between.{IsBetweenRounds};
-ghost use Rattle.seam_law_rounds.specs.LastPhases.{first_frame};
-ghost use Rattle.seam_law_ghosts.specs.RealPlaces.{ArePlaced};
-ghost use Rattle.seam_law_ghosts.specs.Copies.{AreCopiesBetweenRounds};
 ghost use Rattle.seam_rule_clients.specs.Clients.{ClientReplica, new_client, after_all_shown};
 ghost use Rattle.seam_rule_clients.specs.Looks.{row_of, one_look};
-ghost use Rattle.seam_law_clients.specs.Tables.{row_of_real, rows_of};
-ghost use Rattle.seam_law_clients.specs.Witnesses.{FitsWitness, ClientsFit};
-ghost use Rattle.seam_law_clients.specs.Phases.{having_looked, HaveRoomToLook};
 
 /// The flat table of a world between rounds has the row of each real, and no row of an entity that has none.
 pub fn the_table_has_each_real()

@@ -16,39 +16,21 @@
 
 ghost use Rattle.std.specs.Prelude.{◌≡◌, ◌+◌, ℕ, List, [], ◌∷◌, ◌++◌, None, Some};
 ghost use Rattle.seam_view.specs.Replica.{IsView};
-ghost use Rattle.seam_defs.specs.Settings.{GhostsReach, standard};
-ghost use Rattle.seam_machine.specs.Nets.{IsQuiet, LeadsTo};
-ghost use Rattle.seam_machine.specs.declared.machines.Event.{Event};
-ghost use Rattle.seam_call.specs.declared.order.Batch.{Batch};
-ghost use Rattle.seam_call.specs.declared.shown.Shown.{Shown};
-ghost use Rattle.seam_entity.specs.Reals.{RealView, WitnessView};
-ghost use Rattle.seam_node_steps.specs.CellLooks.{looks_of, shown_of, after_looking};
-ghost use Rattle.seam_node_steps.specs.Cells.{CellView, known_to};
-ghost use Rattle.seam_node_steps.specs.Loads.{loaded, look_loaded};
-ghost use Rattle.seam_node_steps.specs.Nodes.{World, node_steps, node_has_work};
-ghost use Rattle.seam_node_steps.specs.Rows.{empty_world};
+ghost use Rattle.seam_node_steps.specs.Prelude.{GhostsReach, standard, IsQuiet, LeadsTo, Event, Batch, Shown, RealView, WitnessView};
+ghost use Rattle.seam_node_steps.specs.Prelude.{looks_of, shown_of, after_looking, CellView, known_to, loaded, look_loaded, World};
+ghost use Rattle.seam_node_steps.specs.Prelude.{node_steps, node_has_work, empty_world};
+ghost use Rattle.seam_law_calls.specs.Prelude.{Frame, here_at, entity_flow, real_in, IsSpared, frame, events_of, home_of, shown_at};
+ghost use Rattle.seam_law_calls.specs.Prelude.{HasClient, HasToldAtMost, HasRoomFor};
+ghost use Rattle.seam_law_rounds.specs.Prelude.{IsBetweenRounds, IsFitting, framed, opening, MayBeLoaded, HasPartsBetweenRounds};
+ghost use Rattle.seam_law_rounds.specs.Prelude.{HasSmallNumbers};
+ghost use Rattle.seam_law_ghosts.specs.Prelude.{AreCopiesBetweenRounds, ArePlaced};
+ghost use Rattle.seam_law_clients.specs.Prelude.{FitsWitness, ClientsFit, HaveRoomToLook, rows_of, FitsWithin, truth_of_look};
+ghost use Rattle.seam_law_clients.specs.Prelude.{known_between, true_between, ComesBetween, TellsRightly};
 ghost use Rattle.seam_node_steps.specs.ViewRounds as view;
-ghost use Rattle.seam_law_calls.specs.Frames.{Frame, here_at};
-ghost use Rattle.seam_law_calls.specs.Sights.{entity_flow};
-ghost use Rattle.seam_law_calls.specs.Ones.{real_in, IsSpared};
-ghost use Rattle.seam_law_calls.specs.HandOverExample.{frame, events_of};
 ghost use Rattle.seam_law_calls.specs.BaseCallsExample as example;
-ghost use Rattle.seam_law_calls.specs.BaseTurns.{home_of};
-ghost use Rattle.seam_law_calls.specs.Clients.{shown_at, HasClient, HasToldAtMost, HasRoomFor};
-ghost use Rattle.seam_law_rounds.specs.Between.{IsBetweenRounds, IsFitting, framed};
-ghost use Rattle.seam_law_rounds.specs.FirstBatchExample.{opening};
-ghost use Rattle.seam_law_ghosts.specs.Copies.{AreCopiesBetweenRounds};
-ghost use Rattle.seam_law_ghosts.specs.RealPlaces.{ArePlaced};
-ghost use Rattle.seam_law_rounds.specs.Parts.{MayBeLoaded, HasPartsBetweenRounds, HasSmallNumbers};
 ghost use Rattle.seam_rule_clients.specs.Clients.{ClientReplica, new_client, after_all_shown};
 ghost use Rattle.seam_rule_clients.specs.Lines.{ShowsRightly};
 ghost use Rattle.seam_rule_clients.specs.Looks.{one_look};
-ghost use Rattle.seam_law_clients.specs.Witnesses.{FitsWitness, ClientsFit};
-ghost use Rattle.seam_law_clients.specs.Phases.{HaveRoomToLook};
-ghost use Rattle.seam_law_clients.specs.Tables.{rows_of};
-ghost use Rattle.seam_law_clients.specs.Fits.{FitsWithin, truth_of_look};
-ghost use Rattle.seam_law_clients.specs.RoundTruths.{known_between, true_between};
-ghost use Rattle.seam_law_clients.specs.Telling.{ComesBetween, TellsRightly};
 
 /// Where a client fits the witness of its entity's real, the client is shown rightly what the witness tells in a look: one line after
 /// another may come, and shows what the real is now, or what the cell knows of another (`shows`). Once it is, it fits the witness again

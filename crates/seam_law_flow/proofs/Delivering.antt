@@ -6,14 +6,13 @@ use Rattle.std.specs.declared.cmp.Ordering.TheVariants.{Less, Equal, Greater}
 use Rattle.std.proofs.lemmas.Bool.{cases_eq, eq-eqb, ne_eqb}
 use Rattle.std.proofs.lemmas.Bool.Decides.{nat_tests}
 use Rattle.std.proofs.lemmas.List.{append-nil, append_assoc, length-append}
-use Rattle.seam_law_flow.specs.Flows.{Flow, Goes, comes, letters_of, more_letter}
+use Rattle.seam_law_flow.specs.Prelude.{Flow, Goes, comes, letters_of, more_letter, carried_in, TokenPlace, In, On, SoleOn, Sole, Nobody}
+use Rattle.seam_law_flow.specs.Prelude.{SendsNone, Delivery, at_once, more_issued, IsToward, Life, number_from, of_number, numbered}
 use Rattle.seam_order.specs.Held.{OrderView, item_at, with_item, RiseFrom, IsInOrder}
 use Rattle.seam_order.specs.Offers.{after_offer, after_item, after_taking, next_item}
 use Rattle.seam_order.proofs.OrderLaws.{order_after_offer, order_after_taking, held_early, held_taken}
-use Rattle.seam_law_flow.specs.Tokens.{carried_in, TokenPlace, In, On, SoleOn, Sole, Nobody, SendsNone}
-use Rattle.seam_law_flow.specs.Deliveries.{Delivery, at_once, Passes, rests, issues, offers, gives, more_issued}
-use Rattle.seam_law_flow.specs.Lives.{IsToward, Waits, Life}
-use Rattle.seam_law_flow.specs.Numbered.{number_from, of_number, numbered}
+use Rattle.seam_law_flow.specs.Deliveries.{Passes, rests, issues, offers, gives}
+use Rattle.seam_law_flow.specs.Lives.{Waits}
 use Rattle.seam_law_flow.proofs.TokenLemmas.{sole_here, first_is, sole_first, one_more, sole_landed}
 use Rattle.seam_law_flow.proofs.Lives.{life_still, sole_born, nobody_met, nobody_ends}
 use Rattle.seam_law_flow.proofs.Numbers.{either, item_early, item_late, item_first, item_other, item_bounds, item_at-append}

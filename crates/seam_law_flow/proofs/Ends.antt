@@ -6,16 +6,13 @@ use Rattle.std.proofs.Common.{arith, inl, inr}
 use Rattle.std.specs.List.{AllByRecursion}
 use Rattle.std.proofs.lemmas.Bool.{cases_eq, eq-eqb}
 use Rattle.std.proofs.lemmas.List.{append-nil, length-append}
-use Rattle.seam_law_flow.specs.Flows.{Flow, letters_of, more_letter}
-use Rattle.seam_law_flow.specs.Tokens.{TokenPlace, In, On, SoleOn, Sole}
+use Rattle.seam_law_flow.specs.Prelude.{Flow, letters_of, more_letter, TokenPlace, In, On, SoleOn, Sole, number_from, of_number, Desk, Post}
+use Rattle.seam_law_flow.specs.Prelude.{Mail, Item, held_in, kept_at, packed, keeps, bears, desk_of, parcel_of, one, WaitsOnce, InTurn}
+use Rattle.seam_law_flow.specs.Prelude.{AreInTurn, IsStill, IsLoaded}
 use Rattle.seam_law_flow.proofs.TokenLemmas.{one_more, sole_first, sole_here}
 use Rattle.seam_order.specs.Held.{item_at}
 use Rattle.seam_law_flow.specs.Lives.{Somewhere}
-use Rattle.seam_law_flow.specs.Numbered.{number_from, of_number}
 use Rattle.seam_law_flow.proofs.Numbers.{item_first, item_bounds}
-use Rattle.seam_law_flow.specs.Desks.{Desk, Post, Mail, Item, held_in, kept_at, packed, keeps, bears, desk_of, parcel_of, one, WaitsOnce}
-use Rattle.seam_law_flow.specs.Desks.{InTurn}
-use Rattle.seam_law_flow.specs.Desks.{AreInTurn, IsStill, IsLoaded}
 use Rattle.seam_law_flow.proofs.Lasting.{here_is}
 use Rattle.seam_law_flow.proofs.Turning.{packed_none, both_nil, packed_last, last_alone, one_is}
 

@@ -1,8 +1,6 @@
 -- A token that may be anywhere, and is passed on: where it is after a step.
 use Rattle.std.proofs.Common.{◌≡◌, ℕ, List, Option, None, Some, ap, ◌∙◌, sym, subst}
-use Rattle.seam_law_flow.specs.Flows.{Flow, Goes, comes, letters_of}
-use Rattle.seam_law_flow.specs.Tokens.{carried_in, In, On, SoleOn, Sole, Nobody, SendsNone, SendsOne}
-use Rattle.seam_law_flow.specs.Lives.{Lasts}
+use Rattle.seam_law_flow.specs.Prelude.{Flow, Goes, comes, letters_of, carried_in, In, On, SoleOn, Sole, Nobody, SendsNone, SendsOne, Lasts}
 use Rattle.seam_law_flow.proofs.TokenLemmas.{one_more, sole_here, first_is, sole_first, sole_still, same_mail, same_held, sole_landed}
 use Rattle.seam_law_flow.proofs.TokenLemmas.{sole_left, sole_relayed}
 use Rattle.seam_law_flow.proofs.Lives.{nobody_still, nobody_met, nobody_ends}

@@ -1,11 +1,10 @@
 -- A token that begins and ends: where it is after a step.
 use Rattle.std.proofs.Common.{◌≡◌, ℕ, List, [], ◌++◌, Option, None, Some, ap, ◌∙◌, subst, inl, inr}
 use Rattle.std.proofs.lemmas.Bool.{cases_eq}
-use Rattle.seam_law_flow.specs.Flows.{Flow, Goes, comes, letters_of}
+use Rattle.seam_law_flow.specs.Prelude.{Flow, Goes, comes, letters_of, carried_in, TokenPlace, SoleIn, SoleOn, Sole, Nobody, SendsNone}
+use Rattle.seam_law_flow.specs.Prelude.{SendsOne, Life}
 use Rattle.seam_law_flow.proofs.Bridge.{letters_of-append}
 use Rattle.seam_law_flow.proofs.Following.{change}
-use Rattle.seam_law_flow.specs.Tokens.{carried_in, TokenPlace, SoleIn, SoleOn, Sole, Nobody, SendsNone, SendsOne}
-use Rattle.seam_law_flow.specs.Lives.{Life}
 use Rattle.seam_law_flow.proofs.TokenLemmas.{rest_tokens, more_tokens, joined, sole_here, first_is, sole_first, sole_still, landed_rest}
 use Rattle.seam_law_flow.proofs.TokenLemmas.{gone_more, sent_more, same_mail, same_held}
 

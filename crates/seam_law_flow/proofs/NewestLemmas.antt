@@ -3,8 +3,7 @@ use Rattle.std.proofs.Common.{◌≡◌, ℕ, ◌<◌, ◌⊎◌, Bool, true, fa
 use Rattle.std.proofs.Common.{subst, arith, inl, inr}
 use Rattle.std.proofs.lemmas.Bool.{cases_eq}
 use Rattle.std.proofs.lemmas.Bool.Decides.{nat_tests}
-use Rattle.seam_law_flow.specs.Flows.{Flow, Goes, comes, IsHead}
-use Rattle.seam_law_flow.specs.Newest.{NotAbove, OfEntry, AllBring, Has, entry_in, greater_entry, Newest}
+use Rattle.seam_law_flow.specs.Prelude.{Flow, Goes, comes, IsHead, NotAbove, OfEntry, AllBring, Has, entry_in, greater_entry, Newest}
 use Rattle.seam_law_flow.proofs.Following.{Rest, whole, tail, More, own, none, change, all_append}
 
 module _ {V : Type 0} where

@@ -2,9 +2,8 @@
 use Rattle.std.proofs.Common.{◌≡◌, ℕ, ◌+◌, ◌<◌, ◌≤◌, Bool, true, false, cond, eqb, List, [], ◌∷◌, ◌++◌, length, Option, None, Some, refl}
 use Rattle.std.proofs.Common.{sym, ap, ◌∙◌, arith}
 use Rattle.std.proofs.lemmas.Bool.{eq-eqb, ne_eqb, eqb-true}
-use Rattle.seam_law_flow.specs.Flows.{more_letter, letters_of}
+use Rattle.seam_law_flow.specs.Prelude.{more_letter, letters_of, number_from, of_number, numbered}
 use Rattle.seam_order.specs.Held.{item_at}
-use Rattle.seam_law_flow.specs.Numbered.{number_from, of_number, numbered}
 
 abbrev pub either : {U : Type 0} → Option U → Option U → Option U
 either None o = o

@@ -8,8 +8,7 @@ use Rattle.std.proofs.lemmas.List.{append-nil}
 use Rattle.std.proofs.lemmas.List.Elements.{All-nil, All-append, All-map}
 use Rattle.seam_machine.specs.Sends.{items_to, spread, AllBelow}
 use Rattle.seam_machine.proofs.SendLemmas.{items_to-append}
-use Rattle.seam_law_flow.specs.Flows.{letters_of, more_letter}
-use Rattle.seam_law_flow.specs.Sent.{HasOwnTargets, item_of, IsSilent}
+use Rattle.seam_law_flow.specs.Prelude.{letters_of, more_letter, HasOwnTargets, item_of, IsSilent}
 use Rattle.seam_law_flow.proofs.Bridge.{letters_of-append}
 
 module _ {M : Type 0} where

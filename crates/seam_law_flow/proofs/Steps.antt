@@ -2,9 +2,8 @@
 use Rattle.std.proofs.Common.{◌≡◌, ℕ, Bool, true, false, cond, eqb, List, [], ◌++◌, Option, None, refl, sym, ap, ◌∙◌, subst}
 use Rattle.std.proofs.lemmas.Bool.{eq-eqb, ne_eqb}
 use Rattle.std.proofs.lemmas.List.{append-nil}
-use Rattle.seam_law_flow.specs.Flows.{Flow, Goes, comes, mail_left}
-use Rattle.seam_law_flow.specs.Desks.{Post, Mail, AreInTurn}
-use Rattle.seam_law_flow.specs.CallMoves.{Passes, place_then, desk_then, Twice, once, twice}
+use Rattle.seam_law_flow.specs.Prelude.{Flow, Goes, comes, mail_left, Post, Mail, AreInTurn, Passes, place_then, desk_then, Twice, once}
+use Rattle.seam_law_flow.specs.Prelude.{twice}
 use Rattle.seam_law_flow.proofs.Turning.{in_turn_goes}
 
 no_mail : {L : Type 0} (l : List L) (t : Bool) → l ≡ l ++ cond t [] []

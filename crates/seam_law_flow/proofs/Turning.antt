@@ -4,16 +4,15 @@ use Rattle.std.proofs.Common.{sym, ap}
 use Rattle.std.proofs.Common.{◌∙◌, subst, arith, inl, inr}
 use Rattle.std.proofs.lemmas.Bool.{cases_eq, eq-eqb, ne_eqb}
 use Rattle.std.proofs.lemmas.List.{append-nil, append_assoc, length-append}
-use Rattle.seam_law_flow.specs.Flows.{Flow, Goes, comes, letters_of, more_letter}
+use Rattle.seam_law_flow.specs.Prelude.{Flow, Goes, comes, letters_of, more_letter, carried_in, TokenPlace, In, On, Sole, Nobody, SendsNone}
+use Rattle.seam_law_flow.specs.Prelude.{SendsOne, turns, number_from, of_number, Desk, Post, Mail, Item, Parcel, held_in, kept_at, packed}
+use Rattle.seam_law_flow.specs.Prelude.{keeps, bears, desk_of, parcel_of, one, WaitsOnce, InTurn, Quiet, Only, offered, taken, Passes}
+use Rattle.seam_law_flow.specs.Prelude.{rests, sends, offers, takes, place_then, desk_then}
 use Rattle.seam_order.specs.Held.{item_at, IsInOrder}
 use Rattle.seam_order.specs.Offers.{after_offer, after_item, after_taking, next_item}
 use Rattle.seam_order.proofs.OrderLaws.{order_after_offer, order_after_taking, held_early, held_taken}
-use Rattle.seam_law_flow.specs.Tokens.{carried_in, TokenPlace, In, On, Sole, Nobody, SendsNone, SendsOne, turns}
-use Rattle.seam_law_flow.specs.Numbered.{number_from, of_number}
-use Rattle.seam_law_flow.specs.Desks.{Desk, Post, Mail, Item, Parcel, held_in, kept_at, borne, packed, keeps, bears, desk_of, parcel_of, one}
-use Rattle.seam_law_flow.specs.Desks.{WaitsOnce, InTurn}
-use Rattle.seam_law_flow.specs.CallMoves.{Quiet, Only, offered, taken, Passes, rests, sends, relays, offers, serves, takes, lands, leaves}
-use Rattle.seam_law_flow.specs.CallMoves.{place_then, desk_then}
+use Rattle.seam_law_flow.specs.Desks.{borne}
+use Rattle.seam_law_flow.specs.CallMoves.{relays, serves, lands, leaves}
 use Rattle.seam_law_flow.proofs.TokenLemmas.{sole_here, sole_still, sole_goes, sole_landed, sole_left, same_mail, same_held}
 use Rattle.seam_law_flow.proofs.Lasting.{here_is, come_is, lasts_still, lasts_lands, lasts_leaves, lasts_relayed, lasts_met, lasts_ends}
 use Rattle.seam_law_flow.proofs.Delivering.{offer_next, offer_early, not_some, first_rest}

@@ -8,3 +8,4 @@ pub mod Lives
 pub mod Numbered
 pub mod Desks
 pub mod CallMoves
+pub mod Prelude

@@ -9,11 +9,8 @@ ghost use Rattle.seam_machine.specs.Views.{Stepped, NetView};
 ghost use Rattle.seam_machine.specs.Sends.{AllBelow, items_to, spread};
 ghost use Rattle.seam_machine.specs.Nets.{happens, IsSquare};
 ghost use Rattle.seam_machine.specs.Events.{Occurs};
-ghost use Rattle.seam_law_flow.specs.Flows.{Flow, comes, Goes, flow_of, letter_in, letters_of, more_letter};
-ghost use Rattle.seam_law_flow.specs.Narrow.{narrow, toward};
-ghost use Rattle.seam_law_flow.specs.Newest.{NotAbove, AllBring, Has, entry_in, greater_entry, Newest};
-ghost use Rattle.seam_law_flow.specs.Sent.{HasOwnTargets, item_of, IsSilent};
-ghost use Rattle.seam_law_flow.specs.Tokens.{carried_in};
+ghost use Rattle.seam_law_flow.specs.Prelude.{Flow, comes, Goes, flow_of, letter_in, letters_of, more_letter, narrow, toward, NotAbove};
+ghost use Rattle.seam_law_flow.specs.Prelude.{AllBring, Has, entry_in, greater_entry, Newest, HasOwnTargets, item_of, IsSilent, carried_in};
 
 use std::marker::Brand;
 

@@ -11,11 +11,9 @@
 // and where nothing moves any more).
 
 ghost use Rattle.std.specs.Prelude.{◌≡◌, ℕ, ◌+◌, ◌<◌, ◌≤◌, List, ◌∷◌, length, None, Some};
-ghost use Rattle.seam_law_flow.specs.Flows.{Flow, Goes};
-ghost use Rattle.seam_law_flow.specs.Tokens.{TokenPlace};
+ghost use Rattle.seam_law_flow.specs.Prelude.{Flow, Goes, TokenPlace, Passes, Twice, Desk, Post, Mail, Item, InTurn, AreInTurn, IsStill};
+ghost use Rattle.seam_law_flow.specs.Prelude.{IsLoaded};
 ghost use Rattle.seam_order.specs.Held.{item_at};
-ghost use Rattle.seam_law_flow.specs.CallMoves.{Passes, Twice};
-ghost use Rattle.seam_law_flow.specs.Desks.{Desk, Post, Mail, Item, InTurn, AreInTurn, IsStill, IsLoaded};
 
 /// Whatever a step does with a sender's calls, they stay in turn.
 pub fn calls_stay_in_turn<U>()

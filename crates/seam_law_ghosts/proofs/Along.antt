@@ -2,38 +2,23 @@
 use Rattle.std.proofs.Common.{◌≡◌, ℕ, ◌+◌, ◌<◌, ◌≤◌, true, List, [], ◌∷◌, ◌++◌, length, Option, Some, refl, sym, ap, ◌∙◌}
 use Rattle.std.proofs.Common.{subst, arith, inl, inr}
 use Rattle.std.proofs.lemmas.Bool.{cases_eq}
-use Rattle.seam_geo.specs.declared.pos.Pos.{Pos}
-use Rattle.seam_haunt.specs.Places.{Distances, Place, settled, last_of}
-use Rattle.seam_defs.specs.Deeds.{after}
-use Rattle.seam_defs.specs.Types.{type_of}
-use Rattle.seam_machine.specs.Nets.{happens, enabled, LeadsTo}
-use Rattle.seam_machine.specs.Events.{Occurs}
-use Rattle.seam_machine.specs.declared.machines.Event.{Event}
+use Rattle.seam_node_steps.specs.Prelude.{Pos, Distances, Place, last_of, after, type_of, happens, enabled, LeadsTo, Occurs, Event, Call}
+use Rattle.seam_node_steps.specs.Prelude.{RealView, limit, Msg, Hand, Reap, may_settle, World, node_steps, node_has_work}
+use Rattle.seam_law_flow.specs.Prelude.{Flow, Goes, comes, letter_in, In, On, Sole, Turned, still, turns, lands, leaves, relays}
+use Rattle.seam_law_flow.specs.Prelude.{place_after, token_after}
+use Rattle.seam_law_calls.specs.Prelude.{Frame, Has, mine, entity_flow, MovesTo, real_burden, Replays, real_in, real_of, IsOne, IsSpared}
+use Rattle.seam_law_calls.specs.Prelude.{AllFits, IsFrame, HasOne, OneFrom}
+use Rattle.seam_law_ghosts.specs.Prelude.{distances_of, place_of, path_of, home_of, IsDue, IsOnItsWay, waits, IsPlaced}
+use Rattle.seam_haunt.specs.Places.{settled}
 use Rattle.seam_machine.proofs.Occurring.{occurs}
 use Rattle.seam_net_runs.specs.Sums.{weight_or}
 use Rattle.seam_net_runs.proofs.Runs.{leads_keeps}
-use Rattle.seam_law_flow.specs.Flows.{Flow, Goes, comes, letter_in}
-use Rattle.seam_law_flow.specs.Tokens.{In, On, Sole, Turned, still, turns, lands, leaves, relays, place_after, token_after}
 use Rattle.seam_law_flow.specs.Tokens as token
 use Rattle.seam_law_flow.proofs.TokenLemmas.{sole_here, sole_came, sole_goes, token_turns}
-use Rattle.seam_call.specs.declared.call.Call.{Call}
-use Rattle.seam_entity.specs.Reals.{RealView}
-use Rattle.seam_entity.specs.Numbers.{limit}
-use Rattle.seam_entity.specs.declared.message.Msg.{Msg}
-use Rattle.seam_entity.specs.declared.message.Msg.TheVariants.{Hand, Reap}
-use Rattle.seam_entity.specs.Executing.{may_settle}
-use Rattle.seam_node_steps.specs.Nodes.{World, node_steps, node_has_work}
-use Rattle.seam_law_calls.specs.Frames.{Frame}
-use Rattle.seam_law_calls.specs.Sights.{Has, mine, entity_flow}
-use Rattle.seam_law_calls.specs.Moves.{MovesTo}
-use Rattle.seam_law_calls.specs.Burdens.{real_burden}
-use Rattle.seam_law_calls.specs.Replays.{Replays}
-use Rattle.seam_law_calls.specs.Ones.{real_in, real_of, IsOne, IsSpared, AllFits, IsFrame, HasOne, OneFrom}
 use Rattle.seam_law_calls.proofs.Holds.{all_two, below_is}
 use Rattle.seam_law_calls.proofs.OneReal.{goes, room, one_happens, calm_of, spared_happens}
 use Rattle.seam_law_calls.proofs.Replaying.{replays_none, replays_on}
 use Rattle.seam_law_ghosts.proofs.Lasting.{slot_bound}
-use Rattle.seam_law_ghosts.specs.RealPlaces.{distances_of, place_of, path_of, home_of, IsDue, IsOnItsWay, waits, IsPlaced}
 use Rattle.seam_law_ghosts.proofs.Ways.{way_due, way_survey, way_call}
 use Rattle.seam_law_ghosts.proofs.Paths.{is_at_last, path_more, same_further, more_further}
 use Rattle.seam_law_ghosts.proofs.Placing.{Settles, by_survey, by_call, Does_it, PlacesBy, Placed, placed}

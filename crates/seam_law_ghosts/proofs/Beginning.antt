@@ -5,28 +5,15 @@ use Rattle.std.proofs.Common.{arith, inl, inr}
 use Rattle.std.specs.Prelude.{option_map, slice_get}
 use Rattle.std.specs.List.{AllByRecursion}
 use Rattle.std.proofs.lemmas.Bool.{cases_lt, eqb-true}
-use Rattle.seam_tree.specs.Division.{cells_of, leaf_at}
-use Rattle.seam_machine.specs.Sends.{items_to}
+use Rattle.seam_node_steps.specs.Prelude.{cells_of, leaf_at, items_to, Create, Order, Batch, RealView, has_any, cell_count, CellView}
+use Rattle.seam_node_steps.specs.Prelude.{holders, NodeView, World, node_has_work, Cell, Base, real_if, created_at, attached, cell_round}
+use Rattle.seam_node_steps.specs.Prelude.{base_round, ordered_at, loaded}
+use Rattle.seam_law_flow.specs.Prelude.{slot_at}
+use Rattle.seam_law_calls.specs.Prelude.{Frame, has_of, has_none, times, order_about, order_concerns, orders_of, real_in}
+use Rattle.seam_law_rounds.specs.Prelude.{IsBetweenRounds, IsFitting, framed, made, node_loaded}
 use Rattle.seam_machine.proofs.Quiet.{quiet_tasks}
-use Rattle.seam_law_flow.specs.Flows.{slot_at}
-use Rattle.seam_call.specs.declared.create.Create.{Create}
-use Rattle.seam_call.specs.declared.order.Order.{Order}
 use Rattle.seam_call.specs.declared.order.Order.TheVariants as order
-use Rattle.seam_call.specs.declared.order.Batch.{Batch}
-use Rattle.seam_entity.specs.Reals.{RealView}
-use Rattle.seam_node_steps.specs.Maps.{has_any}
-use Rattle.seam_entity.specs.Here.{cell_count}
-use Rattle.seam_node_steps.specs.Cells.{CellView}
-use Rattle.seam_node_steps.specs.Holders.{holders}
-use Rattle.seam_node_steps.specs.Nodes.{NodeView, World, node_has_work}
-use Rattle.seam_node_steps.specs.Nodes.NodeView.{Cell, Base}
-use Rattle.seam_node_steps.specs.Loads.{real_if, created_at, attached, cell_round, base_round, ordered_at, loaded}
-use Rattle.seam_law_calls.specs.Frames.{Frame}
-use Rattle.seam_law_calls.specs.Sights.{has_of, has_none, times, order_about, order_concerns, orders_of}
-use Rattle.seam_law_calls.specs.Ones.{real_in}
 use Rattle.seam_law_calls.proofs.Counting.{counted_none}
-use Rattle.seam_law_rounds.specs.Between.{IsBetweenRounds, IsFitting, framed}
-use Rattle.seam_law_rounds.specs.Loaded.{made, node_loaded}
 use Rattle.seam_law_rounds.proofs.Loading.{each_keeps, Any, any}
 use Rattle.seam_law_rounds.proofs.Framing.{in_frame}
 use Rattle.seam_law_rounds.proofs.Loaded.{slot_is, no_mail}

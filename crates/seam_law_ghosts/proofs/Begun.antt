@@ -10,26 +10,16 @@ use Rattle.std.specs.FinMap.Entries.{find as key_find}
 use Rattle.std.proofs.lemmas.Bool.{cases_eq, eq-eqb, ne_eqb}
 use Rattle.std.proofs.lemmas.List.{append_assoc}
 use Rattle.std.proofs.lemmas.Option.{slice_get_cases}
-use Rattle.seam_tree.specs.Division.{leaf_at}
+use Rattle.seam_node_steps.specs.Prelude.{leaf_at, Create, Order, Batch, RealView, WitnessView, real_begins, NodeView, World, Cell, Base}
+use Rattle.seam_node_steps.specs.Prelude.{cell_round, ordered_at, loaded}
+use Rattle.seam_law_flow.specs.Prelude.{slot_at}
+use Rattle.seam_law_calls.specs.Prelude.{Frame, has_of, has_none, times, one_more_if, entity_flow, real_in}
+use Rattle.seam_law_rounds.specs.Prelude.{created_entity, IsBetweenRounds, MayBeMade, IsFitting, made, node_loaded}
+use Rattle.seam_law_ghosts.specs.Prelude.{made_real, BeginsAt}
 use Rattle.seam_tree.proofs.Leaves.{leaf_is_cell}
-use Rattle.seam_law_flow.specs.Flows.{slot_at}
-use Rattle.seam_call.specs.declared.create.Create.{Create}
-use Rattle.seam_call.specs.declared.order.Order.{Order}
-use Rattle.seam_call.specs.declared.order.Batch.{Batch}
-use Rattle.seam_entity.specs.Reals.{RealView, WitnessView}
-use Rattle.seam_entity.specs.Executing.{real_begins}
-use Rattle.seam_node_steps.specs.Nodes.{NodeView, World}
-use Rattle.seam_node_steps.specs.Nodes.NodeView.{Cell, Base}
-use Rattle.seam_node_steps.specs.Loads.{cell_round, ordered_at, loaded}
-use Rattle.seam_law_calls.specs.Frames.{Frame}
-use Rattle.seam_law_calls.specs.Sights.{has_of, has_none, times, one_more_if, entity_flow}
-use Rattle.seam_law_calls.specs.Ones.{real_in}
-use Rattle.seam_law_rounds.specs.Between.{created_entity, IsBetweenRounds, MayBeMade, IsFitting}
-use Rattle.seam_law_rounds.specs.Loaded.{made, node_loaded}
 use Rattle.seam_law_rounds.proofs.Loading.{each_keeps, Any, any, get-each_value}
 use Rattle.seam_law_rounds.proofs.Making.{AreOthers, Creation, nowhere, once, creation_of, middle, until, node_made, node_after}
 use Rattle.seam_law_rounds.proofs.Loaded.{kept_some, slot_is, slot_becomes}
-use Rattle.seam_law_ghosts.specs.RealPlaces.{made_real, BeginsAt}
 
 -- ---- survey lists
 

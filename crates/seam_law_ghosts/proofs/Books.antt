@@ -2,24 +2,14 @@
 use Rattle.std.proofs.Common.{◌≡◌, ℕ, ◌+◌, ◌<◌, ◌≤◌, true, List, length, Option, None, Some, sym, ap, ◌∙◌}
 use Rattle.std.proofs.Common.{subst, inl, inr, arith}
 use Rattle.std.proofs.lemmas.Bool.{cases_eq}
-use Rattle.seam_machine.specs.Nets.{happens, enabled, LeadsTo}
-use Rattle.seam_machine.specs.declared.machines.Event.{Event}
+use Rattle.seam_node_steps.specs.Prelude.{happens, enabled, LeadsTo, Event, GhostCopy, RealView, Msg, World, node_steps, node_has_work}
+use Rattle.seam_law_flow.specs.Prelude.{comes, greater_entry}
+use Rattle.seam_law_calls.specs.Prelude.{Frame, Has, entity_flow, IsSpared, IsFrame}
+use Rattle.seam_law_ghosts.specs.Prelude.{Entry, book_entry, GhostMoves, IsTable, IsTrue}
 use Rattle.seam_machine.proofs.Occurring.{occurs}
 use Rattle.seam_net_runs.proofs.Runs.{leads_keeps}
-use Rattle.seam_law_flow.specs.Flows.{comes}
-use Rattle.seam_law_flow.specs.Newest.{greater_entry}
-use Rattle.seam_call.specs.declared.shown.GhostCopy.{GhostCopy}
-use Rattle.seam_entity.specs.Reals.{RealView}
-use Rattle.seam_entity.specs.declared.message.Msg.{Msg}
-use Rattle.seam_node_steps.specs.Nodes.{World, node_steps, node_has_work}
-use Rattle.seam_law_calls.specs.Frames.{Frame}
-use Rattle.seam_law_calls.specs.Sights.{Has, entity_flow}
-use Rattle.seam_law_calls.specs.Ones.{IsSpared, IsFrame}
 use Rattle.seam_law_calls.proofs.OneReal.{goes, room, calm_of, spared_happens}
-use Rattle.seam_law_ghosts.specs.Entries.{Entry, book_entry}
-use Rattle.seam_law_ghosts.specs.GhostMoves.{GhostMoves}
 use Rattle.seam_law_ghosts.specs.GhostMoves as ghost
-use Rattle.seam_law_ghosts.specs.Truths.{IsTable, IsTrue}
 use Rattle.seam_law_ghosts.proofs.Greater.{greater_up}
 use Rattle.seam_law_ghosts.proofs.Steps.{ghost_moves}
 use Rattle.seam_law_ghosts.proofs.Telling.{true_happens}

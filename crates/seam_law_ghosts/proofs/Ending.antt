@@ -1,29 +1,18 @@
 -- The record of copies holds of an opened world, and again at the end of each phase; and what a phase of reaps leaves.
 use Rattle.std.proofs.Common.{◌≡◌, ℕ, ◌<◌, ◌≤◌, false, List, [], ◌∷◌, None, Some, sym, ap, ◌∙◌}
 use Rattle.std.specs.List.{AllByRecursion}
-use Rattle.seam_machine.specs.Nets.{IsQuiet, LeadsTo}
-use Rattle.seam_machine.specs.declared.machines.Event.{Event}
-use Rattle.seam_law_flow.specs.Tokens.{In}
-use Rattle.seam_defs.specs.declared.settings.Settings.{Settings}
-use Rattle.seam_defs.specs.declared.types.TypeDef.{TypeDef}
-use Rattle.seam_entity.specs.Reals.{RealView}
-use Rattle.seam_entity.specs.Here.{cell_count}
-use Rattle.seam_node_steps.specs.Holders.{holders}
-use Rattle.seam_node_steps.specs.Nodes.{NodeView, World, node_steps, node_has_work}
-use Rattle.seam_node_steps.specs.Loads.{with_nodes, reap_ordered_at, ordered_at, opened, reaps_loaded, look_loaded}
-use Rattle.seam_law_calls.specs.Frames.{Frame}
-use Rattle.seam_law_calls.specs.Sights.{entity_flow}
-use Rattle.seam_law_calls.specs.Ones.{real_in, IsFrame}
-use Rattle.seam_law_rounds.specs.Between.{IsBetweenRounds}
-use Rattle.seam_law_rounds.specs.Loaded.{each}
-use Rattle.seam_law_rounds.specs.LastPhases.{first_frame, AreReapable}
+use Rattle.seam_node_steps.specs.Prelude.{IsQuiet, LeadsTo, Event, Settings, TypeDef, RealView, cell_count, holders, NodeView, World}
+use Rattle.seam_node_steps.specs.Prelude.{node_steps, node_has_work, with_nodes, reap_ordered_at, ordered_at, opened, reaps_loaded}
+use Rattle.seam_node_steps.specs.Prelude.{look_loaded}
+use Rattle.seam_law_flow.specs.Prelude.{In}
+use Rattle.seam_law_calls.specs.Prelude.{Frame, entity_flow, real_in, IsFrame}
+use Rattle.seam_law_rounds.specs.Prelude.{IsBetweenRounds, each, first_frame, AreReapable}
+use Rattle.seam_law_ghosts.specs.Prelude.{book_entry, copy_at, AreTold, IsForgotten, AreCopiesBetweenRounds}
 use Rattle.seam_law_rounds.proofs.Giving.{reaps_cell, look_cell, reals_stay}
 use Rattle.seam_law_rounds.proofs.Reaping as reaping
 use Rattle.seam_law_rounds.proofs.Looking as looking
 use Rattle.seam_law_rounds.proofs.Opened.{opened_is_new}
 use Rattle.seam_law_ghosts.proofs.NoStrays.{frame_reaps, unknown_reaps, frame_look, unknown_look}
-use Rattle.seam_law_ghosts.specs.Entries.{book_entry}
-use Rattle.seam_law_ghosts.specs.Copies.{copy_at, AreTold, IsForgotten, AreCopiesBetweenRounds}
 use Rattle.seam_law_ghosts.proofs.Still.{quiet_mail}
 use Rattle.seam_law_ghosts.proofs.Phasing.{phase_told, phase_forgotten, phase_ends_copied, phase_stays}
 use Rattle.seam_law_ghosts.proofs.Loading.{books_turned}

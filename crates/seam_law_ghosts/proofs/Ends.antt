@@ -2,42 +2,30 @@
 use Rattle.std.proofs.Common.{◌≡◌, ℕ, ◌≤◌, ◌⊎◌, Bool, false, List, [], ◌∷◌, ◌++◌, Some, refl, sym, ap, ◌∙◌, subst, arith}
 use Rattle.std.proofs.Common.{inl, inr}
 use Rattle.std.specs.List.{AllByRecursion}
-use Rattle.seam_tree.specs.Division.{leaf_at}
-use Rattle.seam_haunt.specs.Places.{Place, settled, IsPlaceAfter, last_of}
+use Rattle.seam_node_steps.specs.Prelude.{leaf_at, Place, IsPlaceAfter, last_of, IsQuiet, LeadsTo, Event, Create, Batch, RealView, holders}
+use Rattle.seam_node_steps.specs.Prelude.{NodeView, World, node_steps, node_has_work, Cell, Base, loaded, reaps_loaded, look_loaded}
+use Rattle.seam_law_flow.specs.Prelude.{letters_of, In}
+use Rattle.seam_law_calls.specs.Prelude.{Frame, mine, times, has_of, entity_flow, real_in, real_of, HasOne}
+use Rattle.seam_law_rounds.specs.Prelude.{IsBetweenRounds, IsFitting, framed, AreReapable}
+use Rattle.seam_law_ghosts.specs.Prelude.{distances_of, place_of, first_place, path_of, made_real, home_of, IsDue, IsPlaced, IsRightPlace}
+use Rattle.seam_law_ghosts.specs.Prelude.{BeginsAt, WasThere, ArePlaced}
+use Rattle.seam_haunt.specs.Places.{settled}
 use Rattle.seam_haunt.proofs.Settling.{after_settled}
-use Rattle.seam_machine.specs.Nets.{IsQuiet, LeadsTo}
-use Rattle.seam_machine.specs.declared.machines.Event.{Event}
 use Rattle.seam_machine.proofs.Quiet.{quiet_links, quiet_tasks}
-use Rattle.seam_law_flow.specs.Flows.{letters_of}
-use Rattle.seam_law_flow.specs.Tokens.{In}
 use Rattle.seam_law_flow.specs.Tokens as token
 use Rattle.seam_law_flow.proofs.TokenLemmas.{sole_here}
-use Rattle.seam_call.specs.declared.create.Create.{Create}
-use Rattle.seam_call.specs.declared.order.Batch.{Batch}
-use Rattle.seam_entity.specs.Reals.{RealView}
-use Rattle.seam_node_steps.specs.Holders.{holders}
-use Rattle.seam_node_steps.specs.Nodes.{NodeView, World, node_steps, node_has_work}
-use Rattle.seam_node_steps.specs.Nodes.NodeView.{Cell, Base}
-use Rattle.seam_node_steps.specs.Loads.{loaded, reaps_loaded, look_loaded}
-use Rattle.seam_law_calls.specs.Frames.{Frame}
-use Rattle.seam_law_calls.specs.Sights.{mine, times, has_of, entity_flow}
-use Rattle.seam_law_calls.specs.Ones.{real_in, real_of, HasOne}
 use Rattle.seam_law_calls.proofs.Counting.{counted_none, none_counts}
 use Rattle.seam_law_calls.proofs.ExampleMet.{slots}
 use Rattle.seam_law_calls.proofs.Gone.{gone_leads}
-use Rattle.seam_law_rounds.specs.Between.{IsBetweenRounds, IsFitting, framed}
 use Rattle.seam_law_rounds.proofs.Framing.{in_frame}
 use Rattle.seam_law_rounds.proofs.Loaded.{no_items, no_mail}
 use Rattle.seam_law_rounds.proofs.Ready.{one_at_home}
 use Rattle.seam_law_rounds.proofs.Going.{its, frame_loaded, settled_loaded, one_loaded, spared_loaded}
-use Rattle.seam_law_rounds.specs.LastPhases.{AreReapable}
 use Rattle.seam_law_rounds.proofs.Shape.{Somewhere, Nowhere, search_real}
 use Rattle.seam_law_rounds.proofs.Calm.{IsCalm}
 use Rattle.seam_law_rounds.proofs.Phases.{calm_leads}
 use Rattle.seam_law_rounds.proofs.Reaping as reaping
 use Rattle.seam_law_rounds.proofs.Looking as looking
-use Rattle.seam_law_ghosts.specs.RealPlaces.{distances_of, place_of, first_place, path_of, made_real, home_of, IsDue, IsPlaced, IsRightPlace}
-use Rattle.seam_law_ghosts.specs.RealPlaces.{BeginsAt, WasThere, ArePlaced}
 use Rattle.seam_law_ghosts.proofs.Ways.{way_ends}
 use Rattle.seam_law_ghosts.proofs.Paths.{further_done, is_at_last}
 use Rattle.seam_law_ghosts.proofs.Along.{placed_leads}

@@ -5,34 +5,22 @@ use Rattle.std.specs.List.{IsDistinct, range_with_len}
 use Rattle.std.specs.Ordering.{nat_cmp}
 use Rattle.std.specs.FinMap as table
 use Rattle.std.proofs.lemmas.Bool.{cases_eq, ne_eqb}
-use Rattle.seam_geo.specs.Rect.{IsProper}
-use Rattle.seam_tree.specs.Division.{area, cut_after, IsTree}
-use Rattle.seam_defs.specs.Builtin.{builtin}
-use Rattle.seam_defs.specs.Settings.{standard}
-use Rattle.seam_machine.specs.Nets.{IsQuiet, LeadsTo}
-use Rattle.seam_law_flow.specs.Numbered.{number_from}
+use Rattle.seam_node_steps.specs.Prelude.{IsProper, area, cut_after, IsTree, builtin, standard, IsQuiet, LeadsTo, order_or, RealView}
+use Rattle.seam_node_steps.specs.Prelude.{may_rise, holders, NodeView, node_steps, node_has_work, one_cell, loaded, empty_world, idle}
+use Rattle.seam_node_steps.specs.Prelude.{IsRow, three_cells, batch, move_1, move_2}
+use Rattle.seam_law_flow.specs.Prelude.{number_from}
+use Rattle.seam_law_calls.specs.Prelude.{Frame, Has, has_of, entity_flow, events_of, real_in, IsFrame}
+use Rattle.seam_law_rounds.specs.Prelude.{AreNumbered, IsForReal, IsBetweenRounds, IsFitting, framed, next_from, calls_of, calls_at}
+use Rattle.seam_law_rounds.specs.Prelude.{first_frame, AreReapable}
+use Rattle.seam_law_ghosts.specs.Prelude.{copy_at, AreCopiesBetweenRounds}
 use Rattle.seam_call.specs.declared.order.Order.TheVariants as order
-use Rattle.seam_entity.specs.Orders.{order_or}
-use Rattle.seam_entity.specs.Reals.{RealView}
-use Rattle.seam_entity.specs.Numbers.{may_rise}
-use Rattle.seam_node_steps.specs.Holders.{holders}
-use Rattle.seam_node_steps.specs.Nodes.{NodeView, node_steps, node_has_work}
-use Rattle.seam_node_steps.specs.Loads.{one_cell, loaded}
-use Rattle.seam_node_steps.specs.Rows.{empty_world, idle, IsRow}
 use Rattle.seam_node_steps.specs.Rows as rows
-use Rattle.seam_node_steps.specs.LateGhost.{three_cells, batch, made, moved_on, at_home, left, away, heard, base_16, base_17, new_parts}
-use Rattle.seam_node_steps.specs.LateGhost.{with_cells, world_0, world_14, steps, move_1, move_2}
+use Rattle.seam_node_steps.specs.LateGhost.{made, moved_on, at_home, left, away, heard, base_16, base_17, new_parts}
+use Rattle.seam_node_steps.specs.LateGhost.{with_cells, world_0, world_14, steps}
 use Rattle.seam_node_steps.proofs.Tables.{computing}
-use Rattle.seam_law_calls.specs.Frames.{Frame}
-use Rattle.seam_law_calls.specs.Sights.{Has, has_of, entity_flow}
-use Rattle.seam_law_calls.specs.HandOverExample.{events_of}
-use Rattle.seam_law_calls.specs.Ones.{real_in, IsFrame}
 use Rattle.seam_law_calls.proofs.ExampleMet.{EachFrom, each_node, slots, none_there, one_is, number_is, row_leads, frame_is}
-use Rattle.seam_law_rounds.specs.Between.{AreNumbered, IsForReal, IsBetweenRounds, IsFitting, framed, next_from, calls_of, calls_at}
-use Rattle.seam_law_rounds.specs.LastPhases.{first_frame, AreReapable}
 use Rattle.seam_law_rounds.proofs.Opened.{opened_is_new, opened_has_none, opened_between}
 use Rattle.seam_law_rounds.proofs.CallsEnd.{calls_end_between}
-use Rattle.seam_law_ghosts.specs.Copies.{copy_at, AreCopiesBetweenRounds}
 use Rattle.seam_law_ghosts.proofs.Rounding.{calls_end_copied}
 use Rattle.seam_law_ghosts.proofs.Ending.{opened_copied}
 

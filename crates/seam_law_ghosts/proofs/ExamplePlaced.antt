@@ -1,19 +1,17 @@
 -- The worked world of two cells: its entity is in one cell and on that cell's survey list; and where the run leaves it.
 use Rattle.std.proofs.Common.{◌≡◌, ℕ, Some, refl, sym, ap, ◌∙◌, subst, arith, inl, inr}
-use Rattle.seam_haunt.specs.Places.{Place}
-use Rattle.seam_law_flow.specs.Tokens.{In}
+use Rattle.seam_node_steps.specs.Prelude.{Place, two_cells, made, hit_twice, steps}
+use Rattle.seam_law_flow.specs.Prelude.{In}
+use Rattle.seam_law_calls.specs.Prelude.{entity_flow, frame, events_of, real_in, real_of, IsOne}
+use Rattle.seam_law_ghosts.specs.Prelude.{place_of, IsDue, IsPlaced, IsRightPlace, ArePlaced}
 use Rattle.seam_law_flow.specs.Tokens as token
 use Rattle.seam_law_flow.proofs.TokenLemmas.{sole_here}
-use Rattle.seam_node_steps.specs.EarlyCall.{two_cells, made, hit_twice, world_0, world_12, steps}
+use Rattle.seam_node_steps.specs.EarlyCall.{world_0, world_12}
 use Rattle.seam_node_steps.proofs.Early.{row, quiet}
 use Rattle.seam_node_steps.proofs.Tables.{computing}
-use Rattle.seam_law_calls.specs.Sights.{entity_flow}
-use Rattle.seam_law_calls.specs.HandOverExample.{frame, events_of}
-use Rattle.seam_law_calls.specs.Ones.{real_in, real_of, IsOne}
 use Rattle.seam_law_calls.proofs.Counting.{counted_one}
 use Rattle.seam_law_calls.proofs.ExampleMet.{frame_is, all_fit, spared, one_holder, row_leads}
 use Rattle.seam_law_rounds.proofs.ExampleBetween.{is_first}
-use Rattle.seam_law_ghosts.specs.RealPlaces.{place_of, IsDue, IsPlaced, IsRightPlace, ArePlaced}
 use Rattle.seam_law_ghosts.proofs.Along.{placed_leads}
 use Rattle.seam_law_ghosts.proofs.Ends.{right_place, settled_there}
 

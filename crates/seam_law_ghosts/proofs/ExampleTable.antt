@@ -3,16 +3,12 @@ use Rattle.std.proofs.Common.{◌≡◌, ℕ, ◌≤◌, Option, None, refl, sym
 use Rattle.std.proofs.Common.{subst, arith}
 use Rattle.std.specs.Ordering.{nat_cmp}
 use Rattle.std.specs.FinMap as table
-use Rattle.seam_ghosts.specs.declared.Ghost.{Ghost}
-use Rattle.seam_ghosts.specs.Book.{beat_in, copy_in}
-use Rattle.seam_law_flow.specs.Newest.{AllBring}
-use Rattle.seam_law_flow.specs.Tokens.{In}
-use Rattle.seam_call.specs.declared.shown.GhostCopy.{GhostCopy}
-use Rattle.seam_node_steps.specs.EarlyCall.{made, world_0}
-use Rattle.seam_law_calls.specs.Sights.{Has, has_of, entity_flow}
+use Rattle.seam_node_steps.specs.Prelude.{Ghost, beat_in, copy_in, GhostCopy, made}
+use Rattle.seam_law_flow.specs.Prelude.{AllBring, In}
+use Rattle.seam_law_calls.specs.Prelude.{Has, has_of, entity_flow}
+use Rattle.seam_law_ghosts.specs.Prelude.{Entry, brings, book_entry, IsOfTable, IsTable, IsHushed}
+use Rattle.seam_node_steps.specs.EarlyCall.{world_0}
 use Rattle.seam_law_calls.proofs.ExampleMet.{EachFrom, node_0, node_16, node_17, each_node, nodes_of, slots, no_mail}
-use Rattle.seam_law_ghosts.specs.Entries.{Entry, brings, book_entry}
-use Rattle.seam_law_ghosts.specs.Truths.{IsOfTable, IsTable, IsHushed}
 
 abbrev HasNoCopy : ℕ → Has → Type 0
 HasNoCopy k s = book_entry s ≡ (0, None)

@@ -3,26 +3,17 @@ use Rattle.std.proofs.Common.{◌≡◌, ℕ, ◌<◌, ◌≤◌, true, List, []
 use Rattle.std.proofs.Common.{subst, inl, inr, arith}
 use Rattle.std.proofs.lemmas.Bool.{cases_eq}
 use Rattle.std.specs.List.{AllByRecursion}
-use Rattle.seam_machine.specs.Nets.{happens, enabled, LeadsTo}
-use Rattle.seam_machine.specs.Sends.{items_to}
-use Rattle.seam_machine.specs.declared.machines.Event.{Event}
+use Rattle.seam_node_steps.specs.Prelude.{happens, enabled, LeadsTo, items_to, Event, GhostCopy, RealView, Msg, World, node_steps}
+use Rattle.seam_node_steps.specs.Prelude.{node_has_work}
+use Rattle.seam_law_flow.specs.Prelude.{Goes, comes, OfEntry, AllBring, TokenPlace, In, On, Sole, still, turns, lands, leaves, relays}
+use Rattle.seam_law_flow.specs.Prelude.{place_after}
+use Rattle.seam_law_calls.specs.Prelude.{Frame, Has, entity_flow, real_in, real_of, IsSpared, IsFrame}
+use Rattle.seam_law_ghosts.specs.Prelude.{Entry, brings, book_entry, IsOfTable, IsTrue, IsHushed}
 use Rattle.seam_machine.proofs.Occurring.{occurs}
 use Rattle.seam_net_runs.proofs.Runs.{leads_keeps}
-use Rattle.seam_law_flow.specs.Flows.{Goes, comes}
-use Rattle.seam_law_flow.specs.Newest.{OfEntry, AllBring}
-use Rattle.seam_law_flow.specs.Tokens.{TokenPlace, In, On, Sole, still, turns, lands, leaves, relays, place_after}
 use Rattle.seam_law_flow.proofs.Following.{letters_kept}
 use Rattle.seam_law_flow.proofs.TokenLemmas.{sole_here, sole_came}
-use Rattle.seam_call.specs.declared.shown.GhostCopy.{GhostCopy}
-use Rattle.seam_entity.specs.Reals.{RealView}
-use Rattle.seam_entity.specs.declared.message.Msg.{Msg}
-use Rattle.seam_node_steps.specs.Nodes.{World, node_steps, node_has_work}
-use Rattle.seam_law_calls.specs.Frames.{Frame}
-use Rattle.seam_law_calls.specs.Sights.{Has, entity_flow}
-use Rattle.seam_law_calls.specs.Ones.{real_in, real_of, IsSpared, IsFrame}
 use Rattle.seam_law_calls.proofs.OneReal.{goes, room, one_happens, calm_of, spared_happens}
-use Rattle.seam_law_ghosts.specs.Entries.{Entry, brings, book_entry}
-use Rattle.seam_law_ghosts.specs.Truths.{IsOfTable, IsTrue, IsHushed}
 use Rattle.seam_law_ghosts.proofs.Steps.{ghost_moves}
 use Rattle.seam_law_ghosts.proofs.Making.{NoEntry, Does_it, TellsBy, told_of}
 use Rattle.seam_law_ghosts.proofs.Telling.{true_after, place_then}

@@ -4,21 +4,12 @@ use Rattle.std.proofs.Common.{arith}
 use Rattle.std.specs.Prelude.{slice_get}
 use Rattle.std.specs.List.{AllByRecursion}
 use Rattle.std.proofs.lemmas.Bool.Decides.{nat_tests}
-use Rattle.seam_machine.specs.Nets.{link}
-use Rattle.seam_entity.specs.Reals.{RealView}
-use Rattle.seam_entity.specs.declared.message.Msg.{Msg}
-use Rattle.seam_entity.specs.declared.message.Msg.TheVariants.{Call, BaseCall, Hand, Current, GhostSet, GhostDrop, Tick, Reap, Update}
-use Rattle.seam_entity.specs.Numbers.{limit, is_small, may_rise}
-use Rattle.seam_entity.specs.Here.{cell_count}
-use Rattle.seam_node_steps.specs.CellCases.{about, is_stray, stray_reap}
-use Rattle.seam_node_steps.specs.Nodes.{NodeView, World}
-use Rattle.seam_law_calls.specs.Frames.{Frame, here_at}
-use Rattle.seam_law_calls.specs.Sights.{entity_flow}
-use Rattle.seam_law_calls.specs.Ones.{real_in}
+use Rattle.seam_node_steps.specs.Prelude.{link, RealView, Msg, BaseCall, Hand, Current, GhostSet, GhostDrop, Tick, Reap, Update, limit}
+use Rattle.seam_node_steps.specs.Prelude.{is_small, may_rise, cell_count, about, is_stray, stray_reap, NodeView, World, RouteView, order_or}
+use Rattle.seam_law_calls.specs.Prelude.{Frame, here_at, entity_flow, real_in}
+use Rattle.seam_entity.specs.declared.message.Msg.TheVariants.{Call}
 use Rattle.seam_law_rounds.proofs.Calm.{IsCalmTo, IsCalm}
 use Rattle.seam_law_rounds.proofs.CalmRuns.{found_home}
-use Rattle.seam_node_steps.specs.Bases.{RouteView}
-use Rattle.seam_entity.specs.Orders.{order_or}
 use Rattle.std.specs.FinMap as table
 use Rattle.seam_law_ghosts.proofs.Strays.{mine_is, seen_first, feeds}
 

@@ -3,33 +3,19 @@ use Rattle.std.proofs.Common.{◌≡◌, ℕ, ◌<◌, ◌≤◌, ◌⊎◌, fal
 use Rattle.std.proofs.Common.{ap, ◌∙◌, subst, inl, inr}
 use Rattle.std.specs.Prelude.{slice_get}
 use Rattle.std.specs.List.{AllByRecursion}
-use Rattle.seam_machine.specs.Nets.{link, LeadsTo}
-use Rattle.seam_machine.specs.declared.machines.Event.{Event}
-use Rattle.seam_law_flow.specs.Flows.{letters_of, slot_at}
-use Rattle.seam_law_flow.specs.Tokens.{TokenPlace, In, On}
+use Rattle.seam_node_steps.specs.Prelude.{link, LeadsTo, Event, Batch, RealView, Msg, BaseCall, Hand, Current, GhostSet, GhostDrop, Tick}
+use Rattle.seam_node_steps.specs.Prelude.{Reap, Update, limit, cell_count, about, is_stray, CellView, slot_of, holders, NodeView, World}
+use Rattle.seam_node_steps.specs.Prelude.{node_steps, node_has_work, Cell, loaded}
+use Rattle.seam_law_flow.specs.Prelude.{letters_of, slot_at, TokenPlace, In, On}
+use Rattle.seam_law_calls.specs.Prelude.{Frame, here_at, mine, has_of, has_none, entity_flow, RealFits, IsFitHand, real_burden, real_in}
+use Rattle.seam_law_calls.specs.Prelude.{real_of, IsOne, reaped_by}
+use Rattle.seam_law_rounds.specs.Prelude.{IsSettled, IsBetweenRounds, IsFitting, framed, calls_of, next_from}
 use Rattle.seam_law_flow.proofs.TokenLemmas.{sole_here}
-use Rattle.seam_call.specs.declared.order.Batch.{Batch}
-use Rattle.seam_entity.specs.Reals.{RealView}
-use Rattle.seam_entity.specs.declared.message.Msg.{Msg}
-use Rattle.seam_entity.specs.declared.message.Msg.TheVariants.{Call, BaseCall, Hand, Current, GhostSet, GhostDrop, Tick, Reap, Update}
-use Rattle.seam_entity.specs.Numbers.{limit}
-use Rattle.seam_entity.specs.Here.{cell_count}
-use Rattle.seam_node_steps.specs.CellCases.{about, is_stray}
-use Rattle.seam_node_steps.specs.Cells.{CellView, slot_of}
-use Rattle.seam_node_steps.specs.Holders.{holders}
-use Rattle.seam_node_steps.specs.Nodes.{NodeView, World, node_steps, node_has_work}
-use Rattle.seam_node_steps.specs.Nodes.NodeView.{Cell}
-use Rattle.seam_node_steps.specs.Loads.{loaded}
-use Rattle.seam_law_calls.specs.Frames.{Frame, here_at}
-use Rattle.seam_law_calls.specs.Sights.{mine, has_of, has_none, entity_flow}
-use Rattle.seam_law_calls.specs.Fits.{RealFits, IsFitHand}
-use Rattle.seam_law_calls.specs.Burdens.{real_burden}
-use Rattle.seam_law_calls.specs.Ones.{real_in, real_of, IsOne, reaped_by}
+use Rattle.seam_entity.specs.declared.message.Msg.TheVariants.{Call}
 use Rattle.seam_law_calls.proofs.Counting.{none_counts}
 use Rattle.seam_law_calls.proofs.Easing.{came_small}
 use Rattle.seam_law_calls.proofs.Replaying.{replays_none}
 use Rattle.seam_law_calls.proofs.CellRuns.{finds}
-use Rattle.seam_law_rounds.specs.Between.{IsSettled, IsBetweenRounds, IsFitting, framed, calls_of, next_from}
 use Rattle.seam_law_rounds.proofs.Loaded.{no_mail}
 use Rattle.seam_law_rounds.proofs.Turns.{are_calls}
 use Rattle.seam_law_rounds.proofs.Going.{frame_loaded, settled_loaded, one_loaded, spared_loaded, kept_after}

@@ -3,25 +3,18 @@ use Rattle.std.proofs.Common.{◌≡◌, ℕ, ◌<◌, ◌≤◌, true, List, le
 use Rattle.std.proofs.Common.{sym, ap, subst, arith}
 use Rattle.std.specs.Prelude.{slice_get}
 use Rattle.std.specs.List.{AllByRecursion}
-use Rattle.seam_machine.specs.Nets.{happens, enabled, LeadsTo}
-use Rattle.seam_machine.specs.Events.{Occurs}
-use Rattle.seam_machine.specs.declared.machines.Input.TheVariants.{Task}
-use Rattle.seam_machine.specs.declared.machines.Event.{Event}
+use Rattle.seam_node_steps.specs.Prelude.{happens, enabled, LeadsTo, Occurs, Task, Event, RealView, limit, NodeView, World, node_steps}
+use Rattle.seam_node_steps.specs.Prelude.{node_has_work}
+use Rattle.seam_law_flow.specs.Prelude.{comes, slot_at}
+use Rattle.seam_law_calls.specs.Prelude.{Frame, IsInFrame, has_of, has_none, entity_flow, real_burden, has_burden, node_burden, mine_burden}
+use Rattle.seam_law_calls.specs.Prelude.{burden, real_in, real_of, IsSpared, IsFrame, OneFrom}
 use Rattle.seam_machine.proofs.Occurring.{occurs}
 use Rattle.seam_net_runs.specs.Sums.{weight_or}
 use Rattle.seam_net_runs.proofs.Runs.{leads_keeps}
 use Rattle.seam_net_runs.proofs.Weighing.{weight_bounds}
-use Rattle.seam_law_flow.specs.Flows.{comes, slot_at}
 use Rattle.seam_law_flow.proofs.Following.{slots_kept, letters_kept}
 use Rattle.seam_law_flow.proofs.TokenLemmas.{sole_here}
-use Rattle.seam_entity.specs.Reals.{RealView}
-use Rattle.seam_entity.specs.Numbers.{limit}
-use Rattle.seam_node_steps.specs.Nodes.{NodeView, World, node_steps, node_has_work}
-use Rattle.seam_law_calls.specs.Frames.{Frame, IsInFrame}
-use Rattle.seam_law_calls.specs.Sights.{has_of, has_none, entity_flow}
 use Rattle.seam_law_calls.proofs.Classify.{frame_happens, event_moves}
-use Rattle.seam_law_calls.specs.Burdens.{real_burden, has_burden, node_burden, mine_burden, burden}
-use Rattle.seam_law_calls.specs.Ones.{real_in, real_of, IsSpared, IsFrame, OneFrom}
 use Rattle.seam_law_calls.proofs.Replaying.{replays_on}
 use Rattle.seam_law_calls.proofs.OneReal.{goes, one_happens, calm_of, spared_happens}
 use Rattle.seam_law_rounds.proofs.Shape.{items_each}

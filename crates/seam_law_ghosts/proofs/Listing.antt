@@ -1,16 +1,10 @@
 -- An entity in a cell's survey list has its real there, and one in its look list has a witness too.
 use Rattle.std.proofs.Common.{◌≡◌, ℕ, ◌≤◌, Bool, true, false, cond, is_some, List, Option, Some, ◌⊎◌, inl, inr, refl, sym, ap}
 use Rattle.std.proofs.Common.{◌∙◌, subst, arith}
-use Rattle.seam_entity.specs.Reals.{RealView}
-use Rattle.seam_entity.specs.declared.message.Msg.{Msg}
-use Rattle.seam_entity.specs.Here.{Here}
-use Rattle.seam_node_steps.specs.Slots.{SlotStep, slot_after}
-use Rattle.seam_law_calls.specs.Frames.{Frame, here_at}
-use Rattle.seam_law_calls.specs.Sights.{Has, AtCell}
+use Rattle.seam_node_steps.specs.Prelude.{RealView, Msg, Here, SlotStep, slot_after}
+use Rattle.seam_law_calls.specs.Prelude.{Frame, here_at, Has, AtCell, unlisted_if, Does, Acts, surveys, calls, readies, has_witness}
+use Rattle.seam_law_calls.specs.Prelude.{looks_after_tick, CellMoves, Moves, at_a_cell, at_a_base, real_in}
 use Rattle.seam_law_calls.specs.CellMoves as move
-use Rattle.seam_law_calls.specs.CellMoves.{unlisted_if, Does, Acts, surveys, calls, readies, has_witness, looks_after_tick, CellMoves}
-use Rattle.seam_law_calls.specs.Moves.{Moves, at_a_cell, at_a_base}
-use Rattle.seam_law_calls.specs.Ones.{real_in}
 
 abbrev has_one : Option RealView → Bool
 has_one o = is_some o

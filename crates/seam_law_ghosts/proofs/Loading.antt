@@ -8,32 +8,18 @@ use Rattle.std.specs.FinMap as table
 use Rattle.std.specs.FinSet as set
 use Rattle.std.proofs.lemmas.Bool.Decides.{nat_tests}
 use Rattle.std.proofs.lemmas.Option.{slice_get-map}
-use Rattle.seam_tree.specs.Division.{Division, leaf_at, cells_of}
-use Rattle.seam_law_flow.specs.Flows.{slot_at, letters_of}
-use Rattle.seam_call.specs.declared.create.Create.{Create}
-use Rattle.seam_call.specs.declared.order.Order.{Order}
-use Rattle.seam_call.specs.declared.order.Batch.{Batch}
-use Rattle.seam_entity.specs.Reals.{RealView}
-use Rattle.seam_entity.specs.Executing.{created, real_begins}
-use Rattle.seam_node_steps.specs.Settle.{copy_if}
-use Rattle.seam_node_steps.specs.Maps.{Map}
-use Rattle.seam_node_steps.specs.Nodes.{NodeView, World}
-use Rattle.seam_node_steps.specs.Nodes.NodeView.{Cell, Base}
-use Rattle.seam_node_steps.specs.Loads.{with_nodes, real_if, created_at, with_witness, attached, cell_round, base_round}
-use Rattle.seam_node_steps.specs.Loads.{ordered_at, loaded}
+use Rattle.seam_node_steps.specs.Prelude.{Division, leaf_at, cells_of, Create, Order, Batch, RealView, created, real_begins, copy_if, Map}
+use Rattle.seam_node_steps.specs.Prelude.{NodeView, World, Cell, Base, with_nodes, real_if, created_at, with_witness, attached, cell_round}
+use Rattle.seam_node_steps.specs.Prelude.{base_round, ordered_at, loaded, holders}
+use Rattle.seam_law_flow.specs.Prelude.{slot_at, letters_of}
+use Rattle.seam_law_calls.specs.Prelude.{Frame, Has, has_of, has_none, entity_flow, real_in, real_of}
+use Rattle.seam_law_rounds.specs.Prelude.{IsNew, MayBeMade, IsBetweenRounds, IsFitting, framed, made, node_loaded}
+use Rattle.seam_law_ghosts.specs.Prelude.{book_entry, present, wanted, AreSettled, AreCopiesBetweenRounds}
 use Rattle.seam_node_steps.proofs.Slots.{get-set_at}
-use Rattle.seam_law_calls.specs.Frames.{Frame}
-use Rattle.seam_law_calls.specs.Sights.{Has, has_of, has_none, entity_flow}
-use Rattle.seam_law_calls.specs.Ones.{real_in, real_of}
-use Rattle.seam_law_rounds.specs.Between.{IsNew, MayBeMade, IsBetweenRounds, IsFitting, framed}
-use Rattle.seam_law_rounds.specs.Loaded.{made, node_loaded}
 use Rattle.seam_law_rounds.proofs.Loading.{each_keeps, Any, any, get-each_value}
 use Rattle.seam_law_rounds.proofs.Loaded.{slot_is, no_mail}
 use Rattle.seam_law_rounds.proofs.Shape.{Somewhere, Nowhere, search_real}
 use Rattle.seam_law_calls.proofs.Counting.{none_counts}
-use Rattle.seam_node_steps.specs.Holders.{holders}
-use Rattle.seam_law_ghosts.specs.Entries.{book_entry}
-use Rattle.seam_law_ghosts.specs.Copies.{present, wanted, AreSettled, AreCopiesBetweenRounds}
 
 -- ---- no book changes
 

@@ -6,38 +6,22 @@ use Rattle.std.specs.Prelude.{filter_map}
 use Rattle.std.specs.List.{AllByRecursion}
 use Rattle.std.specs.FinSet as set
 use Rattle.std.proofs.lemmas.Bool.{eqb-true, eqb-false}
-use Rattle.seam_tree.specs.Cells.{Cells}
-use Rattle.seam_machine.specs.Sends.{items_to}
+use Rattle.seam_node_steps.specs.Prelude.{Cells, items_to, part_of_deed, type_of, Call as CallData, GhostCopy, RealView, Msg, BaseCall}
+use Rattle.seam_node_steps.specs.Prelude.{Hand, Current, GhostSet, GhostDrop, Tick, Reap, Update, cell_numbers, copy_of_real, settled_to}
+use Rattle.seam_node_steps.specs.Prelude.{told, told_unless, ghost_message, ghost_messages, beat_after, copy_if}
+use Rattle.seam_law_flow.specs.Prelude.{letters_of, OfEntry, AllBring, entry_in, greater_entry, IsSilent, carried_in, SendsNone, Handles}
+use Rattle.seam_law_flow.specs.Prelude.{still, turns, lands, leaves, relays}
+use Rattle.seam_law_calls.specs.Prelude.{Frame, here_at, Has, account_of, after_call, real_in, real_of}
+use Rattle.seam_law_ghosts.specs.Prelude.{Entry, brings, book_entry, Executes, nothing, executes, haunts_staying, haunts_going}
+use Rattle.seam_law_ghosts.specs.Prelude.{told_staying, told_going, staying, going, left_entry, GhostMoves, shown_at}
 use Rattle.seam_defs.specs.declared.flags.Part.TheVariants as part
-use Rattle.seam_defs.specs.Deeds.{part_of_deed}
-use Rattle.seam_defs.specs.Types.{type_of}
-use Rattle.seam_law_flow.specs.Flows.{letters_of}
-use Rattle.seam_law_flow.specs.Newest.{OfEntry, AllBring, entry_in, greater_entry}
-use Rattle.seam_law_flow.specs.Sent.{IsSilent}
-use Rattle.seam_law_flow.specs.Tokens.{carried_in, SendsNone, Handles, still, turns, lands, leaves, relays}
 use Rattle.seam_law_flow.proofs.Following.{all_append}
 use Rattle.seam_law_flow.proofs.SendLists.{sees_none, sees_after_silent, sees_one_here, sees_one_there}
-use Rattle.seam_call.specs.declared.call.Call.{Call as CallData}
-use Rattle.seam_call.specs.declared.shown.GhostCopy.{GhostCopy}
-use Rattle.seam_entity.specs.Reals.{RealView}
-use Rattle.seam_entity.specs.declared.message.Msg.{Msg}
-use Rattle.seam_entity.specs.declared.message.Msg.TheVariants.{Call, BaseCall, Hand, Current, GhostSet, GhostDrop, Tick, Reap, Update}
-use Rattle.seam_entity.specs.Here.{cell_numbers}
-use Rattle.seam_entity.specs.Executing.{copy_of_real, settled_to}
-use Rattle.seam_node_steps.specs.Settle.{told, told_unless, ghost_message, ghost_messages, beat_after, copy_if}
-use Rattle.seam_law_calls.specs.Frames.{Frame, here_at}
-use Rattle.seam_law_calls.specs.Sights.{Has}
-use Rattle.seam_law_calls.specs.Replays.{account_of, after_call}
-use Rattle.seam_law_calls.specs.Ones.{real_in, real_of}
+use Rattle.seam_entity.specs.declared.message.Msg.TheVariants.{Call}
 use Rattle.seam_law_calls.proofs.Handling.{reals_unseen}
 use Rattle.seam_law_calls.proofs.Plain.{ghosts_silent}
 use Rattle.seam_law_calls.proofs.Sparing.{items_all}
-use Rattle.seam_law_ghosts.specs.Entries.{Entry, brings, book_entry}
-use Rattle.seam_law_ghosts.specs.GhostMoves.{Executes, nothing, executes, haunts_staying, haunts_going}
-use Rattle.seam_law_ghosts.specs.GhostMoves.{told_staying, told_going, staying, going}
-use Rattle.seam_law_ghosts.specs.GhostMoves.{left_entry, GhostMoves}
 use Rattle.seam_law_ghosts.specs.GhostMoves as ghost
-use Rattle.seam_law_ghosts.specs.Truths.{shown_at}
 use Rattle.seam_law_ghosts.proofs.Greater.{greater_has}
 
 -- ---- what became of the real

@@ -6,38 +6,26 @@ use Rattle.std.specs.Ordering.{nat_cmp}
 use Rattle.std.proofs.lemmas.Bool.{cases_eq}
 use Rattle.std.proofs.lemmas.Bool.Decides.{nat_tests}
 use Rattle.std.proofs.lemmas.List.{append-nil}
-use Rattle.seam_machine.specs.Sends.{items_to}
+use Rattle.seam_node_steps.specs.Prelude.{items_to, GhostCopy, RealView, Msg, Hand, GhostSet, GhostDrop, Reap, cell_count, settled_to}
+use Rattle.seam_node_steps.specs.Prelude.{copy_if, is_stray, drops, World}
+use Rattle.seam_law_flow.specs.Prelude.{Flow, Goes, comes, letters_of, NotAbove, OfEntry, AllBring, Has as HasEntry, entry_in}
+use Rattle.seam_law_flow.specs.Prelude.{greater_entry, Newest, IsSilent, carried_in, TokenPlace, In, On, SendsNone, SendsOne, still, turns}
+use Rattle.seam_law_flow.specs.Prelude.{lands, leaves}
+use Rattle.seam_law_calls.specs.Prelude.{Frame, here_at, Has, entity_flow, account_of, real_in, real_of, IsOne}
+use Rattle.seam_law_ghosts.specs.Prelude.{Entry, brings, book_entry, IsPlacedAlike, Executes, nothing as still_as, executes, haunts_staying}
+use Rattle.seam_law_ghosts.specs.Prelude.{haunts_going, told_staying, told_going, staying, going, left_entry, IsMissed, GhostMoves, present}
+use Rattle.seam_law_ghosts.specs.Prelude.{wanted, AreTold, IsForgotten}
 use Rattle.seam_machine.proofs.SendLemmas.{items_to-append}
-use Rattle.seam_law_flow.specs.Flows.{Flow, Goes, comes, letters_of}
-use Rattle.seam_law_flow.specs.Newest.{NotAbove, OfEntry, AllBring, Has as HasEntry, entry_in, greater_entry, Newest}
-use Rattle.seam_law_flow.specs.Sent.{IsSilent}
-use Rattle.seam_law_flow.specs.Tokens.{carried_in, TokenPlace, In, On, SendsNone, SendsOne, still, turns, lands, leaves}
 use Rattle.seam_law_flow.proofs.NewestLemmas.{newest_stays, newest_rises, not_above_rises, taken_comes}
 use Rattle.seam_law_flow.proofs.SendLists.{sees_none, sees_after_silent, sees_one_here, sees_one_there, one_here, one_there}
 use Rattle.seam_law_flow.proofs.TokenLemmas.{sole_here, sole_came, sole_goes}
-use Rattle.seam_call.specs.declared.shown.GhostCopy.{GhostCopy}
-use Rattle.seam_entity.specs.Reals.{RealView}
-use Rattle.seam_entity.specs.declared.message.Msg.{Msg}
-use Rattle.seam_entity.specs.declared.message.Msg.TheVariants.{Hand, GhostSet, GhostDrop, Reap}
-use Rattle.seam_entity.specs.Here.{cell_count}
-use Rattle.seam_entity.specs.Executing.{settled_to}
-use Rattle.seam_node_steps.specs.Settle.{copy_if}
-use Rattle.seam_node_steps.specs.CellCases.{is_stray, drops}
-use Rattle.seam_node_steps.specs.Nodes.{World}
-use Rattle.seam_law_calls.specs.Frames.{Frame, here_at}
-use Rattle.seam_law_calls.specs.Sights.{Has, entity_flow}
-use Rattle.seam_law_calls.specs.Replays.{account_of}
-use Rattle.seam_law_calls.specs.Ones.{real_in, real_of, IsOne}
 use Rattle.seam_law_calls.proofs.Handling.{reals_unseen}
 use Rattle.seam_law_calls.proofs.Plain.{ghosts_silent}
 use Rattle.seam_law_calls.proofs.Sparing.{items_all}
-use Rattle.seam_law_ghosts.specs.Entries.{Entry, brings, book_entry}
-use Rattle.seam_law_ghosts.specs.GhostMoves.{IsPlacedAlike, Executes, nothing as still_as, executes, haunts_staying, haunts_going}
-use Rattle.seam_law_ghosts.specs.GhostMoves.{told_staying, told_going, staying, going, left_entry, IsMissed, GhostMoves}
 use Rattle.seam_law_ghosts.specs.GhostMoves as ghost
 use Rattle.seam_law_ghosts.proofs.Making.{executes_beat, NoEntry, none_carried, all_unseen, none_brought, none_here}
 use Rattle.seam_law_ghosts.proofs.Present.{same_shown_of, unseen_same}
-use Rattle.seam_law_ghosts.specs.Copies.{present, wanted, IsTold, IsAway, AreTold, IsForgotten}
+use Rattle.seam_law_ghosts.specs.Copies.{IsTold, IsAway}
 use Rattle.seam_law_ghosts.proofs.NewestTelling.{no_haunt_at_home, Gets, nothing, entry, none_there, gets, beat_rises, beat_up, drops_to}
 
 -- an entry that is not newer does not change the book

@@ -3,23 +3,15 @@ use Rattle.std.proofs.Common.{◌≡◌, ℕ, ◌+◌, ◌<◌, ◌≤◌, ◌�
 use Rattle.std.specs.FinSet as set
 use Rattle.std.proofs.lemmas.Bool.{cases_eq}
 use Rattle.std.proofs.lemmas.Bool.Decides.{nat_tests}
-use Rattle.seam_geo.specs.declared.pos.Pos.{Pos}
-use Rattle.seam_geo.specs.Pos.{distance}
-use Rattle.seam_geo.specs.Rect.{Area, Holds, distance_to}
-use Rattle.seam_tree.specs.Division.{Division, area, leaf_at, cells_of, IsInSpace, IsTree}
+use Rattle.seam_node_steps.specs.Prelude.{Pos, distance, Area, distance_to, Division, area, leaf_at, cells_of, IsInSpace, IsTree}
+use Rattle.seam_node_steps.specs.Prelude.{distance_to_cell, Place, home_at, GhostsReach, RealView, is_inside, World}
+use Rattle.seam_law_calls.specs.Prelude.{Frame, entity_flow, real_in}
+use Rattle.seam_law_rounds.specs.Prelude.{IsBetweenRounds}
+use Rattle.seam_law_ghosts.specs.Prelude.{distances_of, place_of, ArePlaced}
+use Rattle.seam_geo.specs.Rect.{Holds}
 use Rattle.seam_tree.proofs.Areas.{leaf_at_is}
-use Rattle.seam_haunt.specs.Haunts.{distance_to_cell}
-use Rattle.seam_haunt.specs.Places.{Place, home_at, HasGhost}
+use Rattle.seam_haunt.specs.Places.{HasGhost}
 use Rattle.seam_haunt.proofs.Settling.{ghosts_settled}
-use Rattle.seam_defs.specs.Settings.{GhostsReach}
-use Rattle.seam_entity.specs.Reals.{RealView}
-use Rattle.seam_entity.specs.Fitting.{is_inside}
-use Rattle.seam_node_steps.specs.Nodes.{World}
-use Rattle.seam_law_calls.specs.Frames.{Frame}
-use Rattle.seam_law_calls.specs.Sights.{entity_flow}
-use Rattle.seam_law_calls.specs.Ones.{real_in}
-use Rattle.seam_law_rounds.specs.Between.{IsBetweenRounds}
-use Rattle.seam_law_ghosts.specs.RealPlaces.{distances_of, place_of, ArePlaced}
 
 in_space : (size : ℕ) (t : Division) (p : Pos) → t.size ≡ size → is_inside size p ≡ true → IsInSpace t p
 in_space size t p same is = record { x_inside = grind (arith, nat_tests, same, is); z_inside = grind (arith, nat_tests, same, is) }

@@ -3,23 +3,14 @@ use Rattle.std.proofs.Common.{◌≡◌, ℕ, ◌+◌, ◌<◌, ◌≤◌, Bool,
 use Rattle.std.proofs.Common.{refl, sym, ap, ◌∙◌, subst, arith}
 use Rattle.std.specs.FinSet as set
 use Rattle.std.proofs.lemmas.Bool.{eq-eqb, ne_eqb}
-use Rattle.seam_geo.specs.declared.pos.Pos.{Pos}
-use Rattle.seam_tree.specs.Division.{Division, area, cells_of}
-use Rattle.seam_tree.specs.Cells.{Cells}
+use Rattle.seam_node_steps.specs.Prelude.{Pos, Division, area, cells_of, Cells, items_to, GhostCopy, RealView, Msg, GhostSet, GhostDrop}
+use Rattle.seam_node_steps.specs.Prelude.{Here, cell_count, copy_of_real, haunts_at, told, told_unless, ghost_message, ghost_messages}
+use Rattle.seam_node_steps.specs.Prelude.{beat_after, copy_if, drop_if, drop_at, drops}
+use Rattle.seam_law_flow.specs.Prelude.{item_of}
+use Rattle.seam_law_ghosts.specs.Prelude.{brings}
 use Rattle.seam_haunt.specs.Haunts.{is_close}
 use Rattle.seam_haunt.proofs.Chosen.{contains_haunts_of}
-use Rattle.seam_machine.specs.Sends.{items_to}
-use Rattle.seam_law_flow.specs.Sent.{item_of}
 use Rattle.seam_law_flow.proofs.SendLists.{chosen_at}
-use Rattle.seam_call.specs.declared.shown.GhostCopy.{GhostCopy}
-use Rattle.seam_entity.specs.Reals.{RealView}
-use Rattle.seam_entity.specs.declared.message.Msg.{Msg}
-use Rattle.seam_entity.specs.declared.message.Msg.TheVariants.{GhostSet, GhostDrop}
-use Rattle.seam_entity.specs.Here.{Here, cell_count}
-use Rattle.seam_entity.specs.Executing.{copy_of_real}
-use Rattle.seam_node_steps.specs.Settle.{haunts_at, told, told_unless, ghost_message, ghost_messages, beat_after, copy_if}
-use Rattle.seam_node_steps.specs.CellCases.{drop_if, drop_at, drops}
-use Rattle.seam_law_ghosts.specs.Entries.{brings}
 
 -- ---- the home is no haunt
 

@@ -7,44 +7,24 @@ use Rattle.std.specs.FinMap as table
 use Rattle.std.proofs.lemmas.Bool.{eq-eqb}
 use Rattle.std.proofs.lemmas.Bool.Decides.{nat_tests}
 use Rattle.std.proofs.lemmas.Option.{slice_get-map}
-use Rattle.seam_machine.specs.Nets.{link, LeadsTo}
-use Rattle.seam_machine.specs.Totals.{total}
-use Rattle.seam_machine.specs.declared.machines.Event.{Event}
+use Rattle.seam_node_steps.specs.Prelude.{link, LeadsTo, total, Event, OrderView, next_item, Call as CallData, Order, Batch, Orders}
+use Rattle.seam_node_steps.specs.Prelude.{order_or, RealView, Msg, limit, may_rise, cell_count, base_of, order_is_ready, has_ready}
+use Rattle.seam_node_steps.specs.Prelude.{ready_order, may_settle, may_execute, about, is_stray, stray_survey, CellView, slot_of, holders}
+use Rattle.seam_node_steps.specs.Prelude.{NodeView, World, node_steps, node_has_work, Cell, with_nodes, ordered_at, reap_ordered_at, loaded}
+use Rattle.seam_node_steps.specs.Prelude.{reaps_loaded, look_loaded}
+use Rattle.seam_law_flow.specs.Prelude.{letters_of, slot_at}
+use Rattle.seam_law_calls.specs.Prelude.{Frame, here_at, IsInFrame, mine, times, has_of, has_none, entity_flow, has_witness, real_burden}
+use Rattle.seam_law_calls.specs.Prelude.{real_in, real_of}
+use Rattle.seam_law_rounds.specs.Prelude.{IsBetweenRounds, IsFitting, framed, each, AreReapable}
+use Rattle.seam_law_ghosts.specs.Prelude.{HasNoStrayTask}
 use Rattle.seam_machine.proofs.Quiet.{quiet_links, quiet_tasks}
-use Rattle.seam_law_flow.specs.Flows.{letters_of, slot_at}
-use Rattle.seam_order.specs.Held.{OrderView}
-use Rattle.seam_order.specs.Offers.{next_item}
 use Rattle.seam_table.proofs.Found.{found}
-use Rattle.seam_call.specs.declared.call.Call.{Call as CallData}
-use Rattle.seam_call.specs.declared.order.Order.{Order}
 use Rattle.seam_call.specs.declared.order.Order.TheVariants as order
-use Rattle.seam_call.specs.declared.order.Batch.{Batch}
-use Rattle.seam_entity.specs.Orders.{Orders, order_or}
-use Rattle.seam_entity.specs.Reals.{RealView}
-use Rattle.seam_entity.specs.declared.message.Msg.{Msg}
-use Rattle.seam_entity.specs.Numbers.{limit, may_rise}
-use Rattle.seam_entity.specs.Here.{cell_count, base_of}
-use Rattle.seam_entity.specs.Calls.{order_is_ready, has_ready, ready_order}
-use Rattle.seam_entity.specs.Executing.{may_settle, may_execute}
-use Rattle.seam_node_steps.specs.CellCases.{about, is_stray, stray_survey}
-use Rattle.seam_node_steps.specs.Cells.{CellView, slot_of}
-use Rattle.seam_node_steps.specs.Holders.{holders}
-use Rattle.seam_node_steps.specs.Nodes.{NodeView, World, node_steps, node_has_work}
-use Rattle.seam_node_steps.specs.Nodes.NodeView.{Cell}
-use Rattle.seam_node_steps.specs.Loads.{with_nodes, ordered_at, reap_ordered_at, loaded, reaps_loaded, look_loaded}
-use Rattle.seam_law_calls.specs.Frames.{Frame, here_at, IsInFrame}
-use Rattle.seam_law_calls.specs.Sights.{mine, times, has_of, has_none, entity_flow}
-use Rattle.seam_law_calls.specs.CellMoves.{has_witness}
-use Rattle.seam_law_calls.specs.Burdens.{real_burden}
-use Rattle.seam_law_calls.specs.Ones.{real_in, real_of}
 use Rattle.seam_law_calls.proofs.Counting.{none_counts}
 use Rattle.seam_law_calls.proofs.Holds.{all_two}
-use Rattle.seam_law_rounds.specs.Between.{IsBetweenRounds, IsFitting, framed}
-use Rattle.seam_law_rounds.specs.Loaded.{each}
 use Rattle.seam_law_rounds.proofs.Loading.{node_there}
 use Rattle.seam_law_rounds.proofs.Framing.{in_frame}
 use Rattle.seam_law_rounds.proofs.Going.{kept_after}
-use Rattle.seam_law_rounds.specs.LastPhases.{AreReapable}
 use Rattle.seam_law_rounds.proofs.Shape.{Somewhere, Nowhere, search_real, frame_leads}
 use Rattle.seam_law_rounds.proofs.Calm.{IsCalmOrder, order_reaps, IsCalm}
 use Rattle.seam_law_rounds.proofs.CalmMoves.{none_ready}
@@ -53,7 +33,6 @@ use Rattle.seam_law_rounds.proofs.Giving.{reaps_framed, look_framed, reaps_given
 use Rattle.seam_law_rounds.proofs.Phases.{settled, low, leads, calm_leads}
 use Rattle.seam_law_rounds.proofs.Reaping as reaping
 use Rattle.seam_law_rounds.proofs.Looking as looking
-use Rattle.seam_law_ghosts.specs.Tasks.{HasNoStrayTask}
 use Rattle.seam_law_ghosts.proofs.Listing.{IsListed}
 use Rattle.seam_law_ghosts.proofs.Lasting.{AreListed, listed_leads, real_bound}
 use Rattle.seam_law_ghosts.proofs.Unknown.{IsTickOrder, IsTick, IsUnknown, unknown_leads}

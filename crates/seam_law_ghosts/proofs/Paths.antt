@@ -1,16 +1,9 @@
 -- Positions along calls.
 use Rattle.std.proofs.Common.{◌≡◌, List, [], ◌∷◌, ◌++◌, refl, sym, ap, ◌∙◌}
 use Rattle.std.proofs.lemmas.List.{append-nil, append_assoc, append_cancel_left}
-use Rattle.seam_geo.specs.declared.pos.Pos.{Pos}
-use Rattle.seam_haunt.specs.Places.{last_of}
-use Rattle.seam_defs.specs.declared.types.TypeDef.{TypeDef}
-use Rattle.seam_defs.specs.Deeds.{after}
-use Rattle.seam_defs.specs.Types.{type_of}
-use Rattle.seam_call.specs.declared.call.Call.{Call}
-use Rattle.seam_entity.specs.Reals.{RealView}
-use Rattle.seam_law_calls.specs.Frames.{Frame}
-use Rattle.seam_law_calls.specs.Replays.{Account, account_of, after_call, after_calls, Replays}
-use Rattle.seam_law_ghosts.specs.RealPlaces.{positions_after, path_of}
+use Rattle.seam_node_steps.specs.Prelude.{Pos, last_of, TypeDef, after, type_of, Call, RealView}
+use Rattle.seam_law_calls.specs.Prelude.{Frame, Account, account_of, after_call, after_calls, Replays}
+use Rattle.seam_law_ghosts.specs.Prelude.{positions_after, path_of}
 
 module _ (t : TypeDef) where
   -- the last position is that of the state after the calls

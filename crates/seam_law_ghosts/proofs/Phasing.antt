@@ -1,32 +1,23 @@
 -- Where entities are reaped, and where witnesses look, copies stay what they are, but for those of an entity whose Reap comes.
 use Rattle.std.proofs.Common.{◌≡◌, ℕ, ◌<◌, ◌⊎◌, Bool, true, List, [], ◌∷◌, Option, None, Some, refl, sym, ap, ◌∙◌}
 use Rattle.std.proofs.Common.{subst, arith, inl, inr}
-use Rattle.seam_machine.specs.Nets.{happens, enabled, IsQuiet, LeadsTo}
-use Rattle.seam_machine.specs.declared.machines.Event.{Event}
+use Rattle.seam_node_steps.specs.Prelude.{happens, enabled, IsQuiet, LeadsTo, Event, RealView, WitnessView, Msg, BaseCall, Hand, Current}
+use Rattle.seam_node_steps.specs.Prelude.{GhostSet, GhostDrop, Tick, Reap, Update, is_small, may_rise, cell_count, is_stray, holders, World}
+use Rattle.seam_node_steps.specs.Prelude.{node_steps, node_has_work}
+use Rattle.seam_law_flow.specs.Prelude.{Goes, comes, TokenPlace, In, On}
+use Rattle.seam_law_calls.specs.Prelude.{Frame, here_at, IsInFrame, Has, entity_flow, MovesTo, RealFits, real_in, real_of, IsOne, IsFrame}
+use Rattle.seam_law_rounds.specs.Prelude.{IsSettled, IsBetweenRounds}
+use Rattle.seam_law_ghosts.specs.Prelude.{Entry, brings, book_entry, GhostMoves, wanted, copy_at, AreTold, IsForgotten, AreSettled}
+use Rattle.seam_law_ghosts.specs.Prelude.{AreCopiesBetweenRounds}
 use Rattle.seam_machine.proofs.Occurring.{occurs}
 use Rattle.seam_net_runs.proofs.Runs.{leads_keeps}
-use Rattle.seam_law_flow.specs.Flows.{Goes, comes}
-use Rattle.seam_law_flow.specs.Tokens.{TokenPlace, In, On}
 use Rattle.seam_law_flow.proofs.Following.{came}
 use Rattle.seam_law_flow.proofs.TokenLemmas.{sole_here}
-use Rattle.seam_entity.specs.Reals.{RealView, WitnessView}
-use Rattle.seam_entity.specs.declared.message.Msg.{Msg}
-use Rattle.seam_entity.specs.declared.message.Msg.TheVariants.{Call, BaseCall, Hand, Current, GhostSet, GhostDrop, Tick, Reap, Update}
-use Rattle.seam_entity.specs.Numbers.{is_small, may_rise}
-use Rattle.seam_entity.specs.Here.{cell_count}
-use Rattle.seam_node_steps.specs.CellCases.{is_stray}
-use Rattle.seam_node_steps.specs.Holders.{holders}
-use Rattle.seam_node_steps.specs.Nodes.{World, node_steps, node_has_work}
-use Rattle.seam_law_calls.specs.Frames.{Frame, here_at, IsInFrame}
-use Rattle.seam_law_calls.specs.Sights.{Has, entity_flow}
-use Rattle.seam_law_calls.specs.Moves.{MovesTo}
+use Rattle.seam_entity.specs.declared.message.Msg.TheVariants.{Call}
 use Rattle.seam_law_calls.proofs.Classify.{event_moves}
-use Rattle.seam_law_calls.specs.Fits.{RealFits}
-use Rattle.seam_law_calls.specs.Ones.{real_in, real_of, IsOne, IsFrame}
 use Rattle.seam_law_calls.proofs.Counting.{one_counts, none_counts}
 use Rattle.seam_law_calls.proofs.Holds.{not_both}
 use Rattle.seam_law_calls.proofs.Gone.{gone_leads}
-use Rattle.seam_law_rounds.specs.Between.{IsSettled, IsBetweenRounds}
 use Rattle.seam_law_rounds.proofs.Ready.{quiet_home}
 use Rattle.seam_law_rounds.proofs.Shape.{Somewhere, Nowhere, search_real, frame_leads}
 use Rattle.seam_law_rounds.proofs.Calm.{IsSame, IsCalmTo, IsCalm}
@@ -34,10 +25,7 @@ use Rattle.seam_law_rounds.proofs.Ending.{calm_one, calm_none}
 use Rattle.seam_law_rounds.proofs.Phases.{calm_leads}
 use Rattle.seam_law_ghosts.proofs.InPhases.{small_to}
 use Rattle.seam_law_ghosts.proofs.Unknown.{IsUnknown, unknown_leads}
-use Rattle.seam_law_ghosts.specs.Entries.{Entry, brings, book_entry}
-use Rattle.seam_law_ghosts.specs.GhostMoves.{GhostMoves}
 use Rattle.seam_law_ghosts.proofs.Steps.{ghost_moves}
-use Rattle.seam_law_ghosts.specs.Copies.{wanted, copy_at, AreTold, IsForgotten, AreSettled, AreCopiesBetweenRounds}
 use Rattle.seam_law_ghosts.proofs.Moving.{After, here, gone, after_move, still_forgotten}
 use Rattle.seam_law_ghosts.proofs.Still.{quiet_mail, nowhere_counts, forgotten_still, none_still, told_still, settled_still}
 use Rattle.seam_law_ghosts.proofs.Rounding.{lost_leads}

@@ -1,23 +1,13 @@
 -- A whole round leaves each entity at a place that the rounds allow, and keeps the record of places; an opened world has it.
 use Rattle.std.proofs.Common.{◌≡◌, ℕ, ◌≤◌, List, [], ◌∷◌, Some, refl, sym, ◌∙◌}
 use Rattle.std.specs.List.{AllByRecursion}
-use Rattle.seam_defs.specs.declared.settings.Settings.{Settings}
-use Rattle.seam_defs.specs.declared.types.TypeDef.{TypeDef}
-use Rattle.seam_haunt.specs.Places.{Place}
-use Rattle.seam_call.specs.declared.create.Create.{Create}
-use Rattle.seam_call.specs.declared.order.Batch.{Batch}
-use Rattle.seam_entity.specs.Reals.{RealView}
-use Rattle.seam_node_steps.specs.Nodes.{World}
-use Rattle.seam_node_steps.specs.Loads.{opened}
-use Rattle.seam_law_calls.specs.Frames.{Frame}
-use Rattle.seam_law_calls.specs.Sights.{entity_flow}
-use Rattle.seam_law_calls.specs.Ones.{real_in, IsFrame}
-use Rattle.seam_law_rounds.specs.Between.{IsBetweenRounds, IsFitting, framed}
-use Rattle.seam_law_rounds.specs.LastPhases.{first_frame}
+use Rattle.seam_node_steps.specs.Prelude.{Settings, TypeDef, Place, Create, Batch, RealView, World, opened}
+use Rattle.seam_law_calls.specs.Prelude.{Frame, entity_flow, real_in, IsFrame}
+use Rattle.seam_law_rounds.specs.Prelude.{IsBetweenRounds, IsFitting, framed, first_frame}
+use Rattle.seam_law_ghosts.specs.Prelude.{place_of, first_place, made_real, IsRightPlace, GoesThroughRound, WasThere, ArePlaced}
 use Rattle.seam_law_rounds.proofs.CallsEnd.{calls_end_between}
 use Rattle.seam_law_rounds.proofs.Reaping.{reaps_end_between}
 use Rattle.seam_law_rounds.proofs.Opened.{opened_has_none}
-use Rattle.seam_law_ghosts.specs.RealPlaces.{place_of, first_place, made_real, IsRightPlace, GoesThroughRound, WasThere, ArePlaced}
 use Rattle.seam_law_ghosts.proofs.Ends.{MadeRight, right_kept, right_made, calls_place, reaps_leave, looks_leave, stays_placed, stays_right}
 
 module _ (f : Frame) (w : World) (b : Batch) (between : IsBetweenRounds f w) (fits : IsFitting f w b) (v : World)

@@ -2,39 +2,24 @@
 use Rattle.std.proofs.Common.{◌≡◌, ℕ, ◌+◌, ◌≤◌, ◌⊎◌, Bool, true, List, [], ◌∷◌, ◌++◌, Option, None, Some, refl, sym, ap, ◌∙◌}
 use Rattle.std.proofs.Common.{subst, arith, inl, inr}
 use Rattle.std.specs.FinSet as set
-use Rattle.seam_geo.specs.declared.pos.Pos.{Pos}
-use Rattle.seam_tree.specs.Cells.{Cells}
-use Rattle.seam_haunt.specs.Places.{Place, settled}
+use Rattle.seam_node_steps.specs.Prelude.{Pos, Cells, Place, after, type_of, AreDefs, items_to, Call as CallData, RealView, Msg, Hand}
+use Rattle.seam_node_steps.specs.Prelude.{GhostSet, GhostDrop, Tick, Reap, cell_count, may_settle, settled_to, SlotStep, slot_after}
+use Rattle.seam_node_steps.specs.Prelude.{home_after, haunts_at, ghost_messages, beat_after, is_stray, may_come, stray_survey}
+use Rattle.seam_law_flow.specs.Prelude.{letters_of, carried_in, Handles, still, turns, lands, leaves, relays}
+use Rattle.seam_law_calls.specs.Prelude.{Frame, here_at, Has, AtCell, Does, Acts, surveys, calls, readies, CellMoves, Moves, at_a_cell}
+use Rattle.seam_law_calls.specs.Prelude.{at_a_base, Replays, real_in, real_of}
+use Rattle.seam_law_ghosts.specs.Prelude.{distances_of, place_of}
+use Rattle.seam_haunt.specs.Places.{settled}
 use Rattle.seam_haunt.proofs.Settling.{haunts_without_home}
-use Rattle.seam_defs.specs.Deeds.{after}
-use Rattle.seam_defs.specs.Types.{type_of, AreDefs}
-use Rattle.seam_machine.specs.Sends.{items_to}
-use Rattle.seam_law_flow.specs.Flows.{letters_of}
-use Rattle.seam_law_flow.specs.Tokens.{carried_in, Handles, still, turns, lands, leaves, relays}
 use Rattle.seam_law_flow.proofs.SendLists.{sees_none, sees_after_silent, sees_one_here, sees_one_there}
-use Rattle.seam_call.specs.declared.call.Call.{Call as CallData}
-use Rattle.seam_entity.specs.Reals.{RealView}
-use Rattle.seam_entity.specs.declared.message.Msg.{Msg}
-use Rattle.seam_entity.specs.declared.message.Msg.TheVariants.{Call, Hand, GhostSet, GhostDrop, Tick, Reap}
-use Rattle.seam_entity.specs.Here.{cell_count}
-use Rattle.seam_entity.specs.Executing.{may_settle, settled_to}
-use Rattle.seam_node_steps.specs.Slots.{SlotStep, slot_after}
-use Rattle.seam_node_steps.specs.Settle.{home_after, haunts_at, ghost_messages, beat_after}
+use Rattle.seam_entity.specs.declared.message.Msg.TheVariants.{Call}
 use Rattle.seam_node_steps.specs.Settle as settle
-use Rattle.seam_node_steps.specs.CellCases.{is_stray, may_come, stray_survey}
-use Rattle.seam_law_calls.specs.Frames.{Frame, here_at}
-use Rattle.seam_law_calls.specs.Sights.{Has, AtCell}
 use Rattle.seam_law_calls.specs.CellMoves as move
-use Rattle.seam_law_calls.specs.CellMoves.{Does, Acts, surveys, calls, readies, CellMoves}
-use Rattle.seam_law_calls.specs.Moves.{Moves, at_a_cell, at_a_base}
-use Rattle.seam_law_calls.specs.Replays.{Replays}
-use Rattle.seam_law_calls.specs.Ones.{real_in, real_of}
 use Rattle.seam_law_calls.proofs.Handling.{FindsRoom, reals_unseen, handled}
 use Rattle.seam_law_calls.proofs.Holds.{not_both}
 use Rattle.seam_law_calls.proofs.OneReal.{came_hand}
 use Rattle.seam_law_calls.proofs.Plain.{ghosts_silent}
 use Rattle.seam_law_calls.proofs.Replaying.{acts_replays}
-use Rattle.seam_law_ghosts.specs.RealPlaces.{distances_of, place_of}
 
 -- ---- what becomes of a real and its place
 

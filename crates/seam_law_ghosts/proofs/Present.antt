@@ -5,23 +5,12 @@ use Rattle.std.proofs.lemmas.Bool.Decides.{Decides-int_eq, Decides-eqb}
 use Rattle.std.proofs.lemmas.Slice.Eq.{slice_eq-Decides, bytes_eq-Decides}
 use Rattle.std.specs.Bool.{Decides}
 use Rattle.std.proofs.lemmas.List.{take-append-le, take_all, length-append}
-use Rattle.seam_value.specs.declared.values.Value.{Value}
-use Rattle.seam_value.specs.declared.values.Value.TheVariants.{Number, Text}
+use Rattle.seam_node_steps.specs.Prelude.{Value, Number, Text, Deed, State, TypeDef, ghost_of, after, part_of_deed, same_value, same_values}
+use Rattle.seam_node_steps.specs.Prelude.{same_state, same_shown, changes, type_of, Call, GhostCopy, RealView, public_after}
+use Rattle.seam_law_calls.specs.Prelude.{Frame, Account, account_of, after_call, after_calls, Replays}
+use Rattle.seam_law_ghosts.specs.Prelude.{shown_at, IsTrueCopy}
 use Rattle.seam_defs.specs.declared.flags.Part.TheVariants as part
-use Rattle.seam_defs.specs.declared.states.Deed.{Deed}
-use Rattle.seam_defs.specs.declared.states.State.{State}
-use Rattle.seam_defs.specs.declared.types.TypeDef.{TypeDef}
-use Rattle.seam_defs.specs.Deeds.{ghost_of, after, part_of_deed}
-use Rattle.seam_defs.specs.Tests.{same_value, same_values, same_state, same_shown, changes}
-use Rattle.seam_defs.specs.Types.{type_of}
-use Rattle.seam_call.specs.declared.call.Call.{Call}
-use Rattle.seam_call.specs.declared.shown.GhostCopy.{GhostCopy}
-use Rattle.seam_entity.specs.Reals.{RealView}
-use Rattle.seam_entity.specs.Executing.{public_after}
-use Rattle.seam_law_calls.specs.Frames.{Frame}
-use Rattle.seam_law_calls.specs.Replays.{Account, account_of, after_call, after_calls, Replays}
 use Rattle.seam_law_calls.proofs.Holds.{both}
-use Rattle.seam_law_ghosts.specs.Truths.{shown_at, IsTrueCopy}
 use Rattle.seam_law_ghosts.proofs.Making.{Did, same, one, did_calls}
 
 -- ---- states of which others see the same

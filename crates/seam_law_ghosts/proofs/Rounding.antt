@@ -1,29 +1,21 @@
 -- A loaded world, and a round's calls: each cell is told what the real wants, and has it where the world is quiet again.
 use Rattle.std.proofs.Common.{◌≡◌, ℕ, ◌<◌, ◌≤◌, ◌⊎◌, true, List, [], ◌∷◌, None, Some, refl, sym, ap, ◌∙◌}
 use Rattle.std.proofs.Common.{subst, arith, inl, inr}
-use Rattle.seam_machine.specs.Nets.{happens, enabled, IsQuiet, LeadsTo}
-use Rattle.seam_machine.specs.declared.machines.Event.{Event}
+use Rattle.seam_node_steps.specs.Prelude.{happens, enabled, IsQuiet, LeadsTo, Event, Batch, GhostCopy, RealView, Msg, BaseCall, Hand}
+use Rattle.seam_node_steps.specs.Prelude.{Current, GhostSet, GhostDrop, Tick, Reap, Update, cell_count, holders, World, node_steps}
+use Rattle.seam_node_steps.specs.Prelude.{node_has_work, loaded}
+use Rattle.seam_law_flow.specs.Prelude.{comes, letters_of, TokenPlace, In}
+use Rattle.seam_law_calls.specs.Prelude.{Frame, entity_flow, real_in, real_of, IsOne, HasOne}
+use Rattle.seam_law_rounds.specs.Prelude.{IsSettled, IsBetweenRounds, IsFitting, framed}
+use Rattle.seam_law_ghosts.specs.Prelude.{Entry, brings, IsTrue, IsHushed, present, copy_at, AreTold, IsForgotten, AreSettled}
+use Rattle.seam_law_ghosts.specs.Prelude.{AreCopiesBetweenRounds}
 use Rattle.seam_machine.proofs.Occurring.{occurs}
 use Rattle.seam_net_runs.proofs.Runs.{leads_keeps}
-use Rattle.seam_law_flow.specs.Flows.{comes, letters_of}
-use Rattle.seam_law_flow.specs.Tokens.{TokenPlace, In}
 use Rattle.seam_law_flow.proofs.Following.{came}
 use Rattle.seam_law_flow.proofs.TokenLemmas.{sole_here}
-use Rattle.seam_call.specs.declared.order.Batch.{Batch}
-use Rattle.seam_call.specs.declared.shown.GhostCopy.{GhostCopy}
-use Rattle.seam_entity.specs.Reals.{RealView}
-use Rattle.seam_entity.specs.declared.message.Msg.{Msg}
-use Rattle.seam_entity.specs.declared.message.Msg.TheVariants.{Call, BaseCall, Hand, Current, GhostSet, GhostDrop, Tick, Reap, Update}
-use Rattle.seam_entity.specs.Here.{cell_count}
-use Rattle.seam_node_steps.specs.Holders.{holders}
-use Rattle.seam_node_steps.specs.Nodes.{World, node_steps, node_has_work}
-use Rattle.seam_node_steps.specs.Loads.{loaded}
-use Rattle.seam_law_calls.specs.Frames.{Frame}
-use Rattle.seam_law_calls.specs.Sights.{entity_flow}
+use Rattle.seam_entity.specs.declared.message.Msg.TheVariants.{Call}
 use Rattle.seam_law_calls.proofs.Classify.{event_moves}
-use Rattle.seam_law_calls.specs.Ones.{real_in, real_of, IsOne, HasOne}
 use Rattle.seam_law_calls.proofs.Gone.{gone_leads}
-use Rattle.seam_law_rounds.specs.Between.{IsSettled, IsBetweenRounds, IsFitting, framed}
 use Rattle.seam_law_rounds.proofs.Framing.{in_frame}
 use Rattle.seam_law_rounds.proofs.Loaded.{no_mail, holds_kept}
 use Rattle.seam_law_rounds.proofs.Ready.{one_holder}
@@ -32,10 +24,7 @@ use Rattle.seam_law_rounds.proofs.Shape.{Somewhere, Nowhere, search_real, frame_
 use Rattle.seam_law_ghosts.proofs.Unknown.{IsTick, IsUnknown, unknown_leads}
 use Rattle.seam_law_ghosts.proofs.Beginning.{unknown_loaded}
 use Rattle.seam_law_ghosts.proofs.InRound.{nobody}
-use Rattle.seam_law_ghosts.specs.Entries.{Entry, brings}
-use Rattle.seam_law_ghosts.specs.Truths.{IsTrue, IsHushed}
 use Rattle.seam_law_ghosts.proofs.Steps.{ghost_moves}
-use Rattle.seam_law_ghosts.specs.Copies.{present, copy_at, AreTold, IsForgotten, AreSettled, AreCopiesBetweenRounds}
 use Rattle.seam_law_ghosts.proofs.Moving.{still_forgotten}
 use Rattle.seam_law_ghosts.proofs.Still.{quiet_mail, nowhere_counts, forgotten_still, none_still, settled_still}
 use Rattle.seam_law_ghosts.proofs.Running.{IsInformed, informed_from, told_of, hushed_of, later_of}

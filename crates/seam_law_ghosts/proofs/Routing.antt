@@ -1,20 +1,10 @@
 -- In a round the newest route of each base node leads to the real.
 use Rattle.std.proofs.Common.{◌≡◌, ℕ, ◌+◌, ◌<◌, ◌≤◌, List, Some, subst}
-use Rattle.seam_machine.specs.Nets.{LeadsTo}
-use Rattle.seam_machine.specs.declared.machines.Event.{Event}
-use Rattle.seam_law_flow.specs.Tokens.{TokenPlace}
-use Rattle.seam_call.specs.declared.order.Batch.{Batch}
-use Rattle.seam_entity.specs.Reals.{RealView}
-use Rattle.seam_entity.specs.Here.{cell_count}
-use Rattle.seam_node_steps.specs.Holders.{holders}
-use Rattle.seam_node_steps.specs.Nodes.{World, node_steps, node_has_work}
-use Rattle.seam_node_steps.specs.Loads.{loaded}
-use Rattle.seam_law_calls.specs.Frames.{Frame}
-use Rattle.seam_law_calls.specs.Sights.{entity_flow}
-use Rattle.seam_law_calls.specs.Ones.{real_in, IsOne}
-use Rattle.seam_law_rounds.specs.Between.{IsBetweenRounds, IsFitting, framed}
+use Rattle.seam_node_steps.specs.Prelude.{LeadsTo, Event, Batch, RealView, cell_count, holders, World, node_steps, node_has_work, loaded}
+use Rattle.seam_law_flow.specs.Prelude.{TokenPlace}
+use Rattle.seam_law_calls.specs.Prelude.{Frame, entity_flow, real_in, IsOne}
+use Rattle.seam_law_rounds.specs.Prelude.{IsBetweenRounds, IsFitting, framed, IsKnownAt}
 use Rattle.seam_law_rounds.proofs.Going.{frame_loaded, settled_loaded, one_loaded, spared_loaded}
-use Rattle.seam_law_rounds.specs.Routes.{IsKnownAt}
 use Rattle.seam_law_rounds.proofs.RoadRuns.{routed_leads}
 use Rattle.seam_law_rounds.proofs.CallsEnd.{routed_loaded}
 use Rattle.seam_law_ghosts.proofs.Still.{same_one}

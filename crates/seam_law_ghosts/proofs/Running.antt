@@ -3,43 +3,28 @@ use Rattle.std.proofs.Common.{◌≡◌, ℕ, ◌<◌, ◌≤◌, true, ◌&&◌
 use Rattle.std.proofs.Common.{◌∙◌, subst}
 use Rattle.std.proofs.Common.{arith}
 use Rattle.std.specs.List.{AllByRecursion}
-use Rattle.seam_machine.specs.Nets.{happens, enabled, LeadsTo}
-use Rattle.seam_machine.specs.declared.machines.Event.{Event}
+use Rattle.seam_node_steps.specs.Prelude.{happens, enabled, LeadsTo, Event, Occurs, GhostCopy, RealView, Msg, BaseCall, Hand, Current}
+use Rattle.seam_node_steps.specs.Prelude.{GhostSet, GhostDrop, Tick, Reap, Update, is_small, fits_copy, is_stray, World, node_steps}
+use Rattle.seam_node_steps.specs.Prelude.{node_has_work, limit}
+use Rattle.seam_law_flow.specs.Prelude.{Goes, comes, letter_in, AllBring, TokenPlace, In}
+use Rattle.seam_law_calls.specs.Prelude.{Frame, here_at, Has, mine, entity_flow, MovesTo, real_in, real_of, IsOne, IsSpared, IsFrame}
+use Rattle.seam_law_calls.specs.Prelude.{HasOne, real_burden}
+use Rattle.seam_law_ghosts.specs.Prelude.{Entry, brings, book_entry, IsTable, IsTrue, IsHushed, present, copy_at, AreTold, AreSettled}
 use Rattle.seam_machine.proofs.Occurring.{occurs}
 use Rattle.seam_net_runs.proofs.Runs.{leads_keeps}
-use Rattle.seam_machine.specs.Events.{Occurs}
-use Rattle.seam_law_flow.specs.Flows.{Goes, comes, letter_in}
-use Rattle.seam_law_flow.specs.Newest.{AllBring}
 use Rattle.seam_law_flow.proofs.TokenLemmas.{sole_here}
-use Rattle.seam_law_flow.specs.Tokens.{TokenPlace, In}
 use Rattle.seam_law_flow.proofs.Following.{came}
-use Rattle.seam_call.specs.declared.shown.GhostCopy.{GhostCopy}
-use Rattle.seam_entity.specs.Reals.{RealView}
-use Rattle.seam_entity.specs.declared.message.Msg.{Msg}
-use Rattle.seam_entity.specs.declared.message.Msg.TheVariants.{Call, BaseCall, Hand, Current, GhostSet, GhostDrop, Tick, Reap, Update}
-use Rattle.seam_entity.specs.Numbers.{is_small}
-use Rattle.seam_entity.specs.Executing.{fits_copy}
-use Rattle.seam_node_steps.specs.CellCases.{is_stray}
-use Rattle.seam_node_steps.specs.Nodes.{World, node_steps, node_has_work}
-use Rattle.seam_law_calls.specs.Frames.{Frame, here_at}
-use Rattle.seam_law_calls.specs.Sights.{Has, mine, entity_flow}
-use Rattle.seam_law_calls.specs.Moves.{MovesTo}
-use Rattle.seam_law_calls.specs.Ones.{real_in, real_of, IsOne, IsSpared, IsFrame, HasOne}
+use Rattle.seam_entity.specs.declared.message.Msg.TheVariants.{Call}
 use Rattle.seam_law_calls.proofs.Holds.{not_both, all_two}
-use Rattle.seam_law_calls.specs.Burdens.{real_burden}
 use Rattle.seam_law_calls.proofs.OneReal.{goes, room, calm_of}
-use Rattle.seam_entity.specs.Numbers.{limit}
 use Rattle.seam_law_calls.proofs.Replaying.{replays_none}
 use Rattle.seam_law_ghosts.proofs.Sending.{FitsNode}
 use Rattle.seam_law_ghosts.proofs.Lasting.{IsFair, fair_leads}
-use Rattle.seam_law_ghosts.specs.Entries.{Entry, brings, book_entry}
 use Rattle.seam_law_ghosts.proofs.Steps.{ghost_moves}
 use Rattle.seam_law_ghosts.proofs.Telling.{true_first, first_place}
 use Rattle.seam_law_ghosts.proofs.Hushing.{IsQuelled, quelled_leads, hushed_where}
-use Rattle.seam_law_ghosts.specs.Truths.{IsTable, IsTrue, IsHushed}
 use Rattle.seam_law_rounds.proofs.Publics.{public_low}
 use Rattle.seam_law_ghosts.proofs.Books.{risen_leads, copies_rise}
-use Rattle.seam_law_ghosts.specs.Copies.{present, copy_at, AreTold, AreSettled}
 use Rattle.seam_law_ghosts.proofs.Moving.{After, here, gone, after_move}
 use Rattle.seam_law_ghosts.proofs.Still.{same_one, came_with, told_still, table_still}
 

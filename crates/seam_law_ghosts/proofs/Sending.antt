@@ -5,37 +5,22 @@ use Rattle.std.proofs.Common.{refl, sym, subst, arith}
 use Rattle.std.specs.List.{AllByRecursion, filter_map, range_with_len}
 use Rattle.std.specs.FinSet as set
 use Rattle.std.proofs.lemmas.Bool.Decides.{nat_tests}
-use Rattle.seam_tree.specs.Cells.{Cells}
+use Rattle.seam_node_steps.specs.Prelude.{Cells, AreDefs, GhostCopy, Shown, RealView, Msg, BaseCall, Hand, Current, GhostSet, GhostDrop}
+use Rattle.seam_node_steps.specs.Prelude.{Tick, Reap, Update, limit, is_small, may_rise, Here, cell_count, cell_numbers, base_of}
+use Rattle.seam_node_steps.specs.Prelude.{properties, fits_copy, copy_of_real, may_settle, may_execute, fits_cell_part, shows, public_after}
+use Rattle.seam_node_steps.specs.Prelude.{may_offer, order_of, haunts_at, told, told_unless, ghost_message, ghost_messages, drop_if}
+use Rattle.seam_node_steps.specs.Prelude.{drop_at, drops, current_to, tick_to, numbered, shown_of}
+use Rattle.seam_law_calls.specs.Prelude.{Frame, here_at, Has, AtCell, Does, Acts, surveys, calls, readies, CellMoves, BaseMoves, Moves}
+use Rattle.seam_law_calls.specs.Prelude.{at_a_cell, at_a_base, RealFits, real_in}
 use Rattle.seam_defs.specs.declared.flags.Part.TheVariants as part
 use Rattle.seam_defs.specs.declared.flags.Group.TheVariants as group
-use Rattle.seam_defs.specs.Types.{AreDefs}
 use Rattle.seam_defs.proofs.GroupsOfGroups.{projected_of_group}
 use Rattle.seam_defs.proofs.Running.{shown-within}
 use Rattle.seam_defs.proofs.TestLemmas.{of_group-Decides}
 use Rattle.seam_law_flow.proofs.Following.{all_append}
-use Rattle.seam_call.specs.declared.shown.GhostCopy.{GhostCopy}
-use Rattle.seam_call.specs.declared.shown.Shown.{Shown}
-use Rattle.seam_entity.specs.Reals.{RealView}
-use Rattle.seam_entity.specs.declared.message.Msg.{Msg}
-use Rattle.seam_entity.specs.declared.message.Msg.TheVariants.{Call, BaseCall, Hand, Current, GhostSet, GhostDrop, Tick, Reap, Update}
-use Rattle.seam_entity.specs.Numbers.{limit, is_small, may_rise}
-use Rattle.seam_entity.specs.Here.{Here, cell_count, cell_numbers, base_of, properties}
-use Rattle.seam_entity.specs.Executing.{fits_copy, copy_of_real, may_settle, may_execute, fits_cell_part, shows, public_after}
-use Rattle.seam_entity.specs.Calls.{may_offer}
-use Rattle.seam_entity.specs.Orders.{order_of}
-use Rattle.seam_node_steps.specs.Settle.{haunts_at, told, told_unless, ghost_message, ghost_messages}
-use Rattle.seam_node_steps.specs.CellCases.{drop_if, drop_at, drops, current_to}
-use Rattle.seam_node_steps.specs.BaseCases.{tick_to}
-use Rattle.seam_node_steps.specs.CellLooks.{numbered, shown_of}
-use Rattle.seam_law_calls.specs.Frames.{Frame, here_at}
-use Rattle.seam_law_calls.specs.Sights.{Has, AtCell}
+use Rattle.seam_entity.specs.declared.message.Msg.TheVariants.{Call}
 use Rattle.seam_law_calls.specs.CellMoves as move
-use Rattle.seam_law_calls.specs.CellMoves.{Does, Acts, surveys, calls, readies, CellMoves}
 use Rattle.seam_law_calls.specs.BaseMoves as base_move
-use Rattle.seam_law_calls.specs.BaseMoves.{BaseMoves}
-use Rattle.seam_law_calls.specs.Moves.{Moves, at_a_cell, at_a_base}
-use Rattle.seam_law_calls.specs.Fits.{RealFits}
-use Rattle.seam_law_calls.specs.Ones.{real_in}
 use Rattle.seam_law_calls.proofs.Holds.{both, all_two}
 use Rattle.seam_law_calls.proofs.RealsKept.{executed_fits, ready_fits}
 

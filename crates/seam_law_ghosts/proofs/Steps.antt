@@ -3,42 +3,22 @@ use Rattle.std.proofs.Common.{◌≡◌, ℕ, ◌+◌, ◌≤◌, Bool, true, fa
 use Rattle.std.proofs.Common.{subst, inl, inr, arith}
 use Rattle.std.specs.List.{range_with_len}
 use Rattle.std.specs.FinMap as table
-use Rattle.seam_ghosts.specs.declared.Ghost.{Ghost}
-use Rattle.seam_ghosts.specs.Book.{beat_in, copy_in, ghost_after}
-use Rattle.seam_defs.specs.declared.flags.Part.{Part}
+use Rattle.seam_node_steps.specs.Prelude.{Ghost, beat_in, copy_in, ghost_after, Part, part_of_deed, is_for, Call as CallData, GhostCopy}
+use Rattle.seam_node_steps.specs.Prelude.{RealView, Msg, BaseCall, Hand, Current, GhostSet, GhostDrop, Tick, Reap, Update, can_do, Here}
+use Rattle.seam_node_steps.specs.Prelude.{cell_count, base_numbers, base_of, type_at, order_passes, order_is_ready, fits_cell_part}
+use Rattle.seam_node_steps.specs.Prelude.{SlotStep, slot_after, current_to, is_stray, may_come, tick_to}
+use Rattle.seam_law_flow.specs.Prelude.{entry_in, greater_entry, IsSilent, carried_in}
+use Rattle.seam_law_calls.specs.Prelude.{Frame, here_at, Has, AtCell, Does, Acts, surveys, calls, readies, CellMoves, BaseMoves, Moves}
+use Rattle.seam_law_calls.specs.Prelude.{at_a_cell, at_a_base, RealFits, real_in, real_of}
+use Rattle.seam_law_ghosts.specs.Prelude.{Entry, brings, book_entry, IsPlacedAlike, Executes, nothing, executes, IsMissed, GhostMoves}
 use Rattle.seam_defs.specs.declared.flags.Part.TheVariants as part
-use Rattle.seam_defs.specs.Deeds.{part_of_deed}
 use Rattle.seam_defs.specs.Tests.{same_part}
-use Rattle.seam_law_flow.specs.Newest.{entry_in, greater_entry}
-use Rattle.seam_law_flow.specs.Sent.{IsSilent}
-use Rattle.seam_law_flow.specs.Tokens.{carried_in}
-use Rattle.seam_call.specs.Calls.{is_for}
-use Rattle.seam_call.specs.declared.call.Call.{Call as CallData}
-use Rattle.seam_call.specs.declared.shown.GhostCopy.{GhostCopy}
-use Rattle.seam_entity.specs.Reals.{RealView}
-use Rattle.seam_entity.specs.declared.message.Msg.{Msg}
-use Rattle.seam_entity.specs.declared.message.Msg.TheVariants.{Call, BaseCall, Hand, Current, GhostSet, GhostDrop, Tick, Reap, Update}
-use Rattle.seam_entity.specs.Fitting.{can_do}
-use Rattle.seam_entity.specs.Here.{Here, cell_count, base_numbers, base_of, type_at}
-use Rattle.seam_entity.specs.Calls.{order_passes, order_is_ready}
-use Rattle.seam_entity.specs.Executing.{fits_cell_part}
-use Rattle.seam_node_steps.specs.Slots.{SlotStep, slot_after}
-use Rattle.seam_node_steps.specs.CellCases.{current_to, is_stray, may_come}
-use Rattle.seam_node_steps.specs.BaseCases.{tick_to}
-use Rattle.seam_law_calls.specs.Frames.{Frame, here_at}
-use Rattle.seam_law_calls.specs.Sights.{Has, AtCell}
+use Rattle.seam_entity.specs.declared.message.Msg.TheVariants.{Call}
 use Rattle.seam_law_calls.specs.CellMoves as move
-use Rattle.seam_law_calls.specs.CellMoves.{Does, Acts, surveys, calls, readies, CellMoves}
 use Rattle.seam_law_calls.specs.BaseMoves as base_move
-use Rattle.seam_law_calls.specs.BaseMoves.{BaseMoves}
-use Rattle.seam_law_calls.specs.Moves.{Moves, at_a_cell, at_a_base}
-use Rattle.seam_law_calls.specs.Fits.{RealFits}
-use Rattle.seam_law_calls.specs.Ones.{real_in, real_of}
 use Rattle.seam_law_calls.proofs.Handling.{FindsRoom}
 use Rattle.seam_law_calls.proofs.Holds.{both, not_both, picked_passes, item_passes_too}
 use Rattle.seam_law_calls.proofs.Plain.{mapped_silent, numbered_silent}
-use Rattle.seam_law_ghosts.specs.Entries.{Entry, brings, book_entry}
-use Rattle.seam_law_ghosts.specs.GhostMoves.{IsPlacedAlike, Executes, nothing, executes, IsMissed, GhostMoves}
 use Rattle.seam_law_ghosts.specs.GhostMoves as ghost
 
 -- ---- a book that hears an entry keeps the greater one

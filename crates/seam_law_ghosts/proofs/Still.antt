@@ -3,30 +3,19 @@ use Rattle.std.proofs.Common.{◌≡◌, ℕ, ◌<◌, ◌≤◌, Bool, true, fa
 use Rattle.std.proofs.Common.{arith, inl, inr}
 use Rattle.std.specs.Prelude.{slice_get}
 use Rattle.std.proofs.lemmas.Bool.{cases_eq, cases_lt}
-use Rattle.seam_law_flow.specs.Flows.{IsHead, comes, slot_at, letters_of}
-use Rattle.seam_law_flow.specs.Newest.{NotAbove, OfEntry, AllBring, Newest}
-use Rattle.seam_law_flow.specs.Tokens.{TokenPlace, In, On}
+use Rattle.seam_node_steps.specs.Prelude.{GhostCopy, RealView, Msg, cell_count, copy_if, NodeView, World, node_has_work, Cell, Base}
+use Rattle.seam_node_steps.specs.Prelude.{IsQuiet, holders}
+use Rattle.seam_law_flow.specs.Prelude.{IsHead, comes, slot_at, letters_of, NotAbove, OfEntry, AllBring, Newest, TokenPlace, In, On}
+use Rattle.seam_law_calls.specs.Prelude.{Frame, IsInFrame, mine, has_of, has_none, entity_flow, real_in, real_of, IsOne}
+use Rattle.seam_law_rounds.specs.Prelude.{IsBetweenRounds}
+use Rattle.seam_law_ghosts.specs.Prelude.{Entry, brings, book_entry, IsOfTable, IsTable, present, wanted, copy_at, AreTold, IsForgotten}
+use Rattle.seam_law_ghosts.specs.Prelude.{AreSettled}
 use Rattle.seam_law_flow.proofs.NewestLemmas.{newest_rests}
 use Rattle.seam_law_flow.proofs.TokenLemmas.{sole_here}
-use Rattle.seam_call.specs.declared.shown.GhostCopy.{GhostCopy}
-use Rattle.seam_entity.specs.Reals.{RealView}
-use Rattle.seam_entity.specs.declared.message.Msg.{Msg}
-use Rattle.seam_entity.specs.Here.{cell_count}
-use Rattle.seam_node_steps.specs.Settle.{copy_if}
-use Rattle.seam_node_steps.specs.Nodes.{NodeView, World, node_has_work}
-use Rattle.seam_node_steps.specs.Nodes.NodeView.{Cell, Base}
-use Rattle.seam_law_calls.specs.Frames.{Frame, IsInFrame}
-use Rattle.seam_law_calls.specs.Sights.{mine, has_of, has_none, entity_flow}
-use Rattle.seam_law_calls.specs.Ones.{real_in, real_of, IsOne}
-use Rattle.seam_law_ghosts.specs.Entries.{Entry, brings, book_entry}
-use Rattle.seam_law_ghosts.specs.Truths.{IsOfTable, IsTable}
-use Rattle.seam_machine.specs.Nets.{IsQuiet}
 use Rattle.seam_machine.proofs.Quiet.{quiet_links}
-use Rattle.seam_node_steps.specs.Holders.{holders}
 use Rattle.seam_law_calls.proofs.Counting.{none_counts}
-use Rattle.seam_law_rounds.specs.Between.{IsBetweenRounds}
 use Rattle.seam_law_rounds.proofs.Shape.{Nowhere}
-use Rattle.seam_law_ghosts.specs.Copies.{present, wanted, beat_at, copy_at, AreTold, IsForgotten, AreSettled}
+use Rattle.seam_law_ghosts.specs.Copies.{beat_at}
 
 -- ---- one real is at one place
 

@@ -3,28 +3,15 @@ use Rattle.std.proofs.Common.{◌≡◌, ℕ, ◌<◌, ◌⊎◌, Bool, true, fa
 use Rattle.std.proofs.Common.{None, Some, refl, ap, ◌∙◌, arith, inl, inr}
 use Rattle.std.specs.Prelude.{slice_get}
 use Rattle.std.proofs.lemmas.Bool.{eq-eqb}
-use Rattle.seam_machine.specs.Nets.{link, letter}
-use Rattle.seam_machine.specs.Events.{Occurs}
-use Rattle.seam_machine.specs.declared.machines.Input.TheVariants.{From}
-use Rattle.seam_law_flow.specs.Flows.{letters_of, more_letter}
-use Rattle.seam_call.specs.declared.call.Call.{Call as CallData}
-use Rattle.seam_entity.specs.Reals.{RealView}
-use Rattle.seam_entity.specs.declared.message.Msg.{Msg}
-use Rattle.seam_entity.specs.declared.message.Msg.TheVariants.{Call, BaseCall, Hand, Current, GhostSet, GhostDrop, Tick, Reap, Update}
-use Rattle.seam_entity.specs.Numbers.{limit, is_small}
-use Rattle.seam_entity.specs.Here.{cell_count}
-use Rattle.seam_entity.specs.Executing.{fits_copy, may_call}
-use Rattle.seam_node_steps.specs.Slots.{NextPlace}
-use Rattle.seam_node_steps.specs.CellCases.{about, is_stray, stray_call, stray_hand, may_come}
-use Rattle.seam_node_steps.specs.Nodes.{NodeView, World}
-use Rattle.seam_law_calls.specs.Frames.{Frame, here_at}
-use Rattle.seam_law_calls.specs.Sights.{Has, concerned, kept_if, mine, entity_flow}
-use Rattle.seam_law_calls.specs.Fits.{RealFits}
-use Rattle.seam_law_calls.specs.Burdens.{real_burden}
-use Rattle.seam_law_calls.specs.Ones.{real_in, reaped_by}
+use Rattle.seam_node_steps.specs.Prelude.{link, letter, Occurs, From, Call as CallData, RealView, Msg, BaseCall, Hand, Current, GhostSet}
+use Rattle.seam_node_steps.specs.Prelude.{GhostDrop, Tick, Reap, Update, limit, is_small, cell_count, fits_copy, may_call, NextPlace, about}
+use Rattle.seam_node_steps.specs.Prelude.{is_stray, stray_call, stray_hand, may_come, NodeView, World}
+use Rattle.seam_law_flow.specs.Prelude.{letters_of, more_letter}
+use Rattle.seam_law_calls.specs.Prelude.{Frame, here_at, Has, concerned, kept_if, mine, entity_flow, RealFits, real_burden, real_in}
+use Rattle.seam_law_calls.specs.Prelude.{reaped_by, FindsTurn}
+use Rattle.seam_entity.specs.declared.message.Msg.TheVariants.{Call}
 use Rattle.seam_law_calls.proofs.Holds.{all_two}
 use Rattle.seam_law_calls.proofs.OneReal.{may_land}
-use Rattle.seam_law_calls.specs.CellTurns.{FindsTurn}
 use Rattle.seam_law_ghosts.proofs.Sending.{FitsNode}
 
 -- ---- a message on a link, as its entity sees it

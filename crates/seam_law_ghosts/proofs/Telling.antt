@@ -4,30 +4,18 @@ use Rattle.std.proofs.Common.{◌∷◌, ◌++◌, length, Option, None, Some, r
 use Rattle.std.proofs.Common.{subst, inl, inr, arith}
 use Rattle.std.proofs.lemmas.Bool.{cases_eq}
 use Rattle.std.proofs.lemmas.Bool.Decides.{nat_tests}
-use Rattle.seam_machine.specs.Nets.{happens, enabled, LeadsTo}
-use Rattle.seam_machine.specs.Events.{Occurs}
-use Rattle.seam_machine.specs.declared.machines.Event.{Event}
+use Rattle.seam_node_steps.specs.Prelude.{happens, enabled, LeadsTo, Occurs, Event, items_to, Call, GhostCopy, RealView, Msg, Reap, World}
+use Rattle.seam_node_steps.specs.Prelude.{node_steps, node_has_work}
+use Rattle.seam_law_flow.specs.Prelude.{Goes, comes, letter_in, OfEntry, AllBring, entry_in, Turned, still, turns, lands, leaves, relays}
+use Rattle.seam_law_flow.specs.Prelude.{place_after, token_after}
+use Rattle.seam_law_calls.specs.Prelude.{Frame, Has, mine, entity_flow, real_in, real_of, IsSpared, AllFits, IsFrame, HasOne, OneFrom}
+use Rattle.seam_law_calls.specs.Prelude.{account_of}
+use Rattle.seam_law_ghosts.specs.Prelude.{Entry, brings, book_entry, IsTrueCopy, IsOfTable, IsTable, IsTrue}
 use Rattle.seam_machine.proofs.Occurring.{occurs}
-use Rattle.seam_machine.specs.Sends.{items_to}
 use Rattle.seam_net_runs.proofs.Runs.{leads_keeps}
-use Rattle.seam_law_flow.specs.Flows.{Goes, comes, letter_in}
-use Rattle.seam_law_flow.specs.Newest.{OfEntry, AllBring, entry_in}
-use Rattle.seam_law_flow.specs.Tokens.{Turned, still, turns, lands, leaves, relays, place_after, token_after}
 use Rattle.seam_law_flow.proofs.Following.{slots_kept, letters_kept, came}
 use Rattle.seam_law_flow.proofs.TokenLemmas.{sole_here, sole_came, sole_goes, token_turns}
-use Rattle.seam_call.specs.declared.call.Call.{Call}
-use Rattle.seam_call.specs.declared.shown.GhostCopy.{GhostCopy}
-use Rattle.seam_entity.specs.Reals.{RealView}
-use Rattle.seam_entity.specs.declared.message.Msg.{Msg}
-use Rattle.seam_entity.specs.declared.message.Msg.TheVariants.{Reap}
-use Rattle.seam_node_steps.specs.Nodes.{World, node_steps, node_has_work}
-use Rattle.seam_law_calls.specs.Frames.{Frame}
-use Rattle.seam_law_calls.specs.Sights.{Has, mine, entity_flow}
-use Rattle.seam_law_calls.specs.Ones.{real_in, real_of, IsSpared, AllFits, IsFrame, HasOne, OneFrom}
 use Rattle.seam_law_calls.proofs.OneReal.{goes, room, one_happens, calm_of, spared_happens}
-use Rattle.seam_law_calls.specs.Replays.{account_of}
-use Rattle.seam_law_ghosts.specs.Entries.{Entry, brings, book_entry}
-use Rattle.seam_law_ghosts.specs.Truths.{IsTrueCopy, IsOfTable, IsTable, IsTrue}
 use Rattle.seam_law_ghosts.proofs.Steps.{ghost_moves}
 use Rattle.seam_law_ghosts.proofs.Making.{Did, same, did_calls, NoEntry, IsFresh, Makes, Tells}
 use Rattle.seam_law_ghosts.proofs.Making.{silent, fresh, Does_it, TellsBy, Handled, told_of}

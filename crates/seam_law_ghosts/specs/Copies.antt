@@ -1,17 +1,9 @@
 -- Copies of an entity: what its real wants each cell to have of it, and that each cell is told so.
 use Rattle.std.specs.Prelude.{◌≡◌, ℕ, ◌<◌, ◌≤◌, false, Option, None, Some}
 use Rattle.std.specs.FinSet as set
-use Rattle.seam_law_flow.specs.Newest.{Newest}
-use Rattle.seam_law_flow.specs.Tokens.{TokenPlace, In, On}
-use Rattle.seam_call.specs.declared.shown.GhostCopy.{GhostCopy}
-use Rattle.seam_entity.specs.Reals.{RealView}
-use Rattle.seam_entity.specs.Here.{cell_count}
-use Rattle.seam_node_steps.specs.Settle.{copy_if}
-use Rattle.seam_node_steps.specs.Holders.{holders}
-use Rattle.seam_node_steps.specs.Nodes.{World}
-use Rattle.seam_law_calls.specs.Frames.{Frame}
-use Rattle.seam_law_calls.specs.Sights.{entity_flow}
-use Rattle.seam_law_calls.specs.Ones.{real_in}
+use Rattle.seam_node_steps.specs.Prelude.{GhostCopy, RealView, cell_count, copy_if, holders, World}
+use Rattle.seam_law_flow.specs.Prelude.{Newest, TokenPlace, In, On}
+use Rattle.seam_law_calls.specs.Prelude.{Frame, entity_flow, real_in}
 use Rattle.seam_law_ghosts.specs.Entries.{brings, book_entry}
 use Rattle.seam_law_ghosts.specs.Truths.{shown_at}
 

@@ -1,10 +1,9 @@
 -- What a message brings to a cell's book of ghosts, and what the book has of the entity.
 use Rattle.std.specs.Prelude.{ℕ, Option, None, Some}
-use Rattle.seam_ghosts.specs.Book.{beat_in, copy_in}
-use Rattle.seam_call.specs.declared.shown.GhostCopy.{GhostCopy}
-use Rattle.seam_entity.specs.declared.message.Msg.{Msg}
-use Rattle.seam_entity.specs.declared.message.Msg.TheVariants.{Call, BaseCall, Hand, Current, GhostSet, GhostDrop, Tick, Reap, Update}
-use Rattle.seam_law_calls.specs.Sights.{Has}
+use Rattle.seam_node_steps.specs.Prelude.{beat_in, copy_in, GhostCopy, Msg, BaseCall, Hand, Current, GhostSet, GhostDrop, Tick, Reap}
+use Rattle.seam_node_steps.specs.Prelude.{Update}
+use Rattle.seam_law_calls.specs.Prelude.{Has}
+use Rattle.seam_entity.specs.declared.message.Msg.TheVariants.{Call}
 
 -- a beat, and the copy that was told with it, or none
 abbrev pub Entry : Type 0

@@ -1,27 +1,12 @@
 -- What a step does with what ghosts are told: the moves of a node with all else left out.
 use Rattle.std.specs.Prelude.{◌≡◌, ℕ, ◌+◌, ◌≤◌, ◌⊎◌, Bool, true, false, List, [], ◌∷◌, ◌++◌, Option, None, Some}
 use Rattle.std.specs.FinSet as set
-use Rattle.seam_tree.specs.Cells.{Cells}
+use Rattle.seam_node_steps.specs.Prelude.{Cells, part_of_deed, changes, type_of, Call as CallData, GhostCopy, RealView, Msg, Hand, GhostSet}
+use Rattle.seam_node_steps.specs.Prelude.{Reap, cell_count, copy_of_real, settled_to, haunts_at, ghost_messages, beat_after, copy_if}
+use Rattle.seam_node_steps.specs.Prelude.{is_stray, drops}
+use Rattle.seam_law_flow.specs.Prelude.{entry_in, greater_entry, IsSilent, carried_in}
+use Rattle.seam_law_calls.specs.Prelude.{Frame, here_at, Has, account_of, after_call, real_in, real_of}
 use Rattle.seam_defs.specs.declared.flags.Part.TheVariants as part
-use Rattle.seam_defs.specs.Deeds.{part_of_deed}
-use Rattle.seam_defs.specs.Tests.{changes}
-use Rattle.seam_defs.specs.Types.{type_of}
-use Rattle.seam_law_flow.specs.Newest.{entry_in, greater_entry}
-use Rattle.seam_law_flow.specs.Sent.{IsSilent}
-use Rattle.seam_law_flow.specs.Tokens.{carried_in}
-use Rattle.seam_call.specs.declared.call.Call.{Call as CallData}
-use Rattle.seam_call.specs.declared.shown.GhostCopy.{GhostCopy}
-use Rattle.seam_entity.specs.Reals.{RealView}
-use Rattle.seam_entity.specs.declared.message.Msg.{Msg}
-use Rattle.seam_entity.specs.declared.message.Msg.TheVariants.{Hand, GhostSet, Reap}
-use Rattle.seam_entity.specs.Here.{cell_count}
-use Rattle.seam_entity.specs.Executing.{copy_of_real, settled_to}
-use Rattle.seam_node_steps.specs.Settle.{haunts_at, ghost_messages, beat_after, copy_if}
-use Rattle.seam_node_steps.specs.CellCases.{is_stray, drops}
-use Rattle.seam_law_calls.specs.Frames.{Frame, here_at}
-use Rattle.seam_law_calls.specs.Sights.{Has}
-use Rattle.seam_law_calls.specs.Replays.{account_of, after_call}
-use Rattle.seam_law_calls.specs.Ones.{real_in, real_of}
 use Rattle.seam_law_ghosts.specs.Entries.{Entry, brings, book_entry}
 
 -- q is the same entity's real as r, with the same haunts, beat and generation

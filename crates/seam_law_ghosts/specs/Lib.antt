@@ -4,3 +4,4 @@ pub mod GhostMoves
 pub mod Truths
 pub mod RealPlaces
 pub mod Copies
+pub mod Prelude

@@ -1,29 +1,14 @@
 -- The place of an entity's real: its home, and the cells that have a ghost of it; on its way through a round, and where a round leaves it.
 use Rattle.std.specs.Prelude.{◌≡◌, ℕ, ◌+◌, ◌≤◌, List, [], ◌∷◌, length, Option, Some}
 use Rattle.std.specs.FinSet as set
-use Rattle.seam_geo.specs.declared.pos.Pos.{Pos}
-use Rattle.seam_tree.specs.Division.{Division, leaf_at}
-use Rattle.seam_haunt.specs.Places.{Distances, Place, settled, settled_all, IsPlaceAfter}
-use Rattle.seam_defs.specs.declared.settings.Settings.{Settings}
-use Rattle.seam_defs.specs.declared.states.State.{State}
-use Rattle.seam_defs.specs.declared.types.TypeDef.{TypeDef}
-use Rattle.seam_defs.specs.Deeds.{after}
-use Rattle.seam_defs.specs.Types.{type_of}
-use Rattle.seam_machine.specs.Nets.{IsQuiet, LeadsTo}
-use Rattle.seam_machine.specs.declared.machines.Event.{Event}
-use Rattle.seam_law_flow.specs.Tokens.{In, On}
+use Rattle.seam_node_steps.specs.Prelude.{Pos, Division, leaf_at, Distances, Place, settled_all, IsPlaceAfter, Settings, State, TypeDef}
+use Rattle.seam_node_steps.specs.Prelude.{after, type_of, IsQuiet, LeadsTo, Event, Call, Create, Batch, RealView, WitnessView, created}
+use Rattle.seam_node_steps.specs.Prelude.{real_begins, World, node_steps, node_has_work, loaded, reaps_loaded, look_loaded}
+use Rattle.seam_law_flow.specs.Prelude.{In, On}
+use Rattle.seam_law_calls.specs.Prelude.{Frame, here_at, entity_flow, real_in, OneFrom}
+use Rattle.seam_law_rounds.specs.Prelude.{AreReapable}
+use Rattle.seam_haunt.specs.Places.{settled}
 use Rattle.seam_law_flow.specs.Tokens as token
-use Rattle.seam_call.specs.declared.call.Call.{Call}
-use Rattle.seam_call.specs.declared.create.Create.{Create}
-use Rattle.seam_call.specs.declared.order.Batch.{Batch}
-use Rattle.seam_entity.specs.Reals.{RealView, WitnessView}
-use Rattle.seam_entity.specs.Executing.{created, real_begins}
-use Rattle.seam_node_steps.specs.Nodes.{World, node_steps, node_has_work}
-use Rattle.seam_node_steps.specs.Loads.{loaded, reaps_loaded, look_loaded}
-use Rattle.seam_law_calls.specs.Frames.{Frame, here_at}
-use Rattle.seam_law_calls.specs.Sights.{entity_flow}
-use Rattle.seam_law_calls.specs.Ones.{real_in, OneFrom}
-use Rattle.seam_law_rounds.specs.LastPhases.{AreReapable}
 
 -- up to which distances a cell keeps an entity, gets a ghost of it and keeps that ghost, by the settings
 abbrev pub distances_of : Settings → Distances

@@ -1,10 +1,7 @@
 -- Tasks of a cell that it can do.
 use Rattle.std.specs.Prelude.{◌≡◌, ℕ, true, false, is_some, List, ◌∷◌, Some}
 use Rattle.std.specs.FinMap as table
-use Rattle.seam_entity.specs.Reals.{RealView}
-use Rattle.seam_entity.specs.Calls.{has_ready}
-use Rattle.seam_node_steps.specs.CellCases.{stray_survey, stray_ready_call}
-use Rattle.seam_node_steps.specs.Cells.{CellView}
+use Rattle.seam_node_steps.specs.Prelude.{RealView, has_ready, stray_survey, stray_ready_call, CellView}
 
 -- The first entity of the survey list is here and may settle, each real with a ready call may execute it, and the first entity of the look
 -- list is here and has a witness. (That the witness's updates have numbers is left to the laws of what clients are shown.)

@@ -1,18 +1,8 @@
 -- Ghosts are true: each copy is what others may see of the state that its real had at the copy's version.
 use Rattle.std.specs.Prelude.{◌≡◌, ℕ, ◌+◌, ◌-◌, ◌<◌, ◌≤◌, List, length, take, Some}
-use Rattle.seam_defs.specs.declared.states.State.{State}
-use Rattle.seam_defs.specs.Deeds.{ghost_of}
-use Rattle.seam_defs.specs.Types.{type_of}
-use Rattle.seam_law_flow.specs.Newest.{AllBring}
-use Rattle.seam_law_flow.specs.Tokens.{TokenPlace, In, On}
-use Rattle.seam_call.specs.declared.call.Call.{Call}
-use Rattle.seam_call.specs.declared.shown.GhostCopy.{GhostCopy}
-use Rattle.seam_entity.specs.Reals.{RealView}
-use Rattle.seam_node_steps.specs.Nodes.{World}
-use Rattle.seam_law_calls.specs.Frames.{Frame}
-use Rattle.seam_law_calls.specs.Sights.{entity_flow}
-use Rattle.seam_law_calls.specs.Replays.{account_of, after_calls}
-use Rattle.seam_law_calls.specs.Ones.{OneFrom}
+use Rattle.seam_node_steps.specs.Prelude.{State, ghost_of, type_of, Call, GhostCopy, RealView, World}
+use Rattle.seam_law_flow.specs.Prelude.{AllBring, TokenPlace, In, On}
+use Rattle.seam_law_calls.specs.Prelude.{Frame, entity_flow, account_of, after_calls, OneFrom}
 use Rattle.seam_law_ghosts.specs.Entries.{Entry, brings, book_entry}
 
 -- the state that a real had at a version, after so many of its further calls; at one not above that of the start it is the start's

@@ -11,34 +11,16 @@
 
 ghost use Rattle.std.specs.Prelude.{◌≡◌, ℕ, ◌<◌, ◌+◌, ◌≤◌, ◌⊎◌, List, [], ◌∷◌, length, None, Some};
 ghost use Rattle.std.specs.List.{AllByRecursion};
-ghost use Rattle.seam_geo.specs.Pos.{distance};
-ghost use Rattle.seam_machine.specs.Nets.{IsQuiet, LeadsTo};
-ghost use Rattle.seam_machine.specs.declared.machines.Event.{Event};
-ghost use Rattle.seam_law_flow.specs.Tokens.{TokenPlace, In};
-ghost use Rattle.seam_defs.specs.declared.settings.Settings.{Settings};
-ghost use Rattle.seam_defs.specs.declared.types.TypeDef.{TypeDef};
-ghost use Rattle.seam_defs.specs.Builtin.{builtin};
-ghost use Rattle.seam_defs.specs.Settings.{standard, GhostsReach};
-ghost use Rattle.seam_call.specs.declared.order.Batch.{Batch};
-ghost use Rattle.seam_call.specs.declared.shown.GhostCopy.{GhostCopy};
-ghost use Rattle.seam_entity.specs.Reals.{RealView};
-ghost use Rattle.seam_entity.specs.Here.{cell_count};
-ghost use Rattle.seam_node_steps.specs.Holders.{holders};
-ghost use Rattle.seam_node_steps.specs.Nodes.{World, node_steps, node_has_work};
-ghost use Rattle.seam_node_steps.specs.Loads.{opened, loaded, reaps_loaded, look_loaded};
+ghost use Rattle.seam_node_steps.specs.Prelude.{distance, IsQuiet, LeadsTo, Event, Settings, TypeDef, builtin, standard, GhostsReach};
+ghost use Rattle.seam_node_steps.specs.Prelude.{Batch, GhostCopy, RealView, cell_count, holders, World, node_steps, node_has_work, opened};
+ghost use Rattle.seam_node_steps.specs.Prelude.{loaded, reaps_loaded, look_loaded, empty_world};
+ghost use Rattle.seam_law_flow.specs.Prelude.{TokenPlace, In};
+ghost use Rattle.seam_law_calls.specs.Prelude.{Frame, entity_flow, events_of, real_in, IsOne, IsSpared, IsFrame, HasOne};
+ghost use Rattle.seam_law_rounds.specs.Prelude.{IsBetweenRounds, IsFitting, framed, first_frame, AreReapable, IsKnownAt};
+ghost use Rattle.seam_law_ghosts.specs.Prelude.{IsTrue, IsHushed, ArePlaced, present, copy_at, AreTold, IsForgotten, AreSettled};
+ghost use Rattle.seam_law_ghosts.specs.Prelude.{AreCopiesBetweenRounds};
 ghost use Rattle.seam_node_steps.specs.Rows as row;
-ghost use Rattle.seam_node_steps.specs.Rows.{empty_world};
 ghost use Rattle.seam_node_steps.specs.LateGhost as late;
-ghost use Rattle.seam_law_calls.specs.Frames.{Frame};
-ghost use Rattle.seam_law_calls.specs.Sights.{entity_flow};
-ghost use Rattle.seam_law_calls.specs.HandOverExample.{events_of};
-ghost use Rattle.seam_law_calls.specs.Ones.{real_in, IsOne, IsSpared, IsFrame, HasOne};
-ghost use Rattle.seam_law_rounds.specs.Between.{IsBetweenRounds, IsFitting, framed};
-ghost use Rattle.seam_law_rounds.specs.LastPhases.{first_frame, AreReapable};
-ghost use Rattle.seam_law_rounds.specs.Routes.{IsKnownAt};
-ghost use Rattle.seam_law_ghosts.specs.Truths.{IsTrue, IsHushed};
-ghost use Rattle.seam_law_ghosts.specs.RealPlaces.{ArePlaced};
-ghost use Rattle.seam_law_ghosts.specs.Copies.{present, copy_at, AreTold, IsForgotten, AreSettled, AreCopiesBetweenRounds};
 
 /// Where nothing about an entity is on its way and cells have what its real wants, each cell is told what the real wants after every list
 /// of events. So it is in a round, for each entity of the loaded world, whether it was there before or the batch creates it; and each cell

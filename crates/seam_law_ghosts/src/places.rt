@@ -11,28 +11,15 @@
 ghost use Rattle.std.specs.Prelude.{◌≡◌, ℕ, ◌+◌, ◌<◌, ◌≤◌, ◌⊎◌, true, List, length, Some};
 ghost use Rattle.std.specs.List.{AllByRecursion};
 ghost use Rattle.std.specs.FinSet as set;
-ghost use Rattle.seam_geo.specs.Pos.{distance};
-ghost use Rattle.seam_haunt.specs.Haunts.{distance_to_cell};
-ghost use Rattle.seam_defs.specs.Settings.{GhostsReach};
-ghost use Rattle.seam_defs.specs.declared.settings.Settings.{Settings};
-ghost use Rattle.seam_defs.specs.declared.types.TypeDef.{TypeDef};
-ghost use Rattle.seam_tree.specs.Division.{cells_of, leaf_at};
-ghost use Rattle.seam_machine.specs.Nets.{IsQuiet, LeadsTo};
-ghost use Rattle.seam_machine.specs.declared.machines.Event.{Event};
-ghost use Rattle.seam_law_flow.specs.Tokens.{In};
-ghost use Rattle.seam_call.specs.declared.order.Batch.{Batch};
-ghost use Rattle.seam_entity.specs.Reals.{RealView};
+ghost use Rattle.seam_node_steps.specs.Prelude.{distance, distance_to_cell, GhostsReach, Settings, TypeDef, cells_of, leaf_at, IsQuiet};
+ghost use Rattle.seam_node_steps.specs.Prelude.{LeadsTo, Event, Batch, RealView, World, node_steps, node_has_work, opened, loaded};
+ghost use Rattle.seam_node_steps.specs.Prelude.{reaps_loaded, look_loaded};
+ghost use Rattle.seam_law_flow.specs.Prelude.{In};
+ghost use Rattle.seam_law_calls.specs.Prelude.{Frame, entity_flow, frame, real_in, IsOne, IsSpared, AllFits, IsFrame};
+ghost use Rattle.seam_law_rounds.specs.Prelude.{IsBetweenRounds, IsFitting, framed, first_frame, AreReapable};
+ghost use Rattle.seam_law_ghosts.specs.Prelude.{place_of, first_place, made_real, BeginsAt, IsDue, IsPlaced, IsRightPlace, WasThere};
+ghost use Rattle.seam_law_ghosts.specs.Prelude.{GoesThroughRound, ArePlaced};
 ghost use Rattle.seam_node_steps.specs.EarlyCall as early;
-ghost use Rattle.seam_node_steps.specs.Nodes.{World, node_steps, node_has_work};
-ghost use Rattle.seam_node_steps.specs.Loads.{opened, loaded, reaps_loaded, look_loaded};
-ghost use Rattle.seam_law_calls.specs.Frames.{Frame};
-ghost use Rattle.seam_law_calls.specs.Sights.{entity_flow};
-ghost use Rattle.seam_law_calls.specs.HandOverExample.{frame};
-ghost use Rattle.seam_law_calls.specs.Ones.{real_in, IsOne, IsSpared, AllFits, IsFrame};
-ghost use Rattle.seam_law_rounds.specs.Between.{IsBetweenRounds, IsFitting, framed};
-ghost use Rattle.seam_law_rounds.specs.LastPhases.{first_frame, AreReapable};
-ghost use Rattle.seam_law_ghosts.specs.RealPlaces.{place_of, first_place, made_real, BeginsAt, IsDue, IsPlaced, IsRightPlace};
-ghost use Rattle.seam_law_ghosts.specs.RealPlaces.{WasThere, GoesThroughRound, ArePlaced};
 
 /// Where a batch is loaded, each real that was there is in the same cell with the same haunts, and each that is created is in its leaf; and
 /// the survey list of each real's cell has its entity.

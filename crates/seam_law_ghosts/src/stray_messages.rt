@@ -11,19 +11,11 @@
 //! `Unknown` (an entity that is nowhere), `Beginning` (what a loaded world has of one), `InRound`, `InPhases` and `NoStrays` (each phase).
 
 ghost use Rattle.std.specs.Prelude.{◌≡◌, ℕ, false, List, ◌∷◌, Some, slice_get};
-ghost use Rattle.seam_machine.specs.Nets.{link, LeadsTo};
-ghost use Rattle.seam_machine.specs.declared.machines.Event.{Event};
-ghost use Rattle.seam_call.specs.declared.order.Batch.{Batch};
-ghost use Rattle.seam_entity.specs.declared.message.Msg.{Msg};
-ghost use Rattle.seam_node_steps.specs.CellCases.{about, is_stray};
-ghost use Rattle.seam_node_steps.specs.Cells.{CellView, slot_of};
-ghost use Rattle.seam_node_steps.specs.Nodes.{World, node_steps, node_has_work};
-ghost use Rattle.seam_node_steps.specs.Nodes.NodeView.{Cell};
-ghost use Rattle.seam_node_steps.specs.Loads.{loaded, reaps_loaded, look_loaded};
-ghost use Rattle.seam_law_calls.specs.Frames.{Frame};
-ghost use Rattle.seam_law_rounds.specs.Between.{IsBetweenRounds, IsFitting};
-ghost use Rattle.seam_law_rounds.specs.LastPhases.{AreReapable};
-ghost use Rattle.seam_law_ghosts.specs.Tasks.{HasNoStrayTask};
+ghost use Rattle.seam_node_steps.specs.Prelude.{link, LeadsTo, Event, Batch, Msg, about, is_stray, CellView, slot_of, World, node_steps};
+ghost use Rattle.seam_node_steps.specs.Prelude.{node_has_work, Cell, loaded, reaps_loaded, look_loaded};
+ghost use Rattle.seam_law_calls.specs.Prelude.{Frame};
+ghost use Rattle.seam_law_rounds.specs.Prelude.{IsBetweenRounds, IsFitting, AreReapable};
+ghost use Rattle.seam_law_ghosts.specs.Prelude.{HasNoStrayTask};
 
 /// A message that is the first of its link to a cell is not stray there: in a round, where entities are reaped, and where witnesses look.
 pub fn no_message_to_a_cell_is_stray()

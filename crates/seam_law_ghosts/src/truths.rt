@@ -11,18 +11,11 @@
 //! That the newest entry of a cell is the one that the real wants, so that a quiet world is settled, is said in `newest`.
 
 ghost use Rattle.std.specs.Prelude.{◌≡◌, ℕ, ◌<◌, ◌≤◌, List, length, Some};
-ghost use Rattle.seam_machine.specs.Nets.{LeadsTo};
-ghost use Rattle.seam_machine.specs.declared.machines.Event.{Event};
-ghost use Rattle.seam_law_flow.specs.Tokens.{In};
-ghost use Rattle.seam_call.specs.declared.shown.GhostCopy.{GhostCopy};
-ghost use Rattle.seam_entity.specs.Reals.{RealView};
-ghost use Rattle.seam_node_steps.specs.Nodes.{World, node_steps, node_has_work};
+ghost use Rattle.seam_node_steps.specs.Prelude.{LeadsTo, Event, GhostCopy, RealView, World, node_steps, node_has_work};
+ghost use Rattle.seam_law_flow.specs.Prelude.{In};
+ghost use Rattle.seam_law_calls.specs.Prelude.{Frame, entity_flow, real_in, IsFrame, IsSpared, HasOne};
+ghost use Rattle.seam_law_ghosts.specs.Prelude.{book_entry, IsTable, IsTrue, IsHushed};
 ghost use Rattle.seam_node_steps.specs.EarlyCall as early;
-ghost use Rattle.seam_law_calls.specs.Frames.{Frame};
-ghost use Rattle.seam_law_calls.specs.Sights.{entity_flow};
-ghost use Rattle.seam_law_calls.specs.Ones.{real_in, IsFrame, IsSpared, HasOne};
-ghost use Rattle.seam_law_ghosts.specs.Entries.{book_entry};
-ghost use Rattle.seam_law_ghosts.specs.Truths.{IsTable, IsTrue, IsHushed};
 
 /// Where the copies of an entity are those of a table at the start, they are those of one after every list of events. It is the same for
 /// the beats of the start; for each later one it has what others may see of the state that the real had at the copy's version.

@@ -3,27 +3,17 @@ use Rattle.std.proofs.Common.{◌≡◌, ℕ, ◌^◌, ◌<◌, ◌≤◌, Bool,
 use Rattle.std.proofs.Common.{subst, arith}
 use Rattle.std.specs.Prelude.{option_map, slice_get}
 use Rattle.std.specs.List.{AllByRecursion, IsDistinct}
-use Rattle.seam_law_flow.specs.Flows.{slot_at, more_letter}
-use Rattle.seam_call.specs.declared.order.Batch.{Batch}
-use Rattle.seam_call.specs.declared.shown.ClientText.{ClientText}
-use Rattle.seam_entity.specs.Reals.{RealView, WitnessView}
-use Rattle.seam_entity.specs.Here.{Here}
-use Rattle.seam_entity.specs.Executing.{real_begins}
-use Rattle.seam_node_steps.specs.Bases.{PartView, ProxyView, line_if, base_text}
-use Rattle.seam_node_steps.specs.Nodes.{NodeView, World}
-use Rattle.seam_node_steps.specs.Loads.{with_witness, with_proxy, new_proxy, proxy_begins, part_begins, loaded}
-use Rattle.seam_law_calls.specs.Frames.{Frame, here_at}
-use Rattle.seam_law_calls.specs.Sights.{Has, has_of, has_none, entity_flow}
-use Rattle.seam_law_calls.specs.Ones.{real_in}
-use Rattle.seam_law_rounds.specs.Between.{IsBetweenRounds, MayBeMade, IsFitting}
-use Rattle.seam_law_rounds.specs.Loaded.{node_loaded}
+use Rattle.seam_node_steps.specs.Prelude.{Batch, ClientText, RealView, WitnessView, Here, real_begins, PartView, ProxyView, line_if}
+use Rattle.seam_node_steps.specs.Prelude.{base_text, NodeView, World, with_witness, with_proxy, new_proxy, proxy_begins, part_begins}
+use Rattle.seam_node_steps.specs.Prelude.{loaded}
+use Rattle.seam_law_flow.specs.Prelude.{slot_at, more_letter}
+use Rattle.seam_law_calls.specs.Prelude.{Frame, here_at, Has, has_of, has_none, entity_flow, real_in, home_of, sent_of, sent_by, IsFewView}
+use Rattle.seam_law_calls.specs.Prelude.{SeesFew}
+use Rattle.seam_law_rounds.specs.Prelude.{IsBetweenRounds, MayBeMade, IsFitting, node_loaded, AreInStep, AreFor, HasPartsBetweenRounds}
+use Rattle.seam_law_rounds.specs.Prelude.{lines_of, FitsParts}
 use Rattle.seam_law_rounds.proofs.Making.{Creation, nowhere, once, creation_of, middle}
 use Rattle.seam_law_rounds.proofs.Loaded.{slot_is}
-use Rattle.seam_law_calls.specs.BaseTurns.{home_of}
 use Rattle.seam_law_calls.specs.Clients.{shown_by}
-use Rattle.seam_law_calls.specs.WitnessMoves.{sent_of, sent_by}
-use Rattle.seam_law_calls.specs.Telling.{IsFewView, SeesFew}
-use Rattle.seam_law_rounds.specs.Parts.{AreInStep, AreFor, HasPartsBetweenRounds, lines_of, FitsParts}
 use Rattle.seam_law_rounds.proofs.PartLoads.{part_at}
 use Rattle.seam_law_rounds.proofs.Joining.{is_among, joined_if, peopled, real_at, real_joined, part_joined, real_peopled, part_peopled}
 use Rattle.seam_law_rounds.proofs.Joining.{unseen_peopled, bare_peopled}

@@ -3,40 +3,25 @@ use Rattle.std.proofs.Common.{◌≡◌, ℕ, ◌≤◌, ◌+◌, ◌^◌, ◌<�
 use Rattle.std.specs.FinMap as table
 use Rattle.std.proofs.lemmas.Bool.{eq-eqb}
 use Rattle.std.proofs.lemmas.List.{append-nil, append_cancel_left}
-use Rattle.seam_machine.specs.Nets.{IsQuiet, LeadsTo}
-use Rattle.seam_machine.specs.declared.machines.Event.{Event}
-use Rattle.seam_law_flow.specs.Flows.{Flow, letters_of}
+use Rattle.seam_node_steps.specs.Prelude.{IsQuiet, LeadsTo, Event, item_at, Call as CallData, Batch, order_or, RealView, PartView, World}
+use Rattle.seam_node_steps.specs.Prelude.{node_steps, node_has_work, loaded}
+use Rattle.seam_law_flow.specs.Prelude.{Flow, letters_of, number_from, Desk, Post, Mail, desk_of, parcel_of, AreInTurn}
+use Rattle.seam_law_calls.specs.Prelude.{Frame, entity_flow, real_in, real_of, desk_for, part_desk, as_base_sender, home_of, HasBaseCalls}
+use Rattle.seam_law_calls.specs.Prelude.{SeesFew}
+use Rattle.seam_law_rounds.specs.Prelude.{framed, numbers_of, next_to, base_calls_of, HasSettledPart, HasPartsBetweenRounds, MayBeLoaded}
+use Rattle.seam_law_rounds.specs.Prelude.{AreFor, lines_of, HasSmallNumbers}
 use Rattle.seam_law_flow.proofs.TokenLemmas.{sole_here}
-use Rattle.seam_law_flow.specs.Numbered.{number_from}
-use Rattle.seam_order.specs.Held.{item_at}
-use Rattle.seam_law_flow.specs.Desks.{Desk, Post, Mail, desk_of, parcel_of, AreInTurn}
 use Rattle.seam_law_flow.proofs.Ends.{held_is_due}
-use Rattle.seam_call.specs.declared.call.Call.{Call as CallData}
-use Rattle.seam_call.specs.declared.order.Batch.{Batch}
-use Rattle.seam_entity.specs.Orders.{order_or}
-use Rattle.seam_entity.specs.Reals.{RealView}
-use Rattle.seam_node_steps.specs.Bases.{PartView}
-use Rattle.seam_node_steps.specs.Nodes.{World, node_steps, node_has_work}
-use Rattle.seam_node_steps.specs.Loads.{loaded}
-use Rattle.seam_law_calls.specs.Frames.{Frame}
-use Rattle.seam_law_calls.specs.Sights.{entity_flow}
-use Rattle.seam_law_calls.specs.Ones.{real_in, real_of}
 use Rattle.seam_law_calls.proofs.Easing.{burden_leads}
 use Rattle.seam_law_calls.proofs.Gone.{gone_leads}
-use Rattle.seam_law_calls.specs.CellTurns.{desk_for}
-use Rattle.seam_law_rounds.specs.Between.{framed, numbers_of}
 use Rattle.seam_law_rounds.proofs.Framing.{in_frame}
 use Rattle.seam_law_rounds.proofs.Loaded.{no_mail, real_loaded}
 use Rattle.seam_law_rounds.proofs.Room.{few_more as few_burden, real_room}
 use Rattle.seam_law_rounds.proofs.Going.{frame_loaded, Keeps, kept_after}
 use Rattle.seam_law_rounds.proofs.Shape.{Somewhere, Nowhere, search_real}
-use Rattle.seam_law_calls.specs.BaseTurns.{part_desk, as_base_sender, home_of, HasBaseCalls}
 use Rattle.seam_law_calls.proofs.BaseRuns.{version_room}
 use Rattle.seam_law_calls.proofs.StrayRuns.{base_burden_leads}
 use Rattle.seam_law_calls.proofs.BaseQuiet.{all_executed}
-use Rattle.seam_law_rounds.specs.Parts.{next_to, base_calls_of, HasSettledPart, HasPartsBetweenRounds, MayBeLoaded, AreFor, lines_of}
-use Rattle.seam_law_rounds.specs.Parts.{HasSmallNumbers}
-use Rattle.seam_law_calls.specs.Telling.{SeesFew}
 use Rattle.seam_law_calls.proofs.Absent.{few_leads}
 use Rattle.seam_law_rounds.proofs.Ticking.{few_loaded}
 use Rattle.seam_law_rounds.proofs.PartsLoaded.{LoadedPart}

@@ -5,40 +5,25 @@ use Rattle.std.specs.List.{AllByRecursion}
 use Rattle.std.specs.FinMap as table
 use Rattle.std.proofs.lemmas.Bool.{eq-eqb}
 use Rattle.std.proofs.lemmas.List.{append-nil, append_cancel_left}
-use Rattle.seam_machine.specs.Nets.{IsQuiet, LeadsTo}
-use Rattle.seam_machine.specs.declared.machines.Event.{Event}
+use Rattle.seam_node_steps.specs.Prelude.{IsQuiet, LeadsTo, Event, item_at, Call as CallData, Batch, order_or, RealView, Msg, cell_count}
+use Rattle.seam_node_steps.specs.Prelude.{World, node_steps, node_has_work, loaded}
+use Rattle.seam_law_flow.specs.Prelude.{Flow, letters_of, NotAbove, AllBring, TokenPlace, In, On, number_from, Desk, desk_of, parcel_of}
+use Rattle.seam_law_flow.specs.Prelude.{AreInTurn}
+use Rattle.seam_law_calls.specs.Prelude.{Frame, Has, mine, entity_flow, RealFits, real_in, real_of, IsOne, OneFrom, desk_for, real_desk}
+use Rattle.seam_law_calls.specs.Prelude.{as_sender}
+use Rattle.seam_law_rounds.specs.Prelude.{calls_of, next_from, IsSettled, IsBetweenRounds, IsFitting, framed, as_entry, route_entry}
+use Rattle.seam_law_rounds.specs.Prelude.{brings_route}
 use Rattle.seam_machine.proofs.Quiet.{quiet_links}
-use Rattle.seam_law_flow.specs.Flows.{Flow, letters_of}
-use Rattle.seam_law_flow.specs.Newest.{NotAbove, AllBring}
-use Rattle.seam_law_flow.specs.Tokens.{TokenPlace, In, On}
 use Rattle.seam_law_flow.proofs.TokenLemmas.{sole_here}
-use Rattle.seam_law_flow.specs.Numbered.{number_from}
-use Rattle.seam_order.specs.Held.{item_at}
-use Rattle.seam_law_flow.specs.Desks.{Desk, desk_of, parcel_of, AreInTurn}
 use Rattle.seam_law_flow.proofs.Ends.{held_is_due}
-use Rattle.seam_call.specs.declared.call.Call.{Call as CallData}
-use Rattle.seam_call.specs.declared.order.Batch.{Batch}
-use Rattle.seam_entity.specs.Orders.{order_or}
-use Rattle.seam_entity.specs.Reals.{RealView}
-use Rattle.seam_entity.specs.declared.message.Msg.{Msg}
-use Rattle.seam_entity.specs.Here.{cell_count}
-use Rattle.seam_node_steps.specs.Nodes.{World, node_steps, node_has_work}
-use Rattle.seam_node_steps.specs.Loads.{loaded}
-use Rattle.seam_law_calls.specs.Frames.{Frame}
-use Rattle.seam_law_calls.specs.Sights.{Has, mine, entity_flow}
-use Rattle.seam_law_calls.specs.Fits.{RealFits}
-use Rattle.seam_law_calls.specs.Ones.{real_in, real_of, IsOne, OneFrom}
 use Rattle.seam_law_calls.proofs.Gone.{gone_leads}
 use Rattle.seam_law_calls.proofs.OneReal.{one_leads}
-use Rattle.seam_law_calls.specs.CellTurns.{desk_for, real_desk, as_sender}
-use Rattle.seam_law_rounds.specs.Between.{calls_of, next_from, IsSettled, IsBetweenRounds, IsFitting, framed}
 use Rattle.seam_law_rounds.proofs.Framing.{in_frame, many_loaded}
 use Rattle.seam_law_rounds.proofs.Loaded.{no_mail}
 use Rattle.seam_law_rounds.proofs.Ready.{one_at_home}
 use Rattle.seam_law_rounds.proofs.Going.{frame_loaded, settled_loaded, one_loaded, spared_loaded, Keeps, kept_after, all_were_executed}
 use Rattle.seam_law_rounds.proofs.Shape.{Somewhere, Nowhere, search_real, frame_leads, many_leads}
 use Rattle.seam_law_rounds.proofs.Publics.{public_low}
-use Rattle.seam_law_rounds.specs.Routes.{as_entry, route_entry, brings_route}
 use Rattle.seam_law_rounds.proofs.RoadMoves.{IsGoodRoute}
 use Rattle.seam_law_rounds.proofs.RoadRuns.{IsRouted, routed_leads, quiet_route}
 

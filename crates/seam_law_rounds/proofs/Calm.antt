@@ -1,19 +1,13 @@
 -- A calm entity: its real stays where it is until its Reap comes, and no one calls it.
 use Rattle.std.proofs.Common.{◌≡◌, ℕ, ◌+◌, ◌≤◌, Bool, cond, Option, None, Some, true}
 use Rattle.std.specs.List.{AllByRecursion}
-use Rattle.seam_machine.specs.Totals.{total}
+use Rattle.seam_node_steps.specs.Prelude.{total, Order, RealView, WitnessView, Msg, BaseCall, Hand, Current, GhostSet, GhostDrop, Tick}
+use Rattle.seam_node_steps.specs.Prelude.{Reap, Update, cell_count, NodeView, World}
+use Rattle.seam_law_calls.specs.Prelude.{Frame, IsInFrame, Has, mine, has_of, entity_flow, real_in}
 use Rattle.seam_net_runs.specs.Sums.{weight_or}
 use Rattle.seam_net_runs.specs.Weights.{weight}
-use Rattle.seam_call.specs.declared.order.Order.{Order}
 use Rattle.seam_call.specs.declared.order.Order.TheVariants as order
-use Rattle.seam_entity.specs.Reals.{RealView, WitnessView}
-use Rattle.seam_entity.specs.declared.message.Msg.{Msg}
-use Rattle.seam_entity.specs.declared.message.Msg.TheVariants.{Call, BaseCall, Hand, Current, GhostSet, GhostDrop, Tick, Reap, Update}
-use Rattle.seam_entity.specs.Here.{cell_count}
-use Rattle.seam_node_steps.specs.Nodes.{NodeView, World}
-use Rattle.seam_law_calls.specs.Frames.{Frame, IsInFrame}
-use Rattle.seam_law_calls.specs.Sights.{Has, mine, has_of, entity_flow}
-use Rattle.seam_law_calls.specs.Ones.{real_in}
+use Rattle.seam_entity.specs.declared.message.Msg.TheVariants.{Call}
 
 -- the real q is r but for its witness
 abbrev pub IsSame : RealView → RealView → Type 0

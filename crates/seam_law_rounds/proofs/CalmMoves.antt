@@ -5,34 +5,16 @@ use Rattle.std.specs.List.{AllByRecursion, range_with_len}
 use Rattle.std.specs.FinMap as table
 use Rattle.std.specs.FinSet as set
 use Rattle.seam_table.proofs.Found.{found}
-use Rattle.seam_machine.specs.Totals.{total}
-use Rattle.seam_order.specs.Held.{OrderView}
-use Rattle.seam_order.specs.Offers.{next_item}
-use Rattle.seam_call.specs.declared.call.Call.{Call as CallData}
-use Rattle.seam_call.specs.declared.order.Order.{Order}
+use Rattle.seam_node_steps.specs.Prelude.{total, OrderView, next_item, Call as CallData, Order, Shown, Orders, order_or, RealView}
+use Rattle.seam_node_steps.specs.Prelude.{WitnessView, Msg, BaseCall, Hand, Current, GhostSet, GhostDrop, Tick, Reap, Update, may_rise}
+use Rattle.seam_node_steps.specs.Prelude.{cell_count, cell_numbers, base_of, order_is_ready, ready_order, SlotStep, slot_after, is_stray}
+use Rattle.seam_node_steps.specs.Prelude.{drop_at, tick_to, RouteView, numbered, shown_of, looks_with, World}
+use Rattle.seam_law_calls.specs.Prelude.{Frame, here_at, Has, AtCell, AtBase, entity_flow, unlisted_if, Does, Acts, surveys, calls, readies}
+use Rattle.seam_law_calls.specs.Prelude.{CellMoves, BaseMoves, Moves, at_a_cell, at_a_base, real_in}
 use Rattle.seam_call.specs.declared.order.Order.TheVariants as order
-use Rattle.seam_call.specs.declared.shown.Shown.{Shown}
-use Rattle.seam_entity.specs.Orders.{Orders, order_or}
-use Rattle.seam_entity.specs.Reals.{RealView, WitnessView}
-use Rattle.seam_entity.specs.declared.message.Msg.{Msg}
-use Rattle.seam_entity.specs.declared.message.Msg.TheVariants.{Call, BaseCall, Hand, Current, GhostSet, GhostDrop, Tick, Reap, Update}
-use Rattle.seam_entity.specs.Numbers.{may_rise}
-use Rattle.seam_entity.specs.Here.{cell_count, cell_numbers, base_of}
-use Rattle.seam_entity.specs.Calls.{order_is_ready, ready_order}
-use Rattle.seam_node_steps.specs.Slots.{SlotStep, slot_after}
-use Rattle.seam_node_steps.specs.CellCases.{is_stray, drop_at}
-use Rattle.seam_node_steps.specs.BaseCases.{tick_to}
-use Rattle.seam_node_steps.specs.Bases.{RouteView}
-use Rattle.seam_node_steps.specs.CellLooks.{numbered, shown_of, looks_with}
-use Rattle.seam_law_calls.specs.Frames.{Frame, here_at}
-use Rattle.seam_node_steps.specs.Nodes.{World}
-use Rattle.seam_law_calls.specs.Sights.{Has, AtCell, AtBase, entity_flow}
+use Rattle.seam_entity.specs.declared.message.Msg.TheVariants.{Call}
 use Rattle.seam_law_calls.specs.CellMoves as move
-use Rattle.seam_law_calls.specs.CellMoves.{unlisted_if, Does, Acts, surveys, calls, readies, CellMoves}
 use Rattle.seam_law_calls.specs.BaseMoves as base_move
-use Rattle.seam_law_calls.specs.BaseMoves.{BaseMoves}
-use Rattle.seam_law_calls.specs.Moves.{Moves, at_a_cell, at_a_base}
-use Rattle.seam_law_calls.specs.Ones.{real_in}
 use Rattle.seam_law_rounds.proofs.Calm.{IsSame, IsCalmOrder, IsCalmAt, IsCalmTo, order_reaps, letter_reaps, has_reaps, one_if}
 
 not_yes : (b : Bool) → b ≡ true → not b ≡ true → ⊥

@@ -4,30 +4,18 @@ use Rattle.std.proofs.Common.{subst, arith, inl, inr}
 use Rattle.std.specs.List.{AllByRecursion}
 use Rattle.std.specs.FinMap as table
 use Rattle.std.proofs.lemmas.Bool.{cases_eq, eqb-true}
-use Rattle.seam_machine.specs.Nets.{link, letter, input_from, happens}
-use Rattle.seam_machine.specs.Events.{Occurs}
-use Rattle.seam_machine.specs.declared.machines.Input.{Input}
-use Rattle.seam_machine.specs.declared.machines.Input.TheVariants.{Task, From}
-use Rattle.seam_machine.specs.declared.machines.Event.{Event}
+use Rattle.seam_node_steps.specs.Prelude.{link, letter, input_from, happens, Occurs, Input, Task, From, Event, order_or, RealView, Msg}
+use Rattle.seam_node_steps.specs.Prelude.{BaseCall, Hand, Current, GhostSet, GhostDrop, Tick, Reap, Update, may_rise, cell_count, RouteView}
+use Rattle.seam_node_steps.specs.Prelude.{World, node_steps}
+use Rattle.seam_law_flow.specs.Prelude.{Flow, Goes, comes, letter_in, letters_of, more_letter, slot_at}
+use Rattle.seam_law_calls.specs.Prelude.{Frame, Has, concerns, kept_if, mine, concerning, has_of, has_none, entity_flow, MovesTo, real_in}
 use Rattle.seam_net_runs.specs.Sums.{weight_or}
 use Rattle.seam_net_runs.specs.Weights.{input_weight}
 use Rattle.seam_net_runs.proofs.Soundness.{sound_sends}
 use Rattle.seam_net_runs.proofs.Weighing.{weight_moves, weight_bounds}
-use Rattle.seam_law_flow.specs.Flows.{Flow, Goes, comes, letter_in, letters_of, more_letter, slot_at}
 use Rattle.seam_law_flow.proofs.Following.{slots_kept, letters_kept, came}
-use Rattle.seam_entity.specs.Orders.{order_or}
-use Rattle.seam_entity.specs.Reals.{RealView}
-use Rattle.seam_entity.specs.declared.message.Msg.{Msg}
-use Rattle.seam_entity.specs.declared.message.Msg.TheVariants.{Call, BaseCall, Hand, Current, GhostSet, GhostDrop, Tick, Reap, Update}
-use Rattle.seam_entity.specs.Numbers.{may_rise}
-use Rattle.seam_entity.specs.Here.{cell_count}
-use Rattle.seam_node_steps.specs.Bases.{RouteView}
-use Rattle.seam_node_steps.specs.Nodes.{World, node_steps}
-use Rattle.seam_law_calls.specs.Frames.{Frame}
-use Rattle.seam_law_calls.specs.Sights.{Has, concerns, kept_if, mine, concerning, has_of, has_none, entity_flow}
-use Rattle.seam_law_calls.specs.Moves.{MovesTo}
+use Rattle.seam_entity.specs.declared.message.Msg.TheVariants.{Call}
 use Rattle.seam_law_calls.proofs.Classify.{node_laws, node_moves, frame_happens, event_moves_with}
-use Rattle.seam_law_calls.specs.Ones.{real_in}
 use Rattle.seam_law_calls.proofs.Easing.{sent_is, input_is}
 use Rattle.seam_law_rounds.proofs.Shape.{items_each}
 use Rattle.seam_law_rounds.proofs.Calm.{IsCalmAt, IsCalmTo, letter_reaps, node_reaps, mine_reaps, reaps_of, one_if, IsCalm}

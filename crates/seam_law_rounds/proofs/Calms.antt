@@ -6,30 +6,20 @@ use Rattle.std.specs.Prelude.{slice_get}
 use Rattle.std.specs.List.{AllByRecursion}
 use Rattle.std.proofs.lemmas.Bool.Decides.{nat_tests}
 use Rattle.std.proofs.lemmas.List.Elements.{filter-append}
-use Rattle.seam_machine.specs.Nets.{IsQuiet, LeadsTo}
-use Rattle.seam_machine.specs.Sends.{items_to}
-use Rattle.seam_machine.specs.declared.machines.Event.{Event}
+use Rattle.seam_node_steps.specs.Prelude.{IsQuiet, LeadsTo, items_to, Event, RealView, Msg, Update, base_of, cell_count, BaseView, PartView}
+use Rattle.seam_node_steps.specs.Prelude.{holders, NodeView, World, node_steps, node_has_work, Cell, Base, with_nodes, order_if, ordered_at}
+use Rattle.seam_node_steps.specs.Prelude.{reap_ordered_at, reaps_loaded, look_loaded}
+use Rattle.seam_law_flow.specs.Prelude.{letters_of}
+use Rattle.seam_law_calls.specs.Prelude.{Frame, here_at, IsAt, IsInFrame, mine, times, order_concerns, orders_of, has_of, entity_flow}
+use Rattle.seam_law_calls.specs.Prelude.{real_in, real_of, sent_by, base_burden, home_of, FindsClient, is_tick_order, HasToldAtMost}
+use Rattle.seam_law_calls.specs.Prelude.{most_entities, IsBlank, SeesFew, HasFewEntities, looks_left, most_shown, update_in, IsToldNothing}
+use Rattle.seam_law_rounds.specs.Prelude.{numbers_of, IsBetweenRounds, each, AreReapable, HasSettledPart, HasPartsBetweenRounds, AreFor}
+use Rattle.seam_law_rounds.specs.Prelude.{lines_of, HasSmallNumbers, IsServed}
 use Rattle.seam_machine.proofs.Quiet.{quiet_links, quiet_tasks}
-use Rattle.seam_law_flow.specs.Flows.{letters_of}
 use Rattle.seam_law_flow.proofs.Following.{all_append}
 use Rattle.seam_call.specs.declared.order.Order.TheVariants as order
 use Rattle.seam_call.specs.declared.shown.Update.{Update as UpdateData}
-use Rattle.seam_entity.specs.Reals.{RealView}
-use Rattle.seam_entity.specs.declared.message.Msg.{Msg}
-use Rattle.seam_entity.specs.declared.message.Msg.TheVariants.{Update}
-use Rattle.seam_entity.specs.Here.{base_of, cell_count}
-use Rattle.seam_node_steps.specs.Bases.{BaseView, PartView}
-use Rattle.seam_node_steps.specs.Holders.{holders}
-use Rattle.seam_node_steps.specs.Nodes.{NodeView, World, node_steps, node_has_work}
-use Rattle.seam_node_steps.specs.Nodes.NodeView.{Cell, Base}
-use Rattle.seam_node_steps.specs.Loads.{with_nodes, order_if, ordered_at, reap_ordered_at, reaps_loaded, look_loaded}
-use Rattle.seam_law_calls.specs.Frames.{Frame, here_at, IsAt, IsInFrame}
-use Rattle.seam_law_calls.specs.Sights.{mine, times, order_concerns, orders_of, has_of, entity_flow}
-use Rattle.seam_law_calls.specs.Ones.{real_in, real_of}
 use Rattle.seam_law_calls.proofs.Counting.{counted_none, none_counts}
-use Rattle.seam_law_rounds.specs.Between.{numbers_of, IsBetweenRounds}
-use Rattle.seam_law_rounds.specs.Loaded.{each}
-use Rattle.seam_law_rounds.specs.LastPhases.{AreReapable}
 use Rattle.seam_law_rounds.proofs.Shape.{Somewhere, Nowhere, search_real, frame_leads}
 use Rattle.seam_law_rounds.proofs.Calm.{IsSame, IsCalm}
 use Rattle.seam_law_rounds.proofs.Starting.{Given, idle_orders}
@@ -39,16 +29,9 @@ use Rattle.seam_law_rounds.proofs.Reaping as reaping
 use Rattle.seam_law_rounds.proofs.Reaping.{is_told, none_come}
 use Rattle.seam_law_rounds.proofs.Looking as looking
 use Rattle.seam_law_rounds.proofs.Looking.{tick, look_makes_none}
-use Rattle.seam_law_calls.specs.WitnessMoves.{sent_by}
-use Rattle.seam_law_calls.specs.BaseTurns.{base_burden, home_of}
-use Rattle.seam_law_calls.specs.Clients.{FindsClient, is_tick_order, HasToldAtMost}
 use Rattle.seam_law_calls.proofs.BaseRuns.{version_room}
 use Rattle.seam_law_calls.proofs.StrayRuns.{base_burden_leads}
 use Rattle.seam_law_calls.proofs.NoLooks.{NoTicks}
-use Rattle.seam_law_rounds.specs.Parts.{HasSettledPart, HasPartsBetweenRounds, AreFor, lines_of, HasSmallNumbers}
-use Rattle.seam_law_calls.specs.Telling.{most_entities, IsBlank, SeesFew, HasFewEntities, looks_left, most_shown}
-use Rattle.seam_law_calls.specs.PartMoves.{update_in}
-use Rattle.seam_law_calls.specs.Telling.{IsToldNothing}
 use Rattle.seam_law_calls.proofs.Silent.{tells_none}
 use Rattle.seam_law_rounds.proofs.Updates.{update_finds}
 use Rattle.seam_law_calls.proofs.Absent.{few_leads}
@@ -56,7 +39,6 @@ use Rattle.seam_law_rounds.proofs.Ticking.{most_told, tells_most, tells_few, see
 use Rattle.seam_law_rounds.proofs.Ticking.{looks_turned}
 use Rattle.seam_law_rounds.proofs.PartLoads.{part_at, parts_ordered}
 use Rattle.seam_law_rounds.proofs.Still.{still_settled}
-use Rattle.seam_law_rounds.specs.Parts.{IsServed}
 use Rattle.seam_law_rounds.proofs.Serving.{HasItStill, starts, HasNumbers, serves_then, ends}
 use Rattle.seam_law_rounds.proofs.Idling.{still_then, few_lines, few_part}
 

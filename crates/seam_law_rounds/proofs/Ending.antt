@@ -3,24 +3,13 @@ use Rattle.std.proofs.Common.{◌≡◌, ℕ, Bool, List, [], ◌∷◌, ◌++�
 use Rattle.std.specs.List.{AllByRecursion}
 use Rattle.std.specs.FinMap as table
 use Rattle.std.proofs.lemmas.Bool.{cases_eq}
-use Rattle.seam_law_flow.specs.Flows.{letters_of, more_letter}
-use Rattle.seam_law_flow.specs.Tokens.{In, Nobody}
-use Rattle.seam_order.specs.Held.{item_at}
-use Rattle.seam_law_flow.specs.Desks.{held_in, packed, bears}
-use Rattle.seam_law_flow.specs.Numbered.{of_number}
-use Rattle.seam_call.specs.declared.order.Order.{Order}
+use Rattle.seam_node_steps.specs.Prelude.{item_at, Order, order_or, RealView, WitnessView, Msg, BaseCall, Hand, Current, GhostSet}
+use Rattle.seam_node_steps.specs.Prelude.{GhostDrop, Tick, Reap, Update, World}
+use Rattle.seam_law_flow.specs.Prelude.{letters_of, more_letter, In, Nobody, held_in, packed, bears, of_number}
+use Rattle.seam_law_calls.specs.Prelude.{Frame, entity_flow, real_in, real_of, IsOne, cell_order_from, real_desk, cell_mail}
+use Rattle.seam_law_rounds.specs.Prelude.{IsSettled, HasNoCalls}
 use Rattle.seam_call.specs.declared.order.Order.TheVariants as order
-use Rattle.seam_entity.specs.Orders.{order_or}
-use Rattle.seam_entity.specs.Reals.{RealView, WitnessView}
-use Rattle.seam_entity.specs.declared.message.Msg.{Msg}
-use Rattle.seam_entity.specs.declared.message.Msg.TheVariants.{Call, BaseCall, Hand, Current, GhostSet, GhostDrop, Tick, Reap, Update}
-use Rattle.seam_node_steps.specs.Nodes.{World}
-use Rattle.seam_law_calls.specs.Frames.{Frame}
-use Rattle.seam_law_calls.specs.Sights.{entity_flow}
-use Rattle.seam_law_calls.specs.Ones.{real_in, real_of, IsOne}
-use Rattle.seam_law_calls.specs.CellTurns.{cell_order_from, real_desk, cell_mail}
-use Rattle.seam_law_rounds.specs.Between.{IsSettled}
-use Rattle.seam_law_rounds.specs.LastPhases.{HasNoCalls}
+use Rattle.seam_entity.specs.declared.message.Msg.TheVariants.{Call}
 use Rattle.seam_law_rounds.proofs.Calm.{IsSame, IsCalmOrder, IsCalmTo, IsCalm}
 
 module _ (f : Frame) (e home : ℕ) (r : RealView) (u : World) (settled : IsSettled f e home r u) (told : Bool) (v : World)

@@ -6,26 +6,16 @@ use Rattle.std.specs.Ordering.{nat_cmp, eq_by_cmp}
 use Rattle.std.specs.Cmp.{nat_cmp_total, unsigned_tied}
 use Rattle.std.specs.FinMap as table
 use Rattle.std.proofs.lemmas.Bool.{cases_eq, ne_eqb}
-use Rattle.seam_order.specs.Held.{OrderView}
-use Rattle.seam_call.specs.declared.call.Call.{Call as CallData}
-use Rattle.seam_entity.specs.Orders.{order_or}
-use Rattle.seam_entity.specs.Reals.{RealView}
-use Rattle.seam_node_steps.specs.Holders.{holders}
-use Rattle.seam_node_steps.specs.Maps.{Map}
-use Rattle.seam_node_steps.specs.Bases.{RouteView}
-use Rattle.seam_node_steps.specs.Rows.{idle, one, orders}
-use Rattle.seam_node_steps.specs.Rows.{order as in_order}
-use Rattle.seam_node_steps.specs.EarlyCall.{two_cells, world_0, world_12, steps, hit_twice, left, away}
+use Rattle.seam_node_steps.specs.Prelude.{OrderView, Call as CallData, order_or, RealView, holders, Map, RouteView, idle, one, orders}
+use Rattle.seam_node_steps.specs.Prelude.{order as in_order, two_cells, world_0, steps, hit_twice}
+use Rattle.seam_law_calls.specs.Prelude.{Has, has_of, has_none, entity_flow, RealFits, frame, events_of, real_in, OneFrom, HasOne}
+use Rattle.seam_law_rounds.specs.Prelude.{next_from, IsSettled, IsBetweenRounds}
+use Rattle.seam_node_steps.specs.EarlyCall.{world_12, left, away}
 use Rattle.seam_node_steps.proofs.Tables.{computing}
 use Rattle.seam_node_steps.proofs.Early.{row, quiet}
-use Rattle.seam_law_calls.specs.Sights.{Has, has_of, has_none, entity_flow}
-use Rattle.seam_law_calls.specs.Fits.{RealFits}
-use Rattle.seam_law_calls.specs.HandOverExample.{frame, events_of}
-use Rattle.seam_law_calls.specs.Ones.{real_in, OneFrom, HasOne}
 use Rattle.seam_law_calls.proofs.Counting.{counted_one, one_counts}
 use Rattle.seam_law_calls.proofs.OneReal.{one_leads}
 use Rattle.seam_law_calls.proofs.ExampleMet.{EachFrom, each_node, slots, none_there, one_is, frame_is, all_fit, spared, one_holder, row_leads}
-use Rattle.seam_law_rounds.specs.Between.{next_from, IsSettled, IsBetweenRounds}
 
 -- ---- no other entity
 

@@ -7,41 +7,23 @@ use Rattle.std.specs.Ordering.{nat_cmp, eq_by_cmp}
 use Rattle.std.specs.Cmp.{nat_cmp_total}
 use Rattle.std.specs.FinMap as table
 use Rattle.std.proofs.lemmas.Bool.{cases_eq, ne_eqb}
-use Rattle.seam_machine.specs.Nets.{LeadsTo}
-use Rattle.seam_law_flow.specs.Flows.{slot_at}
-use Rattle.seam_law_flow.specs.Numbered.{number_from}
-use Rattle.seam_call.specs.declared.call.Call.{Call as CallData}
-use Rattle.seam_call.specs.declared.order.Batch.{Batch}
-use Rattle.seam_entity.specs.Reals.{RealView}
-use Rattle.seam_entity.specs.Executing.{fits_cell_part}
-use Rattle.seam_node_steps.specs.Maps.{Map}
-use Rattle.seam_node_steps.specs.Bases.{PartView}
-use Rattle.seam_node_steps.specs.Holders.{holders}
-use Rattle.seam_node_steps.specs.Loads.{new_part, part_begins, loaded, look_loaded}
-use Rattle.seam_node_steps.specs.Nodes.{NodeView, node_steps, node_has_work}
-use Rattle.seam_node_steps.specs.Nodes.NodeView.{Cell}
-use Rattle.seam_node_steps.specs.Rows.{no, here, cell, idle}
+use Rattle.seam_node_steps.specs.Prelude.{LeadsTo, Call as CallData, Batch, RealView, fits_cell_part, Map, PartView, holders, new_part}
+use Rattle.seam_node_steps.specs.Prelude.{part_begins, loaded, look_loaded, NodeView, node_steps, node_has_work, Cell, no, here, cell, idle}
+use Rattle.seam_node_steps.specs.Prelude.{space, both, batch_of, move_to, watcher, entered, still, part_of, second_0, second_4, base_line}
+use Rattle.seam_node_steps.specs.Prelude.{line, own, enter_2, second_look_0, second_look_4, second_steps, second_looks}
+use Rattle.seam_law_flow.specs.Prelude.{slot_at, number_from}
+use Rattle.seam_law_calls.specs.Prelude.{here_at, Has, has_of, has_none, entity_flow, events_of, real_in, home_of, sent_by}
+use Rattle.seam_law_rounds.specs.Prelude.{IsBetweenRounds, IsFitting, IsForReal, AreNumbered, numbers_of, calls_of, calls_at, node_loaded}
+use Rattle.seam_law_rounds.specs.Prelude.{opening, base_calls_of, base_calls_at, AreBaseNumbered, IsForPart, FitsParts}
+use Rattle.seam_law_rounds.specs.Prelude.{HasPartsBetweenRounds, HasSmallNumbers, MayBeLoaded}
 use Rattle.seam_node_steps.specs.ViewRounds as view
-use Rattle.seam_node_steps.specs.ViewRounds.{space, both, batch_of, move_to, watcher, entered, still, part_of, first_look_5, second_0, second_4}
-use Rattle.seam_node_steps.specs.ViewRounds.{base_line, line, own, enter_2}
-use Rattle.seam_node_steps.specs.ViewRounds.{second_look_0, second_look_4, second_steps, second_looks}
+use Rattle.seam_node_steps.specs.ViewRounds.{first_look_5}
 use Rattle.seam_node_steps.proofs.Tables.{computing}
 use Rattle.seam_node_steps.proofs.Views as views
-use Rattle.seam_law_calls.specs.Frames.{here_at}
-use Rattle.seam_law_calls.specs.Sights.{Has, has_of, has_none, entity_flow}
-use Rattle.seam_law_calls.specs.HandOverExample.{events_of}
-use Rattle.seam_law_calls.specs.Ones.{real_in}
 use Rattle.seam_law_calls.proofs.ExampleMet.{EachFrom, each_node, slots, none_there, row_leads}
-use Rattle.seam_law_rounds.specs.Between.{IsBetweenRounds, IsFitting, IsForReal, AreNumbered, numbers_of, calls_of, calls_at}
 use Rattle.seam_law_rounds.proofs.Loaded.{slot_is, real_was}
-use Rattle.seam_law_rounds.specs.Loaded.{node_loaded}
 use Rattle.seam_law_rounds.proofs.CallsEnd.{calls_end_between}
 use Rattle.seam_law_rounds.proofs.Looking.{look_ends_between}
-use Rattle.seam_law_calls.specs.BaseTurns.{home_of}
-use Rattle.seam_law_calls.specs.WitnessMoves.{sent_by}
-use Rattle.seam_law_rounds.specs.FirstBatchExample.{opening}
-use Rattle.seam_law_rounds.specs.Parts.{base_calls_of, base_calls_at, AreBaseNumbered, IsForPart, FitsParts, HasPartsBetweenRounds}
-use Rattle.seam_law_rounds.specs.Parts.{HasSmallNumbers, MayBeLoaded}
 use Rattle.seam_law_rounds.proofs.PartLoads.{SamePart, part_at, part_stays}
 use Rattle.seam_law_rounds.proofs.FirstBatchFits.{one_is_tree}
 use Rattle.seam_law_rounds.proofs.ExampleRound.{after_looks, next_is_one}

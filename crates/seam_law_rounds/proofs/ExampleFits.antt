@@ -3,21 +3,15 @@ use Rattle.std.proofs.Common.{◌≡◌, ℕ, ◌^◌, ◌<◌, Bool, true, fals
 use Rattle.std.proofs.Common.{List, ◌∷◌, Option, Some, arith, inl, inr}
 use Rattle.std.specs.List.{IsDistinct}
 use Rattle.std.proofs.lemmas.Bool.{cases_eq, ne_eqb}
-use Rattle.seam_law_flow.specs.Numbered.{number_from}
-use Rattle.seam_entity.specs.Executing.{fits_cell_part, real_begins}
-use Rattle.seam_node_steps.specs.Holders.{holders}
-use Rattle.seam_node_steps.specs.Loads.{loaded}
-use Rattle.seam_node_steps.specs.EarlyCall.{world_12, hit_twice}
+use Rattle.seam_node_steps.specs.Prelude.{fits_cell_part, real_begins, holders, loaded, hit_twice, Call as CallData, RealView, WitnessView}
+use Rattle.seam_law_flow.specs.Prelude.{number_from}
+use Rattle.seam_law_calls.specs.Prelude.{here_at, frame, entity_flow, real_in}
+use Rattle.seam_law_rounds.specs.Prelude.{AreNumbered, IsForReal, IsFitting, numbers_of, next_from, calls_of, calls_at, next_batch}
+use Rattle.seam_law_rounds.specs.Prelude.{skipping_batch}
+use Rattle.seam_node_steps.specs.EarlyCall.{world_12}
 use Rattle.seam_node_steps.proofs.Tables.{computing}
-use Rattle.seam_law_calls.specs.Frames.{here_at}
-use Rattle.seam_law_calls.specs.HandOverExample.{frame}
-use Rattle.seam_call.specs.declared.call.Call.{Call as CallData}
-use Rattle.seam_entity.specs.Reals.{RealView, WitnessView}
-use Rattle.seam_law_calls.specs.Sights.{entity_flow}
-use Rattle.seam_law_calls.specs.Ones.{real_in}
 use Rattle.seam_law_calls.proofs.ExampleMet.{frame_is}
-use Rattle.seam_law_rounds.specs.Between.{AreNumbered, IsForReal, IsFitting, numbers_of, next_from, calls_of, calls_at}
-use Rattle.seam_law_rounds.specs.NextBatchExample.{third_call, next_batch, skipping_batch}
+use Rattle.seam_law_rounds.specs.NextBatchExample.{third_call}
 use Rattle.seam_law_rounds.proofs.Loaded.{kept_some, slot_becomes, real_was}
 use Rattle.seam_law_rounds.proofs.ExampleBetween.{is_first, is_hit_twice, next_low, next_of_second}
 

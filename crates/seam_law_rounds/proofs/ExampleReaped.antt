@@ -1,11 +1,9 @@
 -- The entity of the worked world may be reaped.
 use Rattle.std.proofs.Common.{◌≡◌, true, [], ◌∷◌, refl, subst}
 use Rattle.std.specs.List.{IsDistinct}
-use Rattle.seam_entity.specs.Reals.{RealView}
-use Rattle.seam_entity.specs.Numbers.{may_rise}
-use Rattle.seam_node_steps.specs.EarlyCall.{world_12}
+use Rattle.seam_node_steps.specs.Prelude.{RealView, may_rise, world_12}
+use Rattle.seam_law_rounds.specs.Prelude.{AreReapable}
 use Rattle.seam_law_rounds.proofs.ExampleBetween.{holds_one, is_hit_twice}
-use Rattle.seam_law_rounds.specs.LastPhases.{AreReapable}
 
 pub reapable : AreReapable world_12 (1 ∷ [])
 unfolding IsDistinct

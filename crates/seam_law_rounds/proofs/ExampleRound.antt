@@ -5,33 +5,19 @@ use Rattle.std.specs.Prelude.{option_map, slice_get}
 use Rattle.std.specs.List.{IsDistinct}
 use Rattle.std.specs.Ordering.{nat_cmp}
 use Rattle.std.specs.FinMap as table
-use Rattle.seam_machine.specs.Nets.{LeadsTo}
-use Rattle.seam_law_flow.specs.Flows.{slot_at}
-use Rattle.seam_entity.specs.Orders.{Orders, order_or}
-use Rattle.seam_entity.specs.Here.{Here}
-use Rattle.seam_entity.specs.Executing.{real_begins}
-use Rattle.seam_entity.specs.Reals.{RealView}
-use Rattle.seam_node_steps.specs.Bases.{PartView}
-use Rattle.seam_node_steps.specs.Holders.{holders}
-use Rattle.seam_node_steps.specs.Loads.{loaded, look_loaded}
-use Rattle.seam_node_steps.specs.Nodes.{NodeView, node_steps, node_has_work}
-use Rattle.seam_node_steps.specs.Rows.{empty_world}
-use Rattle.seam_node_steps.specs.ViewRounds.{batch_1, first_0, first_2, first_look_0, first_look_5, first_steps, first_looks}
+use Rattle.seam_node_steps.specs.Prelude.{LeadsTo, Orders, order_or, Here, real_begins, RealView, PartView, holders, loaded, look_loaded}
+use Rattle.seam_node_steps.specs.Prelude.{NodeView, node_steps, node_has_work, empty_world, batch_1, first_0, first_2, first_look_0}
+use Rattle.seam_node_steps.specs.Prelude.{first_look_5, first_steps, first_looks}
+use Rattle.seam_law_flow.specs.Prelude.{slot_at}
+use Rattle.seam_law_calls.specs.Prelude.{here_at, has_of, has_none, entity_flow, events_of, real_in, home_of}
+use Rattle.seam_law_rounds.specs.Prelude.{IsBetweenRounds, IsFitting, IsForReal, node_loaded, opening, IsForPart, FitsParts}
+use Rattle.seam_law_rounds.specs.Prelude.{HasPartsBetweenRounds, HasSmallNumbers, MayBeLoaded}
 use Rattle.seam_node_steps.proofs.Tables.{computing}
 use Rattle.seam_node_steps.proofs.Views as views
-use Rattle.seam_law_calls.specs.Frames.{here_at}
-use Rattle.seam_law_calls.specs.Sights.{has_of, has_none, entity_flow}
-use Rattle.seam_law_calls.specs.HandOverExample.{events_of}
-use Rattle.seam_law_calls.specs.Ones.{real_in}
 use Rattle.seam_law_calls.proofs.ExampleMet.{row_leads}
-use Rattle.seam_law_rounds.specs.Between.{IsBetweenRounds, IsFitting, IsForReal}
-use Rattle.seam_law_rounds.specs.Loaded.{node_loaded}
 use Rattle.seam_law_rounds.proofs.Loaded.{slot_is}
 use Rattle.seam_law_rounds.proofs.CallsEnd.{calls_end_between}
 use Rattle.seam_law_rounds.proofs.Looking.{look_ends_between}
-use Rattle.seam_law_calls.specs.BaseTurns.{home_of}
-use Rattle.seam_law_rounds.specs.FirstBatchExample.{opening}
-use Rattle.seam_law_rounds.specs.Parts.{IsForPart, FitsParts, HasPartsBetweenRounds, HasSmallNumbers, MayBeLoaded}
 use Rattle.seam_law_rounds.proofs.PartLoads.{part_at}
 use Rattle.seam_law_rounds.proofs.Joining.{is_among, peopled, real_at, real_joined, part_joined, made_peopled, new_peopled}
 use Rattle.seam_law_rounds.proofs.Attaching.{real_if, real_from, part_if, part_from}

@@ -5,38 +5,20 @@ use Rattle.std.specs.List.{AllByRecursion, IsDistinct}
 use Rattle.std.specs.Ordering.{nat_cmp}
 use Rattle.std.specs.FinMap as table
 use Rattle.std.proofs.lemmas.Bool.{cases_eq, ne_eqb}
-use Rattle.seam_tree.specs.Division.{area, IsTree}
-use Rattle.seam_geo.specs.Rect.{IsProper}
-use Rattle.seam_defs.specs.Builtin.{builtin}
-use Rattle.seam_defs.specs.Settings.{standard}
-use Rattle.seam_ghosts.specs.Book.{copy_in}
-use Rattle.seam_machine.specs.Sends.{items_to}
-use Rattle.seam_law_flow.specs.Flows.{letters_of}
-use Rattle.seam_law_flow.specs.Numbered.{number_from}
-use Rattle.seam_call.specs.declared.call.Call.{Call as CallData}
-use Rattle.seam_call.specs.declared.order.Order.{Order}
+use Rattle.seam_node_steps.specs.Prelude.{area, IsTree, IsProper, builtin, standard, copy_in, items_to, Call as CallData, Order, order_or}
+use Rattle.seam_node_steps.specs.Prelude.{RealView, PartView, holders, one_cell, loaded, empty_world, made, at_home, base_16}
+use Rattle.seam_law_flow.specs.Prelude.{letters_of, number_from}
+use Rattle.seam_law_calls.specs.Prelude.{Has, order_concerns, orders_of, has_of, has_none, entity_flow, real_in, IsFrame, cell_order_from}
+use Rattle.seam_law_calls.specs.Prelude.{home_of, pay, part_alone, base_with}
+use Rattle.seam_law_rounds.specs.Prelude.{order_in, cell_call_from, calls_of, calls_at, AreNumbered, IsForReal, IsBetweenRounds, IsFitting}
+use Rattle.seam_law_rounds.specs.Prelude.{next_from, next_to, base_calls_of, base_calls_at, AreBaseNumbered, IsForPart, FitsParts}
+use Rattle.seam_law_rounds.specs.Prelude.{HasPartsBetweenRounds, MayBeLoaded, IsAlone, opening, first_batch}
 use Rattle.seam_call.specs.declared.order.Order.TheVariants as order
-use Rattle.seam_entity.specs.Orders.{order_or}
-use Rattle.seam_entity.specs.Reals.{RealView}
-use Rattle.seam_node_steps.specs.Bases.{PartView}
-use Rattle.seam_node_steps.specs.Holders.{holders}
-use Rattle.seam_node_steps.specs.Loads.{one_cell, loaded}
-use Rattle.seam_node_steps.specs.Rows.{empty_world}
-use Rattle.seam_node_steps.specs.EarlyCall.{made, at_home, base_16}
-use Rattle.seam_law_calls.specs.Sights.{Has, order_concerns, orders_of, has_of, has_none, entity_flow}
-use Rattle.seam_law_calls.specs.Ones.{real_in, IsFrame}
 use Rattle.seam_law_calls.proofs.Counting.{one_counts}
 use Rattle.seam_law_calls.proofs.ExampleMet.{frame_is, nodes_of, each_node, slots, none_there, one_is, number_is}
-use Rattle.seam_law_calls.specs.CellTurns.{cell_order_from}
-use Rattle.seam_law_rounds.specs.Between.{order_in, cell_call_from, calls_of, calls_at, AreNumbered, IsForReal, IsBetweenRounds, IsFitting}
-use Rattle.seam_law_rounds.specs.Between.{next_from}
 use Rattle.seam_law_rounds.proofs.Opened.{opened_is_new, opened_has_none, opened_between}
-use Rattle.seam_law_calls.specs.BaseTurns.{home_of}
-use Rattle.seam_law_calls.specs.BaseCallsExample.{pay, part_alone, base_with, world_alone}
+use Rattle.seam_law_calls.specs.BaseCallsExample.{world_alone}
 use Rattle.seam_law_calls.proofs.ExampleClient.{load_alone, one_alone}
-use Rattle.seam_law_rounds.specs.Parts.{next_to, base_calls_of, base_calls_at, AreBaseNumbered, IsForPart, FitsParts}
-use Rattle.seam_law_rounds.specs.Parts.{HasPartsBetweenRounds, MayBeLoaded, IsAlone}
-use Rattle.seam_law_rounds.specs.FirstBatchExample.{opening, first_batch}
 
 -- ---- the world
 

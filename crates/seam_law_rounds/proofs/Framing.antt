@@ -8,25 +8,13 @@ use Rattle.std.specs.FinMap as table
 use Rattle.std.proofs.lemmas.List.{length-map}
 use Rattle.std.proofs.lemmas.List.Elements.{All-map}
 use Rattle.std.proofs.lemmas.Option.{slice_get-map, slice_get-get_or}
-use Rattle.seam_tree.specs.Division.{leaf_at, cells_of, IsTree}
+use Rattle.seam_node_steps.specs.Prelude.{leaf_at, cells_of, IsTree, IsSquare, ArePeers, Create, Order, Batch, RealView, Here, cell_count}
+use Rattle.seam_node_steps.specs.Prelude.{CellView, BaseView, RouteView, NodeView, World, node_peers, Cell, Base, created, real_begins}
+use Rattle.seam_node_steps.specs.Prelude.{with_nodes, real_if, part_if, with_route, created_at, with_witness, attached, cell_round}
+use Rattle.seam_node_steps.specs.Prelude.{base_round, order_if, ordered_at, loaded, IsCell, IsBase, IsNode}
+use Rattle.seam_law_calls.specs.Prelude.{Frame, here_at, IsBaseAt, IsAt, IsInFrame}
+use Rattle.seam_law_rounds.specs.Prelude.{IsBetweenRounds, IsFitting, framed, each, made, node_loaded}
 use Rattle.seam_tree.proofs.Leaves.{leaf_is_cell}
-use Rattle.seam_machine.specs.Nets.{IsSquare, ArePeers}
-use Rattle.seam_call.specs.declared.create.Create.{Create}
-use Rattle.seam_call.specs.declared.order.Order.{Order}
-use Rattle.seam_call.specs.declared.order.Batch.{Batch}
-use Rattle.seam_entity.specs.Reals.{RealView}
-use Rattle.seam_entity.specs.Here.{Here, cell_count}
-use Rattle.seam_node_steps.specs.Cells.{CellView}
-use Rattle.seam_node_steps.specs.Bases.{BaseView, RouteView}
-use Rattle.seam_node_steps.specs.Nodes.{NodeView, World, node_peers}
-use Rattle.seam_node_steps.specs.Nodes.NodeView.{Cell, Base}
-use Rattle.seam_entity.specs.Executing.{created, real_begins}
-use Rattle.seam_node_steps.specs.Loads.{with_nodes, real_if, part_if, with_route, created_at, with_witness, attached, cell_round}
-use Rattle.seam_node_steps.specs.Loads.{base_round, order_if, ordered_at, loaded}
-use Rattle.seam_node_steps.specs.Valid.{IsCell, IsBase, IsNode}
-use Rattle.seam_law_calls.specs.Frames.{Frame, here_at, IsBaseAt, IsAt, IsInFrame}
-use Rattle.seam_law_rounds.specs.Between.{IsBetweenRounds, IsFitting, framed}
-use Rattle.seam_law_rounds.specs.Loaded.{each, made, node_loaded}
 use Rattle.seam_law_rounds.proofs.Loading.{each_keeps, Any, any, loaded_is, node_there, set_keeps, get-each_value}
 
 abbrev IsUnder : ℕ → RealView → Type 0

@@ -7,24 +7,15 @@ use Rattle.std.specs.List.{AllByRecursion}
 use Rattle.std.proofs.lemmas.Bool.{cases_eq, eq-eqb, ne_eqb}
 use Rattle.std.proofs.lemmas.List.{append-nil}
 use Rattle.std.proofs.lemmas.List.Elements.{filter-append}
-use Rattle.seam_machine.specs.Totals.{total}
+use Rattle.seam_node_steps.specs.Prelude.{total, Order, RealView, base_of, CellView, BaseView, NodeView, World, node_has_work, Cell, Base}
+use Rattle.seam_node_steps.specs.Prelude.{with_nodes, order_if, ordered_at, reap_ordered_at, IsNode}
+use Rattle.seam_law_flow.specs.Prelude.{slot_at}
+use Rattle.seam_law_calls.specs.Prelude.{Frame, here_at, IsBaseAt, IsAt, IsInFrame, order_concerns, orders_of, times, has_of, has_none}
+use Rattle.seam_law_calls.specs.Prelude.{entity_flow, real_in}
+use Rattle.seam_law_rounds.specs.Prelude.{each}
 use Rattle.seam_machine.proofs.Totals.{total-append}
-use Rattle.seam_law_flow.specs.Flows.{slot_at}
 use Rattle.seam_law_flow.proofs.Following.{all_append}
-use Rattle.seam_call.specs.declared.order.Order.{Order}
 use Rattle.seam_call.specs.declared.order.Order.TheVariants as order
-use Rattle.seam_entity.specs.Reals.{RealView}
-use Rattle.seam_entity.specs.Here.{base_of}
-use Rattle.seam_node_steps.specs.Cells.{CellView}
-use Rattle.seam_node_steps.specs.Bases.{BaseView}
-use Rattle.seam_node_steps.specs.Nodes.{NodeView, World, node_has_work}
-use Rattle.seam_node_steps.specs.Nodes.NodeView.{Cell, Base}
-use Rattle.seam_node_steps.specs.Loads.{with_nodes, order_if, ordered_at, reap_ordered_at}
-use Rattle.seam_node_steps.specs.Valid.{IsNode}
-use Rattle.seam_law_calls.specs.Frames.{Frame, here_at, IsBaseAt, IsAt, IsInFrame}
-use Rattle.seam_law_calls.specs.Sights.{order_concerns, orders_of, times, has_of, has_none, entity_flow}
-use Rattle.seam_law_calls.specs.Ones.{real_in}
-use Rattle.seam_law_rounds.specs.Loaded.{each}
 use Rattle.seam_law_rounds.proofs.Loading.{each_keeps, Any, any}
 use Rattle.seam_law_rounds.proofs.Framing.{frame_turns}
 use Rattle.seam_law_rounds.proofs.Calm.{IsCalmOrder, order_reaps}

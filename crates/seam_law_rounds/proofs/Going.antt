@@ -1,25 +1,14 @@
 -- What a loaded world has of each of its entities, and what it keeps of that over every list of events.
 use Rattle.std.proofs.Common.{◌≡◌, ℕ, ◌+◌, ◌<◌, List, arith, Some, sym, ap, ◌∙◌}
-use Rattle.seam_machine.specs.Nets.{IsQuiet, LeadsTo}
-use Rattle.seam_machine.specs.declared.machines.Event.{Event}
-use Rattle.seam_law_flow.specs.Flows.{letters_of}
-use Rattle.seam_law_flow.specs.Tokens.{TokenPlace, In, On}
-use Rattle.seam_call.specs.declared.order.Batch.{Batch}
-use Rattle.seam_entity.specs.Reals.{RealView}
-use Rattle.seam_node_steps.specs.Holders.{holders}
-use Rattle.seam_node_steps.specs.Nodes.{World, node_steps, node_has_work}
-use Rattle.seam_node_steps.specs.Loads.{loaded}
-use Rattle.seam_law_calls.specs.Frames.{Frame}
-use Rattle.seam_law_calls.specs.Sights.{entity_flow}
-use Rattle.seam_entity.specs.Numbers.{limit}
-use Rattle.seam_law_calls.specs.Burdens.{burden}
-use Rattle.seam_law_calls.specs.Ones.{real_in, real_of, IsOne, IsSpared, IsFrame, HasOne}
+use Rattle.seam_node_steps.specs.Prelude.{IsQuiet, LeadsTo, Event, Batch, RealView, holders, World, node_steps, node_has_work, loaded}
+use Rattle.seam_node_steps.specs.Prelude.{limit}
+use Rattle.seam_law_flow.specs.Prelude.{letters_of, TokenPlace, In, On}
+use Rattle.seam_law_calls.specs.Prelude.{Frame, entity_flow, burden, real_in, real_of, IsOne, IsSpared, IsFrame, HasOne, AllLead}
+use Rattle.seam_law_calls.specs.Prelude.{from_sender, CellCallsInTurn}
+use Rattle.seam_law_rounds.specs.Prelude.{calls_of, next_from, IsSettled, IsBetweenRounds, IsFitting, framed}
 use Rattle.seam_law_calls.proofs.Counting.{counted_one, one_counts}
-use Rattle.seam_law_calls.specs.Ways.{AllLead}
-use Rattle.seam_law_calls.specs.CellTurns.{from_sender, CellCallsInTurn}
 use Rattle.seam_law_calls.proofs.CellRuns.{Kept, kept_leads}
 use Rattle.seam_law_calls.proofs.Quieting.{all_executed}
-use Rattle.seam_law_rounds.specs.Between.{calls_of, next_from, IsSettled, IsBetweenRounds, IsFitting, framed}
 use Rattle.seam_law_rounds.proofs.Framing.{many_loaded, in_frame}
 use Rattle.seam_law_rounds.proofs.Ready.{has_one, spared_by, all_lead}
 use Rattle.seam_law_rounds.proofs.Loaded.{Loaded, no_mail, real_loaded}

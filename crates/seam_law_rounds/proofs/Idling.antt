@@ -5,29 +5,21 @@ use Rattle.std.specs.Prelude.{option_map, slice_get}
 use Rattle.std.specs.List.{AllByRecursion}
 use Rattle.std.proofs.lemmas.Bool.{cases_eq, eq-eqb, ne_eqb}
 use Rattle.std.proofs.lemmas.Option.{slice_get-map}
-use Rattle.seam_machine.specs.Nets.{link}
-use Rattle.seam_machine.specs.Totals.{total}
+use Rattle.seam_node_steps.specs.Prelude.{link, total, Order, RealView, NodeView, World, node_has_work, with_nodes}
+use Rattle.seam_law_flow.specs.Prelude.{slot_at, letters_of}
+use Rattle.seam_law_calls.specs.Prelude.{Frame, IsInFrame, Has, mine, has_of, has_none, entity_flow, real_burden, order_burden, node_burden}
+use Rattle.seam_law_calls.specs.Prelude.{mine_burden, burden, real_in, HasOne, part_burden, node_base_burden, mine_base_burden, base_burden}
+use Rattle.seam_law_calls.specs.Prelude.{home_of}
+use Rattle.seam_law_rounds.specs.Prelude.{IsSettled, IsBetweenRounds, HasSettledPart, lines_of, HasSmallNumbers}
 use Rattle.seam_machine.proofs.Quiet.{quiet_links}
 use Rattle.seam_net_runs.specs.Sums.{weight_or}
-use Rattle.seam_law_flow.specs.Flows.{slot_at, letters_of}
-use Rattle.seam_call.specs.declared.order.Order.{Order}
 use Rattle.seam_call.specs.declared.order.Order.TheVariants as order
-use Rattle.seam_entity.specs.Reals.{RealView}
-use Rattle.seam_node_steps.specs.Nodes.{NodeView, World, node_has_work}
-use Rattle.seam_node_steps.specs.Loads.{with_nodes}
-use Rattle.seam_law_calls.specs.Frames.{Frame, IsInFrame}
-use Rattle.seam_law_calls.specs.Sights.{Has, mine, has_of, has_none, entity_flow}
-use Rattle.seam_law_calls.specs.Burdens.{real_burden, order_burden, node_burden, mine_burden, burden}
-use Rattle.seam_law_calls.specs.Ones.{real_in, HasOne}
-use Rattle.seam_law_rounds.specs.Between.{IsSettled, IsBetweenRounds}
 use Rattle.seam_law_rounds.proofs.Loading.{node_there}
 use Rattle.seam_law_rounds.proofs.Ready.{has_one}
 use Rattle.seam_law_rounds.proofs.Room.{no_held, none_below, sum_most, most, rows_none}
 use Rattle.seam_law_rounds.proofs.Calm.{IsCalmOrder, order_reaps, IsCalm}
 use Rattle.seam_law_rounds.proofs.Ending.{still_settled}
 use Rattle.seam_law_rounds.proofs.Starting.{Given}
-use Rattle.seam_law_calls.specs.BaseTurns.{part_burden, node_base_burden, mine_base_burden, base_burden, home_of}
-use Rattle.seam_law_rounds.specs.Parts.{HasSettledPart, lines_of, HasSmallNumbers}
 use Rattle.seam_law_rounds.proofs.PartLoads.{part_at}
 use Rattle.seam_law_rounds.proofs.Still.{is_still, none_calls}
 use Rattle.seam_law_rounds.proofs.Serving.{HasItStill}

@@ -5,29 +5,16 @@ use Rattle.std.specs.Prelude.{option_map}
 use Rattle.std.specs.Cmp.{unsigned_tied}
 use Rattle.std.specs.FinMap as table
 use Rattle.std.proofs.lemmas.Bool.{cases_eq, eq-eqb, ne_eqb}
-use Rattle.seam_tree.specs.Division.{Division, leaf_at, cells_of}
-use Rattle.seam_call.specs.declared.create.Create.{Create}
-use Rattle.seam_call.specs.declared.order.Order.{Order}
-use Rattle.seam_call.specs.declared.order.Batch.{Batch}
-use Rattle.seam_node_steps.specs.Maps.{Map, set_at}
-use Rattle.seam_entity.specs.Here.{Here, base_of}
-use Rattle.seam_entity.specs.Reals.{RealView}
-use Rattle.seam_entity.specs.Executing.{created, real_begins}
-use Rattle.seam_node_steps.specs.Cells.{CellView}
-use Rattle.seam_node_steps.specs.Bases.{BaseView, PartView}
-use Rattle.seam_node_steps.specs.Nodes.{NodeView}
-use Rattle.seam_node_steps.specs.Nodes.NodeView.{Cell, Base}
-use Rattle.seam_node_steps.specs.Loads.{real_if, part_if, with_route, created_at, with_witness, with_proxy, attached, cell_round, base_round}
-use Rattle.seam_node_steps.specs.Loads.{ordered_at, order_if, part_begins, new_part}
+use Rattle.seam_node_steps.specs.Prelude.{Division, leaf_at, cells_of, Create, Order, Batch, Map, set_at, Here, base_of, RealView, created}
+use Rattle.seam_node_steps.specs.Prelude.{real_begins, CellView, BaseView, PartView, NodeView, Cell, Base, real_if, part_if, with_route}
+use Rattle.seam_node_steps.specs.Prelude.{created_at, with_witness, with_proxy, attached, cell_round, base_round, ordered_at, order_if}
+use Rattle.seam_node_steps.specs.Prelude.{part_begins, new_part}
+use Rattle.seam_law_calls.specs.Prelude.{Frame, here_at, IsAt, has_of, real_in, HasNoProxy}
+use Rattle.seam_law_rounds.specs.Prelude.{each, node_loaded}
 use Rattle.seam_node_steps.proofs.Slots.{get-set_at}
-use Rattle.seam_law_calls.specs.Frames.{Frame, here_at, IsAt}
-use Rattle.seam_law_calls.specs.Sights.{has_of}
-use Rattle.seam_law_calls.specs.Ones.{real_in}
-use Rattle.seam_law_rounds.specs.Loaded.{each, node_loaded}
 use Rattle.seam_law_rounds.proofs.Loading.{each_keeps, Any, any, get-each_value}
 use Rattle.seam_law_rounds.proofs.Staying.{other_set}
 use Rattle.seam_law_rounds.proofs.Making.{AreOthers}
-use Rattle.seam_law_calls.specs.PartMoves.{HasNoProxy}
 use Rattle.seam_law_rounds.proofs.PartLoads.{part_at, part_begun, others_created, part_in_round, parts_ordered}
 
 -- a node when the batch's entities were created

@@ -9,31 +9,16 @@ use Rattle.std.specs.FinMap as table
 use Rattle.std.proofs.lemmas.Bool.{cases_eq, eq-eqb, ne_eqb}
 use Rattle.std.proofs.lemmas.List.{append_assoc}
 use Rattle.std.proofs.lemmas.Option.{slice_get-map, slice_get_cases}
-use Rattle.seam_tree.specs.Division.{leaf_at, cells_of}
+use Rattle.seam_node_steps.specs.Prelude.{leaf_at, cells_of, link, Create, Batch, order_or, RealView, WitnessView, Msg, has_any, cell_count}
+use Rattle.seam_node_steps.specs.Prelude.{created, real_begins, holders, NodeView, World, node_has_work, Cell, Base, loaded}
+use Rattle.seam_law_flow.specs.Prelude.{Flow, slot_at, letters_of}
+use Rattle.seam_law_calls.specs.Prelude.{Frame, here_at, Has, mine, has_of, has_none, entity_flow, RealFits, real_in, real_of}
+use Rattle.seam_law_calls.specs.Prelude.{reaped_by_order, HasNoReaps}
+use Rattle.seam_law_rounds.specs.Prelude.{next_from, numbers_of, IsSettled, IsBetweenRounds, MayBeMade, IsFitting, framed, node_loaded}
 use Rattle.seam_tree.proofs.Leaves.{leaf_is_cell}
-use Rattle.seam_machine.specs.Nets.{link}
 use Rattle.seam_machine.proofs.Quiet.{quiet_links, quiet_tasks}
-use Rattle.seam_law_flow.specs.Flows.{Flow, slot_at, letters_of}
-use Rattle.seam_call.specs.declared.create.Create.{Create}
-use Rattle.seam_call.specs.declared.order.Batch.{Batch}
-use Rattle.seam_entity.specs.Orders.{order_or}
-use Rattle.seam_entity.specs.Reals.{RealView, WitnessView}
-use Rattle.seam_entity.specs.declared.message.Msg.{Msg}
-use Rattle.seam_node_steps.specs.Maps.{has_any}
-use Rattle.seam_entity.specs.Here.{cell_count}
-use Rattle.seam_entity.specs.Executing.{created, real_begins}
-use Rattle.seam_node_steps.specs.Holders.{holders}
-use Rattle.seam_node_steps.specs.Nodes.{NodeView, World, node_has_work}
-use Rattle.seam_node_steps.specs.Nodes.NodeView.{Cell, Base}
-use Rattle.seam_node_steps.specs.Loads.{loaded}
-use Rattle.seam_law_calls.specs.Frames.{Frame, here_at}
-use Rattle.seam_law_calls.specs.Sights.{Has, mine, has_of, has_none, entity_flow}
-use Rattle.seam_law_calls.specs.Fits.{RealFits}
-use Rattle.seam_law_calls.specs.Ones.{real_in, real_of, reaped_by_order, HasNoReaps}
 use Rattle.seam_law_calls.proofs.Counting.{counted_none, none_counts}
 use Rattle.seam_law_calls.proofs.ExampleMet.{slots}
-use Rattle.seam_law_rounds.specs.Between.{next_from, numbers_of, IsSettled, IsBetweenRounds, MayBeMade, IsFitting, framed}
-use Rattle.seam_law_rounds.specs.Loaded.{node_loaded}
 use Rattle.seam_law_rounds.proofs.Loading.{loaded_is}
 use Rattle.seam_law_rounds.proofs.Staying.{Kept, Becomes, node_becomes}
 use Rattle.seam_law_rounds.proofs.Making.{AreOthers, Creation, nowhere, once, creation_of, middle, Made, until, node_made, node_after}

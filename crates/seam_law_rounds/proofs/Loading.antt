@@ -9,13 +9,10 @@ use Rattle.std.specs.FinMap as table
 use Rattle.std.proofs.lemmas.Bool.Decides.{nat_tests}
 use Rattle.std.proofs.lemmas.List.{map-id}
 use Rattle.std.proofs.lemmas.Simd.{map-map}
-use Rattle.seam_tree.specs.Division.{cells_of}
-use Rattle.seam_call.specs.declared.order.Batch.{Batch}
-use Rattle.seam_node_steps.specs.Maps.{Map, set_at, with_value, each_value}
-use Rattle.seam_node_steps.specs.Nodes.{NodeView, World}
-use Rattle.seam_node_steps.specs.Loads.{with_nodes, created_at, attached, cell_round, base_round, ordered_at, loaded}
+use Rattle.seam_node_steps.specs.Prelude.{cells_of, Batch, Map, set_at, with_value, each_value, NodeView, World, with_nodes, created_at}
+use Rattle.seam_node_steps.specs.Prelude.{attached, cell_round, base_round, ordered_at, loaded}
+use Rattle.seam_law_rounds.specs.Prelude.{each, node_loaded}
 use Rattle.seam_node_steps.proofs.Slots.{get-set_at}
-use Rattle.seam_law_rounds.specs.Loaded.{each, node_loaded}
 
 module _ {A : Type 0} (g : A → NodeView → NodeView) where
   pub nodes_after : (w : World) (xs : List A) → fold (λ v x. with_nodes v (g x)) w xs ≡ with_nodes w (each g xs)

@@ -1,26 +1,16 @@
 -- The phase of looks: each entity keeps its one real.
 use Rattle.std.proofs.Common.{◌≡◌, ℕ, Bool, true, false, cond, eqb, List, Some, refl, ap, ◌∙◌, subst}
 use Rattle.std.proofs.lemmas.List.{length-map}
-use Rattle.seam_machine.specs.Nets.{IsQuiet, LeadsTo}
-use Rattle.seam_machine.specs.declared.machines.Event.{Event}
+use Rattle.seam_node_steps.specs.Prelude.{IsQuiet, LeadsTo, Event, Order, RealView, may_rise, cell_count, base_of, holders, World}
+use Rattle.seam_node_steps.specs.Prelude.{node_steps, node_has_work, ordered_at, look_loaded}
+use Rattle.seam_law_flow.specs.Prelude.{Nobody}
+use Rattle.seam_law_calls.specs.Prelude.{Frame, here_at, entity_flow, real_in, real_of}
+use Rattle.seam_law_rounds.specs.Prelude.{IsBetweenRounds, HasNoCalls}
 use Rattle.seam_machine.proofs.Quiet.{quiet_tasks}
-use Rattle.seam_law_flow.specs.Tokens.{Nobody}
-use Rattle.seam_call.specs.declared.order.Order.{Order}
 use Rattle.seam_call.specs.declared.order.Order.TheVariants as order
-use Rattle.seam_entity.specs.Reals.{RealView}
-use Rattle.seam_entity.specs.Numbers.{may_rise}
-use Rattle.seam_entity.specs.Here.{cell_count, base_of}
-use Rattle.seam_node_steps.specs.Holders.{holders}
-use Rattle.seam_node_steps.specs.Nodes.{World, node_steps, node_has_work}
-use Rattle.seam_node_steps.specs.Loads.{ordered_at, look_loaded}
-use Rattle.seam_law_calls.specs.Frames.{Frame, here_at}
-use Rattle.seam_law_calls.specs.Sights.{entity_flow}
-use Rattle.seam_law_calls.specs.Ones.{real_in, real_of}
 use Rattle.seam_law_calls.proofs.Counting.{counted_none, none_counts}
 use Rattle.seam_law_calls.proofs.Gone.{gone_leads}
-use Rattle.seam_law_rounds.specs.Between.{IsBetweenRounds}
 use Rattle.seam_law_rounds.proofs.Ready.{quiet_home}
-use Rattle.seam_law_rounds.specs.LastPhases.{HasNoCalls}
 use Rattle.seam_law_rounds.proofs.Calm.{one_if, IsCalm}
 use Rattle.seam_law_rounds.proofs.Starting.{Given, starts_calm}
 use Rattle.seam_law_rounds.proofs.Giving.{look_framed, some_base, look_given, look_cell, reals_stay}

@@ -7,32 +7,18 @@ use Rattle.std.specs.Cmp.{unsigned_tied}
 use Rattle.std.specs.FinMap as table
 use Rattle.std.specs.FinSet as set
 use Rattle.std.proofs.lemmas.Bool.{cases_eq, eqb-true, eq-eqb}
-use Rattle.seam_tree.specs.Division.{leaf_at, cells_of, IsTree}
+use Rattle.seam_node_steps.specs.Prelude.{leaf_at, cells_of, IsTree, type_of, AreDefs, IsType, Create, Batch, Map, set_at, cell_count}
+use Rattle.seam_node_steps.specs.Prelude.{properties, base_of, CellView, BaseView, NodeView, World, Cell, Base, order_passes, created}
+use Rattle.seam_node_steps.specs.Prelude.{fits_cell_part, IsNode, real_if, part_if, with_route, created_at, base_round}
+use Rattle.seam_law_calls.specs.Prelude.{Frame, here_at, IsAt, Has, has_of, has_none, orders_of, RealFits, real_in, reaped_by_order}
+use Rattle.seam_law_calls.specs.Prelude.{HasNoReaps}
+use Rattle.seam_law_rounds.specs.Prelude.{created_entity, MayBeMade, framed, each, node_loaded}
 use Rattle.seam_tree.proofs.Leaves.{leaf_is_cell}
 use Rattle.seam_defs.specs.declared.flags.Group.TheVariants as group
-use Rattle.seam_defs.specs.Types.{type_of, AreDefs, IsType}
 use Rattle.seam_defs.proofs.Numbers.{type_of-is}
 use Rattle.seam_defs.proofs.Starts.{start_of_group}
-use Rattle.seam_call.specs.declared.create.Create.{Create}
-use Rattle.seam_call.specs.declared.order.Batch.{Batch}
-use Rattle.seam_node_steps.specs.Maps.{Map, set_at}
-use Rattle.seam_entity.specs.Here.{cell_count, properties, base_of}
-use Rattle.seam_node_steps.specs.Cells.{CellView}
-use Rattle.seam_node_steps.specs.Bases.{BaseView}
-use Rattle.seam_node_steps.specs.Nodes.{NodeView, World}
-use Rattle.seam_node_steps.specs.Nodes.NodeView.{Cell, Base}
-use Rattle.seam_entity.specs.Calls.{order_passes}
-use Rattle.seam_entity.specs.Executing.{created, fits_cell_part}
 use Rattle.seam_node_steps.proofs.Tables.{entries_empty}
-use Rattle.seam_node_steps.specs.Valid.{IsNode}
-use Rattle.seam_node_steps.specs.Loads.{real_if, part_if, with_route, created_at, base_round}
 use Rattle.seam_node_steps.proofs.Slots.{get-set_at}
-use Rattle.seam_law_calls.specs.Frames.{Frame, here_at, IsAt}
-use Rattle.seam_law_calls.specs.Sights.{Has, has_of, has_none, orders_of}
-use Rattle.seam_law_calls.specs.Fits.{RealFits}
-use Rattle.seam_law_calls.specs.Ones.{real_in, reaped_by_order, HasNoReaps}
-use Rattle.seam_law_rounds.specs.Between.{created_entity, MayBeMade, framed}
-use Rattle.seam_law_rounds.specs.Loaded.{each, node_loaded}
 use Rattle.seam_law_rounds.proofs.Framing.{While, while_created}
 use Rattle.seam_law_rounds.proofs.Staying.{Stays, same, stays_as, Becomes, base_stays, creates_stay, becomes_after}
 

@@ -9,29 +9,14 @@ use Rattle.std.proofs.lemmas.List.{append-nil, length-append, length-replicate}
 use Rattle.std.proofs.lemmas.List.Elements.{All-replicate}
 use Rattle.std.proofs.lemmas.List.FromFn.{length-map-range_with_len}
 use Rattle.std.proofs.lemmas.Option.{slice_get-get_or}
-use Rattle.seam_defs.specs.declared.settings.Settings.{Settings}
-use Rattle.seam_defs.specs.declared.types.TypeDef.{TypeDef}
-use Rattle.seam_machine.specs.Nets.{IsSquare, ArePeers}
+use Rattle.seam_node_steps.specs.Prelude.{Settings, TypeDef, IsSquare, ArePeers, Ghost, GhostCopy, RealView, number_of, NextPlace}
+use Rattle.seam_node_steps.specs.Prelude.{RouteView, PartView, cell_count, cell_numbers, real_is_ready, part_is_ready, client_is_ready}
+use Rattle.seam_node_steps.specs.Prelude.{NodeView, World, node_peers, node_has_work, IsNode, empty_cell, empty_base, opened}
+use Rattle.seam_law_calls.specs.Prelude.{Frame, IsAt, Has, no_cell, no_base, has_of, has_none, entity_flow, real_in, IsFrame}
+use Rattle.seam_law_rounds.specs.Prelude.{IsBetweenRounds, first_frame}
 use Rattle.seam_machine.proofs.Quiet.{quiet_from}
-use Rattle.seam_ghosts.specs.declared.Ghost.{Ghost}
-use Rattle.seam_call.specs.declared.shown.GhostCopy.{GhostCopy}
-use Rattle.seam_entity.specs.Reals.{RealView}
-use Rattle.seam_node_steps.specs.Maps.{number_of}
-use Rattle.seam_node_steps.specs.Slots.{NextPlace}
-use Rattle.seam_node_steps.specs.Bases.{RouteView, PartView}
-use Rattle.seam_entity.specs.Here.{cell_count, cell_numbers}
-use Rattle.seam_node_steps.specs.Cells.{real_is_ready}
-use Rattle.seam_node_steps.specs.BaseCases.{part_is_ready, client_is_ready}
-use Rattle.seam_node_steps.specs.Nodes.{NodeView, World, node_peers, node_has_work}
-use Rattle.seam_node_steps.specs.Valid.{IsNode}
-use Rattle.seam_node_steps.specs.Loads.{empty_cell, empty_base, opened}
 use Rattle.seam_node_steps.proofs.Tables.{entries_empty}
-use Rattle.seam_law_calls.specs.Frames.{Frame, IsAt}
-use Rattle.seam_law_calls.specs.Sights.{Has, no_cell, no_base, has_of, has_none, entity_flow}
-use Rattle.seam_law_calls.specs.Ones.{real_in, IsFrame}
 use Rattle.seam_law_calls.proofs.ExampleMet.{no_link, slots}
-use Rattle.seam_law_rounds.specs.Between.{IsBetweenRounds}
-use Rattle.seam_law_rounds.specs.LastPhases.{first_frame}
 
 -- what is true of each that is made for a range of numbers, and of what comes after
 each_range : {N : Type 0} (P : ℕ → N → Type 0) (make : ℕ → N) (a n : ℕ) (ys : List N) →

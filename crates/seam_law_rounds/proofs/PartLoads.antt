@@ -8,26 +8,15 @@ use Rattle.std.specs.Cmp.{unsigned_tied}
 use Rattle.std.specs.FinMap as table
 use Rattle.std.proofs.lemmas.Bool.{eq-eqb, ne_eqb}
 use Rattle.std.proofs.lemmas.Bool.Decides.{nat_tests}
-use Rattle.seam_tree.specs.Division.{Division, leaf_at, cells_of}
-use Rattle.seam_call.specs.declared.create.Create.{Create}
-use Rattle.seam_call.specs.declared.order.Order.{Order}
-use Rattle.seam_call.specs.declared.order.Batch.{Batch}
-use Rattle.seam_node_steps.specs.Maps.{Map}
-use Rattle.seam_entity.specs.Here.{Here, cell_count, base_of}
-use Rattle.seam_node_steps.specs.Bases.{BaseView, PartView, ProxyView}
-use Rattle.seam_node_steps.specs.Nodes.{NodeView}
-use Rattle.seam_node_steps.specs.Nodes.NodeView.{Cell, Base}
-use Rattle.seam_node_steps.specs.Loads.{part_if, with_route, new_part, created_at, with_proxy, attached, part_begins, cell_round, base_round}
-use Rattle.seam_node_steps.specs.Loads.{proxy_begins, order_if, ordered_at}
+use Rattle.seam_node_steps.specs.Prelude.{Division, leaf_at, cells_of, Create, Order, Batch, Map, Here, cell_count, base_of, BaseView}
+use Rattle.seam_node_steps.specs.Prelude.{PartView, ProxyView, NodeView, Cell, Base, part_if, with_route, new_part, created_at, with_proxy}
+use Rattle.seam_node_steps.specs.Prelude.{attached, part_begins, cell_round, base_round, proxy_begins, order_if, ordered_at}
+use Rattle.seam_law_calls.specs.Prelude.{Frame, here_at, IsAt, has_of, HasNoProxy, home_of}
+use Rattle.seam_law_rounds.specs.Prelude.{each, node_loaded}
 use Rattle.seam_node_steps.proofs.Slots.{get-set_at}
-use Rattle.seam_law_calls.specs.Frames.{Frame, here_at, IsAt}
-use Rattle.seam_law_calls.specs.Sights.{has_of}
-use Rattle.seam_law_rounds.specs.Loaded.{each, node_loaded}
 use Rattle.seam_law_rounds.proofs.Loading.{each_keeps, Any, any, get-each_value}
 use Rattle.seam_law_rounds.proofs.Staying.{other_set}
 use Rattle.seam_law_rounds.proofs.Making.{AreOthers}
-use Rattle.seam_law_calls.specs.PartMoves.{HasNoProxy}
-use Rattle.seam_law_calls.specs.BaseTurns.{home_of}
 
 -- the part is the same but for its client
 abbrev pub SamePart : Option PartView → Option PartView → Type 0

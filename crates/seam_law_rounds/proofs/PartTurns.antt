@@ -6,47 +6,26 @@ use Rattle.std.specs.List.{AllByRecursion}
 use Rattle.std.specs.FinMap as table
 use Rattle.std.proofs.lemmas.Bool.{cases_eq, cases_lt, eqb-true, eq-eqb, ne_eqb}
 use Rattle.std.proofs.lemmas.Option.{slice_get-map, slice_get_cases}
-use Rattle.seam_machine.specs.Sends.{items_to}
+use Rattle.seam_node_steps.specs.Prelude.{items_to, item_at, Call as CallData, Order, Batch, rank_of, order_or, RealView, Msg, limit}
+use Rattle.seam_node_steps.specs.Prelude.{cell_count, PartView, fits_base_part, NodeView, World, node_has_work, loaded}
+use Rattle.seam_law_flow.specs.Prelude.{Flow, slot_at, letters_of, more_letter, number_from, of_number, Desk, AreInTurn}
+use Rattle.seam_law_calls.specs.Prelude.{Frame, here_at, Has, kept_if, has_of, has_none, order_concerns, orders_of, entity_flow, real_in}
+use Rattle.seam_law_calls.specs.Prelude.{is_from, from_sender, numbered_from, base_call_of, part_desk, base_mail, as_base_sender}
+use Rattle.seam_law_calls.specs.Prelude.{IsBaseCallOf, AreBaseCallsOf, part_burden, node_base_burden, mine_base_burden, base_burden}
+use Rattle.seam_law_calls.specs.Prelude.{home_of, IsHomeward, HasPart, HasBaseCalls, IsForNode, HasRoutes}
+use Rattle.seam_law_rounds.specs.Prelude.{order_in, framed, node_loaded, next_to, base_calls_of, base_calls_at, AreBaseNumbered}
+use Rattle.seam_law_rounds.specs.Prelude.{IsFitBaseOrder, IsForPart, MayBeLoaded}
 use Rattle.seam_machine.proofs.Quiet.{quiet_links}
 use Rattle.seam_net_runs.specs.Sums.{weight_or}
-use Rattle.seam_order.specs.Held.{item_at}
-use Rattle.seam_law_flow.specs.Flows.{Flow, slot_at, letters_of, more_letter}
-use Rattle.seam_law_flow.specs.Numbered.{number_from, of_number}
 use Rattle.seam_law_flow.proofs.Numbers.{letters_of-number_from}
-use Rattle.seam_law_flow.specs.Desks.{Desk, AreInTurn}
 use Rattle.seam_law_flow.proofs.Ends.{loaded_in_turn}
-use Rattle.seam_call.specs.declared.call.Call.{Call as CallData}
-use Rattle.seam_call.specs.declared.order.Order.{Order}
 use Rattle.seam_call.specs.declared.order.Order.TheVariants as order
-use Rattle.seam_call.specs.declared.order.Batch.{Batch}
-use Rattle.seam_call.specs.Senders.{rank_of}
-use Rattle.seam_entity.specs.Orders.{order_or}
-use Rattle.seam_entity.specs.Reals.{RealView}
-use Rattle.seam_entity.specs.declared.message.Msg.{Msg}
-use Rattle.seam_entity.specs.Numbers.{limit}
-use Rattle.seam_entity.specs.Here.{cell_count}
-use Rattle.seam_node_steps.specs.Bases.{PartView}
-use Rattle.seam_node_steps.specs.BaseCases.{fits_base_part}
-use Rattle.seam_node_steps.specs.Nodes.{NodeView, World, node_has_work}
-use Rattle.seam_node_steps.specs.Loads.{loaded}
-use Rattle.seam_law_calls.specs.Frames.{Frame, here_at}
-use Rattle.seam_law_calls.specs.Sights.{Has, kept_if, has_of, has_none, order_concerns, orders_of, entity_flow}
-use Rattle.seam_law_calls.specs.Ones.{real_in}
-use Rattle.seam_law_calls.specs.CellTurns.{is_from, from_sender, numbered_from}
-use Rattle.seam_law_rounds.specs.Between.{order_in, framed}
 use Rattle.seam_law_rounds.proofs.Framing.{in_frame}
-use Rattle.seam_law_rounds.specs.Loaded.{node_loaded}
 use Rattle.seam_law_rounds.proofs.Loading.{loaded_is, node_there}
 use Rattle.seam_law_rounds.proofs.Loaded.{no_mail, slot_is}
 use Rattle.seam_law_rounds.proofs.Turns.{node_orders, node_none}
 use Rattle.seam_law_rounds.proofs.Room.{no_held, none_below, from_all, most, sum_most, rows_none}
 use Rattle.seam_law_rounds.proofs.Going.{settled_loaded, spared_loaded}
-use Rattle.seam_law_calls.specs.PartMoves.{base_call_of}
-use Rattle.seam_law_calls.specs.BaseTurns.{part_desk, base_mail, as_base_sender, IsBaseCallOf, AreBaseCallsOf}
-use Rattle.seam_law_calls.specs.BaseTurns.{part_burden, node_base_burden, mine_base_burden, base_burden, home_of, IsHomeward, HasPart}
-use Rattle.seam_law_calls.specs.BaseTurns.{HasBaseCalls}
-use Rattle.seam_law_calls.specs.Strays.{IsForNode, HasRoutes}
-use Rattle.seam_law_rounds.specs.Parts.{next_to, base_calls_of, base_calls_at, AreBaseNumbered, IsFitBaseOrder, IsForPart, MayBeLoaded}
 use Rattle.seam_law_rounds.proofs.PartsLoaded.{LoadedPart}
 
 -- ---- the calls fit

@@ -1,39 +1,23 @@
 -- What a loaded world has of each base part, and what it keeps of that over every list of events.
 use Rattle.std.proofs.Common.{◌≡◌, ℕ, ◌+◌, ◌^◌, ◌<◌, ◌≤◌, List, ◌∷◌, Some, sym, ap, ◌∙◌, subst, arith, inl, inr}
 use Rattle.std.proofs.lemmas.Bool.{cases_eq}
-use Rattle.seam_machine.specs.Nets.{IsQuiet, LeadsTo}
-use Rattle.seam_machine.specs.declared.machines.Event.{Event}
-use Rattle.seam_law_flow.specs.Flows.{letters_of}
-use Rattle.seam_call.specs.declared.order.Batch.{Batch}
+use Rattle.seam_node_steps.specs.Prelude.{IsQuiet, LeadsTo, Event, Batch, RealView, Msg, Update, PartView, World, node_steps, node_has_work}
+use Rattle.seam_node_steps.specs.Prelude.{loaded}
+use Rattle.seam_law_flow.specs.Prelude.{letters_of}
+use Rattle.seam_law_calls.specs.Prelude.{Frame, entity_flow, real_in, from_sender, sent_by, home_of, HasBaseCalls, FindsClient}
+use Rattle.seam_law_calls.specs.Prelude.{NothingIsStray, SeesFew, looks_left}
+use Rattle.seam_law_rounds.specs.Prelude.{framed, next_to, base_calls_of, MayBeLoaded, lines_of, IsServed, bare, served}
 use Rattle.seam_call.specs.declared.shown.Update.{Update as UpdateData}
-use Rattle.seam_entity.specs.Reals.{RealView}
-use Rattle.seam_entity.specs.declared.message.Msg.{Msg}
-use Rattle.seam_entity.specs.declared.message.Msg.TheVariants.{Update}
-use Rattle.seam_node_steps.specs.Bases.{PartView}
-use Rattle.seam_node_steps.specs.Nodes.{World, node_steps, node_has_work}
-use Rattle.seam_node_steps.specs.Loads.{loaded}
-use Rattle.seam_law_calls.specs.Frames.{Frame}
-use Rattle.seam_law_calls.specs.Sights.{entity_flow}
-use Rattle.seam_law_calls.specs.Ones.{real_in}
-use Rattle.seam_law_calls.specs.CellTurns.{from_sender}
-use Rattle.seam_law_rounds.specs.Between.{framed}
 use Rattle.seam_law_rounds.proofs.Framing.{in_frame}
 use Rattle.seam_law_rounds.proofs.Loaded.{no_mail}
 use Rattle.seam_law_rounds.proofs.Going.{frame_loaded, settled_loaded, one_loaded, spared_loaded}
-use Rattle.seam_law_calls.specs.WitnessMoves.{sent_by}
-use Rattle.seam_law_calls.specs.BaseTurns.{home_of, HasBaseCalls}
-use Rattle.seam_law_calls.specs.Clients.{FindsClient}
-use Rattle.seam_law_calls.specs.Strays.{NothingIsStray}
 use Rattle.seam_law_calls.proofs.AloneRuns.{alone_leads}
 use Rattle.seam_law_calls.proofs.BaseQuiet.{all_executed}
 use Rattle.seam_law_calls.proofs.StrayRuns.{alone_without_stray, client_without_stray}
 use Rattle.seam_law_calls.proofs.ClientLeads.{both_leads}
-use Rattle.seam_law_rounds.specs.Parts.{next_to, base_calls_of, MayBeLoaded, lines_of}
-use Rattle.seam_law_calls.specs.Telling.{SeesFew, looks_left}
 use Rattle.seam_law_rounds.proofs.Ticking.{most_told, TellsFew, tells_few, sees_then, few_loaded, looks_loaded}
 use Rattle.seam_law_rounds.proofs.Attaching.{are_for_loaded, lines_loaded, sees_loaded}
 use Rattle.seam_law_rounds.proofs.Updates.{update_finds}
-use Rattle.seam_law_rounds.specs.Parts.{IsServed, bare, served}
 use Rattle.seam_law_rounds.proofs.Serving.{HasItStill, starts, HasNumbers, serves_then}
 use Rattle.seam_law_rounds.proofs.PartsLoaded.{LoadedPart, part_loaded}
 use Rattle.seam_law_rounds.proofs.PartTurns.{few_more, calls_loaded, routes_loaded}

@@ -8,30 +8,17 @@ use Rattle.std.specs.FinMap as table
 use Rattle.std.proofs.lemmas.Bool.{eq-eqb, ne_eqb}
 use Rattle.std.proofs.lemmas.Option.{slice_get_cases}
 use Rattle.std.proofs.Math.Nat.{mod-lt}
-use Rattle.seam_tree.specs.Division.{leaf_at}
-use Rattle.seam_law_flow.specs.Flows.{slot_at}
-use Rattle.seam_call.specs.declared.create.Create.{Create}
-use Rattle.seam_call.specs.declared.order.Batch.{Batch}
-use Rattle.seam_entity.specs.Orders.{order_or}
-use Rattle.seam_entity.specs.Reals.{RealView}
-use Rattle.seam_entity.specs.Here.{Here}
-use Rattle.seam_entity.specs.Executing.{created, real_begins}
-use Rattle.seam_node_steps.specs.Bases.{PartView, ProxyView}
-use Rattle.seam_node_steps.specs.Nodes.{NodeView, World}
-use Rattle.seam_node_steps.specs.Loads.{new_part, part_begins, loaded}
-use Rattle.seam_law_calls.specs.Frames.{Frame, here_at}
-use Rattle.seam_law_calls.specs.Sights.{Has, has_of, has_none, entity_flow}
-use Rattle.seam_law_calls.specs.Ones.{real_in}
-use Rattle.seam_law_rounds.specs.Between.{IsBetweenRounds, MayBeMade, IsFitting, framed}
+use Rattle.seam_node_steps.specs.Prelude.{leaf_at, Create, Batch, order_or, RealView, Here, created, real_begins, PartView, ProxyView}
+use Rattle.seam_node_steps.specs.Prelude.{NodeView, World, new_part, part_begins, loaded}
+use Rattle.seam_law_flow.specs.Prelude.{slot_at}
+use Rattle.seam_law_calls.specs.Prelude.{Frame, here_at, Has, has_of, has_none, entity_flow, real_in, HasNoProxy, home_of, HasNoClient}
+use Rattle.seam_law_rounds.specs.Prelude.{IsBetweenRounds, MayBeMade, IsFitting, framed, node_loaded, next_to, HasSettledPart}
+use Rattle.seam_law_rounds.specs.Prelude.{HasPartsBetweenRounds, FitsParts, IsAlone}
 use Rattle.seam_law_rounds.proofs.Framing.{in_frame}
-use Rattle.seam_law_rounds.specs.Loaded.{node_loaded}
 use Rattle.seam_law_rounds.proofs.Staying.{Kept}
 use Rattle.seam_law_rounds.proofs.Making.{AreOthers, Creation, nowhere, once, creation_of, middle, until, node_made, node_after}
 use Rattle.seam_law_rounds.proofs.Loaded.{slot_is, real_was}
 use Rattle.seam_law_rounds.proofs.Giving.{some_base}
-use Rattle.seam_law_calls.specs.PartMoves.{HasNoProxy}
-use Rattle.seam_law_calls.specs.BaseTurns.{home_of, HasNoClient}
-use Rattle.seam_law_rounds.specs.Parts.{next_to, HasSettledPart, HasPartsBetweenRounds, FitsParts, IsAlone}
 use Rattle.seam_law_rounds.proofs.PartLoads.{SamePart, part_stays, part_made, part_comes, bare_stays}
 
 -- ---- what a load leaves of a part, in the world

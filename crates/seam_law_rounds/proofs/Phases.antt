@@ -2,34 +2,21 @@
 use Rattle.std.proofs.Common.{◌≡◌, ℕ, ◌<◌, ◌⊎◌, Bool, true, false, cond, eqb, ◌&&◌, ◌||◌, is_some, List, [], ◌∷◌, length, Option}
 use Rattle.std.proofs.Common.{None, Some, refl, sym, ap, ◌∙◌, arith, inl, inr}
 use Rattle.std.proofs.lemmas.Bool.{eqb-true}
-use Rattle.seam_machine.specs.Nets.{input_from, happens, enabled, run, AllEnabled, IsQuiet, LeadsTo}
-use Rattle.seam_machine.specs.Events.{Occurs}
-use Rattle.seam_machine.specs.Totals.{total}
-use Rattle.seam_machine.specs.declared.machines.Input.{Input}
-use Rattle.seam_machine.specs.declared.machines.Input.TheVariants.{Task, From}
-use Rattle.seam_machine.specs.declared.machines.Event.{Event}
+use Rattle.seam_node_steps.specs.Prelude.{input_from, happens, enabled, run, AllEnabled, IsQuiet, LeadsTo, Occurs, total, Input, Task, From}
+use Rattle.seam_node_steps.specs.Prelude.{Event, RealView, Msg, BaseCall, Hand, Current, GhostSet, GhostDrop, Tick, Reap, Update, may_rise}
+use Rattle.seam_node_steps.specs.Prelude.{cell_count, RouteView, holders, World, node_steps, node_has_work}
+use Rattle.seam_law_flow.specs.Prelude.{letter_in, letters_of, In, Nobody}
+use Rattle.seam_law_calls.specs.Prelude.{Frame, IsInFrame, concerns, kept_if, mine, entity_flow, real_in, real_of, reaped_by, reaps}
+use Rattle.seam_law_calls.specs.Prelude.{IsFrame}
+use Rattle.seam_law_rounds.specs.Prelude.{IsSettled, IsBetweenRounds, reap_comes}
 use Rattle.seam_machine.proofs.Occurring.{occurs}
 use Rattle.seam_machine.proofs.Quiet.{quiet_links, quiet_tasks}
 use Rattle.seam_net_runs.proofs.Runs.{leads_keeps}
-use Rattle.seam_law_flow.specs.Flows.{letter_in, letters_of}
-use Rattle.seam_law_flow.specs.Tokens.{In, Nobody}
-use Rattle.seam_entity.specs.Reals.{RealView}
-use Rattle.seam_entity.specs.declared.message.Msg.{Msg}
-use Rattle.seam_entity.specs.declared.message.Msg.TheVariants.{Call, BaseCall, Hand, Current, GhostSet, GhostDrop, Tick, Reap, Update}
-use Rattle.seam_entity.specs.Numbers.{may_rise}
-use Rattle.seam_entity.specs.Here.{cell_count}
-use Rattle.seam_node_steps.specs.Bases.{RouteView}
-use Rattle.seam_node_steps.specs.Holders.{holders}
-use Rattle.seam_node_steps.specs.Nodes.{World, node_steps, node_has_work}
-use Rattle.seam_law_calls.specs.Frames.{Frame, IsInFrame}
-use Rattle.seam_law_calls.specs.Sights.{concerns, kept_if, mine, entity_flow}
-use Rattle.seam_law_calls.specs.Ones.{real_in, real_of, reaped_by, reaps, IsFrame}
+use Rattle.seam_entity.specs.declared.message.Msg.TheVariants.{Call}
 use Rattle.seam_law_calls.proofs.Counting.{one_counts, none_counts}
 use Rattle.seam_law_calls.proofs.Gone.{gone_leads}
-use Rattle.seam_law_rounds.specs.Between.{IsSettled, IsBetweenRounds}
 use Rattle.seam_law_rounds.proofs.Room.{rows_none}
 use Rattle.seam_law_rounds.proofs.Ready.{route_leads}
-use Rattle.seam_law_rounds.specs.LastPhases.{reap_comes}
 use Rattle.seam_law_rounds.proofs.Shape.{Somewhere, Nowhere, search_real, frame_leads, many_leads}
 use Rattle.seam_law_rounds.proofs.Calm.{order_reaps, node_reaps, mine_reaps, reaps_of, one_if, IsCalm}
 use Rattle.seam_law_rounds.proofs.CalmRuns.{Left, alive, dead, told_by, left, calm_happens}

@@ -1,12 +1,7 @@
 -- The public version stays at most the version.
 use Rattle.std.proofs.Common.{ℕ, ◌+◌, ◌≤◌, Bool, true, false, List, [], ◌∷◌, sym, subst, arith}
-use Rattle.seam_defs.specs.Types.{type_of}
-use Rattle.seam_defs.specs.declared.types.TypeDef.{TypeDef}
-use Rattle.seam_call.specs.declared.call.Call.{Call as CallData}
-use Rattle.seam_entity.specs.Reals.{RealView}
-use Rattle.seam_entity.specs.Executing.{public_after}
-use Rattle.seam_law_calls.specs.Frames.{Frame}
-use Rattle.seam_law_calls.specs.Replays.{Account, account_of, after_call, after_calls, Replays}
+use Rattle.seam_node_steps.specs.Prelude.{type_of, TypeDef, Call as CallData, RealView, public_after}
+use Rattle.seam_law_calls.specs.Prelude.{Frame, Account, account_of, after_call, after_calls, Replays}
 
 after_low : (b : Bool) (v p : ℕ) → p ≤ v → public_after b (v + 1) p ≤ v + 1
 after_low true v p low = omega arith

@@ -6,25 +6,13 @@ use Rattle.std.specs.List.{AllByRecursion}
 use Rattle.std.proofs.lemmas.Bool.{cases_eq}
 use Rattle.std.proofs.lemmas.Option.{slice_get_within}
 use Rattle.seam_machine.proofs.Quiet.{quiet_links}
-use Rattle.seam_law_flow.specs.Flows.{Flow, slot_at, letters_of}
-use Rattle.seam_law_flow.specs.Tokens.{TokenPlace, In, On}
-use Rattle.seam_entity.specs.Reals.{RealView}
-use Rattle.seam_entity.specs.declared.message.Msg.{Msg}
-use Rattle.seam_entity.specs.Numbers.{limit}
-use Rattle.seam_node_steps.specs.Holders.{holders}
-use Rattle.seam_entity.specs.Here.{cell_count}
-use Rattle.seam_node_steps.specs.Bases.{RouteView}
-use Rattle.seam_node_steps.specs.Nodes.{NodeView, World, node_has_work}
-use Rattle.seam_node_steps.specs.Nodes.NodeView.{Cell, Base}
-use Rattle.seam_law_calls.specs.Frames.{Frame, IsInFrame}
-use Rattle.seam_law_calls.specs.Sights.{Has, mine, has_of, has_none, entity_flow}
-use Rattle.seam_law_calls.specs.Fits.{RealFits, IsFitReal, IsFitHand}
-use Rattle.seam_law_calls.specs.Burdens.{burden}
-use Rattle.seam_law_calls.specs.Ones.{real_in, real_of, IsOne, reaped_by, HasNoReaps, IsSpared, HasOne}
+use Rattle.seam_node_steps.specs.Prelude.{RealView, Msg, limit, holders, cell_count, RouteView, NodeView, World, node_has_work, Cell, Base}
+use Rattle.seam_law_flow.specs.Prelude.{Flow, slot_at, letters_of, TokenPlace, In, On}
+use Rattle.seam_law_calls.specs.Prelude.{Frame, IsInFrame, Has, mine, has_of, has_none, entity_flow, RealFits, IsFitReal, IsFitHand, burden}
+use Rattle.seam_law_calls.specs.Prelude.{real_in, real_of, IsOne, reaped_by, HasNoReaps, IsSpared, HasOne, AllLead}
+use Rattle.seam_law_rounds.specs.Prelude.{IsSettled, IsBetweenRounds}
 use Rattle.seam_law_calls.proofs.Counting.{counted_one, one_counts}
-use Rattle.seam_law_calls.specs.Ways.{AllLead}
 use Rattle.seam_law_calls.proofs.Finding.{starts_leading}
-use Rattle.seam_law_rounds.specs.Between.{IsSettled, IsBetweenRounds}
 
 module _ (f : Frame) (w : World) (e home : ℕ) (r : RealView) (settled : IsSettled f e home r w)
     (still : (x y : ℕ) → (entity_flow e w).mail x y ≡ []) where

@@ -5,26 +5,16 @@ use Rattle.std.specs.List.{AllByRecursion}
 use Rattle.std.proofs.lemmas.Bool.{eq-eqb, ne_eqb}
 use Rattle.std.proofs.lemmas.Bool.Decides.{nat_tests}
 use Rattle.std.proofs.lemmas.List.{append_assoc, length-map}
-use Rattle.seam_machine.specs.Nets.{IsQuiet, LeadsTo}
-use Rattle.seam_machine.specs.declared.machines.Event.{Event}
+use Rattle.seam_node_steps.specs.Prelude.{IsQuiet, LeadsTo, Event, RealView, may_rise, base_of, holders, NodeView, World, node_steps}
+use Rattle.seam_node_steps.specs.Prelude.{node_has_work, with_nodes, reap_ordered_at, reaps_loaded}
+use Rattle.seam_law_flow.specs.Prelude.{Nobody}
+use Rattle.seam_law_calls.specs.Prelude.{Frame, here_at, IsInFrame, times, entity_flow, real_in, real_of}
+use Rattle.seam_law_rounds.specs.Prelude.{IsBetweenRounds, each, AreReapable, reap_comes, HasNoCalls}
 use Rattle.seam_machine.proofs.Quiet.{quiet_tasks}
-use Rattle.seam_law_flow.specs.Tokens.{Nobody}
-use Rattle.seam_entity.specs.Reals.{RealView}
-use Rattle.seam_entity.specs.Numbers.{may_rise}
-use Rattle.seam_entity.specs.Here.{base_of}
-use Rattle.seam_node_steps.specs.Holders.{holders}
-use Rattle.seam_node_steps.specs.Nodes.{NodeView, World, node_steps, node_has_work}
-use Rattle.seam_node_steps.specs.Loads.{with_nodes, reap_ordered_at, reaps_loaded}
-use Rattle.seam_law_calls.specs.Frames.{Frame, here_at, IsInFrame}
-use Rattle.seam_law_calls.specs.Sights.{times, entity_flow}
-use Rattle.seam_law_calls.specs.Ones.{real_in, real_of}
 use Rattle.seam_law_calls.proofs.Counting.{counted_none, none_counts}
 use Rattle.seam_law_calls.proofs.Gone.{gone_leads}
-use Rattle.seam_law_rounds.specs.Between.{IsBetweenRounds}
-use Rattle.seam_law_rounds.specs.Loaded.{each}
 use Rattle.seam_law_rounds.proofs.Loading.{nodes_after}
 use Rattle.seam_law_rounds.proofs.Ready.{quiet_home}
-use Rattle.seam_law_rounds.specs.LastPhases.{AreReapable, reap_comes, HasNoCalls}
 use Rattle.seam_law_rounds.proofs.Calm.{one_if, IsCalm}
 use Rattle.seam_law_rounds.proofs.Starting.{Given, times_at_most_one, starts_calm}
 use Rattle.seam_law_rounds.proofs.Giving.{reaps_framed, some_base, reaps_given, reaps_cell, reals_stay}

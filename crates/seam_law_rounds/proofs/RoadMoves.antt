@@ -6,29 +6,16 @@ use Rattle.std.specs.Prelude.{option_map}
 use Rattle.std.specs.List.{range_with_len}
 use Rattle.std.specs.FinSet as set
 use Rattle.std.proofs.lemmas.Bool.Decides.{nat_tests}
-use Rattle.seam_law_flow.specs.Sent.{IsSilent}
-use Rattle.seam_law_flow.specs.Newest.{entry_in, greater_entry}
-use Rattle.seam_entity.specs.Reals.{RealView}
-use Rattle.seam_entity.specs.declared.message.Msg.{Msg}
-use Rattle.seam_entity.specs.declared.message.Msg.TheVariants.{Call, BaseCall, Hand, Current, GhostSet, GhostDrop, Tick, Reap, Update}
-use Rattle.seam_entity.specs.Numbers.{limit, is_small}
-use Rattle.seam_entity.specs.Here.{cell_count, base_of}
-use Rattle.seam_node_steps.specs.Slots.{SlotStep, slot_after}
-use Rattle.seam_node_steps.specs.Settle.{haunts_at, ghost_messages}
-use Rattle.seam_entity.specs.Executing.{settled_to}
-use Rattle.seam_node_steps.specs.CellCases.{currents, is_stray, may_come}
-use Rattle.seam_node_steps.specs.CellLooks.{shown_of, looks_with}
-use Rattle.seam_node_steps.specs.Bases.{RouteView}
-use Rattle.seam_node_steps.specs.BaseCases.{tick_to, stray_current}
-use Rattle.seam_law_calls.specs.Frames.{Frame, here_at}
-use Rattle.seam_law_calls.specs.Sights.{Has, AtCell, AtBase}
+use Rattle.seam_node_steps.specs.Prelude.{RealView, Msg, BaseCall, Hand, Current, GhostSet, GhostDrop, Tick, Reap, Update, limit, is_small}
+use Rattle.seam_node_steps.specs.Prelude.{cell_count, base_of, SlotStep, slot_after, haunts_at, ghost_messages, settled_to, currents}
+use Rattle.seam_node_steps.specs.Prelude.{is_stray, may_come, shown_of, looks_with, RouteView, tick_to, stray_current}
+use Rattle.seam_law_flow.specs.Prelude.{IsSilent, entry_in, greater_entry}
+use Rattle.seam_law_calls.specs.Prelude.{Frame, here_at, Has, AtCell, AtBase, Does, Acts, surveys, calls, readies, CellMoves, BaseMoves}
+use Rattle.seam_law_calls.specs.Prelude.{newer, strays_at, Moves, at_a_cell, at_a_base, real_in}
+use Rattle.seam_law_rounds.specs.Prelude.{as_entry, route_entry, brings_route}
+use Rattle.seam_entity.specs.declared.message.Msg.TheVariants.{Call}
 use Rattle.seam_law_calls.specs.CellMoves as move
-use Rattle.seam_law_calls.specs.CellMoves.{Does, Acts, surveys, calls, readies, CellMoves}
 use Rattle.seam_law_calls.specs.BaseMoves as base_move
-use Rattle.seam_law_calls.specs.BaseMoves.{BaseMoves, newer, strays_at}
-use Rattle.seam_law_calls.specs.Moves.{Moves, at_a_cell, at_a_base}
-use Rattle.seam_law_calls.specs.Ones.{real_in}
-use Rattle.seam_law_rounds.specs.Routes.{as_entry, route_entry, brings_route}
 use Rattle.seam_law_calls.proofs.Plain.{SeesNoGhost, ghosts_silent, mapped_silent, numbered_silent}
 use Rattle.seam_law_calls.proofs.Handling.{FindsRoom}
 

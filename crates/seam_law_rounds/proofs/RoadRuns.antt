@@ -4,37 +4,25 @@ use Rattle.std.proofs.Common.{None, Some, refl, sym, ap, ◌∙◌, subst, arith
 use Rattle.std.specs.Prelude.{option_map}
 use Rattle.std.specs.List.{AllByRecursion, range_with_len}
 use Rattle.std.proofs.lemmas.Bool.{cases_eq, eq-eqb, ne_eqb}
-use Rattle.seam_machine.specs.Nets.{happens, enabled, LeadsTo}
-use Rattle.seam_machine.specs.Sends.{items_to}
-use Rattle.seam_machine.specs.declared.machines.Event.{Event}
+use Rattle.seam_node_steps.specs.Prelude.{happens, enabled, LeadsTo, items_to, Event, RealView, Msg, BaseCall, Hand, Current, GhostSet}
+use Rattle.seam_node_steps.specs.Prelude.{GhostDrop, Tick, Reap, Update, limit, cell_count, base_numbers, current_to, currents, RouteView}
+use Rattle.seam_node_steps.specs.Prelude.{World, node_steps, node_has_work}
+use Rattle.seam_law_flow.specs.Prelude.{Flow, Goes, comes, letters_of, NotAbove, OfEntry, AllBring, Has, entry_in, greater_entry, Newest}
+use Rattle.seam_law_flow.specs.Prelude.{IsSilent, carried_in, TokenPlace, In, On, SendsNone, SendsOne, Handles, still, turns, lands, leaves}
+use Rattle.seam_law_calls.specs.Prelude.{Frame, here_at, Has as Had, entity_flow, real_burden, real_in, real_of, IsOne, IsSpared, IsFrame}
+use Rattle.seam_law_calls.specs.Prelude.{HasOne, MovesTo}
+use Rattle.seam_law_rounds.specs.Prelude.{as_entry, route_entry, brings_route, IsKnownAt}
 use Rattle.seam_machine.proofs.Occurring.{occurs}
 use Rattle.seam_net_runs.proofs.Runs.{leads_keeps}
-use Rattle.seam_law_flow.specs.Flows.{Flow, Goes, comes, letters_of}
-use Rattle.seam_law_flow.specs.Newest.{NotAbove, OfEntry, AllBring, Has, entry_in, greater_entry, Newest}
-use Rattle.seam_law_flow.specs.Sent.{IsSilent}
-use Rattle.seam_law_flow.specs.Tokens.{carried_in, TokenPlace, In, On, SendsNone, SendsOne, Handles, still, turns, lands, leaves}
 use Rattle.seam_law_flow.proofs.Following.{all_append, letters_kept, came}
 use Rattle.seam_law_flow.proofs.NewestLemmas.{newest_stays, newest_rises, newest_rests}
 use Rattle.seam_law_flow.proofs.SendLists.{sees_none, sees_after_silent, sees_one_here, sees_one_there}
 use Rattle.seam_law_flow.proofs.TokenLemmas.{sole_here, sole_came, sole_goes}
-use Rattle.seam_entity.specs.Reals.{RealView}
-use Rattle.seam_entity.specs.declared.message.Msg.{Msg}
-use Rattle.seam_entity.specs.declared.message.Msg.TheVariants.{Call, BaseCall, Hand, Current, GhostSet, GhostDrop, Tick, Reap, Update}
-use Rattle.seam_entity.specs.Numbers.{limit}
-use Rattle.seam_entity.specs.Here.{cell_count, base_numbers}
-use Rattle.seam_node_steps.specs.CellCases.{current_to, currents}
-use Rattle.seam_node_steps.specs.Bases.{RouteView}
-use Rattle.seam_node_steps.specs.Nodes.{World, node_steps, node_has_work}
-use Rattle.seam_law_calls.specs.Frames.{Frame, here_at}
-use Rattle.seam_law_calls.specs.Sights.{Has as Had, entity_flow}
-use Rattle.seam_law_calls.specs.Burdens.{real_burden}
-use Rattle.seam_law_calls.specs.Ones.{real_in, real_of, IsOne, IsSpared, IsFrame, HasOne}
+use Rattle.seam_entity.specs.declared.message.Msg.TheVariants.{Call}
 use Rattle.seam_law_calls.proofs.Plain.{mapped_silent}
 use Rattle.seam_law_calls.proofs.Sparing.{items_all}
 use Rattle.seam_law_calls.proofs.OneReal.{goes, room, one_happens, calm_of, spared_happens}
 use Rattle.seam_law_calls.proofs.Handling.{FindsRoom}
-use Rattle.seam_law_calls.specs.Moves.{MovesTo}
-use Rattle.seam_law_rounds.specs.Routes.{as_entry, route_entry, brings_route, IsKnownAt}
 use Rattle.seam_law_rounds.proofs.RoadMoves.{road_of, generation_of, IsGoodRoute, Roads, plain, arrives, departs}
 use Rattle.seam_law_rounds.proofs.RoadMoves.{roads, Reroutes, reroutes}
 

@@ -10,38 +10,19 @@ use Rattle.std.proofs.lemmas.Bool.{cases_eq, cases_lt, eq-eqb, ne_eqb}
 use Rattle.std.proofs.lemmas.Bool.Decides.{nat_tests}
 use Rattle.std.specs.Cmp.{unsigned_tied}
 use Rattle.seam_table.proofs.Found.{found}
-use Rattle.seam_machine.specs.Nets.{link}
-use Rattle.seam_machine.specs.Totals.{total}
-use Rattle.seam_machine.specs.Sends.{items_to}
+use Rattle.seam_node_steps.specs.Prelude.{link, total, items_to, Occurs, Task, Event, OrderView, Call as CallData, Order, Batch, Orders}
+use Rattle.seam_node_steps.specs.Prelude.{order_or, RealView, limit, has_any, cell_count, NodeView, World, node_has_work, Cell, Base}
+use Rattle.seam_node_steps.specs.Prelude.{cell_round, ordered_at, loaded, real_begins}
+use Rattle.seam_law_flow.specs.Prelude.{slot_at}
+use Rattle.seam_law_calls.specs.Prelude.{Frame, Has, has_of, has_none, times, one_more_if, order_concerns, orders_of, entity_flow, held_of}
+use Rattle.seam_law_calls.specs.Prelude.{held_in, real_burden, order_burden, node_burden, mine_burden, burden, real_in}
+use Rattle.seam_law_rounds.specs.Prelude.{IsBetweenRounds, IsFitting, each, made, node_loaded}
 use Rattle.seam_machine.proofs.Quiet.{quiet_links}
-use Rattle.seam_machine.specs.Events.{Occurs}
-use Rattle.seam_machine.specs.declared.machines.Input.TheVariants.{Task}
-use Rattle.seam_machine.specs.declared.machines.Event.{Event}
 use Rattle.seam_net_runs.specs.Sums.{weight_or}
 use Rattle.seam_net_runs.proofs.Weighing.{weight_bounds}
 use Rattle.seam_net_runs.specs.Weights.{totals, links_weight}
-use Rattle.seam_order.specs.Held.{OrderView}
 use Rattle.std.proofs.lemmas.Option.{slice_get-map}
-use Rattle.seam_law_flow.specs.Flows.{slot_at}
-use Rattle.seam_call.specs.declared.call.Call.{Call as CallData}
-use Rattle.seam_call.specs.declared.order.Order.{Order}
 use Rattle.seam_call.specs.declared.order.Order.TheVariants as order
-use Rattle.seam_call.specs.declared.order.Batch.{Batch}
-use Rattle.seam_entity.specs.Orders.{Orders, order_or}
-use Rattle.seam_entity.specs.Reals.{RealView}
-use Rattle.seam_entity.specs.Numbers.{limit}
-use Rattle.seam_node_steps.specs.Maps.{has_any}
-use Rattle.seam_entity.specs.Here.{cell_count}
-use Rattle.seam_node_steps.specs.Nodes.{NodeView, World, node_has_work}
-use Rattle.seam_node_steps.specs.Nodes.NodeView.{Cell, Base}
-use Rattle.seam_node_steps.specs.Loads.{cell_round, ordered_at, loaded}
-use Rattle.seam_entity.specs.Executing.{real_begins}
-use Rattle.seam_law_calls.specs.Frames.{Frame}
-use Rattle.seam_law_calls.specs.Sights.{Has, has_of, has_none, times, one_more_if, order_concerns, orders_of, entity_flow}
-use Rattle.seam_law_calls.specs.Burdens.{held_of, held_in, real_burden, order_burden, node_burden, mine_burden, burden}
-use Rattle.seam_law_calls.specs.Ones.{real_in}
-use Rattle.seam_law_rounds.specs.Between.{IsBetweenRounds, IsFitting}
-use Rattle.seam_law_rounds.specs.Loaded.{each, made, node_loaded}
 use Rattle.seam_law_rounds.proofs.Loading.{each_keeps, Any, any, loaded_is, node_there, get-each_value}
 use Rattle.seam_law_rounds.proofs.Loaded.{Loaded, slot_is}
 use Rattle.seam_law_rounds.proofs.Turns.{node_orders, node_none}

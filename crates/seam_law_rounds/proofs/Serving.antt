@@ -4,30 +4,18 @@ use Rattle.std.proofs.Common.{Some, refl, sym, ap, ◌∙◌, subst, arith, inl,
 use Rattle.std.specs.List.{AllByRecursion}
 use Rattle.std.proofs.lemmas.Bool.{cases_eq, eq-eqb}
 use Rattle.std.proofs.lemmas.List.{append-nil, append_cancel_left}
-use Rattle.seam_machine.specs.Nets.{IsQuiet, LeadsTo}
-use Rattle.seam_machine.specs.declared.machines.Event.{Event}
-use Rattle.seam_law_flow.specs.Flows.{Flow, letters_of}
-use Rattle.seam_order.specs.Held.{item_at, RiseFrom}
-use Rattle.seam_law_flow.specs.Deliveries.{Delivery}
-use Rattle.seam_law_flow.specs.Lives.{Life}
-use Rattle.seam_law_flow.specs.Numbered.{number_from, numbered}
-use Rattle.seam_call.specs.declared.shown.Shown.{Shown}
-use Rattle.seam_entity.specs.Reals.{RealView, WitnessView}
-use Rattle.seam_entity.specs.declared.message.Msg.{Msg}
-use Rattle.seam_node_steps.specs.Bases.{PartView, ProxyView}
-use Rattle.seam_node_steps.specs.Nodes.{World, node_steps, node_has_work}
-use Rattle.seam_law_calls.specs.Frames.{Frame, IsInFrame}
-use Rattle.seam_law_calls.specs.Sights.{Has, entity_flow}
-use Rattle.seam_law_calls.specs.Ones.{real_in, real_of, IsSpared, IsFrame, HasOne}
-use Rattle.seam_law_calls.specs.WitnessMoves.{sent_of, sent_by}
-use Rattle.seam_law_calls.specs.BaseTurns.{home_of, HasNoClient}
-use Rattle.seam_law_calls.specs.Clients.{proxy_of, order_in, updates_at, shown_in, lines_in, shown_at, tells, EachReal, HasToldAtMost}
-use Rattle.seam_law_calls.specs.Clients.{HasClient, HasRoomFor}
+use Rattle.seam_node_steps.specs.Prelude.{IsQuiet, LeadsTo, Event, item_at, Shown, RealView, WitnessView, Msg, PartView, ProxyView, World}
+use Rattle.seam_node_steps.specs.Prelude.{node_steps, node_has_work}
+use Rattle.seam_law_flow.specs.Prelude.{Flow, letters_of, Delivery, Life, number_from, numbered}
+use Rattle.seam_law_calls.specs.Prelude.{Frame, IsInFrame, Has, entity_flow, real_in, real_of, IsSpared, IsFrame, HasOne, sent_of, sent_by}
+use Rattle.seam_law_calls.specs.Prelude.{home_of, HasNoClient, proxy_of, order_in, updates_at, shown_in, lines_in, shown_at, tells}
+use Rattle.seam_law_calls.specs.Prelude.{EachReal, HasToldAtMost, HasClient, HasRoomFor}
+use Rattle.seam_law_rounds.specs.Prelude.{AreInStep, AreFor, IsServed, bare, served}
+use Rattle.seam_order.specs.Held.{RiseFrom}
 use Rattle.seam_law_calls.proofs.AloneRuns.{bare_leads}
 use Rattle.seam_law_calls.proofs.BaseQuiet.{all_shown}
 use Rattle.seam_law_calls.proofs.ClientLeads.{client_leads}
 use Rattle.seam_law_calls.proofs.WitnessKept.{IsSeen, seen_leads}
-use Rattle.seam_law_rounds.specs.Parts.{AreInStep, AreFor, IsServed, bare, served}
 
 -- a world that has an entity's one real and its base part, with nothing about it on its way
 pub record HasItStill (f : Frame) (e ty : ℕ) (r : RealView) (p : PartView) (w : World) : Type 0 where

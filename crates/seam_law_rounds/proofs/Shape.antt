@@ -2,21 +2,14 @@
 use Rattle.std.proofs.Common.{◌≡◌, ℕ, zero, suc, ◌⊎◌, List, [], ◌∷◌, length, Option, None, Some, refl, ◌∙◌, inl, inr, Bool, true, false}
 use Rattle.std.proofs.Common.{cond, eqb, subst}
 use Rattle.std.specs.Prelude.{slice_get}
-use Rattle.seam_machine.specs.Nets.{LeadsTo}
-use Rattle.seam_machine.specs.declared.machines.Event.{Event}
+use Rattle.seam_node_steps.specs.Prelude.{LeadsTo, Event, items_to, RealView, Msg, NodeView, World, node_steps, node_has_work}
+use Rattle.seam_law_flow.specs.Prelude.{slot_at}
+use Rattle.seam_law_calls.specs.Prelude.{Frame, IsInFrame, has_of, has_none, entity_flow, real_in}
 use Rattle.seam_machine.proofs.Occurring.{occurs, length-happens}
 use Rattle.seam_net_runs.proofs.Runs.{leads_keeps}
-use Rattle.seam_law_flow.specs.Flows.{slot_at}
-use Rattle.seam_machine.specs.Sends.{items_to}
 use Rattle.std.specs.List.{AllByRecursion}
 use Rattle.std.proofs.lemmas.Bool.{eqb-true}
-use Rattle.seam_entity.specs.Reals.{RealView}
-use Rattle.seam_entity.specs.declared.message.Msg.{Msg}
-use Rattle.seam_node_steps.specs.Nodes.{NodeView, World, node_steps, node_has_work}
-use Rattle.seam_law_calls.specs.Frames.{Frame, IsInFrame}
-use Rattle.seam_law_calls.specs.Sights.{has_of, has_none, entity_flow}
 use Rattle.seam_law_calls.proofs.Classify.{frame_happens}
-use Rattle.seam_law_calls.specs.Ones.{real_in}
 
 pub frame_leads : (f : Frame) (w v : World) (es : List Event) → IsInFrame f w → LeadsTo node_has_work node_steps w es v → IsInFrame f v
 frame_leads f w v es q run =

@@ -7,19 +7,11 @@ use Rattle.std.specs.List.{AllByRecursion, IsDistinct}
 use Rattle.std.proofs.lemmas.Bool.{cases_eq, eqb-true, eq-eqb, ne_eqb}
 use Rattle.std.proofs.Math.Nat.{mod-lt}
 use Rattle.std.proofs.lemmas.Option.{slice_get-map}
-use Rattle.seam_machine.specs.Totals.{total}
+use Rattle.seam_node_steps.specs.Prelude.{total, RealView, base_of, NodeView, World, node_has_work, Cell, Base, with_nodes}
+use Rattle.seam_law_flow.specs.Prelude.{letters_of, slot_at}
+use Rattle.seam_law_calls.specs.Prelude.{Frame, here_at, IsInFrame, mine, orders_of, times, has_of, has_none, entity_flow, real_in}
+use Rattle.seam_law_rounds.specs.Prelude.{IsSettled, IsBetweenRounds, each}
 use Rattle.seam_machine.proofs.Quiet.{quiet_links, quiet_tasks}
-use Rattle.seam_law_flow.specs.Flows.{letters_of, slot_at}
-use Rattle.seam_entity.specs.Reals.{RealView}
-use Rattle.seam_entity.specs.Here.{base_of}
-use Rattle.seam_node_steps.specs.Nodes.{NodeView, World, node_has_work}
-use Rattle.seam_node_steps.specs.Nodes.NodeView.{Cell, Base}
-use Rattle.seam_node_steps.specs.Loads.{with_nodes}
-use Rattle.seam_law_calls.specs.Frames.{Frame, here_at, IsInFrame}
-use Rattle.seam_law_calls.specs.Sights.{mine, orders_of, times, has_of, has_none, entity_flow}
-use Rattle.seam_law_calls.specs.Ones.{real_in}
-use Rattle.seam_law_rounds.specs.Between.{IsSettled, IsBetweenRounds}
-use Rattle.seam_law_rounds.specs.Loaded.{each}
 use Rattle.seam_law_rounds.proofs.Loading.{node_there}
 use Rattle.seam_law_rounds.proofs.Loaded.{no_items}
 use Rattle.seam_law_rounds.proofs.Room.{rows_none}

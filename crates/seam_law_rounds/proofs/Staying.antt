@@ -9,25 +9,13 @@ use Rattle.std.specs.FinMap as table
 use Rattle.std.proofs.lemmas.List.Elements.{filter-append}
 use Rattle.std.proofs.lemmas.Bool.{ne_eqb}
 use Rattle.std.proofs.lemmas.Bool.Decides.{nat_tests}
-use Rattle.seam_tree.specs.Division.{Division, leaf_at, cells_of}
+use Rattle.seam_node_steps.specs.Prelude.{Division, leaf_at, cells_of, Create, Order, Batch, RealView, WitnessView, Map, set_at, Here}
+use Rattle.seam_node_steps.specs.Prelude.{base_of, CellView, BaseView, NodeView, Cell, Base, created, real_begins, real_if, part_if}
+use Rattle.seam_node_steps.specs.Prelude.{with_route, created_at, with_witness, attached, cell_round, base_round, order_if, ordered_at}
+use Rattle.seam_law_calls.specs.Prelude.{Has, has_of, orders_of, order_concerns, real_in, reaped_by_order, HasNoReaps}
+use Rattle.seam_law_rounds.specs.Prelude.{each, made, node_loaded}
 use Rattle.seam_law_flow.proofs.Following.{all_append}
-use Rattle.seam_call.specs.declared.create.Create.{Create}
-use Rattle.seam_call.specs.declared.order.Order.{Order}
-use Rattle.seam_call.specs.declared.order.Batch.{Batch}
-use Rattle.seam_entity.specs.Reals.{RealView, WitnessView}
-use Rattle.seam_node_steps.specs.Maps.{Map, set_at}
-use Rattle.seam_entity.specs.Here.{Here, base_of}
-use Rattle.seam_node_steps.specs.Cells.{CellView}
-use Rattle.seam_node_steps.specs.Bases.{BaseView}
-use Rattle.seam_node_steps.specs.Nodes.{NodeView}
-use Rattle.seam_node_steps.specs.Nodes.NodeView.{Cell, Base}
-use Rattle.seam_entity.specs.Executing.{created, real_begins}
-use Rattle.seam_node_steps.specs.Loads.{real_if, part_if, with_route, created_at, with_witness, attached, cell_round, base_round}
-use Rattle.seam_node_steps.specs.Loads.{order_if, ordered_at}
 use Rattle.seam_node_steps.proofs.Slots.{get-set_at}
-use Rattle.seam_law_calls.specs.Sights.{Has, has_of, orders_of, order_concerns}
-use Rattle.seam_law_calls.specs.Ones.{real_in, reaped_by_order, HasNoReaps}
-use Rattle.seam_law_rounds.specs.Loaded.{each, made, node_loaded}
 use Rattle.seam_law_rounds.proofs.Loading.{each_keeps, Any, any, get-each_value}
 
 -- the real is the same but for its witness, and what the turn makes of it

@@ -5,41 +5,26 @@ use Rattle.std.specs.List.{AllByRecursion}
 use Rattle.std.specs.FinMap as table
 use Rattle.std.proofs.lemmas.Bool.{cases_eq}
 use Rattle.std.proofs.lemmas.Option.{slice_get-map}
-use Rattle.seam_machine.specs.Nets.{happens, enabled, LeadsTo}
-use Rattle.seam_machine.specs.Totals.{total}
-use Rattle.seam_machine.specs.declared.machines.Event.{Event}
+use Rattle.seam_node_steps.specs.Prelude.{happens, enabled, LeadsTo, total, Event, Call as CallData, Order, order_or, Msg, BaseCall, Here}
+use Rattle.seam_node_steps.specs.Prelude.{PartView, ProxyView, NodeView, World, node_steps, node_has_work, with_nodes}
+use Rattle.seam_law_flow.specs.Prelude.{comes, slot_at, letters_of}
+use Rattle.seam_law_calls.specs.Prelude.{Frame, here_at, IsInFrame, Has, AtBase, mine, has_of, has_none, entity_flow, reaped_by}
+use Rattle.seam_law_calls.specs.Prelude.{reaped_by_order, HasNoReaps, IsSpared, base_call_in, base_call_of, calls_ordered, PartMoves, rests}
+use Rattle.seam_law_calls.specs.Prelude.{refuses, offers, sends, serves, executes, misses, updates, shows, ends, home_of, HasNoBaseCalls}
+use Rattle.seam_law_rounds.specs.Prelude.{IsBetweenRounds, HasSettledPart}
 use Rattle.seam_machine.proofs.Occurring.{occurs}
 use Rattle.seam_machine.proofs.Quiet.{quiet_links}
 use Rattle.seam_net_runs.proofs.Runs.{leads_keeps}
-use Rattle.seam_law_flow.specs.Flows.{comes, slot_at, letters_of}
 use Rattle.seam_law_flow.proofs.Following.{slots_kept, came}
-use Rattle.seam_call.specs.declared.call.Call.{Call as CallData}
-use Rattle.seam_call.specs.declared.order.Order.{Order}
 use Rattle.seam_call.specs.declared.order.Order.TheVariants as order
-use Rattle.seam_entity.specs.Orders.{order_or}
-use Rattle.seam_entity.specs.declared.message.Msg.{Msg}
-use Rattle.seam_entity.specs.declared.message.Msg.TheVariants.{BaseCall}
-use Rattle.seam_entity.specs.Here.{Here}
-use Rattle.seam_node_steps.specs.Bases.{PartView, ProxyView}
-use Rattle.seam_node_steps.specs.Nodes.{NodeView, World, node_steps, node_has_work}
-use Rattle.seam_node_steps.specs.Loads.{with_nodes}
-use Rattle.seam_law_calls.specs.Frames.{Frame, here_at, IsInFrame}
-use Rattle.seam_law_calls.specs.Sights.{Has, AtBase, mine, has_of, has_none, entity_flow}
 use Rattle.seam_law_calls.proofs.Classify.{event_moves, frame_happens}
-use Rattle.seam_law_calls.specs.Ones.{reaped_by, reaped_by_order, HasNoReaps, IsSpared}
 use Rattle.seam_law_calls.proofs.OneReal.{spared_happens}
-use Rattle.seam_law_rounds.specs.Between.{IsBetweenRounds}
 use Rattle.seam_law_rounds.proofs.Calm.{order_reaps, IsCalmOrder}
 use Rattle.seam_law_rounds.proofs.CalmMoves.{none_ready}
 use Rattle.seam_law_rounds.proofs.Starting.{Given}
-use Rattle.seam_law_calls.specs.PartMoves.{base_call_in, base_call_of, calls_ordered}
-use Rattle.seam_law_calls.specs.PartMoves.{PartMoves, rests, refuses, offers, sends, serves, executes, misses, updates, shows, ends}
-use Rattle.seam_law_calls.specs.BaseTurns.{home_of}
-use Rattle.seam_law_calls.specs.Reaps.{HasNoBaseCalls}
 use Rattle.seam_law_calls.proofs.PartSteps.{part_moves}
 use Rattle.seam_law_calls.proofs.Reaped.{no_call_comes}
 use Rattle.seam_law_calls.proofs.BaseRuns.{unordered}
-use Rattle.seam_law_rounds.specs.Parts.{HasSettledPart}
 use Rattle.seam_law_rounds.proofs.PartLoads.{SamePart, same_part, part_at}
 use Rattle.seam_law_rounds.proofs.PartsLoaded.{same_none, same_some}
 

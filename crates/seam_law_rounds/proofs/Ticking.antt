@@ -6,46 +6,24 @@ use Rattle.std.specs.Prelude.{option_map, slice_get}
 use Rattle.std.specs.List.{AllByRecursion}
 use Rattle.std.proofs.lemmas.Bool.{cases_lt}
 use Rattle.std.proofs.lemmas.Option.{slice_get-map}
-use Rattle.seam_machine.specs.Nets.{link, LeadsTo}
-use Rattle.seam_machine.specs.Sends.{items_to}
-use Rattle.seam_machine.specs.Totals.{total}
-use Rattle.seam_machine.specs.declared.machines.Event.{Event}
+use Rattle.seam_node_steps.specs.Prelude.{link, LeadsTo, items_to, total, Event, Ghost, copy_in, Create, Order, Batch, GhostCopy, RealView}
+use Rattle.seam_node_steps.specs.Prelude.{cell_count, base_of, has_any, ready_entity, PartView, NodeView, World, node_steps, node_has_work}
+use Rattle.seam_node_steps.specs.Prelude.{Cell, Base, real_if, part_if, with_route, created_at, attached, cell_round, base_round, order_if}
+use Rattle.seam_node_steps.specs.Prelude.{ordered_at, loaded, with_nodes, Division, leaf_at, cells_of}
+use Rattle.seam_law_flow.specs.Prelude.{slot_at, letters_of}
+use Rattle.seam_law_calls.specs.Prelude.{Frame, here_at, mine, times, order_concerns, orders_of, has_of, has_none, real_in, sent_by}
+use Rattle.seam_law_calls.specs.Prelude.{EachReal, HasToldAtMost, most_entities, IsBlank, BringsNone, IsAbsent, HasFewEntities, SeesFew}
+use Rattle.seam_law_calls.specs.Prelude.{order_looks, node_looks, mine_looks, looks_left, most_shown}
+use Rattle.seam_law_rounds.specs.Prelude.{IsBetweenRounds, IsFitting, each, made, node_loaded, HasPartsBetweenRounds, FitsParts}
 use Rattle.seam_machine.proofs.Quiet.{quiet_links, quiet_tasks}
-use Rattle.seam_ghosts.specs.declared.Ghost.{Ghost}
-use Rattle.seam_ghosts.specs.Book.{copy_in}
-use Rattle.seam_law_flow.specs.Flows.{slot_at, letters_of}
-use Rattle.seam_call.specs.declared.create.Create.{Create}
-use Rattle.seam_call.specs.declared.order.Order.{Order}
 use Rattle.seam_call.specs.declared.order.Order.TheVariants as order
-use Rattle.seam_call.specs.declared.order.Batch.{Batch}
-use Rattle.seam_call.specs.declared.shown.GhostCopy.{GhostCopy}
-use Rattle.seam_entity.specs.Reals.{RealView}
-use Rattle.seam_entity.specs.Here.{cell_count, base_of}
-use Rattle.seam_node_steps.specs.Maps.{has_any}
-use Rattle.seam_node_steps.specs.Cells.{ready_entity}
-use Rattle.seam_node_steps.specs.Bases.{PartView}
-use Rattle.seam_node_steps.specs.Nodes.{NodeView, World, node_steps, node_has_work}
-use Rattle.seam_node_steps.specs.Nodes.NodeView.{Cell, Base}
-use Rattle.seam_node_steps.specs.Loads.{real_if, part_if, with_route, created_at, attached, cell_round, base_round, order_if, ordered_at, loaded}
-use Rattle.seam_node_steps.specs.Loads.{with_nodes}
-use Rattle.seam_tree.specs.Division.{Division, leaf_at, cells_of}
-use Rattle.seam_law_calls.specs.Frames.{Frame, here_at}
-use Rattle.seam_law_calls.specs.Sights.{mine, times, order_concerns, orders_of, has_of, has_none}
-use Rattle.seam_law_calls.specs.Ones.{real_in}
 use Rattle.seam_law_calls.proofs.Quieting.{neither, none_left}
-use Rattle.seam_law_rounds.specs.Between.{IsBetweenRounds, IsFitting}
-use Rattle.seam_law_rounds.specs.Loaded.{each, made, node_loaded}
 use Rattle.seam_law_rounds.proofs.Loading.{each_keeps, Any, any, loaded_is, node_there}
 use Rattle.seam_law_rounds.proofs.Loaded.{no_mail, slot_is}
 use Rattle.seam_law_rounds.proofs.Making.{AreOthers}
 use Rattle.seam_law_rounds.proofs.Room.{from_all, most, sum_most, rows_none}
 use Rattle.seam_law_rounds.proofs.Turns.{node_orders, node_none}
-use Rattle.seam_law_calls.specs.WitnessMoves.{sent_by}
-use Rattle.seam_law_calls.specs.Clients.{EachReal, HasToldAtMost}
-use Rattle.seam_law_calls.specs.Telling.{most_entities, IsBlank, BringsNone, IsAbsent, HasFewEntities, SeesFew}
-use Rattle.seam_law_calls.specs.Telling.{order_looks, node_looks, mine_looks, looks_left, most_shown}
 use Rattle.seam_law_calls.proofs.Telling.{tells_at_most, sees_few_then}
-use Rattle.seam_law_rounds.specs.Parts.{HasPartsBetweenRounds, FitsParts}
 use Rattle.seam_law_rounds.proofs.Joining.{is_among, peopled, real_at, real_joined, real_peopled}
 use Rattle.seam_law_rounds.proofs.Attaching.{real_from}
 use Rattle.seam_law_calls.proofs.NoLooks.{NoTicks}

@@ -8,38 +8,20 @@ use Rattle.std.proofs.lemmas.Bool.{eqb-true, cases_lt}
 use Rattle.std.proofs.lemmas.List.{append_assoc, append-nil}
 use Rattle.std.proofs.lemmas.List.Elements.{filter-append}
 use Rattle.std.proofs.lemmas.Option.{slice_get_cases}
-use Rattle.seam_tree.specs.Division.{IsTree}
-use Rattle.seam_machine.specs.Sends.{items_to}
+use Rattle.seam_node_steps.specs.Prelude.{IsTree, items_to, item_at, Call as CallData, Order, Batch, rank_of, order_or, RealView, Msg}
+use Rattle.seam_node_steps.specs.Prelude.{cell_count, fits_cell_part, BaseView, NodeView, World, node_has_work, Cell, Base, cell_round}
+use Rattle.seam_node_steps.specs.Prelude.{order_if, ordered_at, loaded}
+use Rattle.seam_law_flow.specs.Prelude.{Flow, slot_at, letters_of, more_letter, number_from, of_number, Desk, AreInTurn}
+use Rattle.seam_law_calls.specs.Prelude.{Frame, here_at, IsAt, Has, kept_if, has_of, has_none, order_concerns, orders_of, entity_flow}
+use Rattle.seam_law_calls.specs.Prelude.{real_in, is_from, from_sender, cell_order_from, real_desk, cell_mail, as_sender, IsCallOf}
+use Rattle.seam_law_calls.specs.Prelude.{AreCallsOf, CellCallsInTurn}
+use Rattle.seam_law_rounds.specs.Prelude.{order_in, cell_call_from, calls_of, calls_at, AreNumbered, IsFitOrder, next_from, IsBetweenRounds}
+use Rattle.seam_law_rounds.specs.Prelude.{IsFitting, framed, each, made, node_loaded}
 use Rattle.seam_machine.proofs.Quiet.{quiet_tasks}
-use Rattle.seam_law_flow.specs.Flows.{Flow, slot_at, letters_of, more_letter}
-use Rattle.seam_law_flow.specs.Numbered.{number_from, of_number}
 use Rattle.seam_law_flow.proofs.Numbers.{letters_of-number_from}
-use Rattle.seam_order.specs.Held.{item_at}
-use Rattle.seam_law_flow.specs.Desks.{Desk, AreInTurn}
 use Rattle.seam_law_flow.proofs.Ends.{loaded_in_turn}
-use Rattle.seam_call.specs.declared.call.Call.{Call as CallData}
-use Rattle.seam_call.specs.declared.order.Order.{Order}
 use Rattle.seam_call.specs.declared.order.Order.TheVariants as order
-use Rattle.seam_call.specs.declared.order.Batch.{Batch}
-use Rattle.seam_call.specs.Senders.{rank_of}
 use Rattle.std.specs.FinMap as table
-use Rattle.seam_entity.specs.Orders.{order_or}
-use Rattle.seam_entity.specs.Reals.{RealView}
-use Rattle.seam_entity.specs.declared.message.Msg.{Msg}
-use Rattle.seam_entity.specs.Here.{cell_count}
-use Rattle.seam_entity.specs.Executing.{fits_cell_part}
-use Rattle.seam_node_steps.specs.Bases.{BaseView}
-use Rattle.seam_node_steps.specs.Nodes.{NodeView, World, node_has_work}
-use Rattle.seam_node_steps.specs.Nodes.NodeView.{Cell, Base}
-use Rattle.seam_node_steps.specs.Loads.{cell_round, order_if, ordered_at, loaded}
-use Rattle.seam_law_calls.specs.Frames.{Frame, here_at, IsAt}
-use Rattle.seam_law_calls.specs.Sights.{Has, kept_if, has_of, has_none, order_concerns, orders_of, entity_flow}
-use Rattle.seam_law_calls.specs.Ones.{real_in}
-use Rattle.seam_law_calls.specs.CellTurns.{is_from, from_sender, cell_order_from, real_desk, cell_mail, as_sender, IsCallOf, AreCallsOf}
-use Rattle.seam_law_calls.specs.CellTurns.{CellCallsInTurn}
-use Rattle.seam_law_rounds.specs.Between.{order_in, cell_call_from, calls_of, calls_at, AreNumbered, IsFitOrder, next_from}
-use Rattle.seam_law_rounds.specs.Between.{IsBetweenRounds, IsFitting, framed}
-use Rattle.seam_law_rounds.specs.Loaded.{each, made, node_loaded}
 use Rattle.seam_law_rounds.proofs.Framing.{node_begun, node_goes}
 use Rattle.seam_law_rounds.proofs.Staying.{made_orders}
 use Rattle.seam_law_rounds.proofs.Loaded.{no_items, after, no_mail, slot_is, Loaded, real_loaded}

@@ -1,23 +1,14 @@
 -- An update that comes finds the client that it is for.
 use Rattle.std.proofs.Common.{◌≡◌, ℕ, List, [], ◌∷◌, None, sym, subst, arith}
 use Rattle.std.specs.List.{AllByRecursion}
-use Rattle.seam_machine.specs.Nets.{LeadsTo}
-use Rattle.seam_machine.specs.declared.machines.Event.{Event}
+use Rattle.seam_node_steps.specs.Prelude.{LeadsTo, Event, Msg, Update, World, node_steps, node_has_work}
+use Rattle.seam_law_calls.specs.Prelude.{Frame, IsInFrame, entity_flow, IsSpared, update_in, FindsClient, IsToldNothing}
+use Rattle.seam_law_rounds.specs.Prelude.{IsServed, bare, served}
 use Rattle.seam_call.specs.declared.shown.Update.{Update as UpdateData}
-use Rattle.seam_entity.specs.declared.message.Msg.{Msg}
-use Rattle.seam_entity.specs.declared.message.Msg.TheVariants.{Update}
-use Rattle.seam_node_steps.specs.Nodes.{World, node_steps, node_has_work}
-use Rattle.seam_law_calls.specs.Frames.{Frame, IsInFrame}
-use Rattle.seam_law_calls.specs.Sights.{entity_flow}
-use Rattle.seam_law_calls.specs.Ones.{IsSpared}
-use Rattle.seam_law_calls.specs.PartMoves.{update_in}
-use Rattle.seam_law_calls.specs.Clients.{FindsClient}
 use Rattle.seam_law_calls.proofs.ClientLeads.{client_leads}
 use Rattle.seam_law_calls.proofs.ClientRuns.{finds_client}
 use Rattle.seam_law_calls.proofs.StrayRuns.{base_burden_leads}
-use Rattle.seam_law_calls.specs.Telling.{IsToldNothing}
 use Rattle.seam_law_calls.proofs.Silent.{unseen_told_none}
-use Rattle.seam_law_rounds.specs.Parts.{IsServed, bare, served}
 use Rattle.seam_law_rounds.proofs.Serving.{HasNumbers}
 
 module _ (f : Frame) (e ty : ℕ) (w v : World) (es : List Event) (run : LeadsTo node_has_work node_steps w es v) (frame : IsInFrame f w)

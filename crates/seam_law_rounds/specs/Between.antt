@@ -2,30 +2,12 @@
 use Rattle.std.specs.Prelude.{◌≡◌, ℕ, ◌+◌, ◌^◌, ◌<◌, ◌≤◌, true, eqb, List, [], map, length, Option, None, Some}
 use Rattle.std.specs.List.{AllByRecursion, IsDistinct}
 use Rattle.std.specs.FinMap as table
-use Rattle.seam_tree.specs.Division.{cells_of, IsTree}
-use Rattle.seam_machine.specs.Nets.{IsQuiet}
-use Rattle.seam_machine.specs.Sends.{items_to}
-use Rattle.seam_law_flow.specs.Flows.{letters_of}
-use Rattle.seam_law_flow.specs.Numbered.{number_from}
-use Rattle.seam_call.specs.declared.call.Call.{Call as CallData}
-use Rattle.seam_call.specs.declared.create.Create.{Create}
-use Rattle.seam_call.specs.declared.order.Order.{Order}
+use Rattle.seam_node_steps.specs.Prelude.{cells_of, IsTree, IsQuiet, items_to, Call as CallData, Create, Order, Batch, order_or, RealView}
+use Rattle.seam_node_steps.specs.Prelude.{limit, is_inside, cell_count, fits_cell_part, holders, World, node_has_work, loaded}
+use Rattle.seam_law_flow.specs.Prelude.{letters_of, number_from}
+use Rattle.seam_law_calls.specs.Prelude.{Frame, here_at, IsInFrame, has_none, order_about, orders_of, entity_flow, RealFits, real_in}
+use Rattle.seam_law_calls.specs.Prelude.{reaped_by_order, IsFrame, from_sender, cell_order_from}
 use Rattle.seam_call.specs.declared.order.Order.TheVariants as order
-use Rattle.seam_call.specs.declared.order.Batch.{Batch}
-use Rattle.seam_entity.specs.Orders.{order_or}
-use Rattle.seam_entity.specs.Reals.{RealView}
-use Rattle.seam_entity.specs.Numbers.{limit}
-use Rattle.seam_entity.specs.Fitting.{is_inside}
-use Rattle.seam_entity.specs.Here.{cell_count}
-use Rattle.seam_entity.specs.Executing.{fits_cell_part}
-use Rattle.seam_node_steps.specs.Holders.{holders}
-use Rattle.seam_node_steps.specs.Nodes.{World, node_has_work}
-use Rattle.seam_node_steps.specs.Loads.{loaded}
-use Rattle.seam_law_calls.specs.Frames.{Frame, here_at, IsInFrame}
-use Rattle.seam_law_calls.specs.Sights.{has_none, order_about, orders_of, entity_flow}
-use Rattle.seam_law_calls.specs.Fits.{RealFits}
-use Rattle.seam_law_calls.specs.Ones.{real_in, reaped_by_order, IsFrame}
-use Rattle.seam_law_calls.specs.CellTurns.{from_sender, cell_order_from}
 
 -- the number that the next call of the sender is to have
 abbrev pub next_from : ℕ → RealView → ℕ

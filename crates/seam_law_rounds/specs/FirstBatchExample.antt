@@ -1,11 +1,8 @@
 -- A batch for a world as it is opened: it creates an entity, and two senders call its base part.
 use Rattle.std.specs.Prelude.{[]}
-use Rattle.seam_defs.specs.Builtin.{builtin}
-use Rattle.seam_defs.specs.Settings.{standard}
-use Rattle.seam_call.specs.declared.order.Batch.{Batch}
-use Rattle.seam_law_calls.specs.Frames.{Frame}
+use Rattle.seam_node_steps.specs.Prelude.{builtin, standard, Batch}
+use Rattle.seam_law_calls.specs.Prelude.{Frame, batch_with}
 use Rattle.seam_law_rounds.specs.LastPhases.{first_frame}
-use Rattle.seam_law_calls.specs.BaseCallsExample.{batch_with}
 
 abbrev pub opening : Frame
 opening = first_frame builtin standard

@@ -1,20 +1,10 @@
 -- The last phases of a round: entities are reaped, and witnesses look.
 use Rattle.std.specs.Prelude.{◌≡◌, ℕ, Bool, true, false, eqb, ◌||◌, List, [], ◌∷◌, None, Some}
 use Rattle.std.specs.List.{AllByRecursion, IsDistinct}
-use Rattle.seam_machine.specs.Nets.{input_from, happens}
-use Rattle.seam_machine.specs.declared.machines.Event.{Event}
-use Rattle.seam_law_flow.specs.Desks.{WaitsOnce}
-use Rattle.seam_defs.specs.declared.settings.Settings.{Settings}
-use Rattle.seam_defs.specs.declared.types.TypeDef.{TypeDef}
-use Rattle.seam_entity.specs.Reals.{RealView}
-use Rattle.seam_entity.specs.Numbers.{may_rise}
-use Rattle.seam_node_steps.specs.Holders.{holders}
-use Rattle.seam_node_steps.specs.Nodes.{World, node_steps}
-use Rattle.seam_node_steps.specs.Loads.{one_cell}
-use Rattle.seam_law_calls.specs.Frames.{Frame}
-use Rattle.seam_law_calls.specs.Sights.{entity_flow}
-use Rattle.seam_law_calls.specs.Ones.{real_in, reaps}
-use Rattle.seam_law_calls.specs.CellTurns.{as_sender}
+use Rattle.seam_node_steps.specs.Prelude.{input_from, happens, Event, Settings, TypeDef, RealView, may_rise, holders, World, node_steps}
+use Rattle.seam_node_steps.specs.Prelude.{one_cell}
+use Rattle.seam_law_flow.specs.Prelude.{WaitsOnce}
+use Rattle.seam_law_calls.specs.Prelude.{Frame, entity_flow, real_in, reaps, as_sender}
 
 -- what the nodes of a world go by as it is opened: the tree of one cell
 abbrev pub first_frame : List TypeDef → Settings → Frame

@@ -5,3 +5,4 @@ pub mod LastPhases
 pub mod Routes
 pub mod Parts
 pub mod FirstBatchExample
+pub mod Prelude

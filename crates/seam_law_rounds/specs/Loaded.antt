@@ -1,9 +1,6 @@
 -- What the load of a batch makes of each node.
 use Rattle.std.specs.Prelude.{List, fold}
-use Rattle.seam_tree.specs.Division.{cells_of}
-use Rattle.seam_call.specs.declared.order.Batch.{Batch}
-use Rattle.seam_node_steps.specs.Nodes.{NodeView}
-use Rattle.seam_node_steps.specs.Loads.{created_at, attached, cell_round, base_round, ordered_at}
+use Rattle.seam_node_steps.specs.Prelude.{cells_of, Batch, NodeView, created_at, attached, cell_round, base_round, ordered_at}
 
 -- a node after the changes, one for each of the list
 abbrev pub each : {A : Type 0} → (A → NodeView → NodeView) → List A → NodeView → NodeView

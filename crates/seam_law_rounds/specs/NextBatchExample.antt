@@ -1,10 +1,7 @@
 -- A batch that fits the world at the end of a worked run: one more call to its entity.
 use Rattle.std.specs.Prelude.{false, [], ◌∷◌}
-use Rattle.seam_call.specs.declared.call.Call.{Call as CallData}
+use Rattle.seam_node_steps.specs.Prelude.{Call as CallData, Batch, call, hit, two_cells}
 use Rattle.seam_call.specs.declared.order.Order.TheVariants as order
-use Rattle.seam_call.specs.declared.order.Batch.{Batch}
-use Rattle.seam_node_steps.specs.Rows.{call, hit}
-use Rattle.seam_node_steps.specs.EarlyCall.{two_cells}
 
 -- sender 2 executed two calls in the run, so this is its third
 abbrev pub third_call : CallData

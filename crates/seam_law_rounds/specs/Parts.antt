@@ -2,31 +2,13 @@
 use Rattle.std.specs.Prelude.{◌≡◌, ℕ, ◌+◌, ◌^◌, ◌<◌, ◌≤◌, true, false, is_some, List, [], map, length, Option, None, Some}
 use Rattle.std.specs.List.{AllByRecursion}
 use Rattle.std.specs.FinMap as table
-use Rattle.seam_machine.specs.Sends.{items_to}
-use Rattle.seam_law_flow.specs.Flows.{letters_of}
-use Rattle.seam_law_flow.specs.Numbered.{number_from}
-use Rattle.seam_call.specs.declared.call.Call.{Call as CallData}
-use Rattle.seam_call.specs.declared.order.Order.{Order}
+use Rattle.seam_node_steps.specs.Prelude.{items_to, Call as CallData, Order, Batch, order_or, RealView, WitnessView, limit, cell_count}
+use Rattle.seam_node_steps.specs.Prelude.{PartView, ProxyView, fits_base_part, World, loaded}
+use Rattle.seam_law_flow.specs.Prelude.{letters_of, number_from}
+use Rattle.seam_law_calls.specs.Prelude.{Frame, here_at, orders_of, entity_flow, real_in, from_sender, numbered_from, base_call_of, home_of}
+use Rattle.seam_law_calls.specs.Prelude.{HasNoClient, sent_by, shown_in, EachReal, HasClient, most_entities, IsBlank, SeesFew}
 use Rattle.seam_call.specs.declared.order.Order.TheVariants as order
-use Rattle.seam_call.specs.declared.order.Batch.{Batch}
-use Rattle.seam_entity.specs.Orders.{order_or}
-use Rattle.seam_entity.specs.Reals.{RealView, WitnessView}
-use Rattle.seam_entity.specs.Numbers.{limit}
-use Rattle.seam_entity.specs.Here.{cell_count}
-use Rattle.seam_node_steps.specs.Bases.{PartView, ProxyView}
-use Rattle.seam_node_steps.specs.BaseCases.{fits_base_part}
-use Rattle.seam_node_steps.specs.Nodes.{World}
-use Rattle.seam_node_steps.specs.Loads.{loaded}
-use Rattle.seam_law_calls.specs.Frames.{Frame, here_at}
-use Rattle.seam_law_calls.specs.Sights.{orders_of, entity_flow}
-use Rattle.seam_law_calls.specs.Ones.{real_in}
-use Rattle.seam_law_calls.specs.CellTurns.{from_sender, numbered_from}
 use Rattle.seam_law_rounds.specs.Between.{order_in, numbers_of, IsBetweenRounds, IsFitting}
-use Rattle.seam_law_calls.specs.PartMoves.{base_call_of}
-use Rattle.seam_law_calls.specs.BaseTurns.{home_of, HasNoClient}
-use Rattle.seam_law_calls.specs.WitnessMoves.{sent_by}
-use Rattle.seam_law_calls.specs.Clients.{shown_in, EachReal, HasClient}
-use Rattle.seam_law_calls.specs.Telling.{most_entities, IsBlank, SeesFew}
 
 -- ---- the record
 

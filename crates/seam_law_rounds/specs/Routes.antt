@@ -1,13 +1,9 @@
 -- Routes: what a base node has, and what is on its way to it, of where an entity's real is.
 use Rattle.std.specs.Prelude.{ℕ, ◌<◌, Option, None, Some}
-use Rattle.seam_law_flow.specs.Flows.{Flow}
-use Rattle.seam_law_flow.specs.Newest.{Newest}
-use Rattle.seam_law_flow.specs.Tokens.{TokenPlace, In, On}
-use Rattle.seam_entity.specs.Reals.{RealView}
-use Rattle.seam_entity.specs.declared.message.Msg.{Msg}
-use Rattle.seam_entity.specs.declared.message.Msg.TheVariants.{Call, BaseCall, Hand, Current, GhostSet, GhostDrop, Tick, Reap, Update}
-use Rattle.seam_node_steps.specs.Bases.{RouteView}
-use Rattle.seam_law_calls.specs.Sights.{Has}
+use Rattle.seam_node_steps.specs.Prelude.{RealView, Msg, BaseCall, Hand, Current, GhostSet, GhostDrop, Tick, Reap, Update, RouteView}
+use Rattle.seam_law_flow.specs.Prelude.{Flow, Newest, TokenPlace, In, On}
+use Rattle.seam_law_calls.specs.Prelude.{Has}
+use Rattle.seam_entity.specs.declared.message.Msg.TheVariants.{Call}
 
 -- the generation and the cell of a route, both 0 where there is none
 abbrev pub as_entry : Option RouteView → ℕ × ℕ

@@ -16,36 +16,17 @@
 // `Idling` and `Calms` (reaps and looks) are for callers.
 
 ghost use Rattle.std.specs.Prelude.{◌≡◌, ℕ, ◌≤◌, List, [], ◌∷◌, ◌++◌, Some};
-ghost use Rattle.seam_machine.specs.Nets.{IsQuiet, LeadsTo};
-ghost use Rattle.seam_machine.specs.declared.machines.Event.{Event};
-ghost use Rattle.seam_law_flow.specs.Flows.{letters_of};
-ghost use Rattle.seam_defs.specs.declared.settings.Settings.{Settings};
-ghost use Rattle.seam_defs.specs.declared.types.TypeDef.{TypeDef};
-ghost use Rattle.seam_call.specs.declared.order.Batch.{Batch};
+ghost use Rattle.seam_node_steps.specs.Prelude.{IsQuiet, LeadsTo, Event, Settings, TypeDef, Batch, RealView, Msg, Update, PartView};
+ghost use Rattle.seam_node_steps.specs.Prelude.{holders, empty_world, lines_of_client, World, node_steps, node_has_work, opened, loaded};
+ghost use Rattle.seam_node_steps.specs.Prelude.{reaps_loaded, look_loaded};
+ghost use Rattle.seam_law_flow.specs.Prelude.{letters_of};
+ghost use Rattle.seam_law_calls.specs.Prelude.{Frame, entity_flow, events_of, real_in, IsFrame, from_sender, home_of, HasBaseCalls};
+ghost use Rattle.seam_law_calls.specs.Prelude.{HasNoClient, shown_at, HasClient, FindsClient, IsToldNothing, HasRoutes, NothingIsStray};
+ghost use Rattle.seam_law_rounds.specs.Prelude.{framed, IsBetweenRounds, first_frame, AreReapable, next_to, base_calls_of, HasSettledPart};
+ghost use Rattle.seam_law_rounds.specs.Prelude.{HasPartsBetweenRounds, MayBeLoaded, IsAlone, HasSmallNumbers, IsServed, opening};
+ghost use Rattle.seam_law_rounds.specs.Prelude.{first_batch};
 ghost use Rattle.seam_call.specs.declared.shown.Update.{Update as UpdateData};
-ghost use Rattle.seam_entity.specs.Reals.{RealView};
-ghost use Rattle.seam_entity.specs.declared.message.Msg.{Msg};
-ghost use Rattle.seam_entity.specs.declared.message.Msg.TheVariants.{Update};
-ghost use Rattle.seam_node_steps.specs.Bases.{PartView};
-ghost use Rattle.seam_node_steps.specs.Holders.{holders};
-ghost use Rattle.seam_node_steps.specs.Rows.{empty_world, lines_of_client};
 ghost use Rattle.seam_node_steps.specs.ViewRounds as view;
-ghost use Rattle.seam_node_steps.specs.Nodes.{World, node_steps, node_has_work};
-ghost use Rattle.seam_node_steps.specs.Loads.{opened, loaded, reaps_loaded, look_loaded};
-ghost use Rattle.seam_law_calls.specs.Frames.{Frame};
-ghost use Rattle.seam_law_calls.specs.Sights.{entity_flow};
-ghost use Rattle.seam_law_calls.specs.HandOverExample.{events_of};
-ghost use Rattle.seam_law_calls.specs.Ones.{real_in, IsFrame};
-ghost use Rattle.seam_law_calls.specs.CellTurns.{from_sender};
-ghost use Rattle.seam_law_rounds.specs.Between.{framed, IsBetweenRounds};
-ghost use Rattle.seam_law_rounds.specs.LastPhases.{first_frame, AreReapable};
-ghost use Rattle.seam_law_calls.specs.BaseTurns.{home_of, HasBaseCalls, HasNoClient};
-ghost use Rattle.seam_law_calls.specs.Clients.{shown_at, HasClient, FindsClient};
-ghost use Rattle.seam_law_calls.specs.Telling.{IsToldNothing};
-ghost use Rattle.seam_law_calls.specs.Strays.{HasRoutes, NothingIsStray};
-ghost use Rattle.seam_law_rounds.specs.Parts.{next_to, base_calls_of, HasSettledPart, HasPartsBetweenRounds, MayBeLoaded, IsAlone};
-ghost use Rattle.seam_law_rounds.specs.Parts.{HasSmallNumbers, IsServed};
-ghost use Rattle.seam_law_rounds.specs.FirstBatchExample.{opening, first_batch};
 
 /// Each entity of a loaded world has its base part, of its type, at its base node. The batch's calls to it are in turn, numbered from each
 /// sender's next number on (from 1 on where the batch creates it), fit it, and have room in its version; and each base node has a route to

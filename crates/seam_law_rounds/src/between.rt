@@ -11,25 +11,14 @@
 
 ghost use Rattle.std.specs.Prelude.{◌≡◌, ℕ, ◌+◌, ◌<◌, List, Some};
 ghost use Rattle.std.specs.List.{AllByRecursion};
-ghost use Rattle.seam_machine.specs.Nets.{IsQuiet, LeadsTo};
-ghost use Rattle.seam_machine.specs.declared.machines.Event.{Event};
-ghost use Rattle.seam_law_flow.specs.Flows.{letters_of};
-ghost use Rattle.seam_call.specs.declared.order.Batch.{Batch};
-ghost use Rattle.seam_entity.specs.Reals.{RealView};
-ghost use Rattle.seam_node_steps.specs.Holders.{holders};
-ghost use Rattle.seam_node_steps.specs.Nodes.{World, node_steps, node_has_work};
-ghost use Rattle.seam_node_steps.specs.Loads.{loaded};
-ghost use Rattle.seam_law_calls.specs.Frames.{Frame, IsInFrame};
-ghost use Rattle.seam_law_calls.specs.Sights.{entity_flow};
-ghost use Rattle.seam_entity.specs.Numbers.{limit};
-ghost use Rattle.seam_law_calls.specs.Burdens.{burden};
-ghost use Rattle.seam_law_calls.specs.Ones.{real_in, IsFrame, IsSpared, HasOne};
+ghost use Rattle.seam_node_steps.specs.Prelude.{IsQuiet, LeadsTo, Event, Batch, RealView, holders, World, node_steps, node_has_work};
+ghost use Rattle.seam_node_steps.specs.Prelude.{loaded, limit};
+ghost use Rattle.seam_law_flow.specs.Prelude.{letters_of};
+ghost use Rattle.seam_law_calls.specs.Prelude.{Frame, IsInFrame, entity_flow, burden, real_in, IsFrame, IsSpared, HasOne, frame, AllLead};
+ghost use Rattle.seam_law_calls.specs.Prelude.{from_sender, AreCallsOf, CellCallsInTurn};
+ghost use Rattle.seam_law_rounds.specs.Prelude.{next_batch, skipping_batch, IsSettled, IsBetweenRounds, IsFitting, framed, calls_of};
+ghost use Rattle.seam_law_rounds.specs.Prelude.{next_from};
 ghost use Rattle.seam_node_steps.specs.EarlyCall as early;
-ghost use Rattle.seam_law_calls.specs.HandOverExample.{frame};
-ghost use Rattle.seam_law_calls.specs.Ways.{AllLead};
-ghost use Rattle.seam_law_calls.specs.CellTurns.{from_sender, AreCallsOf, CellCallsInTurn};
-ghost use Rattle.seam_law_rounds.specs.NextBatchExample.{next_batch, skipping_batch};
-ghost use Rattle.seam_law_rounds.specs.Between.{IsSettled, IsBetweenRounds, IsFitting, framed, calls_of, next_from};
 
 /// A world between rounds that was given a fitting batch goes by the batch's tree.
 pub fn a_loaded_world_goes_by_its_tree()

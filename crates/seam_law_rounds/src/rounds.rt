@@ -11,19 +11,11 @@
 
 ghost use Rattle.std.specs.Prelude.{◌≡◌, ℕ, ◌≤◌, List, [], ◌∷◌, if◌then◌else◌};
 ghost use Rattle.std.specs.List.{AllByRecursion};
-ghost use Rattle.seam_machine.specs.Nets.{IsQuiet, LeadsTo};
-ghost use Rattle.seam_machine.specs.declared.machines.Event.{Event};
-ghost use Rattle.seam_defs.specs.declared.settings.Settings.{Settings};
-ghost use Rattle.seam_defs.specs.declared.types.TypeDef.{TypeDef};
-ghost use Rattle.seam_call.specs.declared.order.Batch.{Batch};
+ghost use Rattle.seam_node_steps.specs.Prelude.{IsQuiet, LeadsTo, Event, Settings, TypeDef, Batch, holders, World, node_steps};
+ghost use Rattle.seam_node_steps.specs.Prelude.{node_has_work, opened, loaded, reaps_loaded, look_loaded};
+ghost use Rattle.seam_law_calls.specs.Prelude.{Frame, IsFrame};
+ghost use Rattle.seam_law_rounds.specs.Prelude.{IsBetweenRounds, IsFitting, framed, first_frame, AreReapable, reap_comes, HasNoCalls};
 ghost use Rattle.seam_node_steps.specs.EarlyCall as early;
-ghost use Rattle.seam_node_steps.specs.Holders.{holders};
-ghost use Rattle.seam_node_steps.specs.Nodes.{World, node_steps, node_has_work};
-ghost use Rattle.seam_node_steps.specs.Loads.{opened, loaded, reaps_loaded, look_loaded};
-ghost use Rattle.seam_law_calls.specs.Frames.{Frame};
-ghost use Rattle.seam_law_rounds.specs.Between.{IsBetweenRounds, IsFitting, framed};
-ghost use Rattle.seam_law_calls.specs.Ones.{IsFrame};
-ghost use Rattle.seam_law_rounds.specs.LastPhases.{first_frame, AreReapable, reap_comes, HasNoCalls};
 
 /// Where a world between rounds is told to reap entities, each entity that was there has one holder until its Reap comes and none from then
 /// on. Those that are not to be reaped keep theirs, and no other gets one. Where the world is quiet again, all are reaped.

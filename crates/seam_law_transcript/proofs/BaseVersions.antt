@@ -5,30 +5,16 @@ use Rattle.std.specs.Prelude.{not, nat_lt, filter, ◌&&◌, if◌then◌else◌
 use Rattle.std.specs.List.{AllByRecursion, range_with_len}
 use Rattle.std.proofs.lemmas.Bool.Decides.{nat_tests}
 use Rattle.std.proofs.lemmas.List.{take-append-le, map-append}
-use Rattle.seam_value.specs.declared.values.Value.{Value}
-use Rattle.seam_defs.specs.Deeds.{after, client_of, properties_of}
+use Rattle.seam_node_steps.specs.Prelude.{Value, after, client_of, properties_of, Property, same_values, same_shown, changes, type_of}
+use Rattle.seam_node_steps.specs.Prelude.{State, TypeDef, Call as CallData, Create, ClientText, Division, Here, has_any, PartView}
+use Rattle.seam_node_steps.specs.Prelude.{base_text}
+use Rattle.seam_rule_rounds.specs.Prelude.{Header, first_state, flat, properties, has_changed_at, changes_past}
+use Rattle.seam_law_calls.specs.Prelude.{here_at}
+use Rattle.seam_law_clients.specs.Prelude.{first_lines, lines_after, line_where}
+use Rattle.seam_law_book.specs.Prelude.{frame_of, IsDoneOn, BeginsPart}
 use Rattle.seam_defs.specs.declared.flags.Group.TheVariants as group
-use Rattle.seam_defs.specs.declared.types.Property.{Property}
-use Rattle.seam_defs.specs.Tests.{same_values, same_shown, changes}
-use Rattle.seam_defs.specs.Types.{type_of}
 use Rattle.seam_defs.specs.declared.flags.Part.TheVariants as part
-use Rattle.seam_defs.specs.declared.states.State.{State}
-use Rattle.seam_defs.specs.declared.types.TypeDef.{TypeDef}
-use Rattle.seam_call.specs.declared.call.Call.{Call as CallData}
-use Rattle.seam_call.specs.declared.create.Create.{Create}
-use Rattle.seam_call.specs.declared.shown.ClientText.{ClientText}
 use Rattle.seam_call.specs.declared.shown.ClientText.TheVariants as text
-use Rattle.seam_toml.specs.declared.header.Header.{Header}
-use Rattle.seam_rule_lines.specs.FlatTable.{first_state, flat}
-use Rattle.seam_rule_rounds.specs.FlatTable.{properties, has_changed_at, changes_past}
-use Rattle.seam_tree.specs.Division.{Division}
-use Rattle.seam_entity.specs.Here.{Here}
-use Rattle.seam_node_steps.specs.Maps.{has_any}
-use Rattle.seam_node_steps.specs.Bases.{PartView, base_text}
-use Rattle.seam_law_calls.specs.Frames.{here_at}
-use Rattle.seam_law_clients.specs.BaseLines.{first_lines, lines_after, line_where}
-use Rattle.seam_law_book.specs.Going.{frame_of}
-use Rattle.seam_law_book.specs.ExecutedRound.{IsDoneOn, BeginsPart}
 use Rattle.seam_law_book.proofs.Accounts.{done_deed, one_more}
 use Rattle.seam_law_book.proofs.PartsTable.{same_props}
 

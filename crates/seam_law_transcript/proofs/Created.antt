@@ -3,18 +3,13 @@ use Rattle.std.proofs.Common.{ℕ, ◌+◌, ◌<◌, ◌≤◌, [], ◌∷◌, l
 use Rattle.std.proofs.Common.{inl, inr, append_assoc, append-nil, length-append}
 use Rattle.std.proofs.lemmas.Bool.{cases_lt}
 use Rattle.std.proofs.lemmas.List.Elements.{filter_map-append}
-use Rattle.seam_io.specs.Lines.{Line, Content, Long}
-use Rattle.seam_call.specs.declared.create.Create.{Create}
-use Rattle.seam_toml.specs.declared.header.Header.{Header}
+use Rattle.seam_node_steps.specs.Prelude.{Create}
+use Rattle.seam_rule_rounds.specs.Prelude.{Line, Content, Long, Header, Book, entries, created, creates_of, Adds, HoldsAgainst, Holds}
+use Rattle.seam_rule_rounds.specs.Prelude.{Spells, MOST_ENTITIES, Entry, Cause}
+use Rattle.seam_law_book.specs.Prelude.{IsAccepted, IsOfLines, empty, accepts, ends, balances}
 use Rattle.seam_rule_lines.specs.Language as language
-use Rattle.seam_rule_lines.specs.Book.{Book, entries, created, creates_of}
-use Rattle.seam_rule_lines.specs.Judging.{Adds, HoldsAgainst, Holds, Spells}
-use Rattle.seam_rule_lines.specs.declared.limits.TheConstants.{MOST_ENTITIES}
-use Rattle.seam_rule_lines.specs.declared.verdict.Entry.{Entry}
 use Rattle.seam_rule_lines.specs.declared.verdict.Entry.TheVariants as entry
-use Rattle.seam_rule_lines.specs.declared.verdict.Cause.{Cause}
 use Rattle.seam_rule_lines.specs.declared.verdict.Cause.TheVariants as cause
-use Rattle.seam_law_book.specs.Books.{IsAccepted, IsOfLines, empty, accepts, ends, balances}
 
 below_of : (m n : ℕ) → ¬ (n ≤ m) → m < n
 below_of m n not = elim (cases_lt m n) [ inl lt ↦ lt | inr ge ↦ absurd (not ge) ]

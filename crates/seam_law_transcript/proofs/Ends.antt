@@ -1,16 +1,14 @@
 -- The numbers of a world after a round, by the entries and rounds before it.
 use Rattle.std.proofs.Common.{◌≡◌, ℕ, ◌+◌, ◌*◌, ◌≤◌, length, arith, length-append}
 use Rattle.std.proofs.Math.Nat.{mul-le-mul_left}
-use Rattle.seam_toml.specs.declared.header.Header.{Header}
+use Rattle.seam_node_steps.specs.Prelude.{World}
+use Rattle.seam_rule_rounds.specs.Prelude.{Header, Standing, entries}
+use Rattle.seam_law_calls.specs.Prelude.{sent_by}
+use Rattle.seam_law_rounds.specs.Prelude.{numbers_of}
+use Rattle.seam_law_bounds.specs.Prelude.{AreAtMost}
+use Rattle.seam_law_transcript.specs.Prelude.{most_told}
 use Rattle.seam_accept.specs.Batches.{batch_of, ordered}
-use Rattle.seam_node_steps.specs.Nodes.{World}
-use Rattle.seam_law_rounds.specs.Between.{numbers_of}
-use Rattle.seam_law_calls.specs.WitnessMoves.{sent_by}
 use Rattle.seam_law_calls.proofs.Below.{mapped_few}
-use Rattle.seam_rule_rounds.specs.Standing.{Standing}
-use Rattle.seam_law_bounds.specs.Most.{AreAtMost}
-use Rattle.seam_rule_lines.specs.Book.{entries}
-use Rattle.seam_law_transcript.specs.Counts.{most_told}
 
 -- a product of lesser numbers is less
 product : (a c m k : ℕ) → a ≤ c → m ≤ k → a * m ≤ c * k

@@ -1,13 +1,9 @@
 -- A part executed no more calls than were accepted.
 use Rattle.std.proofs.Common.{◌≡◌, ℕ, suc, ◌+◌, ◌≤◌, Bool, true, false, cond, List, [], ◌∷◌, length, refl, ap, ◌∙◌, arith}
 use Rattle.std.specs.Prelude.{filter, ◌&&◌}
-use Rattle.seam_defs.specs.declared.flags.Part.{Part}
-use Rattle.seam_call.specs.Calls.{is_for, is_from}
-use Rattle.seam_call.specs.Senders.{same_sender}
-use Rattle.seam_call.specs.declared.call.Call.{Call}
-use Rattle.seam_call.specs.declared.sender.Sender.{Sender}
+use Rattle.seam_node_steps.specs.Prelude.{Part, is_for, is_from, same_sender, Call, Sender}
+use Rattle.seam_rule_rounds.specs.Prelude.{of_sender, IsFull}
 use Rattle.seam_call.specs.declared.sender.Sender.TheVariants as sender
-use Rattle.seam_rule_lines.specs.Orders.{of_sender, IsFull}
 
 same_is : (s t : Sender) → same_sender s t ≡ true → s ≡ t
 same_is (sender.Base m) (sender.Base n) same = ap sender.Base (grind (arith, same))

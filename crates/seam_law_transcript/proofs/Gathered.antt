@@ -11,12 +11,11 @@ use Rattle.std.proofs.lemmas.Bool.Decides.{nat_tests}
 use Rattle.std.proofs.lemmas.List.{map-append}
 use Rattle.std.proofs.lemmas.List.Elements.{All-append, All-nil, All-cons, filter-append}
 use Rattle.std.proofs.lemmas.Map.Keys.{sorted_from_strictly_increasing}
-use Rattle.seam_call.specs.declared.create.Create.{Create}
-use Rattle.seam_call.specs.declared.shown.Line.{Line}
+use Rattle.seam_node_steps.specs.Prelude.{Create, Line}
+use Rattle.seam_rule_rounds.specs.Prelude.{ClientLine}
+use Rattle.seam_law_transcript.specs.Prelude.{client_lines}
 use Rattle.seam_rule_lines.proofs.BookEntries.{differ}
 use Rattle.seam_rule_lines.proofs.Lists.{contains_cases}
-use Rattle.seam_rule_rounds.specs.Lines.{ClientLine}
-use Rattle.seam_law_transcript.specs.Reading.{client_lines}
 
 -- ---- lists in rising number
 

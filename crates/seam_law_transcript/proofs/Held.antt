@@ -3,19 +3,16 @@ use Rattle.std.proofs.Common.{◌≡◌, ℕ, ◌+◌, ◌<◌, List, [], ◌∷
 use Rattle.std.specs.Prelude.{Contains, slice_index_or}
 use Rattle.std.specs.List.{All, flat_map}
 use Rattle.std.proofs.lemmas.List.Elements.{All-nil, All-cons}
-use Rattle.seam_entity.specs.Here.{cell_count}
-use Rattle.seam_entity.specs.Reals.{RealView}
-use Rattle.seam_node_steps.specs.Nodes.{World}
-use Rattle.seam_law_calls.specs.Frames.{Frame}
-use Rattle.seam_law_calls.specs.Sights.{entity_flow}
-use Rattle.seam_law_calls.specs.Ones.{real_in}
-use Rattle.seam_law_rounds.specs.Between.{IsBetweenRounds}
-use Rattle.seam_law_ghosts.specs.RealPlaces.{place_of}
+use Rattle.seam_node_steps.specs.Prelude.{cell_count, RealView, World}
+use Rattle.seam_rule_rounds.specs.Prelude.{in_first_cell}
+use Rattle.seam_law_calls.specs.Prelude.{Frame, entity_flow, real_in}
+use Rattle.seam_law_rounds.specs.Prelude.{IsBetweenRounds}
+use Rattle.seam_law_ghosts.specs.Prelude.{place_of}
+use Rattle.seam_law_book.specs.Prelude.{home_read}
+use Rattle.seam_law_transcript.specs.Prelude.{home_if, homes_read, place_read}
 use Rattle.seam_rule_lines.proofs.Lists.{contains_first, contains_later}
-use Rattle.seam_rule_rounds.specs.Standing.{in_first_cell}
 use Rattle.seam_law_book.proofs.Executed.{one_in}
-use Rattle.seam_law_book.specs.Standings.{home_read}
-use Rattle.seam_law_transcript.specs.Reading.{home_if, homes_read, place_if, place_read}
+use Rattle.seam_law_transcript.specs.Reading.{place_if}
 
 -- ---- over a list
 

@@ -1,19 +1,12 @@
 -- An entity along the calls of a round: it is spared, and what it executed so far comes first of all that it executes.
 use Rattle.std.proofs.Common.{◌≡◌, ℕ, ◌<◌, true, List, ◌++◌, length, Some, ap, ◌∙◌}
-use Rattle.seam_machine.specs.Nets.{LeadsTo, enabled, happens}
-use Rattle.seam_machine.specs.declared.machines.Event.{Event}
+use Rattle.seam_node_steps.specs.Prelude.{LeadsTo, enabled, happens, Event, type_of, Call as CallData, RealView, World, node_steps}
+use Rattle.seam_node_steps.specs.Prelude.{node_has_work}
+use Rattle.seam_law_calls.specs.Prelude.{Frame, IsInFrame, entity_flow, real_in, real_of, IsFrame, IsSpared, HasOne, account_of}
 use Rattle.seam_machine.proofs.Occurring.{occurs}
 use Rattle.seam_net_runs.proofs.Runs.{leads_keeps}
 use Rattle.seam_law_flow.proofs.TokenLemmas.{sole_here}
-use Rattle.seam_defs.specs.Types.{type_of}
-use Rattle.seam_call.specs.declared.call.Call.{Call as CallData}
-use Rattle.seam_entity.specs.Reals.{RealView}
-use Rattle.seam_node_steps.specs.Nodes.{World, node_steps, node_has_work}
-use Rattle.seam_law_calls.specs.Frames.{Frame, IsInFrame}
-use Rattle.seam_law_calls.specs.Sights.{entity_flow}
 use Rattle.seam_law_calls.proofs.Classify.{frame_happens}
-use Rattle.seam_law_calls.specs.Ones.{real_in, real_of, IsFrame, IsSpared, HasOne}
-use Rattle.seam_law_calls.specs.Replays.{account_of}
 use Rattle.seam_law_calls.proofs.OneReal.{one_leads, spared_happens}
 use Rattle.seam_law_book.proofs.Accounts.{done_after}
 

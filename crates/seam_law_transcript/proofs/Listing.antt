@@ -8,9 +8,8 @@ use Rattle.std.specs.declared.cmp.Ordering.TheVariants.{Less}
 use Rattle.std.proofs.lemmas.Bool.{cases_eq}
 use Rattle.std.proofs.lemmas.Bool.Decides.{nat_tests}
 use Rattle.std.proofs.lemmas.Map.Keys.{IsStrictlyIncreasing-from_sorted}
-use Rattle.seam_call.specs.declared.create.Create.{Create}
-use Rattle.seam_rule_lines.specs.Book.{Book, entries, creates_of, created_as, live_as, destroys}
-use Rattle.seam_rule_lines.specs.Round.{Lists}
+use Rattle.seam_node_steps.specs.Prelude.{Create}
+use Rattle.seam_rule_rounds.specs.Prelude.{Book, entries, creates_of, created_as, live_as, destroys, Lists}
 use Rattle.seam_rule_lines.proofs.Lists.{contains_first, contains_later, contains_cases}
 use Rattle.seam_judge_expected.proofs.ListedLemmas.{lists_live, lists_living}
 

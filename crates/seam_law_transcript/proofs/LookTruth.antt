@@ -6,13 +6,11 @@ use Rattle.std.proofs.lemmas.Bool.{eqb-true}
 use Rattle.std.proofs.lemmas.Option.{none-some}
 use Rattle.seam_view.specs.declared.Look.{Look}
 use Rattle.seam_view.specs.declared.Look.TheVariants as look
-use Rattle.seam_call.specs.declared.shown.Shown.{Shown}
-use Rattle.seam_call.specs.declared.shown.Shown.TheVariants.{Own, Enter, Set, Leave}
+use Rattle.seam_node_steps.specs.Prelude.{Shown, Own, Enter, Set, Leave}
+use Rattle.seam_rule_rounds.specs.Prelude.{ClientReplica, Truth, ShowsTruth, Row, row_of, rows_but, shown_for, is_newer, own_shown, look_by}
+use Rattle.seam_rule_rounds.specs.Prelude.{one_look}
 use Rattle.seam_rule_lines.proofs.Lists.{contains_first, contains_later}
 use Rattle.seam_judge_expected.proofs.ListedLemmas.{in_filter}
-use Rattle.seam_rule_clients.specs.Clients.{ClientReplica}
-use Rattle.seam_rule_clients.specs.Lines.{Truth, ShowsTruth}
-use Rattle.seam_rule_clients.specs.Looks.{Row, row_of, rows_but, shown_for, is_newer, own_shown, look_by, one_look}
 
 found : {X : Type 0} (p : X → Bool) (xs : List X) (x : X) → find p xs ≡ Some x → Contains xs x × (p x ≡ true)
 found p [] x is = absurd (none-some x is)

@@ -3,23 +3,14 @@ use Rattle.std.proofs.Common.{◌≡◌, ℕ, ◌≤◌, List, [], ◌∷◌, le
 use Rattle.std.specs.Prelude.{Contains, map}
 use Rattle.std.specs.List.{list_any}
 use Rattle.seam_defs.specs.declared.flags.Part.TheVariants as part
-use Rattle.seam_call.specs.declared.create.Create.{Create}
-use Rattle.seam_toml.specs.declared.header.Header.{Header}
-use Rattle.seam_rule_lines.specs.Book.{created_as, live_as, destroys}
-use Rattle.seam_rule_lines.specs.Round.{Lists}
+use Rattle.seam_node_steps.specs.Prelude.{Create, RealView, WitnessView, World}
+use Rattle.seam_rule_rounds.specs.Prelude.{Header, created_as, live_as, destroys, Lists, ClientReplica, Row, IsOwn, IsOther, row_after}
+use Rattle.seam_rule_rounds.specs.Prelude.{rows_of, Standing}
+use Rattle.seam_law_calls.specs.Prelude.{Frame}
+use Rattle.seam_law_clients.specs.Prelude.{FitsWithin, FitsWitness}
 use Rattle.seam_rule_lines.proofs.BookEntries.{live_is_created}
 use Rattle.seam_rule_lines.proofs.Lists.{contains_first, contains_later, contains_cases}
 use Rattle.seam_law_book.proofs.Present.{any_split, alive, neither}
-use Rattle.seam_entity.specs.Reals.{RealView, WitnessView}
-use Rattle.seam_node_steps.specs.Nodes.{World}
-use Rattle.seam_law_calls.specs.Frames.{Frame}
-use Rattle.seam_rule_clients.specs.Clients.{ClientReplica}
-use Rattle.seam_rule_clients.specs.Looks.{Row}
-use Rattle.seam_law_clients.specs.Fits.{FitsWithin}
-use Rattle.seam_law_clients.specs.Witnesses.{FitsWitness}
-use Rattle.seam_rule_rounds.specs.Clients.{IsOwn, IsOther}
-use Rattle.seam_rule_rounds.specs.FlatTable.{row_after, rows_of}
-use Rattle.seam_rule_rounds.specs.Standing.{Standing}
 
 in_map : {X Y : Type 0} (f : X → Y) (xs : List X) (y : Y) → Contains (map f xs) y → (x : X) × Contains xs x × (y ≡ f x)
 in_map f [] y (k, within, is) = absurd (omega arith)

@@ -5,25 +5,16 @@ use Rattle.std.specs.Prelude.{option_map, slice_get}
 use Rattle.std.specs.List.{AllByRecursion, range_with_len}
 use Rattle.std.proofs.lemmas.List.{map-append}
 use Rattle.seam_defs.specs.declared.flags.Group.TheVariants as group
-use Rattle.seam_defs.specs.Deeds.{properties_of}
-use Rattle.seam_law_flow.specs.Flows.{slot_at, letters_of}
-use Rattle.seam_call.specs.declared.order.Batch.{Batch}
-use Rattle.seam_entity.specs.Here.{Here, properties}
-use Rattle.seam_node_steps.specs.Maps.{has_any}
-use Rattle.seam_node_steps.specs.Bases.{PartView, ProxyView, line_if, base_text}
-use Rattle.seam_node_steps.specs.Nodes.{World}
-use Rattle.seam_node_steps.specs.Loads.{new_proxy, proxy_begins, part_begins, loaded}
-use Rattle.seam_law_calls.specs.Frames.{Frame, here_at}
-use Rattle.seam_law_calls.specs.Sights.{has_of, has_none, entity_flow}
-use Rattle.seam_law_rounds.specs.Between.{MayBeMade}
+use Rattle.seam_node_steps.specs.Prelude.{properties_of, Batch, Here, properties, has_any, PartView, ProxyView, line_if, base_text, World}
+use Rattle.seam_node_steps.specs.Prelude.{new_proxy, proxy_begins, part_begins, loaded}
+use Rattle.seam_law_flow.specs.Prelude.{slot_at, letters_of}
+use Rattle.seam_law_calls.specs.Prelude.{Frame, here_at, has_of, has_none, entity_flow, home_of, shown_in}
+use Rattle.seam_law_rounds.specs.Prelude.{MayBeMade, MayBeLoaded}
+use Rattle.seam_law_clients.specs.Prelude.{number_of_line, ShowsItsPart}
 use Rattle.seam_law_rounds.proofs.Making.{Creation, nowhere, once, creation_of, middle}
-use Rattle.seam_law_calls.specs.BaseTurns.{home_of}
-use Rattle.seam_law_calls.specs.Clients.{shown_in}
-use Rattle.seam_law_rounds.specs.Parts.{MayBeLoaded}
 use Rattle.seam_law_rounds.proofs.PartLoads.{part_at}
 use Rattle.seam_law_rounds.proofs.Joining.{is_among, part_peopled, bare_peopled}
 use Rattle.seam_law_rounds.proofs.Attaching.{part_if, PartFrom, part_there}
-use Rattle.seam_law_clients.specs.BaseLines.{number_of_line, ShowsItsPart}
 
 -- a client that was told so many lines before has shown further ones under the next numbers
 pub record IsNumbered (told : ℕ) (x : ProxyView) : Type 0 where

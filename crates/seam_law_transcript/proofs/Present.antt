@@ -7,12 +7,11 @@ use Rattle.std.proofs.lemmas.Option.{none-some}
 use Rattle.std.proofs.lemmas.List.{length-map}
 use Rattle.std.proofs.lemmas.List.Folds.{list_any-append}
 use Rattle.std.proofs.lemmas.List.Elements.{filter_map-append}
-use Rattle.seam_call.specs.declared.create.Create.{Create}
-use Rattle.seam_rule_lines.specs.Book.{Book, entries, created, creates_of}
+use Rattle.seam_node_steps.specs.Prelude.{Create}
+use Rattle.seam_rule_rounds.specs.Prelude.{Book, entries, created, creates_of}
+use Rattle.seam_law_bounds.specs.Prelude.{is_among}
+use Rattle.seam_law_book.specs.Prelude.{as_begun, IsPresent, entity_of, made_among}
 use Rattle.seam_rule_lines.proofs.BookEntries.{live_is_created}
-use Rattle.seam_law_book.specs.Books.{as_begun}
-use Rattle.seam_law_book.specs.Bringing.{IsPresent, entity_of, made_among}
-use Rattle.seam_law_bounds.specs.Looking.{is_among}
 
 -- the numbers of those that were created
 abbrev pub names : Book → List ℕ

@@ -4,20 +4,13 @@ use Rattle.std.specs.Prelude.{IsTrue, is_some, not, ◌&&◌, if◌then◌else�
 use Rattle.std.specs.List.{list_any}
 use Rattle.std.proofs.lemmas.List.Elements.{filter_map-append}
 use Rattle.std.proofs.lemmas.List.Sums.{fold-append}
-use Rattle.seam_law_flow.specs.Flows.{letters_of}
-use Rattle.seam_call.specs.declared.create.Create.{Create}
-use Rattle.seam_call.specs.declared.shown.Line.{Line}
-use Rattle.seam_call.specs.declared.shown.ClientText.{ClientText}
+use Rattle.seam_node_steps.specs.Prelude.{Create, Line, ClientText, RealView, WitnessView, World}
+use Rattle.seam_rule_rounds.specs.Prelude.{Book, entries, created_as, joins, destroys, is_shown, ClientReplica, after_shown}
+use Rattle.seam_rule_rounds.specs.Prelude.{after_all_shown, after_lines, shown_by, shown_by_lines}
+use Rattle.seam_law_flow.specs.Prelude.{letters_of}
+use Rattle.seam_law_calls.specs.Prelude.{Frame, entity_flow, real_in, shown_in}
+use Rattle.seam_law_clients.specs.Prelude.{FitsWitness, ClientsFit}
 use Rattle.seam_call.specs.declared.shown.ClientText.TheVariants as text
-use Rattle.seam_rule_lines.specs.Book.{Book, entries, created_as, joins, destroys, is_shown}
-use Rattle.seam_entity.specs.Reals.{RealView, WitnessView}
-use Rattle.seam_node_steps.specs.Nodes.{World}
-use Rattle.seam_law_calls.specs.Frames.{Frame}
-use Rattle.seam_law_calls.specs.Sights.{entity_flow}
-use Rattle.seam_law_calls.specs.Ones.{real_in}
-use Rattle.seam_law_calls.specs.Clients.{shown_in}
-use Rattle.seam_rule_clients.specs.Clients.{ClientReplica, after_shown, after_all_shown, after_lines, shown_by, shown_by_lines}
-use Rattle.seam_law_clients.specs.Witnesses.{FitsWitness, ClientsFit}
 
 -- the two ways to read what lines show of cell parts
 pub shown_is : (ls : List Line) → shown_by_lines ls ≡ letters_of shown_in ls

@@ -1,12 +1,8 @@
 -- What is right by one truth is right by another that follows from it.
 use Rattle.std.proofs.Common.{ℕ, List, [], ◌∷◌}
 use Rattle.std.specs.List.{AllByRecursion}
-use Rattle.seam_defs.specs.declared.states.State.{State}
-use Rattle.seam_call.specs.declared.shown.GhostCopy.{GhostCopy}
-use Rattle.seam_call.specs.declared.shown.Shown.{Shown}
-use Rattle.seam_call.specs.declared.shown.Shown.TheVariants.{Own, Enter, Set, Leave}
-use Rattle.seam_rule_clients.specs.Clients.{ClientReplica}
-use Rattle.seam_rule_clients.specs.Lines.{Truth, ShowsTruth, ShowsRightly}
+use Rattle.seam_node_steps.specs.Prelude.{State, GhostCopy, Shown, Own, Enter, Set, Leave}
+use Rattle.seam_rule_rounds.specs.Prelude.{ClientReplica, Truth, ShowsTruth, ShowsRightly}
 
 module _ (a b : Truth) (own : (version : ℕ) (state : State) → a.own version state → b.own version state)
     (other : (e : ℕ) (copy : GhostCopy) → a.other e copy → b.other e copy) where

@@ -4,35 +4,19 @@ use Rattle.std.proofs.Common.{refl, sym, ap, ◌∙◌, subst, arith, inl, inr}
 use Rattle.std.specs.Prelude.{is_some, option_map, slice_get}
 use Rattle.std.specs.List.{AllByRecursion}
 use Rattle.std.proofs.lemmas.Bool.{cases_eq, cases_lt}
-use Rattle.seam_tree.specs.Division.{Division, cells_of, leaf_at}
-use Rattle.seam_machine.specs.Nets.{IsQuiet, LeadsTo}
-use Rattle.seam_machine.specs.Sends.{items_to}
-use Rattle.seam_machine.specs.declared.machines.Event.{Event}
+use Rattle.seam_node_steps.specs.Prelude.{Division, cells_of, leaf_at, IsQuiet, LeadsTo, items_to, Event, Create, Order, Batch, cell_count}
+use Rattle.seam_node_steps.specs.Prelude.{RealView, WitnessView, PartView, ProxyView, NodeView, World, node_steps, node_has_work, Cell}
+use Rattle.seam_node_steps.specs.Prelude.{Base, real_if, created_at, attached, base_round, cell_round, ordered_at, loaded}
+use Rattle.seam_law_flow.specs.Prelude.{letters_of, slot_at}
+use Rattle.seam_law_calls.specs.Prelude.{Frame, has_of, has_none, order_concerns, orders_of, entity_flow, real_in, real_of, home_of}
+use Rattle.seam_law_calls.specs.Prelude.{proxy_of, order_in, lines_in, shown_in, shown_at, is_tick_order, tick_in, HasToldAtMost}
+use Rattle.seam_law_calls.specs.Prelude.{HasNoLooks, HasClient, HasRoomFor, sent_of, sent_by}
+use Rattle.seam_law_rounds.specs.Prelude.{framed, each, made, node_loaded, AreInStep, AreFor, MayBeLoaded, IsServed, bare, served}
 use Rattle.seam_machine.proofs.Quiet.{quiet_tasks}
-use Rattle.seam_law_flow.specs.Flows.{letters_of, slot_at}
-use Rattle.seam_call.specs.declared.create.Create.{Create}
-use Rattle.seam_call.specs.declared.order.Order.{Order}
-use Rattle.seam_call.specs.declared.order.Batch.{Batch}
-use Rattle.seam_entity.specs.Here.{cell_count}
-use Rattle.seam_entity.specs.Reals.{RealView, WitnessView}
-use Rattle.seam_node_steps.specs.Bases.{PartView, ProxyView}
-use Rattle.seam_node_steps.specs.Nodes.{NodeView, World, node_steps, node_has_work}
-use Rattle.seam_node_steps.specs.Nodes.NodeView.{Cell, Base}
-use Rattle.seam_node_steps.specs.Loads.{real_if, created_at, attached, base_round, cell_round, ordered_at, loaded}
-use Rattle.seam_law_calls.specs.Frames.{Frame}
-use Rattle.seam_law_calls.specs.Sights.{has_of, has_none, order_concerns, orders_of, entity_flow}
-use Rattle.seam_law_calls.specs.Ones.{real_in, real_of}
-use Rattle.seam_law_rounds.specs.Between.{framed}
-use Rattle.seam_law_rounds.specs.Loaded.{each, made, node_loaded}
 use Rattle.seam_law_rounds.proofs.Going.{settled_loaded}
 use Rattle.seam_law_rounds.proofs.Loading.{each_keeps, Any, any}
 use Rattle.seam_law_rounds.proofs.Loaded.{no_mail, slot_is}
 use Rattle.seam_law_rounds.proofs.Turns.{node_orders, node_none}
-use Rattle.seam_law_calls.specs.BaseTurns.{home_of}
-use Rattle.seam_law_calls.specs.Clients.{proxy_of, order_in, lines_in, shown_in, shown_at, is_tick_order, tick_in}
-use Rattle.seam_law_calls.specs.Clients.{HasToldAtMost, HasNoLooks, HasClient, HasRoomFor}
-use Rattle.seam_law_calls.specs.WitnessMoves.{sent_of, sent_by}
-use Rattle.seam_law_rounds.specs.Parts.{AreInStep, AreFor, MayBeLoaded, IsServed, bare, served}
 use Rattle.seam_law_rounds.proofs.Attaching.{are_for_loaded}
 use Rattle.seam_law_rounds.proofs.PartsGoing.{its_part, few_lines}
 use Rattle.seam_law_rounds.proofs.Ticking.{idle_looks}

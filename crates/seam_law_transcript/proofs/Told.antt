@@ -3,28 +3,16 @@ use Rattle.std.proofs.Common.{◌≡◌, ℕ, ◌+◌, Bool, true, false, List, 
 use Rattle.std.proofs.Common.{arith, append-nil}
 use Rattle.std.specs.Prelude.{filter, if◌then◌else◌}
 use Rattle.std.specs.List.{range_with_len}
-use Rattle.seam_machine.specs.Nets.{LeadsTo}
-use Rattle.seam_machine.specs.declared.machines.Event.{Event}
-use Rattle.seam_law_flow.specs.Flows.{more_letter}
+use Rattle.seam_node_steps.specs.Prelude.{LeadsTo, Event, Call as CallData, Batch, Line, ClientText, Here, PartView, ProxyView, World}
+use Rattle.seam_node_steps.specs.Prelude.{node_steps, node_has_work, loaded, look_loaded}
+use Rattle.seam_rule_rounds.specs.Prelude.{is_base}
+use Rattle.seam_law_flow.specs.Prelude.{more_letter}
+use Rattle.seam_law_calls.specs.Prelude.{Frame, here_at, entity_flow, home_of, proxy_of, lines_in}
+use Rattle.seam_law_rounds.specs.Prelude.{IsBetweenRounds, framed, MayBeLoaded, HasSettledPart}
+use Rattle.seam_law_clients.specs.Prelude.{base_in, base_lines, lines_after, number_of_line, ShowsItsPart}
 use Rattle.seam_law_flow.proofs.Bridge.{letters_of-append}
-use Rattle.seam_call.specs.declared.call.Call.{Call as CallData}
-use Rattle.seam_call.specs.declared.order.Batch.{Batch}
-use Rattle.seam_call.specs.declared.shown.Line.{Line}
-use Rattle.seam_call.specs.declared.shown.ClientText.{ClientText}
 use Rattle.seam_call.specs.declared.shown.ClientText.TheVariants as text
-use Rattle.seam_entity.specs.Here.{Here}
-use Rattle.seam_node_steps.specs.Bases.{PartView, ProxyView}
-use Rattle.seam_node_steps.specs.Nodes.{World, node_steps, node_has_work}
-use Rattle.seam_node_steps.specs.Loads.{loaded, look_loaded}
-use Rattle.seam_law_calls.specs.Frames.{Frame, here_at}
-use Rattle.seam_law_calls.specs.Sights.{entity_flow}
-use Rattle.seam_law_rounds.specs.Between.{IsBetweenRounds, framed}
-use Rattle.seam_law_calls.specs.BaseTurns.{home_of}
-use Rattle.seam_law_calls.specs.Clients.{proxy_of, lines_in}
-use Rattle.seam_law_rounds.specs.Parts.{MayBeLoaded, HasSettledPart}
 use Rattle.seam_law_rounds.proofs.Joining.{is_among}
-use Rattle.seam_law_clients.specs.BaseLines.{base_in, base_lines, lines_after, number_of_line, ShowsItsPart}
-use Rattle.seam_rule_rounds.specs.Clients.{is_base}
 use Rattle.seam_law_book.proofs.Parts.{looks_leave_part, looks_show_part}
 use Rattle.seam_law_transcript.proofs.Numbered.{IsNumbered, still_numbered, loaded_numbered}
 

@@ -2,28 +2,16 @@
 use Rattle.std.proofs.Common.{◌≡◌, ℕ, ◌-◌, ◌≤◌, List, [], ◌∷◌, ◌++◌, length, sym, ap, ◌∙◌, subst, arith, length-append, append_assoc, take-append-drop}
 use Rattle.std.specs.Prelude.{take, drop}
 use Rattle.std.specs.List.{AllByRecursion}
-use Rattle.seam_defs.specs.Deeds.{own_of, other_of, ghost_of, projected}
-use Rattle.seam_defs.specs.Types.{type_of}
+use Rattle.seam_node_steps.specs.Prelude.{own_of, other_of, ghost_of, projected, type_of, State, Property, TypeDef, Call as CallData}
+use Rattle.seam_node_steps.specs.Prelude.{Create, GhostCopy, Division, RealView}
+use Rattle.seam_rule_rounds.specs.Prelude.{Header, flat, properties, public_at, other_at}
+use Rattle.seam_law_calls.specs.Prelude.{here_at, Account, account_of, after_calls}
+use Rattle.seam_law_ghosts.specs.Prelude.{IsTrueCopy}
+use Rattle.seam_law_book.specs.Prelude.{frame_of, IsDoneOn, BeginsReal}
 use Rattle.seam_defs.specs.declared.flags.Group.TheVariants as group
 use Rattle.seam_defs.specs.declared.flags.Part.TheVariants as part
-use Rattle.seam_defs.specs.declared.states.State.{State}
-use Rattle.seam_defs.specs.declared.types.Property.{Property}
-use Rattle.seam_defs.specs.declared.types.TypeDef.{TypeDef}
-use Rattle.seam_call.specs.declared.call.Call.{Call as CallData}
-use Rattle.seam_call.specs.declared.create.Create.{Create}
-use Rattle.seam_call.specs.declared.shown.GhostCopy.{GhostCopy}
-use Rattle.seam_toml.specs.declared.header.Header.{Header}
-use Rattle.seam_rule_lines.specs.FlatTable.{flat}
-use Rattle.seam_tree.specs.Division.{Division}
 use Rattle.seam_entity.specs.WitnessLooks.{other_of_copy}
-use Rattle.seam_entity.specs.Reals.{RealView}
-use Rattle.seam_law_calls.specs.Frames.{here_at}
-use Rattle.seam_law_calls.specs.Replays.{Account, account_of, after_calls}
 use Rattle.seam_law_ghosts.specs.Truths as copies
-use Rattle.seam_law_ghosts.specs.Truths.{IsTrueCopy}
-use Rattle.seam_rule_rounds.specs.FlatTable.{properties, public_at, other_at}
-use Rattle.seam_law_book.specs.Going.{frame_of}
-use Rattle.seam_law_book.specs.ExecutedRound.{IsDoneOn, BeginsReal}
 use Rattle.seam_law_book.proofs.Accounts.{Agrees, agrees_after, flat_before, public_before}
 use Rattle.seam_law_book.proofs.Rows.{ghost_is_public}
 

@@ -5,15 +5,12 @@ use Rattle.std.specs.List.{AllByRecursion, list_any, filter_map}
 use Rattle.std.specs.Option.{option_or}
 use Rattle.std.proofs.lemmas.Bool.{eqb-true}
 use Rattle.std.proofs.lemmas.Option.{none-some}
-use Rattle.seam_call.specs.declared.create.Create.{Create}
-use Rattle.seam_toml.specs.declared.header.Header.{Header}
-use Rattle.seam_rule_lines.specs.Book.{Book, entries, creates_of, created_as, live_as, destroys, joins, was_dead, is_shown}
+use Rattle.seam_node_steps.specs.Prelude.{Create, ProxyView}
+use Rattle.seam_rule_rounds.specs.Prelude.{Header, Book, entries, creates_of, created_as, live_as, destroys, joins, was_dead, is_shown}
+use Rattle.seam_law_book.specs.Prelude.{as_begun, IsPresent, GetsClient, IsNewEntity, IsUntouched, Brings, made_among}
 use Rattle.seam_accept.specs.Batches.{joined}
-use Rattle.seam_law_book.specs.Books.{as_begun}
-use Rattle.seam_law_book.specs.Bringing.{IsPresent, GetsClient, IsNewEntity, IsUntouched, Brings, made_among}
 use Rattle.seam_law_book.proofs.Present.{any_split, any_begun, created_split, created_begun, unjoined, alive}
 use Rattle.seam_rule_lines.proofs.BookEntries.{live_is_created}
-use Rattle.seam_node_steps.specs.Bases.{ProxyView}
 use Rattle.seam_law_calls.proofs.Holds.{both}
 use Rattle.seam_law_rounds.proofs.Joining.{is_among}
 

@@ -1,19 +1,12 @@
 -- A standing beside a world, from round to round.
 use Rattle.std.specs.Prelude.{◌≡◌, ℕ, false, length, [], Some}
 use Rattle.std.specs.List.{list_any}
-use Rattle.seam_tree.specs.Division.{Division}
-use Rattle.seam_defs.specs.Settings.{AreLegal}
-use Rattle.seam_toml.specs.declared.header.Header.{Header}
-use Rattle.seam_rule_lines.specs.Book.{joins}
-use Rattle.seam_law_book.specs.Books.{IsOfLines, as_begun}
-use Rattle.seam_node_steps.specs.Bases.{PartView, ProxyView}
-use Rattle.seam_node_steps.specs.Nodes.{World}
-use Rattle.seam_law_calls.specs.Sights.{entity_flow}
-use Rattle.seam_law_all.specs.Records.{KeepsRecords}
-use Rattle.seam_rule_rounds.specs.Standing.{Standing, replica_of}
-use Rattle.seam_law_book.specs.Going.{frame_of, base_node, GoesWith, HasRoomForCalls, HasRoomForRound}
-use Rattle.seam_law_book.specs.Playing.{MayPlay, AreOrdersBefore}
-use Rattle.seam_law_book.specs.Standings.{AreInPlace}
+use Rattle.seam_node_steps.specs.Prelude.{Division, AreLegal, PartView, ProxyView, World}
+use Rattle.seam_rule_rounds.specs.Prelude.{Header, joins, Standing, replica_of}
+use Rattle.seam_law_calls.specs.Prelude.{entity_flow}
+use Rattle.seam_law_all.specs.Prelude.{KeepsRecords}
+use Rattle.seam_law_book.specs.Prelude.{IsOfLines, as_begun, frame_of, base_node, GoesWith, HasRoomForCalls, HasRoomForRound, MayPlay}
+use Rattle.seam_law_book.specs.Prelude.{AreOrdersBefore, AreInPlace}
 
 -- The standing, with whatever lines its open round has so far, goes with the world w between two rounds, whose nodes have the tree `tree`.
 pub record GoesBetween (h : Header) (s : Standing) (tree : Division) (w : World) : Type 0 where

@@ -1,12 +1,10 @@
 -- What the count of the lines that were read bounds.
 use Rattle.std.specs.Prelude.{ℕ, ◌+◌, ◌*◌, ◌^◌, ◌<◌, ◌≤◌, length}
-use Rattle.seam_rule_lines.specs.Book.{entries, open_lines}
-use Rattle.seam_rule_lines.specs.declared.limits.TheConstants.{MOST_ENTITIES, MOST_LINES}
-use Rattle.seam_node_steps.specs.Nodes.{World}
-use Rattle.seam_law_rounds.specs.Between.{numbers_of}
-use Rattle.seam_law_calls.specs.WitnessMoves.{sent_by}
-use Rattle.seam_rule_rounds.specs.Standing.{Standing}
-use Rattle.seam_law_bounds.specs.Most.{AreAtMost}
+use Rattle.seam_node_steps.specs.Prelude.{World}
+use Rattle.seam_rule_rounds.specs.Prelude.{entries, open_lines, MOST_ENTITIES, MOST_LINES, Standing}
+use Rattle.seam_law_calls.specs.Prelude.{sent_by}
+use Rattle.seam_law_rounds.specs.Prelude.{numbers_of}
+use Rattle.seam_law_bounds.specs.Prelude.{AreAtMost}
 
 -- Each entry of the book took a line; and so did each round that ended, and each entry of the open one.
 pub record IsCounted (s : Standing) : Type 0 where

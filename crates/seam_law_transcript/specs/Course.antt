@@ -1,11 +1,8 @@
 -- A standing beside a world, from the header to the last line.
-use Rattle.seam_tree.specs.Division.{Division}
-use Rattle.seam_defs.specs.Settings.{AreLegal}
-use Rattle.seam_toml.specs.declared.header.Header.{Header}
-use Rattle.seam_law_book.specs.Books.{IsOfLines}
-use Rattle.seam_node_steps.specs.Nodes.{World}
-use Rattle.seam_law_bounds.specs.Records.{IsBounded}
-use Rattle.seam_rule_rounds.specs.Standing.{Standing}
+use Rattle.seam_node_steps.specs.Prelude.{Division, AreLegal, World}
+use Rattle.seam_rule_rounds.specs.Prelude.{Header, Standing}
+use Rattle.seam_law_bounds.specs.Prelude.{IsBounded}
+use Rattle.seam_law_book.specs.Prelude.{IsOfLines}
 use Rattle.seam_law_transcript.specs.Beside.{GoesBetween}
 use Rattle.seam_law_transcript.specs.Counts.{IsCounted, HasFewNumbers}
 

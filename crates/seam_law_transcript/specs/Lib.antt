@@ -5,3 +5,4 @@ pub mod Counts
 pub mod Course
 pub mod OneReal
 pub mod Radius
+pub mod Prelude

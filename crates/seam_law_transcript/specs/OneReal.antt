@@ -1,19 +1,13 @@
 -- One real: each live entity has exactly one, at every step of a round.
 use Rattle.std.specs.Prelude.{◌≡◌, ℕ, List, Some, if◌then◌else◌}
 use Rattle.std.specs.List.{AllByRecursion}
-use Rattle.seam_machine.specs.Nets.{LeadsTo}
-use Rattle.seam_machine.specs.declared.machines.Event.{Event}
-use Rattle.seam_call.specs.declared.create.Create.{Create}
-use Rattle.seam_node_steps.specs.Holders.{holders}
-use Rattle.seam_node_steps.specs.Loads.{loaded, reaps_loaded, look_loaded}
-use Rattle.seam_node_steps.specs.Nodes.{World, node_steps, node_has_work}
-use Rattle.seam_law_rounds.specs.LastPhases.{reap_comes}
-use Rattle.seam_law_ghosts.specs.RealPlaces.{GoesThroughRound}
-use Rattle.seam_toml.specs.declared.header.Header.{Header}
-use Rattle.seam_rule_lines.specs.Book.{live_as}
+use Rattle.seam_node_steps.specs.Prelude.{LeadsTo, Event, Create, holders, loaded, reaps_loaded, look_loaded, World, node_steps}
+use Rattle.seam_node_steps.specs.Prelude.{node_has_work}
+use Rattle.seam_rule_rounds.specs.Prelude.{Header, live_as, Standing}
+use Rattle.seam_law_rounds.specs.Prelude.{reap_comes}
+use Rattle.seam_law_ghosts.specs.Prelude.{GoesThroughRound}
+use Rattle.seam_law_book.specs.Prelude.{IsPresent}
 use Rattle.seam_accept.specs.Batches.{batch_of}
-use Rattle.seam_law_book.specs.Bringing.{IsPresent}
-use Rattle.seam_rule_rounds.specs.Standing.{Standing}
 
 -- whatever events happen from the world w on, entity e has one real: in a cell, or in the hand-over that carries it
 abbrev pub KeepsOneReal : World → ℕ → Type 0

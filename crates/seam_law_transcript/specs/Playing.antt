@@ -1,29 +1,17 @@
 -- A round of a standing's open lines, played from one world to another.
 use Rattle.std.specs.Prelude.{◌≡◌, ℕ, ◌+◌, false, List, map, filter, length, Option, None, Some}
 use Rattle.std.specs.List.{All, flat_map, list_any, range_with_len}
-use Rattle.seam_geo.specs.declared.pos.Pos.{Pos}
-use Rattle.seam_tree.specs.Division.{Division}
+use Rattle.seam_node_steps.specs.Prelude.{Pos, Division, Create, Line, PartView, ProxyView, World}
+use Rattle.seam_rule_rounds.specs.Prelude.{Header, Book, created_as, live_as, destroys, tree_of, Lists, ExtendsOrders, ClientReplica}
+use Rattle.seam_rule_rounds.specs.Prelude.{RoundData, is_base, base_shown, base_versions, Standing, replica_of, HasPlace, home_line}
+use Rattle.seam_rule_rounds.specs.Prelude.{base_line, ghost_lines}
+use Rattle.seam_law_calls.specs.Prelude.{entity_flow}
+use Rattle.seam_law_rounds.specs.Prelude.{framed}
+use Rattle.seam_law_ghosts.specs.Prelude.{GoesThroughRound}
+use Rattle.seam_law_clients.specs.Prelude.{clients_loaded, clients_shown}
+use Rattle.seam_law_book.specs.Prelude.{frame_of, base_node, HasEnded}
 use Rattle.seam_defs.specs.declared.flags.Part.TheVariants as part
-use Rattle.seam_call.specs.declared.create.Create.{Create}
-use Rattle.seam_call.specs.declared.shown.Line.{Line}
-use Rattle.seam_toml.specs.declared.header.Header.{Header}
-use Rattle.seam_rule_lines.specs.Book.{Book, created_as, live_as, destroys, tree_of}
-use Rattle.seam_rule_lines.specs.Round.{Lists, ExtendsOrders}
 use Rattle.seam_accept.specs.Batches.{batch_of}
-use Rattle.seam_node_steps.specs.Bases.{PartView, ProxyView}
-use Rattle.seam_node_steps.specs.Nodes.{World}
-use Rattle.seam_law_calls.specs.Sights.{entity_flow}
-use Rattle.seam_law_rounds.specs.Between.{framed}
-use Rattle.seam_law_ghosts.specs.RealPlaces.{GoesThroughRound}
-use Rattle.seam_rule_clients.specs.Clients.{ClientReplica}
-use Rattle.seam_law_clients.specs.Clients.{clients_loaded, clients_shown}
-use Rattle.seam_rule_rounds.specs.Lines.{RoundData}
-use Rattle.seam_rule_rounds.specs.Clients.{is_base, base_shown, base_versions}
-use Rattle.seam_rule_rounds.specs.Standing.{Standing, replica_of}
-use Rattle.seam_rule_rounds.specs.RoundPlaces.{HasPlace}
-use Rattle.seam_rule_rounds.specs.Round.{home_line, base_line, ghost_lines}
-use Rattle.seam_law_book.specs.Going.{frame_of, base_node}
-use Rattle.seam_law_book.specs.Playing.{HasEnded}
 use Rattle.seam_law_transcript.specs.Beside.{StandsBeside}
 use Rattle.seam_law_transcript.specs.Reading.{round_read, standing_read}
 

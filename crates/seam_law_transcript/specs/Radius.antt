@@ -1,12 +1,7 @@
 -- What clients see after a round, whatever cells there are.
 use Rattle.std.specs.Prelude.{◌≡◌, ℕ, IsTrue, Some}
-use Rattle.seam_rule_clients.specs.Looks.{Row, row_of, rows_but, ShowsTable}
-use Rattle.seam_toml.specs.declared.header.Header.{Header}
-use Rattle.seam_rule_lines.specs.Book.{is_shown}
-use Rattle.seam_rule_rounds.specs.FlatTable.{rows_of}
-use Rattle.seam_rule_rounds.specs.Lines.{RoundData}
-use Rattle.seam_rule_rounds.specs.Round.{IsRound}
-use Rattle.seam_rule_rounds.specs.Standing.{Standing, replica_of}
+use Rattle.seam_rule_rounds.specs.Prelude.{Row, row_of, rows_but, Header, is_shown, rows_of, RoundData, IsRound, Standing, replica_of}
+use Rattle.seam_rule_clients.specs.Looks.{ShowsTable}
 
 -- After the legal round r, which leaves the standing t, each client whose entity lives shows the flat table of that moment: its own entity
 -- at its version; in view every other within its radius, and none beyond radius and hysteresis; and each in view at its public version.

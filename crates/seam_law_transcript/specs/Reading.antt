@@ -1,27 +1,13 @@
 -- What a round prints and leaves, read off two of the worlds that it goes through: the one where its calls have ended, and the last one.
 use Rattle.std.specs.Prelude.{ℕ, ◌+◌, ◌++◌, List, [], ◌∷◌, map, filter, slice_index_or, Option, None, Some, if◌then◌else◌}
 use Rattle.std.specs.List.{flat_map, list_any}
-use Rattle.seam_tree.specs.Division.{Division}
-use Rattle.seam_haunt.specs.Places.{Place}
+use Rattle.seam_node_steps.specs.Prelude.{Division, Place, Create, Line, cell_numbers, RealView, PartView, World}
+use Rattle.seam_rule_rounds.specs.Prelude.{Header, Book, destroys, is_shown, HomeLine, BaseLine, done_lines, ClientLine, RoundData, told_in}
+use Rattle.seam_rule_rounds.specs.Prelude.{Standing, in_first_cell}
+use Rattle.seam_law_calls.specs.Prelude.{entity_flow, real_in, proxy_of, lines_in}
+use Rattle.seam_law_ghosts.specs.Prelude.{place_of}
+use Rattle.seam_law_book.specs.Prelude.{base_node, done_in, with_done, home_read, base_read, ghosts_read}
 use Rattle.seam_defs.specs.declared.flags.Part.TheVariants as part
-use Rattle.seam_call.specs.declared.create.Create.{Create}
-use Rattle.seam_call.specs.declared.shown.Line.{Line}
-use Rattle.seam_toml.specs.declared.header.Header.{Header}
-use Rattle.seam_rule_lines.specs.Book.{Book, destroys, is_shown}
-use Rattle.seam_rule_lines.specs.Round.{HomeLine, BaseLine, done_lines}
-use Rattle.seam_entity.specs.Here.{cell_numbers}
-use Rattle.seam_entity.specs.Reals.{RealView}
-use Rattle.seam_node_steps.specs.Bases.{PartView}
-use Rattle.seam_node_steps.specs.Nodes.{World}
-use Rattle.seam_law_calls.specs.Sights.{entity_flow}
-use Rattle.seam_law_calls.specs.Ones.{real_in}
-use Rattle.seam_law_calls.specs.Clients.{proxy_of, lines_in}
-use Rattle.seam_law_ghosts.specs.RealPlaces.{place_of}
-use Rattle.seam_rule_rounds.specs.Lines.{ClientLine, RoundData, told_in}
-use Rattle.seam_rule_rounds.specs.Standing.{Standing, in_first_cell}
-use Rattle.seam_law_book.specs.Going.{base_node}
-use Rattle.seam_law_book.specs.ExecutedRound.{done_in, with_done}
-use Rattle.seam_law_book.specs.Standings.{home_read, base_read, ghosts_read}
 
 -- ---- of one entity
 

@@ -14,35 +14,17 @@
 // that this has ended, are fields of what it answers (*StandsFor*), and so they are where a caller runs the phases one by one.
 
 ghost use Rattle.std.specs.Prelude.{◌≡◌, ℕ, ◌+◌, ◌≤◌, IsTrue, IsFalse, List, map, None, Some};
-ghost use Rattle.seam_tree.specs.Division.{Division, IsTree};
-ghost use Rattle.seam_balance.specs.Balance.{IsBalanced, HasSameCuts};
-ghost use Rattle.seam_defs.specs.Settings.{AreLegal};
-ghost use Rattle.seam_defs.specs.Types.{AreDefs};
-ghost use Rattle.seam_call.specs.declared.create.Create.{Create};
-ghost use Rattle.seam_toml.specs.declared.header.Header.{Header};
-ghost use Rattle.seam_rule_lines.specs.Book.{one_cell, entries, open_lines, created_as, live_as, has_balance, tree_of, with_entry};
-ghost use Rattle.seam_rule_lines.specs.Book.{with_round_ended, with_tree};
-ghost use Rattle.seam_rule_lines.specs.Round.{Lists};
-ghost use Rattle.seam_rule_lines.specs.declared.limits.TheConstants.{MOST_LINES};
-ghost use Rattle.seam_rule_lines.specs.declared.verdict.Entry.{Entry};
+ghost use Rattle.seam_node_steps.specs.Prelude.{Division, IsTree, AreLegal, AreDefs, Create, opened, World};
+ghost use Rattle.seam_rule_rounds.specs.Prelude.{IsBalanced, HasSameCuts, Header, one_cell, entries, open_lines, created_as, live_as};
+ghost use Rattle.seam_rule_rounds.specs.Prelude.{has_balance, tree_of, with_entry, with_round_ended, with_tree, Lists, MOST_LINES, Entry};
+ghost use Rattle.seam_rule_rounds.specs.Prelude.{RoundData, IsRound, Standing, after_header, with_line, with_book};
+ghost use Rattle.seam_law_ghosts.specs.Prelude.{GoesThroughRound};
+ghost use Rattle.seam_law_all.specs.Prelude.{MayBeGiven};
+ghost use Rattle.seam_law_bounds.specs.Prelude.{IsBounded};
+ghost use Rattle.seam_law_book.specs.Prelude.{IsAccepted, frame_of, HasEnded};
+ghost use Rattle.seam_law_transcript.specs.Prelude.{StandsBeside, round_read, standing_read, HasFewNumbers, MayEnd, most_lines, GoesOn};
+ghost use Rattle.seam_law_transcript.specs.Prelude.{HasOneReal, ClientsSeeAll};
 ghost use Rattle.seam_accept.specs.Batches.{batch_of};
-ghost use Rattle.seam_law_book.specs.Books.{IsAccepted};
-ghost use Rattle.seam_node_steps.specs.Loads.{opened};
-ghost use Rattle.seam_node_steps.specs.Nodes.{World};
-ghost use Rattle.seam_law_ghosts.specs.RealPlaces.{GoesThroughRound};
-ghost use Rattle.seam_law_all.specs.Records.{MayBeGiven};
-ghost use Rattle.seam_law_bounds.specs.Records.{IsBounded};
-ghost use Rattle.seam_rule_rounds.specs.Lines.{RoundData};
-ghost use Rattle.seam_rule_rounds.specs.Round.{IsRound};
-ghost use Rattle.seam_rule_rounds.specs.Standing.{Standing, after_header, with_line, with_book};
-ghost use Rattle.seam_law_book.specs.Going.{frame_of};
-ghost use Rattle.seam_law_book.specs.Playing.{HasEnded};
-ghost use Rattle.seam_law_transcript.specs.Beside.{StandsBeside};
-ghost use Rattle.seam_law_transcript.specs.Reading.{round_read, standing_read};
-ghost use Rattle.seam_law_transcript.specs.Counts.{HasFewNumbers, MayEnd, most_lines};
-ghost use Rattle.seam_law_transcript.specs.Course.{GoesOn};
-ghost use Rattle.seam_law_transcript.specs.OneReal.{HasOneReal};
-ghost use Rattle.seam_law_transcript.specs.Radius.{ClientsSeeAll};
 
 /// A standing goes on with the world that was opened for its header (`opened`), and still does when a line was read that adds nothing
 /// (`line`), and one that was accepted (`entry`).

@@ -1,15 +1,12 @@
 -- "An early call is held", event by event, and "Passing on".
 use Rattle.std.proofs.Common.{◌≡◌, true, [], ◌∷◌, Some, refl}
-use Rattle.seam_machine.specs.Nets.{happens, enabled, IsQuiet}
-use Rattle.seam_node_steps.specs.Nodes.{node_steps, node_has_work}
-use Rattle.seam_node_steps.specs.Holders.{holders}
-use Rattle.seam_node_steps.specs.Loads.{loaded}
-use Rattle.seam_node_steps.specs.Rows.{IsRow, empty_world, task, mail, done_in_cell}
+use Rattle.seam_node_steps.specs.Prelude.{happens, enabled, IsQuiet, node_steps, node_has_work, holders, loaded, IsRow, empty_world, task}
+use Rattle.seam_node_steps.specs.Prelude.{mail, done_in_cell, steps, the_move, hit_1, hit_2}
 use Rattle.seam_node_steps.proofs.Tables.{computing}
 use Rattle.seam_node_steps.proofs.Quiet.{is_quiet, quiet_of}
 use Rattle.seam_node_steps.specs.EarlyCall.{batch, world_0, world_1, world_2, world_3, world_4, world_5, world_6, world_7, world_8, world_9}
 use Rattle.seam_node_steps.specs.EarlyCall.{world_10, world_11, world_12, passing_2, passing_3, passing_4, passing_5, passing_6, passing_7}
-use Rattle.seam_node_steps.specs.EarlyCall.{passing_8, passing_9, passing_10, passing_11, steps, passing_steps, the_move, hit_1, hit_2}
+use Rattle.seam_node_steps.specs.EarlyCall.{passing_8, passing_9, passing_10, passing_11, passing_steps}
 
 pub load : loaded empty_world batch ≡ world_0
 unfolding world_0

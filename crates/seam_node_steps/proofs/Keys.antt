@@ -4,27 +4,14 @@ use Rattle.std.specs.FinMap as table
 use Rattle.std.specs.Ordering.{nat_cmp}
 use Rattle.std.specs.declared.cmp.Ordering.{Ordering}
 use Rattle.std.specs.declared.cmp.Ordering.TheVariants.{Less, Equal, Greater}
-use Rattle.seam_tree.specs.Division.{Division}
-use Rattle.seam_order.specs.Held.{OrderView}
-use Rattle.seam_order.specs.Offers.{next_item}
-use Rattle.seam_call.specs.declared.call.Call.{Call as CallData}
-use Rattle.seam_call.specs.declared.shown.GhostCopy.{GhostCopy}
-use Rattle.seam_entity.specs.Orders.{order_of}
-use Rattle.seam_entity.specs.Reals.{RealView, WitnessView}
-use Rattle.seam_entity.specs.declared.message.Msg.{Msg}
-use Rattle.seam_entity.specs.declared.message.Msg.TheVariants.{Call, BaseCall, Hand, Current, GhostSet, GhostDrop, Tick, Reap, Update}
-use Rattle.seam_entity.specs.Here.{Here}
-use Rattle.seam_entity.specs.Calls.{ready_order}
-use Rattle.seam_entity.specs.Executing.{executed, executed_ready, shows}
-use Rattle.seam_node_steps.specs.Slots.{Slot, NextPlace, SlotStep, unless_stray}
-use Rattle.seam_node_steps.specs.Settle.{home_after, settled_by, settled}
+use Rattle.seam_node_steps.specs.Prelude.{Division, OrderView, next_item, Call as CallData, GhostCopy, order_of, RealView, WitnessView, Msg}
+use Rattle.seam_node_steps.specs.Prelude.{BaseCall, Hand, Current, GhostSet, GhostDrop, Tick, Reap, Update, Here, ready_order, executed}
+use Rattle.seam_node_steps.specs.Prelude.{executed_ready, shows, Slot, NextPlace, SlotStep, unless_stray, home_after, settled_by, settled}
+use Rattle.seam_node_steps.specs.Prelude.{about, slot_steps, Known, look_by, look_task, CellView, slot_of, known_to, IsCell}
+use Rattle.seam_entity.specs.declared.message.Msg.TheVariants.{Call}
 use Rattle.seam_node_steps.specs.CellCases
-use Rattle.seam_node_steps.specs.CellCases.{about, slot_steps}
 use Rattle.seam_node_steps.specs.CellLooks
-use Rattle.seam_node_steps.specs.CellLooks.{Known, look_by, look_task}
 use Rattle.seam_node_steps.specs.Cells
-use Rattle.seam_node_steps.specs.Cells.{CellView, slot_of, known_to}
-use Rattle.seam_node_steps.specs.Valid.{IsCell}
 
 -- the real, if there is one, is that of the entity
 abbrev pub IsOf : ℕ → Option RealView → Type 0

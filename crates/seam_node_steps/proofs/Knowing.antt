@@ -11,12 +11,9 @@ use Rattle.std.specs.Cmp.{nat_cmp_total}
 use Rattle.std.specs.FinMap as table
 use Rattle.std.specs.FinMap.Entries.{is_sorted, below_all}
 use Rattle.std.proofs.lemmas.Bool.Decides.{nat_tests}
-use Rattle.seam_ghosts.specs.declared.Ghost.{Ghost}
-use Rattle.seam_ghosts.specs.Book.{copy_in, with_copy, copied}
-use Rattle.seam_call.specs.declared.shown.GhostCopy.{GhostCopy}
-use Rattle.seam_node_steps.specs.Maps.{Map}
-use Rattle.seam_node_steps.specs.CellLooks.{Known, seen_as, known_of, shown_of_known, other_of_real, other_of_copy}
-use Rattle.seam_node_steps.specs.Cells.{CellView, known_real, known_copy, known_in, known_to, is_another, is_of_another}
+use Rattle.seam_node_steps.specs.Prelude.{Ghost, copy_in, with_copy, copied, GhostCopy, Map, Known, seen_as, known_of, shown_of_known}
+use Rattle.seam_node_steps.specs.Prelude.{other_of_real, other_of_copy, CellView, known_real, known_copy, known_in, known_to, is_another}
+use Rattle.seam_node_steps.specs.Prelude.{is_of_another}
 use Rattle.seam_node_steps.proofs.Sorted.{tied_same, none_below, passing, find_filter, sorted_filter, find_mapped, find_append}
 use Rattle.seam_node_steps.proofs.Sorted.{find_entries, both, first, second}
 pub use Rattle.seam_node_steps.specs.Knowing.{or_else, known_by, known_at, unless_self}

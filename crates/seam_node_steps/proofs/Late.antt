@@ -1,15 +1,12 @@
 -- "A late ghost message", event by event, and the reap after it.
 use Rattle.std.proofs.Common.{◌≡◌, true, [], ◌∷◌, Some, None, refl}
-use Rattle.seam_machine.specs.Nets.{happens, enabled, IsQuiet}
-use Rattle.seam_node_steps.specs.Nodes.{node_steps, node_has_work}
-use Rattle.seam_node_steps.specs.Holders.{holders}
-use Rattle.seam_node_steps.specs.Loads.{loaded, reaps_loaded}
-use Rattle.seam_node_steps.specs.Rows.{IsRow, empty_world, task, mail, copy_at, done_in_cell, copy_in_cell}
+use Rattle.seam_node_steps.specs.Prelude.{happens, enabled, IsQuiet, node_steps, node_has_work, holders, loaded, reaps_loaded, IsRow}
+use Rattle.seam_node_steps.specs.Prelude.{empty_world, task, mail, copy_at, done_in_cell, copy_in_cell, batch, move_1, move_2}
 use Rattle.seam_node_steps.proofs.Tables.{computing}
 use Rattle.seam_node_steps.proofs.Quiet.{is_quiet, quiet_of}
-use Rattle.seam_node_steps.specs.LateGhost.{batch, world_0, world_1, world_2, world_3, world_4, world_5, world_6, world_7, world_8, world_9}
+use Rattle.seam_node_steps.specs.LateGhost.{world_0, world_1, world_2, world_3, world_4, world_5, world_6, world_7, world_8, world_9}
 use Rattle.seam_node_steps.specs.LateGhost.{world_10, world_11, world_12, world_13, world_14, steps, reap_0, reap_1, reap_2, reap_3}
-use Rattle.seam_node_steps.specs.LateGhost.{until_reaped, from_reaped, move_1, move_2}
+use Rattle.seam_node_steps.specs.LateGhost.{until_reaped, from_reaped}
 
 pub load : loaded empty_world batch ≡ world_0
 unfolding world_0

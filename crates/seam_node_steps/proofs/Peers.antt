@@ -1,17 +1,10 @@
 -- For callers: a step of a node keeps what the node knows, and so the number of nodes; and a cell's tree.
 use Rattle.std.proofs.Common.{◌≡◌, ℕ, Bool, true, false, List, [], ◌∷◌, Option, None, Some, refl, ap}
 use Rattle.std.specs.FinMap as table
-use Rattle.seam_machine.specs.declared.machines.Input.{Input}
-use Rattle.seam_machine.specs.declared.machines.Input.TheVariants.{Task, From}
-use Rattle.seam_entity.specs.declared.message.Msg.{Msg}
-use Rattle.seam_entity.specs.Here.{peers_of}
-use Rattle.seam_node_steps.specs.Slots.{Slot, SlotStep}
-use Rattle.seam_node_steps.specs.CellCases.{about, slot_steps}
-use Rattle.seam_node_steps.specs.Cells.{CellView, after_slot, unlisted_by, stepped, cell_steps, cell_task, ready_next, look_next, cell_hears}
-use Rattle.seam_node_steps.specs.Cells.{ready_entity, surveys, calls_ready, looks_around, known_to, slot_of}
-use Rattle.seam_node_steps.specs.Nodes.{NodeView, node_steps, node_peers}
-use Rattle.seam_node_steps.specs.Nodes.NodeView.{Cell, Base}
-use Rattle.seam_node_steps.specs.Valid.{IsNode}
+use Rattle.seam_node_steps.specs.Prelude.{Input, Task, From, Msg, peers_of, Slot, SlotStep, about, slot_steps, CellView, after_slot}
+use Rattle.seam_node_steps.specs.Prelude.{unlisted_by, stepped, cell_steps, cell_task, ready_next, look_next, cell_hears, ready_entity}
+use Rattle.seam_node_steps.specs.Prelude.{surveys, calls_ready, looks_around, known_to, slot_of, NodeView, node_steps, node_peers, Cell}
+use Rattle.seam_node_steps.specs.Prelude.{Base, IsNode}
 use Rattle.seam_node_steps.proofs.ValidCells.{cell_stays_valid}
 use Rattle.seam_node_steps.proofs.ValidBases.{base_stays_valid, base_frame}
 

@@ -2,11 +2,8 @@
 use Rattle.std.proofs.Common.{◌≡◌, ℕ, zero, suc, Bool, true, false, not, ◌&&◌, List, [], ◌∷◌, refl, subst}
 use Rattle.std.specs.Prelude.{slice_index_or}
 use Rattle.std.specs.List.{list_all}
-use Rattle.seam_machine.specs.Nets.{IsQuiet, link}
-use Rattle.seam_machine.specs.Events.{EachNode}
+use Rattle.seam_node_steps.specs.Prelude.{IsQuiet, link, EachNode, has_any, NodeView, World, node_has_work}
 use Rattle.seam_machine.proofs.Quiet.{quiet_from}
-use Rattle.seam_node_steps.specs.Maps.{has_any}
-use Rattle.seam_node_steps.specs.Nodes.{NodeView, World, node_has_work}
 
 abbrev is_idle : NodeView → Bool
 is_idle s = not (node_has_work s)

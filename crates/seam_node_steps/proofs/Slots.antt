@@ -4,9 +4,8 @@ use Rattle.std.specs.Ordering.{nat_cmp, eq_by_cmp}
 use Rattle.std.specs.Cmp.{nat_cmp_total}
 use Rattle.std.specs.FinMap as table
 use Rattle.std.proofs.lemmas.Bool.Decides.{nat_tests}
-use Rattle.seam_node_steps.specs.Maps.{Map, set_at}
-use Rattle.seam_node_steps.specs.Slots.{Slot, SlotStep, slot_after}
-use Rattle.seam_node_steps.specs.Cells.{CellView, slot_of, with_slot, after_slot, unlisted_by, stepped}
+use Rattle.seam_node_steps.specs.Prelude.{Map, set_at, Slot, SlotStep, slot_after, CellView, slot_of, with_slot, after_slot, unlisted_by}
+use Rattle.seam_node_steps.specs.Prelude.{stepped}
 
 -- what the map has at a number after it was set at one
 pub get-set_at : {X : Type 0} (m : Map X) (e q : ℕ) (o : Option X) → table.get (set_at m e o) q

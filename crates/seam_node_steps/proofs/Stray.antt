@@ -1,14 +1,8 @@
 -- At stray input nothing changes but the list that a task's entry is taken from.
 use Rattle.std.proofs.Common.{◌≡◌, ℕ, true, List, ◌∷◌, ap}
-use Rattle.seam_tree.specs.Division.{Division}
-use Rattle.seam_machine.specs.declared.machines.Input.TheVariants.{From}
-use Rattle.seam_call.specs.declared.order.Order.{Order}
-use Rattle.seam_entity.specs.declared.message.Msg.{Msg}
-use Rattle.seam_entity.specs.Here.{Here}
-use Rattle.seam_node_steps.specs.Slots.{Slot, rests, unless_stray}
+use Rattle.seam_node_steps.specs.Prelude.{Division, From, Order, Msg, Here, Slot, rests, unless_stray, BaseView}
 use Rattle.seam_node_steps.specs.CellCases
 use Rattle.seam_node_steps.specs.BaseCases
-use Rattle.seam_node_steps.specs.Bases.{BaseView}
 
 pub stray_rests : (h : Here) (t : Division) (s : Slot) (m : Msg) → CellCases.is_stray h t s m ≡ true → CellCases.slot_steps h t s m ≡ rests
 stray_rests h t s m is = ap (λ b. unless_stray b (CellCases.case_of h t s m)) is

@@ -10,40 +10,21 @@ use Rattle.std.specs.declared.cmp.Ordering.{Ordering}
 use Rattle.std.specs.declared.cmp.Ordering.TheVariants.{Less, Equal, Greater}
 use Rattle.std.proofs.lemmas.List.Elements.{All-nil, All-cons}
 use Rattle.std.proofs.lemmas.Nat.{mod_below}
-use Rattle.seam_tree.specs.Division.{Division, IsTree, leaf_at}
-use Rattle.seam_tree.specs.Cells.{Cells}
+use Rattle.seam_node_steps.specs.Prelude.{Division, IsTree, leaf_at, Cells, Stepped, AllBelow, Input, Task, From, OrderView, next_item}
+use Rattle.seam_node_steps.specs.Prelude.{Call as CallData, Order, GhostCopy, Shown, order_of, RealView, WitnessView, Msg, BaseCall, Hand}
+use Rattle.seam_node_steps.specs.Prelude.{Current, GhostSet, GhostDrop, Tick, Reap, Update, Here, cell_count, base_of, peers_of}
+use Rattle.seam_node_steps.specs.Prelude.{ready_order, copy_of_real, executed, executed_ready, with_offer, shows, Slot, NextPlace, SlotStep}
+use Rattle.seam_node_steps.specs.Prelude.{rests, unless_stray, becomes, told, told_unless, ghost_message, ghost_messages, home_after, stays}
+use Rattle.seam_node_steps.specs.Prelude.{goes, gone_to, settled_by, settled, about, slot_steps, survey_task, ready_call_task, Known}
+use Rattle.seam_node_steps.specs.Prelude.{numbered, look_by, look_task, CellView, cell_steps, cell_task, ready_next, look_next, cell_hears}
+use Rattle.seam_node_steps.specs.Prelude.{ready_entity, known_to, slot_of, BaseView, PartView, RouteView, with_part, base_steps, NodeView}
+use Rattle.seam_node_steps.specs.Prelude.{node_steps, node_peers, Cell, Base, IsCell, IsBase, IsNode}
 use Rattle.seam_tree.proofs.Leaves.{leaf_is_cell}
-use Rattle.seam_machine.specs.Views.{Stepped}
-use Rattle.seam_machine.specs.Sends.{AllBelow}
-use Rattle.seam_machine.specs.declared.machines.Input.{Input}
-use Rattle.seam_machine.specs.declared.machines.Input.TheVariants.{Task, From}
-use Rattle.seam_order.specs.Held.{OrderView}
-use Rattle.seam_order.specs.Offers.{next_item}
-use Rattle.seam_call.specs.declared.call.Call.{Call as CallData}
-use Rattle.seam_call.specs.declared.order.Order.{Order}
 use Rattle.seam_call.specs.declared.order.Order.TheVariants as order
-use Rattle.seam_call.specs.declared.shown.GhostCopy.{GhostCopy}
-use Rattle.seam_call.specs.declared.shown.Shown.{Shown}
-use Rattle.seam_entity.specs.Orders.{order_of}
-use Rattle.seam_entity.specs.Reals.{RealView, WitnessView}
-use Rattle.seam_entity.specs.declared.message.Msg.{Msg}
-use Rattle.seam_entity.specs.declared.message.Msg.TheVariants.{Call, BaseCall, Hand, Current, GhostSet, GhostDrop, Tick, Reap, Update}
-use Rattle.seam_entity.specs.Here.{Here, cell_count, base_of, peers_of}
-use Rattle.seam_entity.specs.Calls.{ready_order}
-use Rattle.seam_entity.specs.Executing.{copy_of_real, executed, executed_ready, with_offer, shows}
-use Rattle.seam_node_steps.specs.Slots.{Slot, NextPlace, SlotStep, rests, unless_stray, becomes}
-use Rattle.seam_node_steps.specs.Settle.{told, told_unless, ghost_message, ghost_messages, home_after, stays, goes, gone_to, settled_by, settled}
+use Rattle.seam_entity.specs.declared.message.Msg.TheVariants.{Call}
 use Rattle.seam_node_steps.specs.CellCases
-use Rattle.seam_node_steps.specs.CellCases.{about, slot_steps, survey_task, ready_call_task}
-use Rattle.seam_node_steps.specs.CellLooks.{Known, numbered, look_by, look_task}
 use Rattle.seam_node_steps.specs.Cells
-use Rattle.seam_node_steps.specs.Cells.{CellView, cell_steps, cell_task, ready_next, look_next, cell_hears, ready_entity, known_to, slot_of}
-use Rattle.seam_node_steps.specs.Bases.{BaseView, PartView, RouteView, with_part}
 use Rattle.seam_node_steps.specs.BaseCases as BaseCases
-use Rattle.seam_node_steps.specs.BaseCases.{base_steps}
-use Rattle.seam_node_steps.specs.Nodes.{NodeView, node_steps, node_peers}
-use Rattle.seam_node_steps.specs.Nodes.NodeView.{Cell, Base}
-use Rattle.seam_node_steps.specs.Valid.{IsCell, IsBase, IsNode}
 
 abbrev pub Below : {M : Type 0} → ℕ → List (ℕ × M) → Type 0
 Below n [] = Unit {0}

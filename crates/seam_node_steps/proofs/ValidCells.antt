@@ -3,17 +3,10 @@ use Rattle.std.proofs.Common.{◌≡◌, ℕ, ◌<◌, Bool, true, false, cond, 
 use Rattle.std.specs.Ordering.{nat_cmp, eq_by_cmp}
 use Rattle.std.specs.FinMap as table
 use Rattle.std.proofs.lemmas.Bool.Decides.{nat_tests}
-use Rattle.seam_entity.specs.Reals.{RealView}
-use Rattle.seam_machine.specs.declared.machines.Input.{Input}
-use Rattle.seam_machine.specs.declared.machines.Input.TheVariants.{Task, From}
-use Rattle.seam_entity.specs.declared.message.Msg.{Msg}
-use Rattle.seam_node_steps.specs.Maps.{Map, set_at}
-use Rattle.seam_entity.specs.Here.{cell_count}
-use Rattle.seam_node_steps.specs.Slots.{Slot, NextPlace, SlotStep}
-use Rattle.seam_node_steps.specs.CellCases.{about, slot_steps}
-use Rattle.seam_node_steps.specs.Cells.{CellView, after_slot, unlisted_by, stepped, cell_steps, cell_task, ready_next, look_next, cell_hears}
-use Rattle.seam_node_steps.specs.Cells.{ready_entity, surveys, calls_ready, looks_around, known_to, slot_of, witnesses}
-use Rattle.seam_node_steps.specs.Valid.{NextsAreCells, AreUnderTheirEntities, IsCell}
+use Rattle.seam_node_steps.specs.Prelude.{RealView, Input, Task, From, Msg, Map, set_at, cell_count, Slot, NextPlace, SlotStep, about}
+use Rattle.seam_node_steps.specs.Prelude.{slot_steps, CellView, after_slot, unlisted_by, stepped, cell_steps, cell_task, ready_next}
+use Rattle.seam_node_steps.specs.Prelude.{look_next, cell_hears, ready_entity, surveys, calls_ready, looks_around, known_to, slot_of}
+use Rattle.seam_node_steps.specs.Prelude.{witnesses, NextsAreCells, AreUnderTheirEntities, IsCell}
 use Rattle.seam_node_steps.proofs.Slots.{get-set_at}
 use Rattle.seam_node_steps.proofs.Keys.{IsOf, StepIsOf, surveys_of, calls_ready_of, looks_of, slot_is_of}
 use Rattle.seam_node_steps.proofs.Targets.{IsGood, StepIn, cell_surveys, cell_calls_ready, cell_looks, cell_slot}

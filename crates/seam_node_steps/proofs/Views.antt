@@ -1,14 +1,12 @@
 -- "View hysteresis", event by event.
 use Rattle.std.proofs.Common.{◌≡◌, true, [], ◌∷◌, Some, refl}
-use Rattle.seam_machine.specs.Nets.{happens, enabled, IsQuiet}
-use Rattle.seam_node_steps.specs.Nodes.{node_steps, node_has_work}
-use Rattle.seam_node_steps.specs.Holders.{holders}
-use Rattle.seam_node_steps.specs.Loads.{loaded, look_loaded}
-use Rattle.seam_node_steps.specs.Rows.{IsRow, empty_world, task, mail, lines_of_client}
+use Rattle.seam_node_steps.specs.Prelude.{happens, enabled, IsQuiet, node_steps, node_has_work, holders, loaded, look_loaded, IsRow}
+use Rattle.seam_node_steps.specs.Prelude.{empty_world, task, mail, lines_of_client, batch_1, batch_of, move_to, first_steps, first_looks}
+use Rattle.seam_node_steps.specs.Prelude.{second_steps, second_looks, base_line, line, own, enter_2}
 use Rattle.seam_node_steps.proofs.Tables.{computing}
 use Rattle.seam_node_steps.proofs.Quiet.{is_quiet, quiet_of}
-use Rattle.seam_node_steps.specs.ViewRounds.{batch_1, batch_of, move_to, first_steps, first_looks, second_steps, second_looks, third_steps}
-use Rattle.seam_node_steps.specs.ViewRounds.{third_looks, base_line, line, own, enter_2, set_2, leave_2, first_0, first_1, first_2, first_look_0}
+use Rattle.seam_node_steps.specs.ViewRounds.{third_steps}
+use Rattle.seam_node_steps.specs.ViewRounds.{third_looks, set_2, leave_2, first_0, first_1, first_2, first_look_0}
 use Rattle.seam_node_steps.specs.ViewRounds.{first_look_1, first_look_2, first_look_3, first_look_4, first_look_5, second_0, second_1, second_2}
 use Rattle.seam_node_steps.specs.ViewRounds.{second_3, second_4, second_look_0, second_look_1, second_look_2, second_look_3, second_look_4}
 use Rattle.seam_node_steps.specs.ViewRounds.{third_0, third_1, third_2, third_3, third_4, third_look_0, third_look_1, third_look_2, third_look_3}

@@ -16,3 +16,4 @@ pub mod LateGhost
 pub mod ViewRounds
 pub mod OneStep
 pub mod Knowing
+pub mod Prelude

@@ -1,16 +1,13 @@
 //! Single steps of a base node, exactly.
 
 ghost use Rattle.std.specs.Prelude.{◌≡◌, [], ◌∷◌, None};
-ghost use Rattle.seam_machine.specs.declared.machines.Input.TheVariants.{Task, From};
-ghost use Rattle.seam_entity.specs.declared.message.Msg.TheVariants.{Call, BaseCall, Current, Tick, Reap, Update};
+ghost use Rattle.seam_node_steps.specs.Prelude.{Task, From, BaseCall, Current, Tick, Reap, Update, Leave, base_steps, sends_none, call};
+ghost use Rattle.seam_node_steps.specs.Prelude.{hit, no, one, orders, order as in_order, of_first, has_first, promote, proxy, ranked};
+ghost use Rattle.seam_entity.specs.declared.message.Msg.TheVariants.{Call};
 ghost use Rattle.seam_call.specs.declared.order.Order.TheVariants as order;
-ghost use Rattle.seam_call.specs.declared.shown.Shown.TheVariants.{Leave};
 ghost use Rattle.seam_call.specs.declared.shown.ClientText.TheVariants as text;
-ghost use Rattle.seam_node_steps.specs.BaseCases.{base_steps, sends_none};
-ghost use Rattle.seam_node_steps.specs.Rows.{call, hit, no, one, orders};
-ghost use Rattle.seam_node_steps.specs.Rows.{order as in_order};
-ghost use Rattle.seam_node_steps.specs.OneStep.{base_of, base_ordered, base_with, new_client, without_client, both, of_first, has_first};
-ghost use Rattle.seam_node_steps.specs.OneStep.{promote, pay, part_of, proxy, line, ranked, update};
+ghost use Rattle.seam_node_steps.specs.OneStep.{base_of, base_ordered, base_with, new_client, without_client, both};
+ghost use Rattle.seam_node_steps.specs.OneStep.{pay, part_of, line, update};
 
 /// Cell order, base order, tick order and reap order: the first order is executed. A call goes to the route's cell, or to the entity's
 /// base node; a tick goes to every cell of the tree, in rising number; a reap goes to the route's cell, and the base part goes. A stray

@@ -2,13 +2,11 @@
 
 ghost use Rattle.std.specs.Prelude.{◌≡◌, ◌-◌, ◌^◌, [], ◌∷◌, None, Some};
 ghost use Rattle.std.specs.FinSet as set;
-ghost use Rattle.seam_machine.specs.declared.machines.Input.TheVariants.{Task, From};
-ghost use Rattle.seam_defs.specs.declared.states.Deed.TheVariants.{Move};
-ghost use Rattle.seam_entity.specs.declared.message.Msg.TheVariants.{Call, BaseCall, Hand, Current, GhostSet, GhostDrop, Tick, Reap};
-ghost use Rattle.seam_node_steps.specs.Cells.{cell_steps, cell_rests};
-ghost use Rattle.seam_node_steps.specs.Rows.{at, call, hit, copy_at, no, one, next_place, ghost, order, orders, real};
-ghost use Rattle.seam_node_steps.specs.OneStep.{cell_of, inland, home, home_listing, both, cells, second, far, note, has_first, of_first};
-ghost use Rattle.seam_node_steps.specs.OneStep.{promote};
+ghost use Rattle.seam_node_steps.specs.Prelude.{Task, From, Move, BaseCall, Hand, Current, GhostSet, GhostDrop, Tick, Reap, cell_steps};
+ghost use Rattle.seam_node_steps.specs.Prelude.{cell_rests, at, call, hit, copy_at, no, one, next_place, ghost, order, orders, real};
+ghost use Rattle.seam_node_steps.specs.Prelude.{has_first, of_first, promote};
+ghost use Rattle.seam_entity.specs.declared.message.Msg.TheVariants.{Call};
+ghost use Rattle.seam_node_steps.specs.OneStep.{cell_of, inland, home, home_listing, both, cells, second, far, note};
 
 /// Survey task: the first entity of the list is taken and settles; the cells that become haunts are told in rising number, under
 /// the next beat. Where nothing is sent the beat stays, and where the real is not here the entry alone goes.

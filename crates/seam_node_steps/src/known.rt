@@ -9,9 +9,7 @@ ghost use Rattle.std.specs.Prelude.{◌≡◌, ℕ, map};
 ghost use Rattle.std.specs.List.Sorted.{IsStrictlySortedBy};
 ghost use Rattle.std.specs.Ordering.{nat_cmp};
 ghost use Rattle.std.specs.FinMap as table;
-ghost use Rattle.seam_node_steps.specs.CellLooks.{known_of, seen_as};
-ghost use Rattle.seam_node_steps.specs.Cells.{CellView, known_to};
-ghost use Rattle.seam_node_steps.specs.Knowing.{known_at, unless_self};
+ghost use Rattle.seam_node_steps.specs.Prelude.{known_of, seen_as, CellView, known_to, known_at, unless_self};
 
 /// Of another entity a cell knows its real or, where that is not there, its copy, in rising number; whether an entity's own real is
 /// there makes no difference to what is known of others.

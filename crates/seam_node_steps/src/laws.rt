@@ -2,20 +2,10 @@
 
 ghost use Rattle.std.specs.Prelude.{◌≡◌, ℕ, Bool, true, cond, List, ◌∷◌};
 ghost use Rattle.std.specs.Ordering.{nat_cmp, eq_by_cmp};
-ghost use Rattle.seam_tree.specs.Division.{Division};
-ghost use Rattle.seam_machine.specs.Sends.{AllBelow};
-ghost use Rattle.seam_machine.specs.declared.machines.Input.{Input};
-ghost use Rattle.seam_machine.specs.declared.machines.Input.TheVariants.{From};
-ghost use Rattle.seam_call.specs.declared.order.Order.{Order};
-ghost use Rattle.seam_entity.specs.declared.message.Msg.{Msg};
-ghost use Rattle.seam_entity.specs.Here.{Here};
-ghost use Rattle.seam_node_steps.specs.Slots.{Slot, SlotStep, rests, slot_after};
-ghost use Rattle.seam_node_steps.specs.CellCases.{is_stray, slot_steps};
-ghost use Rattle.seam_node_steps.specs.Cells.{CellView, slot_of, with_slot, stepped};
-ghost use Rattle.seam_node_steps.specs.Bases.{BaseView};
-ghost use Rattle.seam_node_steps.specs.BaseCases.{is_stray as is_stray_at_base, stray_order, base_steps, base_task, sends_none};
-ghost use Rattle.seam_node_steps.specs.Nodes.{NodeView, node_steps, node_peers};
-ghost use Rattle.seam_node_steps.specs.Valid.{IsNode};
+ghost use Rattle.seam_node_steps.specs.Prelude.{Division, AllBelow, Input, From, Order, Msg, Here, Slot, SlotStep, rests, slot_after};
+ghost use Rattle.seam_node_steps.specs.Prelude.{is_stray, slot_steps, CellView, slot_of, with_slot, stepped, BaseView, stray_order};
+ghost use Rattle.seam_node_steps.specs.Prelude.{base_steps, base_task, sends_none, NodeView, node_steps, node_peers, IsNode};
+ghost use Rattle.seam_node_steps.specs.BaseCases.{is_stray as is_stray_at_base};
 
 /// A step sends to nodes of the net alone, keeps the number of nodes, and keeps what is true of every node.
 #[tactic(auto, using(crate::proofs::Targets::node_targets, crate::proofs::Peers::peers_stay, crate::proofs::Peers::node_stays_valid))]

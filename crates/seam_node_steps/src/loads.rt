@@ -3,13 +3,10 @@
 ghost use Rattle.std.specs.Prelude.{◌≡◌, [], ◌∷◌, None};
 ghost use Rattle.std.specs.FinSet as set;
 ghost use Rattle.seam_call.specs.declared.order.Order.TheVariants as order;
-ghost use Rattle.seam_entity.specs.Executing.{created};
-ghost use Rattle.seam_node_steps.specs.Nodes.NodeView.{Cell, Base};
-ghost use Rattle.seam_node_steps.specs.Loads.{created_at, attached, cell_round, base_round, ordered_at, reap_ordered_at, new_part, with_witness};
-ghost use Rattle.seam_node_steps.specs.Rows.{at, call, hit, avatar_at, no, one, next_place, ghost, real, here, cell, idle};
-ghost use Rattle.seam_node_steps.specs.EarlyCall.{two_cells};
-ghost use Rattle.seam_node_steps.specs.ViewRounds.{space, both};
-ghost use Rattle.seam_node_steps.specs.OneStep.{empty_node, part_of, proxy, line, ranked, promote};
+ghost use Rattle.seam_node_steps.specs.Prelude.{created, Cell, Base, created_at, attached, cell_round, base_round, ordered_at};
+ghost use Rattle.seam_node_steps.specs.Prelude.{reap_ordered_at, new_part, with_witness, at, call, hit, avatar_at, no, one, next_place};
+ghost use Rattle.seam_node_steps.specs.Prelude.{ghost, real, here, cell, idle, two_cells, space, both, proxy, ranked, promote};
+ghost use Rattle.seam_node_steps.specs.OneStep.{empty_node, part_of, line};
 
 /// Load, point 1: the real of a created entity is made in the leaf of its position, each base node gets a route of generation 0, and
 /// the entity's base node its base part.

@@ -2,12 +2,9 @@
 
 ghost use Rattle.std.specs.Prelude.{◌≡◌, ◌-◌, ◌^◌, [], ◌∷◌, None, Some};
 ghost use Rattle.std.specs.FinMap as table;
-ghost use Rattle.seam_machine.specs.declared.machines.Input.TheVariants.{Task, From};
-ghost use Rattle.seam_entity.specs.declared.message.Msg.TheVariants.{Tick};
-ghost use Rattle.seam_call.specs.declared.shown.Shown.TheVariants.{Own, Enter, Leave};
-ghost use Rattle.seam_node_steps.specs.Cells.{cell_steps, cell_rests};
-ghost use Rattle.seam_node_steps.specs.Rows.{no, one, ghost, copy_at, cell};
-ghost use Rattle.seam_node_steps.specs.ViewRounds.{space, both, witness, watcher, blind, entered, still, own_state, other_at, update};
+ghost use Rattle.seam_node_steps.specs.Prelude.{Task, From, Tick, Own, Enter, Leave, cell_steps, cell_rests, no, one, ghost, copy_at, cell};
+ghost use Rattle.seam_node_steps.specs.Prelude.{space, both, witness, watcher, blind, entered, still, other_at};
+ghost use Rattle.seam_node_steps.specs.ViewRounds.{own_state, update};
 
 /// Look task: the first entity of the look list is taken, and its witness tells, in this order and under rising numbers, its own state
 /// where that is due, what leaves, what changed and what enters. It knows the other reals and the copies of its cell, a real before a

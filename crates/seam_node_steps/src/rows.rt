@@ -2,10 +2,8 @@
 //! then. Each row ends quiet.
 
 ghost use Rattle.std.specs.Prelude.{◌≡◌, [], ◌∷◌, None, Some};
-ghost use Rattle.seam_machine.specs.Nets.{IsQuiet};
-ghost use Rattle.seam_node_steps.specs.Nodes.{node_has_work};
-ghost use Rattle.seam_node_steps.specs.Loads.{loaded, look_loaded, reaps_loaded};
-ghost use Rattle.seam_node_steps.specs.Rows.{IsRow, empty_world, copy_at, copy_in_cell, done_in_cell, lines_of_client};
+ghost use Rattle.seam_node_steps.specs.Prelude.{IsQuiet, node_has_work, loaded, look_loaded, reaps_loaded, IsRow, empty_world, copy_at};
+ghost use Rattle.seam_node_steps.specs.Prelude.{copy_in_cell, done_in_cell, lines_of_client};
 ghost use Rattle.seam_node_steps.specs.EarlyCall as early;
 ghost use Rattle.seam_node_steps.specs.LateGhost as late;
 ghost use Rattle.seam_node_steps.specs.ViewRounds as view;

@@ -2,28 +2,16 @@
 use Rattle.std.proofs.Common.{◌≡◌, ℕ, ◌+◌, ◌*◌, ◌^◌, ◌<◌, ◌≤◌, true, List, [], ◌∷◌, map, length, refl, sym, ap, ◌∙◌, subst, arith}
 use Rattle.std.specs.List.{AllByRecursion}
 use Rattle.std.proofs.lemmas.Bool.Decides.{nat_tests}
-use Rattle.seam_machine.specs.Nets.{IsQuiet}
-use Rattle.seam_machine.specs.Totals.{total}
-use Rattle.seam_machine.specs.declared.machines.Event.{Event}
+use Rattle.seam_node_steps.specs.Prelude.{IsQuiet, total, Event, Order, Batch, limit, may_rise, RealView, holders, NodeView, World}
+use Rattle.seam_node_steps.specs.Prelude.{node_steps, node_has_work, Cell, Base, loaded, reaps_loaded, look_loaded, ordered_at}
+use Rattle.seam_law_calls.specs.Prelude.{Frame}
+use Rattle.seam_law_rounds.specs.Prelude.{numbers_of, AreReapable, MayBeLoaded}
+use Rattle.seam_law_ghosts.specs.Prelude.{GoesThroughRound}
+use Rattle.seam_law_all.specs.Prelude.{KeepsRecordsWithin, ObeysLaws}
+use Rattle.seam_law_bounds.specs.Prelude.{witnesses_at, all_witnesses, entities, cell_orders, base_orders, tick_orders, events_of_round}
+use Rattle.seam_law_bounds.specs.Prelude.{events_of_looks}
 use Rattle.seam_net_runs.specs.Finishing.{EndsWithin}
-use Rattle.seam_call.specs.declared.order.Order.{Order}
-use Rattle.seam_call.specs.declared.order.Batch.{Batch}
-use Rattle.seam_entity.specs.Numbers.{limit, may_rise}
-use Rattle.seam_entity.specs.Reals.{RealView}
-use Rattle.seam_node_steps.specs.Holders.{holders}
-use Rattle.seam_node_steps.specs.Nodes.{NodeView, World, node_steps, node_has_work}
-use Rattle.seam_node_steps.specs.Nodes.NodeView.{Cell, Base}
-use Rattle.seam_node_steps.specs.Loads.{loaded, reaps_loaded, look_loaded, ordered_at}
-use Rattle.seam_law_calls.specs.Frames.{Frame}
-use Rattle.seam_law_rounds.specs.Between.{numbers_of}
-use Rattle.seam_law_rounds.specs.LastPhases.{AreReapable}
-use Rattle.seam_law_ghosts.specs.RealPlaces.{GoesThroughRound}
-use Rattle.seam_law_rounds.specs.Parts.{MayBeLoaded}
 use Rattle.seam_rule_clients.specs.Clients.{ClientReplica}
-use Rattle.seam_law_all.specs.Records.{KeepsRecordsWithin}
-use Rattle.seam_law_all.specs.Calls.{ObeysLaws}
-use Rattle.seam_law_bounds.specs.Phases.{witnesses_at, all_witnesses, entities, cell_orders, base_orders, tick_orders}
-use Rattle.seam_law_bounds.specs.Phases.{events_of_round, events_of_looks}
 use Rattle.seam_core.specs.Worlds.{Leads}
 use Rattle.seam_quiet.specs.RoundRuns.{MayRun, BeginsPhase, bases_of, most_of_calls}
 use Rattle.seam_quiet.specs.RoundRuns.BeginsPhase.{calls_begin, reaps_begin, looks_begin}

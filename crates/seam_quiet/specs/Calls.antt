@@ -1,9 +1,6 @@
 -- The first phase of a round, and where it begins.
 use Rattle.std.specs.Prelude.{◌≡◌}
-use Rattle.seam_machine.specs.Nets.{IsQuiet}
-use Rattle.seam_call.specs.declared.order.Batch.{Batch}
-use Rattle.seam_node_steps.specs.Nodes.{World, node_has_work}
-use Rattle.seam_node_steps.specs.Loads.{loaded}
+use Rattle.seam_node_steps.specs.Prelude.{IsQuiet, Batch, World, node_has_work, loaded}
 use Rattle.seam_core.specs.Worlds.{Leads}
 use Rattle.seam_quiet.specs.declared.round.Called.{Called}
 

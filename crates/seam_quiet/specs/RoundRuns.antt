@@ -1,17 +1,12 @@
 -- A round of a world.
 use Rattle.std.specs.Prelude.{◌≡◌, ℕ, ◌-◌, ◌*◌, ◌≤◌, List, length}
-use Rattle.seam_machine.specs.Nets.{IsQuiet}
-use Rattle.seam_machine.specs.declared.machines.Event.{Event}
-use Rattle.seam_call.specs.declared.order.Batch.{Batch}
-use Rattle.seam_entity.specs.Here.{cell_count}
-use Rattle.seam_node_steps.specs.Nodes.{World, node_has_work}
-use Rattle.seam_node_steps.specs.Loads.{loaded, reaps_loaded, look_loaded}
-use Rattle.seam_law_calls.specs.Frames.{Frame}
-use Rattle.seam_law_ghosts.specs.RealPlaces.{GoesThroughRound}
+use Rattle.seam_node_steps.specs.Prelude.{IsQuiet, Event, Batch, cell_count, World, node_has_work, loaded, reaps_loaded, look_loaded}
+use Rattle.seam_law_calls.specs.Prelude.{Frame}
+use Rattle.seam_law_ghosts.specs.Prelude.{GoesThroughRound}
+use Rattle.seam_law_all.specs.Prelude.{KeepsRecords, MayBeGiven}
+use Rattle.seam_law_bounds.specs.Prelude.{IsBounded, entities, all_witnesses, cell_orders, base_orders, tick_orders, events_of_round}
+use Rattle.seam_law_bounds.specs.Prelude.{events_of_looks}
 use Rattle.seam_rule_clients.specs.Clients.{ClientReplica}
-use Rattle.seam_law_all.specs.Records.{KeepsRecords, MayBeGiven}
-use Rattle.seam_law_bounds.specs.Records.{IsBounded}
-use Rattle.seam_law_bounds.specs.Phases.{entities, all_witnesses, cell_orders, base_orders, tick_orders, events_of_round, events_of_looks}
 use Rattle.seam_core.specs.Worlds.{Leads}
 use Rattle.seam_watch.specs.declared.journal.Journal.{Journal}
 

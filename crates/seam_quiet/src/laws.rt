@@ -1,10 +1,9 @@
 //! What a round asks can be met.
 
-ghost use Rattle.seam_law_rounds.specs.FirstBatchExample.{opening};
+ghost use Rattle.seam_node_steps.specs.Prelude.{standard, empty_world};
+ghost use Rattle.seam_law_rounds.specs.Prelude.{opening};
 ghost use Rattle.seam_law_clients.specs.Crossing as crossing;
-ghost use Rattle.seam_defs.specs.Settings.{standard};
 ghost use Rattle.seam_rule_clients.specs.Clients.{new_client};
-ghost use Rattle.seam_node_steps.specs.Rows.{empty_world};
 ghost use Rattle.seam_quiet.specs.RoundRuns.{MayRun};
 
 /// An opened world, whose clients show nothing, may run the round of a batch that creates two witnesses and an entity that crosses the

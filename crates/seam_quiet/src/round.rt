@@ -1,18 +1,15 @@
 //! A round, phase by phase.
 
 ghost use Rattle.std.specs.Prelude.{◌≡◌, ℕ, [], IfOk, OnErr};
-ghost use Rattle.seam_machine.specs.Nets.{IsQuiet, ArePeers, LeadsTo};
-ghost use Rattle.seam_machine.specs.declared.machines.Event.{Event as AnyEvent};
+ghost use Rattle.seam_node_steps.specs.Prelude.{IsQuiet, ArePeers, LeadsTo, Event as AnyEvent, World as AnyWorld, node_steps};
+ghost use Rattle.seam_node_steps.specs.Prelude.{node_has_work, node_peers, loaded};
+ghost use Rattle.seam_law_calls.specs.Prelude.{Frame};
+ghost use Rattle.seam_law_rounds.specs.Prelude.{framed, AreReapable};
+ghost use Rattle.seam_law_clients.specs.Prelude.{clients_loaded, clients_shown};
+ghost use Rattle.seam_law_all.specs.Prelude.{KeepsRecords};
+ghost use Rattle.seam_law_bounds.specs.Prelude.{IsBounded};
 ghost use Rattle.seam_net_runs.specs.Finishing.{EndsWithin};
-ghost use Rattle.seam_node_steps.specs.Nodes.{World as AnyWorld, node_steps, node_has_work, node_peers};
-ghost use Rattle.seam_node_steps.specs.Loads.{loaded};
-ghost use Rattle.seam_law_calls.specs.Frames.{Frame};
-ghost use Rattle.seam_law_rounds.specs.Between.{framed};
-ghost use Rattle.seam_law_rounds.specs.LastPhases.{AreReapable};
 ghost use Rattle.seam_rule_clients.specs.Clients.{ClientReplica};
-ghost use Rattle.seam_law_clients.specs.Clients.{clients_loaded, clients_shown};
-ghost use Rattle.seam_law_all.specs.Records.{KeepsRecords};
-ghost use Rattle.seam_law_bounds.specs.Records.{IsBounded};
 ghost use Rattle.seam_core.specs.Worlds.{Leads};
 ghost use Rattle.seam_core.specs.Loads.{MayLoad};
 ghost use Rattle.seam_quiet.specs.RoundRuns.{MayRun, StandsFor, BeginsPhase, IsWithinTable};

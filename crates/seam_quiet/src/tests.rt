@@ -1,8 +1,7 @@
 //! The worked round of two witnesses and an entity that crosses the boundary between them (`seam_law_clients`), run.
 
 ghost use Rattle.std.specs.Prelude.{◌≡◌, IfOk};
-ghost use Rattle.seam_node_steps.specs.EarlyCall.{two_cells as halves};
-ghost use Rattle.seam_node_steps.specs.ViewRounds.{made_at};
+ghost use Rattle.seam_node_steps.specs.Prelude.{two_cells as halves, made_at};
 ghost use Rattle.seam_law_clients.specs.Crossing as crossing;
 
 use crate::{Workers, a_worked_round_may_run, run_round};

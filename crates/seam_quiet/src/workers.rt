@@ -1,8 +1,7 @@
 //! Who lets the events of a round happen.
 
 ghost use Rattle.std.specs.Prelude.{◌≡◌, ◌≤◌, IfOk};
-ghost use Rattle.seam_machine.specs.Nets.{ArePeers, LeadsTo};
-ghost use Rattle.seam_node_steps.specs.Nodes.{node_steps, node_has_work, node_peers};
+ghost use Rattle.seam_node_steps.specs.Prelude.{ArePeers, LeadsTo, node_steps, node_has_work, node_peers};
 
 use seam_core::Node;
 use seam_machine::{Event, Net};

@@ -7,9 +7,8 @@ use Rattle.std.specs.List.{flat_map, zip, range_with_len}
 use Rattle.std.proofs.lemmas.Bool.Decides.{nat_tests}
 use Rattle.std.proofs.lemmas.Grind.{flat_map-append}
 use Rattle.seam_tree.specs.declared.boundary.Boundary.{Boundary}
-use Rattle.seam_tree.specs.declared.cut.Cut.{Cut}
-use Rattle.seam_tree.specs.Division.{Division, cut_number, boundary_of}
-use Rattle.seam_rule_rounds.specs.Texts.{bound_text}
+use Rattle.seam_rule_rounds.specs.Prelude.{Cut, Division, cut_number, bound_text}
+use Rattle.seam_tree.specs.Division.{boundary_of}
 
 module _ {X : Type 0} where
   beside_none : (ks : List ℕ) → zip ks (let xs : List X = [] in xs) ≡ []

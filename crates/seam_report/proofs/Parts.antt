@@ -1,9 +1,6 @@
 -- The text of a round with its steps, in three parts.
 use Rattle.std.proofs.Common.{◌≡◌, ◌++◌, ◌∙◌, List, ℕ, ap, append_assoc, codes}
-use Rattle.seam_defs.specs.declared.types.TypeDef.{TypeDef}
-use Rattle.seam_rule_lines.specs.Texts.{number_text}
-use Rattle.seam_rule_rounds.specs.Lines.{RoundData}
-use Rattle.seam_rule_rounds.specs.Texts.{traced_text}
+use Rattle.seam_rule_rounds.specs.Prelude.{TypeDef, number_text, RoundData, traced_text}
 use Rattle.seam_report.specs.RoundParts.{lines_text}
 
 -- ten texts after another one

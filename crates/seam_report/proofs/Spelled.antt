@@ -7,12 +7,9 @@ use Rattle.std.proofs.Math.Seq.{drop-append_seam}
 use Rattle.std.proofs.lemmas.Option.{same_Some, none-some}
 use Rattle.std.proofs.lemmas.Bool.Decides.{nat_tests}
 use Rattle.indexmap.specs.IndexMap.{insert_entry}
-use Rattle.seam_defs.specs.declared.types.TypeDef.{TypeDef}
-use Rattle.seam_call.specs.declared.shown.GhostCopy.{GhostCopy}
+use Rattle.seam_rule_rounds.specs.Prelude.{TypeDef, GhostCopy, Own, Enter, Set, Leave, ClientText}
 use Rattle.seam_report.specs.declared.spellings.Spelling.{Spelling}
 use Rattle.seam_report.specs.Spelled.{IsSpelling, Versions, IsOf, ShowsOf, enter_text, copy_text}
-use Rattle.seam_call.specs.declared.shown.Shown.TheVariants.{Own, Enter, Set, Leave}
-use Rattle.seam_call.specs.declared.shown.ClientText.{ClientText}
 use Rattle.seam_call.specs.declared.shown.ClientText.TheVariants as client
 
 same_number : (q k : ℕ) → nat_eq q k ≡ true → q ≡ k

@@ -1,10 +1,8 @@
 -- Parts of the text of a round.
 use Rattle.std.specs.Prelude.{ℕ, List, ◌++◌, codes}
 use Rattle.std.specs.List.{flat_map}
-use Rattle.seam_defs.specs.declared.types.TypeDef.{TypeDef}
-use Rattle.seam_rule_lines.specs.Texts.{number_text, done_text, home_text, base_text}
-use Rattle.seam_rule_rounds.specs.Lines.{RoundData}
-use Rattle.seam_rule_rounds.specs.Texts.{ghost_text, client_text, bounds_text}
+use Rattle.seam_rule_rounds.specs.Prelude.{TypeDef, number_text, done_text, home_text, base_text, RoundData, ghost_text, client_text}
+use Rattle.seam_rule_rounds.specs.Prelude.{bounds_text}
 
 -- all lines but the first
 abbrev pub lines_text : List TypeDef → RoundData → List ℕ

@@ -1,15 +1,9 @@
 -- Texts of copies that were spelled.
 use Rattle.std.specs.Prelude.{◌≡◌, ℕ, List, [], ◌∷◌, ◌++◌, codes, length, Option, Some}
 use Rattle.std.specs.List.{AllByRecursion}
-use Rattle.seam_defs.specs.Types.{type_of}
-use Rattle.seam_defs.specs.declared.types.TypeDef.{TypeDef}
+use Rattle.seam_rule_rounds.specs.Prelude.{type_of, TypeDef, GhostCopy, Own, Enter, Set, Leave, ClientText, field, state_text}
 use Rattle.seam_defs.specs.declared.flags.Group.TheVariants as group
-use Rattle.seam_call.specs.declared.shown.GhostCopy.{GhostCopy}
-use Rattle.seam_call.specs.declared.shown.Shown.TheVariants.{Own, Enter, Set, Leave}
-use Rattle.seam_call.specs.declared.shown.ClientText.{ClientText}
 use Rattle.seam_call.specs.declared.shown.ClientText.TheVariants as text
-use Rattle.seam_rule_lines.specs.Texts.{field}
-use Rattle.seam_rule_rounds.specs.Texts.{state_text}
 use Rattle.seam_report.specs.declared.spellings.Spelling.{Spelling}
 
 -- the version of a copy, and its state

@@ -1,8 +1,6 @@
 // The boundaries of a tree.
 ghost use Rattle.std.specs.Prelude.{◌≡◌, ◌++◌, ◌∷◌, Some, OnOk};
-ghost use Rattle.seam_tree.specs.declared.cut.Cut.{Cut as AnyCut};
-ghost use Rattle.seam_rule_lines.specs.Language.{axis_text};
-ghost use Rattle.seam_rule_rounds.specs.Texts.{bound_text, bounds_text};
+ghost use Rattle.seam_rule_rounds.specs.Prelude.{Cut as AnyCut, axis_text, bound_text, bounds_text};
 
 use crate::values::push_field;
 use seam_tree::{Axis, Boundary, Tree};

@@ -1,7 +1,6 @@
 // The lines of rounds.
 ghost use Rattle.std.specs.Prelude.{◌≡◌, ◌++◌, OnOk};
-ghost use Rattle.seam_rule_lines.specs.Texts.{field, number_text, done_text, home_text, base_text};
-ghost use Rattle.seam_rule_rounds.specs.Texts.{ghost_text};
+ghost use Rattle.seam_rule_rounds.specs.Prelude.{field, number_text, done_text, home_text, base_text, ghost_text};
 
 use crate::values::{LONGEST_FIELD, push_deed, push_field, push_sender, write_field};
 use seam_call::Call;

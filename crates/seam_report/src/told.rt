@@ -1,11 +1,8 @@
 // The lines of clients.
 ghost use Rattle.std.specs.Prelude.{◌≡◌, ◌++◌, ◌∷◌, [], OnOk, codes};
-ghost use Rattle.seam_value.specs.Values.{decimal_of};
+ghost use Rattle.seam_rule_rounds.specs.Prelude.{decimal_of, values_text, field, state_text, client_text};
 ghost use Rattle.seam_call.specs.declared.shown.ClientText.TheVariants as client;
-ghost use Rattle.seam_defs.specs.Deeds.{values_text};
 ghost use Rattle.seam_defs.specs.declared.flags.Group.TheVariants as group;
-ghost use Rattle.seam_rule_lines.specs.Texts.{field};
-ghost use Rattle.seam_rule_rounds.specs.Texts.{state_text, client_text};
 ghost use Rattle.seam_report.specs.Spelled.{Versions, GoesBy, ShowsOf, copy_text};
 
 use crate::spellings::Spellings;

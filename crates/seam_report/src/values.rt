@@ -1,10 +1,9 @@
 // Numbers, senders and deeds.
 ghost use Rattle.std.specs.Prelude.{◌≡◌, ◌≤◌, ◌+◌, ◌++◌, ◌∷◌, length, drop, OnOk};
 ghost use Rattle.std.specs.List.{flat_map};
-ghost use Rattle.seam_value.specs.Values.{text_of};
+ghost use Rattle.seam_rule_rounds.specs.Prelude.{text_of, sender_text, field};
 ghost use Rattle.seam_defs.specs.Types.{method_of};
-ghost use Rattle.seam_rule_lines.specs.Language.{sender_text};
-ghost use Rattle.seam_rule_lines.specs.Texts.{field, deed_text};
+ghost use Rattle.seam_rule_lines.specs.Texts.{deed_text};
 
 use itoa::write_digits;
 use seam_call::Sender;

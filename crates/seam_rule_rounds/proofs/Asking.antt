@@ -4,21 +4,19 @@ use Rattle.std.specs.Prelude.{All, codes, nat_lt}
 use Rattle.std.specs.List.{list_all, AllByRecursion}
 use Rattle.std.specs.Str.Lines.{strip_carriage_return}
 use Rattle.std.proofs.lemmas.List.Elements.{All-cons}
-use Rattle.seam_io.specs.Lines.{Line, Content, Long, lines_of, line_of}
+use Rattle.seam_rule_rounds.specs.Prelude.{Line, Content, Long, lines_of, decimal_of, Sender, Word, sender_text, Spells, CallIsFrom}
+use Rattle.seam_rule_rounds.specs.Prelude.{AsksForNeither}
+use Rattle.seam_io.specs.Lines.{line_of}
 use Rattle.seam_io.specs.declared.lines.TheConstants.{LONGEST_LINE}
 use Rattle.seam_io.proofs.LineLemmas.{lines_of-fed}
 use Rattle.seam_value.specs.NumberWords.{SpellsPositive}
-use Rattle.seam_value.specs.Values.{decimal_of}
 use Rattle.seam_value.proofs.Decimals.{decimal_of-injective}
 use Rattle.seam_words.specs.Texts.{HasWords}
 use Rattle.seam_words.specs.declared.words.TheConstants.{MOST_WORDS}
 use Rattle.seam_words.proofs.WordTexts.{words_are_one_list}
-use Rattle.seam_call.specs.declared.sender.Sender.{Sender}
 use Rattle.seam_rule_lines.specs.Language as language
-use Rattle.seam_rule_lines.specs.Language.{Word, words_of, sender_text}
-use Rattle.seam_rule_lines.specs.Judging.{Spells}
-use Rattle.seam_rule_lines.specs.Senders.{AsksFor, CallIsFrom}
-use Rattle.seam_rule_rounds.specs.Summary.{AsksForNeither}
+use Rattle.seam_rule_lines.specs.Language.{words_of}
+use Rattle.seam_rule_lines.specs.Senders.{AsksFor}
 use Rattle.seam_rule_rounds.proofs.Plain.{is_seen, IsClearWord, after_first, has_no_feed, stays_whole, all_seen, has_words}
 
 -- words that differ in a byte

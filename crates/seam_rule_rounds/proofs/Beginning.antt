@@ -5,12 +5,11 @@ use Rattle.std.specs.Prelude.{codes, ◌==◌}
 use Rattle.std.specs.List.{flat_map, range_with_len}
 use Rattle.std.proofs.lemmas.Fmt.{length-decimal-le}
 use Rattle.std.proofs.lemmas.List.Elements.{All-nil}
-use Rattle.seam_io.specs.Lines.{Line, Content, lines_of}
+use Rattle.seam_rule_rounds.specs.Prelude.{Line, Content, lines_of, text_of_storm, lines_text, drawn_line, sync_after, seed_after, sender}
+use Rattle.seam_rule_rounds.specs.Prelude.{move_line, call_line, method_of, is_move, draw, next_seed, entity, kind, cuts, create_line}
+use Rattle.seam_rule_rounds.specs.Prelude.{client_line, raster, Header, BeginWithHeader, separator}
 use Rattle.seam_io.proofs.LineLemmas.{lines_of-fed, line_of-short, no_feed_append, no_feed_one}
-use Rattle.seam_storm.specs.Storm.{text_of_storm, opening, lines_text, drawn_line, sync_after, seed_after, field, sender, move_line, call_line, method_of, is_move}
-use Rattle.seam_storm.specs.Storm.{draw, next_seed, entity, kind, cuts, create_line, client_line, raster}
-use Rattle.seam_toml.specs.declared.header.Header.{Header}
-use Rattle.seam_rule_lines.specs.Header.{BeginWithHeader, separator}
+use Rattle.seam_storm.specs.Storm.{opening, field}
 use Rattle.seam_toml.proofs.EmptyHeader.{plain_header, nothing_is_read}
 
 -- the text after the header

@@ -5,18 +5,12 @@ use Rattle.std.specs.Prelude.{pos, ◌==◌}
 use Rattle.std.specs.FinSet as set
 use Rattle.std.proofs.lemmas.Option.{same_Some, none-some}
 use Rattle.std.proofs.lemmas.Bool.{true≢false}
-use Rattle.seam_value.specs.declared.values.Value.{Value}
-use Rattle.seam_value.specs.declared.values.Value.TheVariants.{Number}
-use Rattle.seam_tree.specs.Inverse.{contains_insert_nat}
+use Rattle.seam_rule_rounds.specs.Prelude.{Value, Number, contains_insert_nat, value_at, Create, GhostCopy, in_first_cell, version_of}
+use Rattle.seam_rule_rounds.specs.Prelude.{public_at, other_at, IsOther, header, halves, second, begun, ended, settled_at, with_ghost}
+use Rattle.seam_rule_rounds.specs.Prelude.{copy_of_second}
 use Rattle.seam_haunt.proofs.Chosen.{haunts_of_each}
-use Rattle.seam_defs.specs.Deeds.{value_at}
-use Rattle.seam_call.specs.declared.create.Create.{Create}
-use Rattle.seam_call.specs.declared.shown.GhostCopy.{GhostCopy}
-use Rattle.seam_rule_rounds.specs.Standing.{in_first_cell}
 use Rattle.seam_defs.specs.declared.flags.Part.TheVariants as part
-use Rattle.seam_rule_rounds.specs.FlatTable.{version_of, public_at, other_at}
-use Rattle.seam_rule_rounds.specs.Clients.{IsOther}
-use Rattle.seam_rule_rounds.specs.TwoChests.{header, halves, at, second, begun, ended, settled_at, with_ghost, copy_of_second}
+use Rattle.seam_rule_rounds.specs.TwoChests.{at}
 use Rattle.seam_rule_rounds.proofs.TwoChestsLegal.{is_in, not_in}
 
 -- ---- ghosts

@@ -3,30 +3,18 @@ use Rattle.std.proofs.Common.{◌≡◌, ◌++◌, ◌||◌, ℕ, Bool, true, fa
 use Rattle.std.specs.Prelude.{All, MatchBool, ◌==◌}
 use Rattle.std.specs.List.{list_any}
 use Rattle.std.proofs.lemmas.List.Elements.{All-nil, All-head, All-tail}
-use Rattle.seam_io.specs.Lines.{Line}
-use Rattle.seam_haunt.specs.Places.{Place}
-use Rattle.seam_call.specs.declared.sender.Sender.{Sender}
+use Rattle.seam_rule_rounds.specs.Prelude.{Line, Place, Sender, Header, BeginWithHeader, separator, Book, calls_of, entries, open_lines}
+use Rattle.seam_rule_rounds.specs.Prelude.{has_tick, has_balance, is_tick, is_balance, with_entry, with_round_ended, Adds, Spells, Judges}
+use Rattle.seam_rule_rounds.specs.Prelude.{Run, AcceptedAreFrom, CallIsFrom, MOST_LINES, Entry, Verdict, Standing, after_header, with_line}
+use Rattle.seam_rule_rounds.specs.Prelude.{with_book, Piece, EndsRound, Follows, Step, EndsInput, PrintAll, Sums, all_sums, AsksForNeither}
 use Rattle.seam_defs.specs.Types.{AreDefs}
-use Rattle.seam_toml.specs.declared.header.Header.{Header}
 use Rattle.seam_toml.proofs.HeaderLaws.{reads_defs}
 use Rattle.seam_rule_lines.specs.Language as language
-use Rattle.seam_rule_lines.specs.Header.{BeginWithHeader, separator}
-use Rattle.seam_rule_lines.specs.Book.{Book, calls_of, entries, open_lines, has_tick, has_balance, is_tick, is_balance, with_entry}
-use Rattle.seam_rule_lines.specs.Book.{with_round_ended}
-use Rattle.seam_rule_lines.specs.Judging.{Adds, Spells, Judges}
-use Rattle.seam_rule_lines.specs.Run.{Run}
-use Rattle.seam_rule_lines.specs.Senders.{AreFrom, AcceptedAreFrom, CallIsFrom, IsFrom}
-use Rattle.seam_rule_lines.specs.declared.limits.TheConstants.{MOST_LINES}
-use Rattle.seam_rule_lines.specs.declared.verdict.Entry.{Entry}
-use Rattle.seam_rule_lines.specs.declared.verdict.Verdict.{Verdict}
+use Rattle.seam_rule_lines.specs.Senders.{AreFrom, IsFrom}
 use Rattle.seam_rule_lines.specs.declared.verdict.Verdict.TheVariants as verdict
 use Rattle.seam_rule_lines.proofs.HeaderLemmas.{header_is_one}
 use Rattle.seam_rule_lines.proofs.OneSender.{accepted_is_own}
 use Rattle.seam_rule_lines.proofs.Verdicts.{verdict_is_one_of}
-use Rattle.seam_rule_rounds.specs.Standing.{Standing, after_header, with_line, with_book}
-use Rattle.seam_rule_rounds.specs.Transcript.{Piece, EndsRound, Follows, Step, EndsInput, PrintAll}
-use Rattle.seam_rule_rounds.specs.declared.totals.Sums.{Sums}
-use Rattle.seam_rule_rounds.specs.Summary.{all_sums, AsksForNeither}
 use Rattle.seam_rule_rounds.proofs.Pieces.{sums_of_append}
 use Rattle.seam_rule_rounds.proofs.Moved.{held_at}
 use Rattle.seam_rule_rounds.proofs.SameRounds.{same_sums, book_left, left_same}

@@ -3,18 +3,12 @@ use Rattle.std.proofs.Common.{◌≡◌, [], ◌∷◌, Some, refl, inl, inr, ar
 use Rattle.std.specs.Prelude.{codes}
 use Rattle.std.proofs.lemmas.Bool.{false≢true}
 use Rattle.seam_value.specs.Values.{decimal_of}
-use Rattle.seam_tree.specs.declared.tree.CutError.TheVariants.{TooManyCells}
-use Rattle.seam_tree.specs.declared.tree.ShiftError.TheVariants.{WouldEmpty}
-use Rattle.seam_defs.specs.Builtin.{builtin}
+use Rattle.seam_rule_rounds.specs.Prelude.{TooManyCells, WouldEmpty, builtin, Own, Enter, Set, Leave, MayCall, refusal, CutRefused}
+use Rattle.seam_rule_rounds.specs.Prelude.{ShiftRefused, client_text, bounds_text, halves, to_avatar, numbers, avatar_2, own_avatar, mark}
+use Rattle.seam_rule_rounds.specs.Prelude.{pay, promote}
 use Rattle.seam_defs.specs.declared.flags.Part.TheVariants as part
 use Rattle.seam_call.specs.declared.sender.Sender.TheVariants as sender
-use Rattle.seam_call.specs.declared.shown.Shown.TheVariants.{Own, Enter, Set, Leave}
 use Rattle.seam_call.specs.declared.shown.ClientText.TheVariants as text
-use Rattle.seam_rule_lines.specs.Judging.{MayCall}
-use Rattle.seam_rule_lines.specs.Texts.{refusal}
-use Rattle.seam_rule_lines.specs.declared.verdict.Cause.TheVariants.{CutRefused, ShiftRefused}
-use Rattle.seam_rule_rounds.specs.Texts.{client_text, bounds_text}
-use Rattle.seam_rule_rounds.specs.TwoChests.{halves, to_avatar, numbers, avatar_2, own_avatar, mark, pay, promote}
 
 pub own_text : client_text builtin (to_avatar 1 (text.Shown (Own 0 own_avatar))) ≡ codes "to 1 1 own 0 7 8 hp=100 mana=50 xp=0\n"
 unfolding decimal_of

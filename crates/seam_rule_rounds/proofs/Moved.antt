@@ -3,21 +3,10 @@
 use Rattle.std.proofs.Common.{◌≡◌, ℕ, Bool, true, false, List, [], ◌∷◌, map, None, ◌∙◌, ap, subst}
 use Rattle.std.specs.Prelude.{MatchBool, All}
 use Rattle.std.specs.List.{AllByRecursion, flat_map}
-use Rattle.seam_haunt.specs.Places.{Place}
-use Rattle.seam_call.specs.declared.create.Create.{Create}
-use Rattle.seam_call.specs.declared.shown.GhostCopy.{GhostCopy}
-use Rattle.seam_call.specs.declared.shown.Shown.{Shown}
-use Rattle.seam_call.specs.declared.shown.Shown.TheVariants.{Own, Enter, Set, Leave}
-use Rattle.seam_toml.specs.declared.header.Header.{Header}
-use Rattle.seam_rule_lines.specs.Orders.{Orders}
-use Rattle.seam_rule_lines.specs.Book.{live_as, tree_of, has_balance, with_round_ended}
+use Rattle.seam_rule_rounds.specs.Prelude.{Place, Create, GhostCopy, Shown, Own, Enter, Set, Leave, Header, Orders, live_as, tree_of}
+use Rattle.seam_rule_rounds.specs.Prelude.{has_balance, with_round_ended, ShowsTruth, Standing, HasPlace, RoundData, IsOther, truth_of}
+use Rattle.seam_rule_rounds.specs.Prelude.{ShowsClient, HasShown, HasLooked, home_line, ghost_lines, IsRound}
 use Rattle.seam_rule_lines.proofs.Lists.{listed_is_one}
-use Rattle.seam_rule_clients.specs.Lines.{ShowsTruth}
-use Rattle.seam_rule_rounds.specs.Standing.{Standing}
-use Rattle.seam_rule_rounds.specs.RoundPlaces.{HasPlace}
-use Rattle.seam_rule_rounds.specs.Lines.{RoundData}
-use Rattle.seam_rule_rounds.specs.Clients.{IsOther, truth_of, ShowsClient, HasShown, HasLooked}
-use Rattle.seam_rule_rounds.specs.Round.{home_line, ghost_lines, IsRound}
 
 -- the standing with entities held elsewhere
 abbrev pub held_at : Standing → (ℕ → Place) → Standing

@@ -6,14 +6,8 @@ use Rattle.std.proofs.lemmas.Bool.Decides.{nat_tests}
 use Rattle.std.specs.List.{last_or, range_with_len}
 use Rattle.std.proofs.lemmas.List.Elements.{filter-append}
 use Rattle.seam_defs.specs.declared.flags.Part.TheVariants as part
-use Rattle.seam_call.specs.declared.call.Call.{Call}
-use Rattle.seam_call.specs.declared.create.Create.{Create}
-use Rattle.seam_toml.specs.declared.header.Header.{Header}
-use Rattle.seam_rule_lines.specs.Orders.{Orders}
-use Rattle.seam_rule_lines.specs.Round.{Lists}
+use Rattle.seam_rule_rounds.specs.Prelude.{Call, Create, Header, Orders, Lists, Book, live_as, has_changed_at, public_at, rows_of}
 use Rattle.seam_rule_lines.proofs.Lists.{listed_is_one}
-use Rattle.seam_rule_lines.specs.Book.{Book, live_as}
-use Rattle.seam_rule_rounds.specs.FlatTable.{has_changed_at, public_at, rows_of}
 
 -- a number is at most another one that is not below it
 pub at_most_unless : (m n : ℕ) → (n < m → ⊥) → m ≤ n

@@ -3,24 +3,13 @@ use Rattle.std.proofs.Common.{◌≡◌, ℕ, false, List, [], ◌∷◌, length
 use Rattle.std.specs.Prelude.{ℤ, pos, ◌+ℤ◌, fold}
 use Rattle.std.proofs.Math.Path.{fun_ext}
 use Rattle.std.proofs.lemmas.List.{append_cancel_left, length-map}
-use Rattle.seam_haunt.specs.Places.{Place}
-use Rattle.seam_defs.specs.declared.flags.Part.{Part}
+use Rattle.seam_rule_rounds.specs.Prelude.{Place, Part, Sender, Call, Create, Header, Orders, Book, live_as, created_as, has_tick}
+use Rattle.seam_rule_rounds.specs.Prelude.{has_balance, with_round_ended, DoneLine, HomeLine, done_lines, ExtendsOrders, AcceptedAreFrom}
+use Rattle.seam_rule_rounds.specs.Prelude.{Standing, ClientLine, RoundData, lines_to, told_in, home_line, IsRound, hp_of, sums_of}
 use Rattle.seam_defs.specs.declared.flags.Part.TheVariants as part
-use Rattle.seam_call.specs.declared.sender.Sender.{Sender}
-use Rattle.seam_call.specs.declared.call.Call.{Call}
-use Rattle.seam_call.specs.declared.create.Create.{Create}
-use Rattle.seam_toml.specs.declared.header.Header.{Header}
-use Rattle.seam_rule_lines.specs.Orders.{Orders}
-use Rattle.seam_rule_lines.specs.Book.{Book, live_as, created_as, has_tick, has_balance, with_round_ended}
-use Rattle.seam_rule_lines.specs.Round.{DoneLine, HomeLine, done_lines, ExtendsOrders}
-use Rattle.seam_rule_lines.specs.Senders.{AcceptedAreFrom}
 use Rattle.seam_rule_lines.proofs.Lists.{listed_is_one}
 use Rattle.seam_rule_lines.proofs.OneSender.{full_order_is_one}
-use Rattle.seam_rule_rounds.specs.Standing.{Standing}
-use Rattle.seam_rule_rounds.specs.Lines.{ClientLine, RoundData, lines_to, told_in}
-use Rattle.seam_rule_rounds.specs.Round.{home_line, IsRound}
 use Rattle.seam_rule_rounds.proofs.WithoutTick.{told_is_one}
-use Rattle.seam_rule_rounds.specs.Summary.{hp_of, sums_of}
 use Rattle.seam_rule_rounds.proofs.Counts.{same_length}
 use Rattle.seam_rule_rounds.proofs.Moved.{held_at, second, moved, round_moved, is_moved}
 

@@ -5,16 +5,8 @@ use Rattle.std.specs.Prelude.{nat_le}
 use Rattle.std.proofs.lemmas.Bool.{true≢false}
 use Rattle.std.proofs.lemmas.Bool.Decides.{nat_tests}
 use Rattle.seam_defs.specs.declared.flags.Part.TheVariants as part
-use Rattle.seam_call.specs.declared.call.Call.{Call}
-use Rattle.seam_call.specs.declared.create.Create.{Create}
-use Rattle.seam_call.specs.declared.shown.GhostCopy.{GhostCopy}
-use Rattle.seam_toml.specs.declared.header.Header.{Header}
-use Rattle.seam_rule_lines.specs.Book.{created_as}
-use Rattle.seam_rule_rounds.specs.FlatTable.{version_of, has_changed_at, public_at, other_at}
-use Rattle.seam_rule_rounds.specs.Standing.{Standing}
-use Rattle.seam_rule_rounds.specs.Clients.{IsOther, IsShownAt}
-use Rattle.seam_rule_rounds.specs.Lines.{RoundData}
-use Rattle.seam_rule_rounds.specs.Round.{IsRound}
+use Rattle.seam_rule_rounds.specs.Prelude.{Call, Create, GhostCopy, Header, created_as, version_of, has_changed_at, public_at, other_at}
+use Rattle.seam_rule_rounds.specs.Prelude.{Standing, IsOther, IsShownAt, RoundData, IsRound}
 use Rattle.seam_rule_rounds.proofs.Public.{at_most_unless, public_at_most, public_changed, public_last}
 
 module _ (h : Header) (c : Create) (order : List Call) where

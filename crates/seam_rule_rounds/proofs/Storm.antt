@@ -9,11 +9,10 @@ use Rattle.seam_io.proofs.LineLemmas.{lines_of-none}
 use Rattle.seam_value.specs.Values.{decimal_of}
 use Rattle.seam_value.specs.Numerals.{is_digit}
 use Rattle.seam_value.proofs.Decimals.{decimal_of_is, decimal_of_numeral}
-use Rattle.seam_call.specs.declared.sender.Sender.{Sender}
-use Rattle.seam_call.specs.declared.sender.Sender.TheVariants.{Base}
-use Rattle.seam_storm.specs.Storm.{text_of_storm, cuts, create_line, client_line, raster, entity, sender, field, move_line, call_line}
-use Rattle.seam_storm.specs.Storm.{is_move, draw, next_seed, drawn_line, seed_after, sync_after, lines_text, method_of, kind}
-use Rattle.seam_rule_lines.specs.Language.{Word, sender_text}
+use Rattle.seam_rule_rounds.specs.Prelude.{Sender, Base, text_of_storm, cuts, create_line, client_line, raster, entity, sender, move_line}
+use Rattle.seam_rule_rounds.specs.Prelude.{call_line, is_move, draw, next_seed, drawn_line, seed_after, sync_after, lines_text, method_of}
+use Rattle.seam_rule_rounds.specs.Prelude.{kind, Word, sender_text}
+use Rattle.seam_storm.specs.Storm.{field}
 use Rattle.seam_rule_rounds.proofs.Plain.{is_clear, IsClearWord, after_first, weaker}
 use Rattle.seam_rule_rounds.proofs.Asking.{differs, IsFine, AreFine, fine_call, fine_other, line_before}
 

@@ -10,26 +10,17 @@ use Rattle.std.proofs.lemmas.List.Elements.{All-cons, All-nil, All-from_recursio
 use Rattle.std.proofs.lemmas.List.Sorted.{IsNonDecreasingBy-from_default}
 use Rattle.std.proofs.lemmas.Option.{same_Some, none-some}
 use Rattle.std.proofs.lemmas.Bool.{eqb-true}
-use Rattle.seam_tree.specs.Cells.{Cells}
-use Rattle.seam_tree.specs.Inverse.{contains_insert_nat}
+use Rattle.seam_rule_rounds.specs.Prelude.{Cells, contains_insert_nat, Create, Lists, created_as, is_shown, HasPlace, ghost_cells}
+use Rattle.seam_rule_rounds.specs.Prelude.{ClientLine, one_look, rows_of, replica_of, ShowsClient, HasShown, HasLooked, texts_to}
+use Rattle.seam_rule_rounds.specs.Prelude.{base_texts, ghost_lines, IsRound, round_text, header, halves, second, begun, ended, round}
+use Rattle.seam_rule_rounds.specs.Prelude.{text_of_round}
 use Rattle.seam_defs.specs.declared.flags.Part.TheVariants as part
-use Rattle.seam_call.specs.declared.create.Create.{Create}
-use Rattle.seam_rule_lines.specs.Round.{Lists}
 use Rattle.seam_rule_lines.proofs.Lists.{contains_first, contains_later, contains_cases}
 use Rattle.seam_rule_lines.proofs.InOrderLemmas.{extends}
-use Rattle.seam_rule_lines.specs.Book.{created_as, is_shown}
-use Rattle.seam_rule_rounds.specs.RoundPlaces.{HasPlace, ghost_cells}
-use Rattle.seam_rule_rounds.specs.Lines.{ClientLine}
 use Rattle.seam_call.specs.declared.shown.ClientText.TheVariants as text
-use Rattle.seam_rule_clients.specs.Looks.{one_look}
-use Rattle.seam_rule_rounds.specs.FlatTable.{rows_of}
-use Rattle.seam_rule_rounds.specs.Standing.{replica_of}
-use Rattle.seam_rule_rounds.specs.Clients.{ShowsClient, HasShown, HasLooked, texts_to, base_texts}
-use Rattle.seam_rule_rounds.specs.Round.{ghost_lines, IsRound}
-use Rattle.seam_rule_rounds.specs.Texts.{round_text}
 use Rattle.seam_value.specs.Values.{decimal_of}
-use Rattle.seam_rule_rounds.specs.TwoChests.{header, halves, first, second, begun, own_line, other_line, ended, live, round}
-use Rattle.seam_rule_rounds.specs.TwoChests.{place_of, text_of_round}
+use Rattle.seam_rule_rounds.specs.TwoChests.{first, own_line, other_line, live}
+use Rattle.seam_rule_rounds.specs.TwoChests.{place_of}
 
 -- who is found among the two
 found : (c : Create) → cond (1 == c.entity) (Some first) (cond (2 == c.entity) (Some second) None) ≡ Some c → (first ≡ c) ⊎ (second ≡ c)

@@ -6,21 +6,12 @@ use Rattle.std.specs.Prelude.{◌==◌, filter, is_some, ◌&&◌, not}
 use Rattle.std.specs.List.{range_with_len, AllByRecursion, list_any}
 use Rattle.std.proofs.lemmas.List.{length-map}
 use Rattle.std.proofs.lemmas.List.Elements.{recursion_from_All}
-use Rattle.seam_call.specs.declared.create.Create.{Create}
+use Rattle.seam_rule_rounds.specs.Prelude.{Create, ClientText, Header, Orders, new_client, after_lines, Row, one_look, Book, entries}
+use Rattle.seam_rule_rounds.specs.Prelude.{creates_of, created_as, joins, was_dead, is_shown, has_tick, rows_of, Standing, replica_of}
+use Rattle.seam_rule_rounds.specs.Prelude.{ClientLine, RoundData, told_in, base_versions, base_shown, texts_to, base_texts, IsRound}
 use Rattle.seam_call.specs.declared.shown.Line.{Line}
-use Rattle.seam_call.specs.declared.shown.ClientText.{ClientText}
 use Rattle.seam_call.specs.declared.shown.ClientText.TheVariants as text
-use Rattle.seam_toml.specs.declared.header.Header.{Header}
-use Rattle.seam_rule_lines.specs.Orders.{Orders}
 use Rattle.seam_rule_lines.proofs.InOrderLemmas.{found_entity}
-use Rattle.seam_rule_clients.specs.Clients.{new_client, after_lines}
-use Rattle.seam_rule_clients.specs.Looks.{Row, one_look}
-use Rattle.seam_rule_lines.specs.Book.{Book, entries, creates_of, created_as, joins, was_dead, is_shown, has_tick}
-use Rattle.seam_rule_rounds.specs.FlatTable.{rows_of}
-use Rattle.seam_rule_rounds.specs.Standing.{Standing, replica_of}
-use Rattle.seam_rule_rounds.specs.Lines.{ClientLine, RoundData, told_in}
-use Rattle.seam_rule_rounds.specs.Clients.{base_versions, base_shown, texts_to, base_texts}
-use Rattle.seam_rule_rounds.specs.Round.{IsRound}
 use Rattle.seam_rule_rounds.proofs.Public.{one_table}
 
 -- lines with the same numbers and texts are the same

@@ -8,3 +8,4 @@ pub mod Texts
 pub mod Transcript
 pub mod TwoChests
 pub mod Summary
+pub mod Prelude

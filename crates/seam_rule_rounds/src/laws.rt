@@ -1,32 +1,18 @@
 // What the definitions say together, each law on a function that does nothing.
 ghost use Rattle.std.specs.Prelude.{◌≡◌, ◌⊎◌, ℕ, ◌<◌, ◌≤◌, IsTrue, IsFalse, List, [], ◌∷◌, Some, codes};
 ghost use Rattle.std.specs.FinSet as set;
-ghost use Rattle.seam_call.specs.declared.call.Call.{Call};
-ghost use Rattle.seam_call.specs.declared.create.Create.{Create};
-ghost use Rattle.seam_call.specs.declared.shown.GhostCopy.{GhostCopy};
+ghost use Rattle.seam_rule_rounds.specs.Prelude.{Call, Create, GhostCopy, Header, Orders, Book, live_as, has_client, is_shown, has_tick};
+ghost use Rattle.seam_rule_rounds.specs.Prelude.{MayCall, CutRefused, ShiftRefused, Lists, refusal, round_text, client_text, bounds_text};
+ghost use Rattle.seam_rule_rounds.specs.Prelude.{header, begun, round, ended, text_of_round, settled_at, with_ghost, copy_of_second};
+ghost use Rattle.seam_rule_rounds.specs.Prelude.{halves, to_avatar, numbers, avatar_2, own_avatar, mark, pay, promote, IsOther, IsShownAt};
+ghost use Rattle.seam_rule_rounds.specs.Prelude.{Own, Enter, Set, Leave, builtin, TooManyCells, WouldEmpty, has_changed_at, public_at};
+ghost use Rattle.seam_rule_rounds.specs.Prelude.{rows_of, Standing, in_first_cell, replica_of, RoundData, IsRound};
 ghost use Rattle.seam_defs.specs.declared.flags.Part.TheVariants as part;
-ghost use Rattle.seam_toml.specs.declared.header.Header.{Header};
-ghost use Rattle.seam_rule_lines.specs.Orders.{Orders};
-ghost use Rattle.seam_rule_lines.specs.Book.{Book, live_as, has_client, is_shown, has_tick};
-ghost use Rattle.seam_rule_lines.specs.Judging.{MayCall, MayMove};
-ghost use Rattle.seam_rule_lines.specs.declared.verdict.Cause.TheVariants.{CutRefused, ShiftRefused};
-ghost use Rattle.seam_rule_lines.specs.Round.{Lists};
-ghost use Rattle.seam_rule_lines.specs.Texts.{refusal};
-ghost use Rattle.seam_rule_rounds.specs.Texts.{round_text, client_text, bounds_text};
-ghost use Rattle.seam_rule_rounds.specs.TwoChests.{header, begun, round, ended, text_of_round};
-ghost use Rattle.seam_rule_rounds.specs.TwoChests.{settled_at, with_ghost, in_one_round, in_the_next, copy_of_second};
-ghost use Rattle.seam_rule_rounds.specs.TwoChests.{halves, to_avatar, numbers, avatar_2, own_avatar, hit, mark, pay, promote};
-ghost use Rattle.seam_rule_rounds.specs.Clients.{IsOther, IsShownAt};
+ghost use Rattle.seam_rule_lines.specs.Judging.{MayMove};
+ghost use Rattle.seam_rule_rounds.specs.TwoChests.{in_one_round, in_the_next};
+ghost use Rattle.seam_rule_rounds.specs.TwoChests.{hit};
 ghost use Rattle.seam_call.specs.declared.sender.Sender.TheVariants as sender;
-ghost use Rattle.seam_call.specs.declared.shown.Shown.TheVariants.{Own, Enter, Set, Leave};
 ghost use Rattle.seam_call.specs.declared.shown.ClientText.TheVariants as text;
-ghost use Rattle.seam_defs.specs.Builtin.{builtin};
-ghost use Rattle.seam_tree.specs.declared.tree.CutError.TheVariants.{TooManyCells};
-ghost use Rattle.seam_tree.specs.declared.tree.ShiftError.TheVariants.{WouldEmpty};
-ghost use Rattle.seam_rule_rounds.specs.FlatTable.{has_changed_at, public_at, rows_of};
-ghost use Rattle.seam_rule_rounds.specs.Standing.{Standing, in_first_cell, replica_of};
-ghost use Rattle.seam_rule_rounds.specs.Lines.{RoundData};
-ghost use Rattle.seam_rule_rounds.specs.Round.{IsRound};
 
 /// An entity's public version is the last one up to its version at which what ghosts hold of it changed, or 0.
 pub fn public_version_is_the_last_change()

@@ -1,12 +1,7 @@
 //! What the definitions say together, each law on a function that does nothing.
 ghost use Rattle.std.specs.Prelude.{◌≡◌, ℕ, All, List};
-ghost use Rattle.seam_io.specs.Lines.{Line, lines_of};
-ghost use Rattle.seam_call.specs.declared.sender.Sender.{Sender};
-ghost use Rattle.seam_storm.specs.Storm.{text_of_storm};
-ghost use Rattle.seam_rule_lines.specs.Senders.{CallIsFrom};
-ghost use Rattle.seam_toml.specs.declared.header.Header.{Header as Headers};
-ghost use Rattle.seam_rule_rounds.specs.Transcript.{Piece, PrintAll};
-ghost use Rattle.seam_rule_rounds.specs.Summary.{AsksForNeither, summary_text};
+ghost use Rattle.seam_rule_rounds.specs.Prelude.{Line, lines_of, Sender, text_of_storm, CallIsFrom, Header as Headers, Piece, PrintAll};
+ghost use Rattle.seam_rule_rounds.specs.Prelude.{AsksForNeither, summary_text};
 
 /// Where each entity has one sender that all its calls name, and no line asks for a tick or a balance, whatever is printed for an input has
 /// one summary: it tells nothing of the cells, and nothing of how the rounds were played.

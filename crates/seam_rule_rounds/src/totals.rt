@@ -1,9 +1,7 @@
 //! What is summed up of the rounds of a run.
 
 ghost use Rattle.std.specs.Prelude.{◌≡◌, ◌≤◌, ◌+◌, ◌^◌, ◌∷◌, ◌++◌, [], List, IfOk, OnOk, OnErr};
-ghost use Rattle.seam_rule_lines.specs.Texts.{field};
-ghost use Rattle.seam_rule_rounds.specs.Summary.{totals_of, totals_text};
-ghost use Rattle.seam_rule_rounds.specs.declared.totals.Sums.{Sums as SumsOf};
+ghost use Rattle.seam_rule_rounds.specs.Prelude.{field, totals_of, totals_text, Sums as SumsOf};
 
 use seam_value::{Value, push_number};
 use std::alloc::AllocError;

@@ -4,18 +4,12 @@ use Rattle.std.proofs.Common.{subst, arith}
 use Rattle.std.proofs.KnownBytes.{Appends-trans, Consumes-nil}
 use Rattle.std.specs.Prelude.{MatchOption, ◌⊎◌}
 use Rattle.std.specs.Io.KnownBytes.{Appends}
-use Rattle.seam_io.specs.Causes.{Rose}
-use Rattle.seam_io.specs.States.{SourceState, SinkState}
-use Rattle.seam_io.specs.Lines.{Line, whole_lines_of}
-use Rattle.seam_rule_rounds.specs.Summary.{totals_of}
-use Rattle.seam_rule_rounds.specs.declared.totals.Totals.{Totals}
+use Rattle.seam_rule_rounds.specs.Prelude.{Rose, SourceState, SinkState, Line, whole_lines_of, totals_of, Totals, Told, Journal}
 use Rattle.seam_world_rounds.specs.Transcripts.{IsOpen, IsEnded}
 use Rattle.seam_world_rounds.specs.Output.{text_output}
 use Rattle.seam_world_rounds.specs.declared.round.Output.TheVariants as output
 use Rattle.seam_world_run.specs.Storm.{StormEnds, TellsOfStorm, StormStopped}
 use Rattle.seam_world_ends.specs.Status.{IsRunEnd}
-use Rattle.seam_watch.specs.Watching.{Told}
-use Rattle.seam_watch.specs.declared.journal.Journal.{Journal}
 use Rattle.seam_watch.proofs.Told.{told_nothing}
 use Rattle.seam_world_ends.specs.Ends.{Tells, HasFaultLine, RunEnds, MayComplete, the_space}
 use Rattle.seam_world_run.specs.Histories.{OpenAs, EndedAs, Stopped}

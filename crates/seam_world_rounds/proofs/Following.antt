@@ -2,20 +2,10 @@
 use Rattle.std.proofs.Common.{◌≡◌, ◌≢◌, ℕ, ◌+◌, Bool, true, false, List, [], ◌∷◌, refl, sym, ◌∙◌, subst, arith, append-nil}
 use Rattle.std.specs.Prelude.{MatchBool, ◌==◌}
 use Rattle.std.proofs.lemmas.Grind.{common_steps}
-use Rattle.seam_io.specs.Lines.{Line}
-use Rattle.seam_watch.specs.declared.journal.Journal.{Journal}
-use Rattle.seam_defs.specs.declared.types.TypeDef.{TypeDef}
-use Rattle.seam_toml.specs.declared.header.Header.{Header}
-use Rattle.seam_rule_lines.specs.Book.{open_lines, with_entry}
-use Rattle.seam_rule_lines.specs.Judging.{Judges}
-use Rattle.seam_rule_lines.specs.Texts.{refusal}
-use Rattle.seam_rule_lines.specs.declared.verdict.Entry.{Entry}
-use Rattle.seam_rule_lines.specs.declared.verdict.Cause.{Cause}
+use Rattle.seam_node_steps.specs.Prelude.{TypeDef}
+use Rattle.seam_rule_rounds.specs.Prelude.{Line, Journal, Header, open_lines, with_entry, Judges, refusal, Entry, Cause, MOST_LINES}
+use Rattle.seam_rule_rounds.specs.Prelude.{Standing, with_line, with_book, RoundData, Piece, Refusal, Ended, played_text, EndsRound}
 use Rattle.seam_rule_lines.specs.declared.verdict.Verdict.TheVariants as verdict
-use Rattle.seam_rule_lines.specs.declared.limits.TheConstants.{MOST_LINES}
-use Rattle.seam_rule_rounds.specs.Standing.{Standing, with_line, with_book}
-use Rattle.seam_rule_rounds.specs.Lines.{RoundData}
-use Rattle.seam_rule_rounds.specs.Transcript.{Piece, Refusal, Ended, played_text, EndsRound}
 use Rattle.seam_world_rounds.specs.Output.{round_output, refusal_output, output_of}
 use Rattle.seam_world_rounds.specs.declared.round.Output.{Output}
 use Rattle.seam_world_rounds.specs.declared.round.Output.TheVariants as output

@@ -2,28 +2,15 @@
 use Rattle.std.proofs.lemmas.Option.{same_Some}
 use Rattle.std.proofs.Common.{◌≡◌, ℕ, ◌+◌, ◌<◌, Bool, true, false, List, [], ◌∷◌, Option, None, Some, map, refl, sym, ap, ◌∙◌, subst, arith}
 use Rattle.std.specs.Prelude.{IsTrue, IsFalse}
-use Rattle.seam_geo.specs.declared.pos.Pos.{Pos}
-use Rattle.seam_tree.specs.Division.{Division, IsTree}
-use Rattle.seam_watch.specs.declared.journal.Journal.{Journal}
-use Rattle.seam_balance.specs.Balance.{IsBalanced, HasSameCuts}
-use Rattle.seam_node_steps.specs.Nodes.{World}
-use Rattle.seam_toml.specs.declared.header.Header.{Header}
-use Rattle.seam_rule_lines.specs.Book.{Book, open_lines, has_balance, tree_of, with_round_ended, with_tree}
-use Rattle.seam_rule_lines.specs.declared.limits.TheConstants.{MOST_LINES}
+use Rattle.seam_node_steps.specs.Prelude.{Pos, Division, IsTree, World}
+use Rattle.seam_rule_rounds.specs.Prelude.{Journal, IsBalanced, HasSameCuts, Header, Book, open_lines, has_balance, tree_of}
+use Rattle.seam_rule_rounds.specs.Prelude.{with_round_ended, with_tree, MOST_LINES, RoundData, IsRound, with_bounds, Standing, Ended, Sums}
+use Rattle.seam_rule_rounds.specs.Prelude.{Totals}
+use Rattle.seam_law_book.specs.Prelude.{as_begun}
+use Rattle.seam_law_transcript.specs.Prelude.{IsPlayed, data_of, standing_of, GoesOn, HasOneReal, ClientsSeeAll}
 use Rattle.seam_accept.specs.Refines.{Refines as HoldsBook}
-use Rattle.seam_law_book.specs.Books.{as_begun}
-use Rattle.seam_rule_rounds.specs.Lines.{RoundData}
-use Rattle.seam_rule_rounds.specs.Round.{IsRound, with_bounds}
-use Rattle.seam_rule_rounds.specs.Standing.{Standing}
-use Rattle.seam_rule_rounds.specs.Transcript.{Ended}
-use Rattle.seam_rule_rounds.specs.declared.totals.Sums.{Sums}
-use Rattle.seam_rule_rounds.specs.declared.totals.Totals.{Totals}
 use Rattle.seam_accept.specs.Batches.{batch_of}
 use Rattle.seam_quiet.specs.RoundRuns.{IsWithinTable}
-use Rattle.seam_law_transcript.specs.Playing.{IsPlayed, data_of, standing_of}
-use Rattle.seam_law_transcript.specs.Course.{GoesOn}
-use Rattle.seam_law_transcript.specs.OneReal.{HasOneReal}
-use Rattle.seam_law_transcript.specs.Radius.{ClientsSeeAll}
 use Rattle.seam_world_text.specs.Residents.{AreResidents}
 use Rattle.seam_world_text.specs.declared.residents.Resident.{Resident}
 use Rattle.seam_world_rounds.specs.Transcripts.{Plays, HasSteps}

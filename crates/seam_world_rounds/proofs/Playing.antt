@@ -1,23 +1,11 @@
 -- A round that is being played: what it leaves, once its phases have ended.
 use Rattle.std.proofs.Common.{◌≡◌, ℕ, Bool, true, false, List, [], ◌++◌, sym, ap, subst, ◌∙◌, append_assoc, append-nil}
 use Rattle.std.specs.Prelude.{codes}
-use Rattle.seam_call.specs.declared.create.Create.{Create}
-use Rattle.seam_call.specs.declared.order.Batch.{Batch}
-use Rattle.seam_tree.specs.Division.{Division}
-use Rattle.seam_node_steps.specs.Nodes.{World}
-use Rattle.seam_watch.specs.declared.journal.Journal.{Journal}
-use Rattle.seam_defs.specs.declared.types.TypeDef.{TypeDef}
-use Rattle.seam_toml.specs.declared.header.Header.{Header}
-use Rattle.seam_rule_lines.specs.Book.{created_as, live_as}
-use Rattle.seam_rule_lines.specs.Round.{Lists}
+use Rattle.seam_node_steps.specs.Prelude.{Create, Batch, Division, World, TypeDef}
+use Rattle.seam_rule_rounds.specs.Prelude.{Journal, Header, created_as, live_as, Lists, number_text, Standing, RoundData, traced_text}
+use Rattle.seam_rule_rounds.specs.Prelude.{journal_text, played_text}
+use Rattle.seam_law_transcript.specs.Prelude.{StandsBeside, IsPlayed}
 use Rattle.seam_accept.specs.Batches.{batch_of}
-use Rattle.seam_rule_lines.specs.Texts.{number_text}
-use Rattle.seam_rule_rounds.specs.Standing.{Standing}
-use Rattle.seam_rule_rounds.specs.Lines.{RoundData}
-use Rattle.seam_rule_rounds.specs.Texts.{traced_text, journal_text}
-use Rattle.seam_rule_rounds.specs.Transcript.{played_text}
-use Rattle.seam_law_transcript.specs.Beside.{StandsBeside}
-use Rattle.seam_law_transcript.specs.Playing.{IsPlayed}
 use Rattle.seam_quiet.specs.RoundRuns.{StandsFor, IsWithinTable}
 use Rattle.seam_world_rounds.specs.Transcripts.{HasSteps}
 use Rattle.seam_world_rounds.specs.PlayedRound.{start_text}

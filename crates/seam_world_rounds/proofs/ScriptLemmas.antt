@@ -1,30 +1,18 @@
 -- What a script does to its standing.
 use Rattle.std.proofs.Common.{◌≡◌, ◌≢◌, ℕ, ◌+◌, ◌≤◌, List, [], ◌∷◌, Some, sym, ap, ◌∙◌, subst, arith, length-append}
 use Rattle.std.proofs.lemmas.Option.{same_Some}
-use Rattle.seam_io.specs.Lines.{Line}
-use Rattle.seam_tree.specs.Division.{Division}
-use Rattle.seam_call.specs.declared.order.Batch.{Batch}
-use Rattle.seam_node_steps.specs.Nodes.{World}
-use Rattle.seam_node_steps.specs.Loads.{opened}
-use Rattle.seam_toml.specs.declared.header.Header.{Header}
-use Rattle.seam_rule_lines.specs.Book.{open_lines, one_cell, with_entry, empty_book}
-use Rattle.seam_rule_lines.specs.Judging.{Judges}
-use Rattle.seam_rule_lines.specs.declared.verdict.Cause.{Cause}
-use Rattle.seam_rule_lines.specs.declared.verdict.Entry.{Entry}
+use Rattle.seam_node_steps.specs.Prelude.{Division, Batch, World, opened}
+use Rattle.seam_rule_rounds.specs.Prelude.{Line, Header, open_lines, one_cell, with_entry, empty_book, Judges, Cause, Entry, MOST_LINES}
+use Rattle.seam_rule_rounds.specs.Prelude.{Standing, after_header, with_line, with_book, replica_of}
+use Rattle.seam_law_all.specs.Prelude.{MayBeGiven}
+use Rattle.seam_law_book.specs.Prelude.{IsAccepted, as_begun, frame_of}
+use Rattle.seam_law_transcript.specs.Prelude.{StandsBeside, MayEnd, most_lines, GoesOn}
 use Rattle.seam_rule_lines.specs.declared.verdict.Verdict.TheVariants as verdict
-use Rattle.seam_rule_lines.specs.declared.limits.TheConstants.{MOST_LINES}
 use Rattle.seam_accept.specs.Refines.{Refines as HoldsBook, LineAccepted}
 use Rattle.seam_accept.specs.declared.answers.Accepted.{Accepted}
 use Rattle.seam_accept.specs.declared.answers.Accepted.TheVariants as answer
 use Rattle.seam_accept.specs.Batches.{batch_of}
-use Rattle.seam_law_book.specs.Books.{IsAccepted, as_begun}
-use Rattle.seam_law_all.specs.Records.{MayBeGiven}
-use Rattle.seam_rule_rounds.specs.Standing.{Standing, after_header, with_line, with_book, replica_of}
-use Rattle.seam_law_book.specs.Going.{frame_of}
-use Rattle.seam_law_transcript.specs.Beside.{StandsBeside}
 use Rattle.seam_quiet.specs.RoundRuns.{MayRun}
-use Rattle.seam_law_transcript.specs.Counts.{MayEnd, most_lines}
-use Rattle.seam_law_transcript.specs.Course.{GoesOn}
 use Rattle.seam_world_text.specs.Residents.{AreResidents}
 use Rattle.seam_world_text.specs.declared.residents.Resident.{Resident}
 use Rattle.seam_world_rounds.specs.PlayedRound.{HasPlayed}

@@ -1,9 +1,7 @@
 -- One world that plays rounds.
 use Rattle.std.proofs.Common.{◌≡◌, ℕ, List, [], ◌∷◌, ◌++◌, Option, Some, refl, ◌∙◌, subst}
-use Rattle.seam_node_steps.specs.Nodes.{World}
-use Rattle.seam_toml.specs.declared.header.Header.{Header}
-use Rattle.seam_rule_lines.specs.declared.verdict.Cause.{Cause}
-use Rattle.seam_rule_rounds.specs.Transcript.{Piece, Refusal, Ended}
+use Rattle.seam_node_steps.specs.Prelude.{World}
+use Rattle.seam_rule_rounds.specs.Prelude.{Header, Cause, Piece, Refusal, Ended}
 use Rattle.seam_world_rounds.specs.Transcripts.{PlayRounds}
 use Rattle.seam_world_rounds.specs.Script.{PlaysOn}
 

@@ -1,15 +1,8 @@
 -- What a program gives for a line, with the steps of a round that it ends, beside the standing of a transcript: `refines` says which
 -- standings the program holds after the pieces that it printed.
 use Rattle.std.specs.Prelude.{◌≡◌, ℕ, List, [], ◌∷◌}
-use Rattle.seam_io.specs.Lines.{Line}
-use Rattle.seam_watch.specs.declared.journal.Journal.{Journal}
-use Rattle.seam_toml.specs.declared.header.Header.{Header}
-use Rattle.seam_rule_lines.specs.Judging.{Judges}
-use Rattle.seam_rule_lines.specs.declared.verdict.Verdict.{Verdict}
-use Rattle.seam_rule_rounds.specs.Standing.{Standing}
-use Rattle.seam_rule_rounds.specs.Lines.{RoundData}
-use Rattle.seam_rule_rounds.specs.Round.{IsRound}
-use Rattle.seam_rule_rounds.specs.Transcript.{Piece, Ended, journals_of, Follows, Step, EndsInput}
+use Rattle.seam_rule_rounds.specs.Prelude.{Line, Journal, Header, Judges, Verdict, Standing, RoundData, IsRound, Piece, Ended, journals_of}
+use Rattle.seam_rule_rounds.specs.Prelude.{Follows, Step, EndsInput}
 use Rattle.seam_world_rounds.specs.Output.{round_output, output_of}
 use Rattle.seam_world_rounds.specs.declared.round.Output.{Output}
 

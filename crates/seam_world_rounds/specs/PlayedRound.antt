@@ -1,20 +1,11 @@
 -- A round that was played.
 use Rattle.std.specs.Prelude.{◌≡◌, ◌≢◌, ◌++◌, ℕ, Bool, true, false, List, Option, None, Some, codes, length, map, MatchBool}
-use Rattle.seam_geo.specs.declared.pos.Pos.{Pos}
-use Rattle.seam_tree.specs.Division.{Division, IsTree}
-use Rattle.seam_balance.specs.Balance.{IsBalanced, HasSameCuts}
-use Rattle.seam_node_steps.specs.Nodes.{World}
-use Rattle.seam_toml.specs.declared.header.Header.{Header}
-use Rattle.seam_rule_lines.specs.Book.{has_balance, tree_of, with_round_ended}
-use Rattle.seam_rule_rounds.specs.Standing.{Standing}
-use Rattle.seam_rule_lines.specs.Texts.{number_text}
-use Rattle.seam_rule_rounds.specs.Texts.{journal_text}
-use Rattle.seam_rule_rounds.specs.Lines.{RoundData}
-use Rattle.seam_watch.specs.declared.journal.Journal.{Journal}
+use Rattle.seam_node_steps.specs.Prelude.{Pos, Division, IsTree, World, TypeDef}
+use Rattle.seam_rule_rounds.specs.Prelude.{IsBalanced, HasSameCuts, Header, has_balance, tree_of, with_round_ended, Standing, number_text}
+use Rattle.seam_rule_rounds.specs.Prelude.{journal_text, RoundData, Journal}
+use Rattle.seam_law_transcript.specs.Prelude.{IsPlayed, data_of}
 use Rattle.seam_accept.specs.Batches.{batch_of}
 use Rattle.seam_quiet.specs.RoundRuns.{IsWithinTable}
-use Rattle.seam_law_transcript.specs.Playing.{IsPlayed, data_of}
-use Rattle.seam_defs.specs.declared.types.TypeDef.{TypeDef}
 use Rattle.seam_world_text.specs.Residents.{AreResidents}
 use Rattle.seam_world_text.specs.Texts.{calls_text}
 use Rattle.seam_world_text.specs.declared.residents.Resident.{Resident}

@@ -1,18 +1,11 @@
 -- How far a script was read, beside the standing of a transcript.
 use Rattle.std.specs.Prelude.{◌≡◌, ◌<◌, ◌≤◌, ◌+◌, List, Option, Some}
-use Rattle.seam_io.specs.Lines.{Line}
-use Rattle.seam_tree.specs.Division.{Division}
-use Rattle.seam_node_steps.specs.Nodes.{World}
-use Rattle.seam_toml.specs.declared.header.Header.{Header}
-use Rattle.seam_rule_lines.specs.Book.{open_lines}
-use Rattle.seam_rule_lines.specs.declared.limits.TheConstants.{MOST_LINES}
+use Rattle.seam_node_steps.specs.Prelude.{Division, World}
+use Rattle.seam_rule_rounds.specs.Prelude.{Line, Header, open_lines, MOST_LINES, Standing, Piece}
+use Rattle.seam_law_book.specs.Prelude.{as_begun}
+use Rattle.seam_law_transcript.specs.Prelude.{MayEnd, most_lines, GoesOn}
 use Rattle.seam_accept.specs.Refines.{Refines as HoldsBook, LineAccepted}
 use Rattle.seam_accept.specs.declared.answers.Accepted.{Accepted}
-use Rattle.seam_law_book.specs.Books.{as_begun}
-use Rattle.seam_rule_rounds.specs.Standing.{Standing}
-use Rattle.seam_rule_rounds.specs.Transcript.{Piece}
-use Rattle.seam_law_transcript.specs.Counts.{MayEnd, most_lines}
-use Rattle.seam_law_transcript.specs.Course.{GoesOn}
 use Rattle.seam_world_text.specs.Residents.{AreResidents}
 use Rattle.seam_world_rounds.specs.Transcripts.{PlayRounds}
 use Rattle.seam_world_rounds.specs.Output.{Counts}

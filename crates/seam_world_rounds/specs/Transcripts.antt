@@ -1,26 +1,15 @@
 -- What a transcript of the server is: each of its rounds is legal, and one world of cells printed them all, which played one after another
 -- with one real for each live entity at every step.
 use Rattle.std.specs.Prelude.{◌≡◌, ◌⊎◌, ℕ, Bool, List, [], ◌∷◌}
-use Rattle.seam_io.specs.Lines.{Line}
-use Rattle.seam_call.specs.declared.create.Create.{Create}
-use Rattle.seam_call.specs.declared.order.Batch.{Batch}
-use Rattle.seam_watch.specs.declared.journal.Journal.{Journal}
-use Rattle.seam_node_steps.specs.Nodes.{World}
-use Rattle.seam_node_steps.specs.Loads.{opened}
-use Rattle.seam_law_ghosts.specs.RealPlaces.{GoesThroughRound}
-use Rattle.seam_toml.specs.declared.header.Header.{Header}
-use Rattle.seam_rule_lines.specs.Header.{AwaitHeader}
-use Rattle.seam_rule_lines.specs.Book.{created_as, live_as}
-use Rattle.seam_rule_lines.specs.Round.{Lists}
+use Rattle.seam_node_steps.specs.Prelude.{Create, Batch, World, opened}
+use Rattle.seam_rule_rounds.specs.Prelude.{Line, Journal, Header, AwaitHeader, created_as, live_as, Lists, Standing, RoundData, Piece}
+use Rattle.seam_rule_rounds.specs.Prelude.{Refusal, Ended, PrintLines, PrintAll, journals_of}
+use Rattle.seam_law_ghosts.specs.Prelude.{GoesThroughRound}
+use Rattle.seam_law_book.specs.Prelude.{HasEnded}
+use Rattle.seam_law_transcript.specs.Prelude.{round_read, standing_read, HasOneReal, ClientsSeeAll}
 use Rattle.seam_accept.specs.Batches.{batch_of}
-use Rattle.seam_rule_rounds.specs.Standing.{Standing}
-use Rattle.seam_rule_rounds.specs.Lines.{RoundData}
-use Rattle.seam_rule_rounds.specs.Transcript.{Piece, Refusal, Ended, PrintLines, PrintAll, text_of, journals_of}
+use Rattle.seam_rule_rounds.specs.Transcript.{text_of}
 use Rattle.seam_quiet.specs.RoundRuns.{IsWithinTable}
-use Rattle.seam_law_book.specs.Playing.{HasEnded}
-use Rattle.seam_law_transcript.specs.Reading.{round_read, standing_read}
-use Rattle.seam_law_transcript.specs.OneReal.{HasOneReal}
-use Rattle.seam_law_transcript.specs.Radius.{ClientsSeeAll}
 
 -- the journal has the steps of a round, phase by phase
 pub record HasSteps {w v : World} {b : Batch} (round : GoesThroughRound w b v) (j : Journal) : Type 0 where

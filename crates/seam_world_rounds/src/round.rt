@@ -1,20 +1,14 @@
 // A round, played by the world, and its text.
 ghost use Rattle.std.specs.Prelude.{◌≡◌, ◌+◌, ◌++◌, ℕ, Option, OnOk, IfOk, length, map};
-ghost use Rattle.seam_tree.specs.Division.{Division};
-ghost use Rattle.seam_node_steps.specs.Nodes.{World as AnyWorld};
-ghost use Rattle.seam_law_calls.specs.Frames.{Frame};
-ghost use Rattle.seam_rule_clients.specs.Clients.{ClientReplica};
-ghost use Rattle.seam_toml.specs.declared.header.Header.{Header as Headers};
-ghost use Rattle.seam_rule_rounds.specs.Standing.{Standing};
+ghost use Rattle.seam_node_steps.specs.Prelude.{Division, World as AnyWorld};
+ghost use Rattle.seam_rule_rounds.specs.Prelude.{ClientReplica, Header as Headers, Standing, played_text, sums_of};
+ghost use Rattle.seam_law_calls.specs.Prelude.{Frame};
+ghost use Rattle.seam_law_transcript.specs.Prelude.{StandsBeside, IsPlayed, data_of};
 ghost use Rattle.seam_accept.specs.Batches.{batch_of};
-ghost use Rattle.seam_rule_rounds.specs.Transcript.{played_text};
-ghost use Rattle.seam_rule_rounds.specs.Summary.{sums_of};
 ghost use Rattle.seam_world_text.specs.Residents.{ArePresent};
 ghost use Rattle.seam_world_text.specs.Printing.{IsOpenRound};
 ghost use Rattle.seam_world_text.specs.Farewells.{AreFarewells};
 ghost use Rattle.seam_world_text.specs.Texts.{calls_text};
-ghost use Rattle.seam_law_transcript.specs.Beside.{StandsBeside};
-ghost use Rattle.seam_law_transcript.specs.Playing.{IsPlayed, data_of};
 ghost use Rattle.seam_quiet.specs.RoundRuns.{MayRun};
 ghost use Rattle.seam_quiet.specs.Calls.{Beginning};
 ghost use Rattle.seam_world_rounds.specs.PlayedRound.{HasPlayed, IsBalancedBy, HasTaken, start_text};

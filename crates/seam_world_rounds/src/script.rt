@@ -1,18 +1,12 @@
 // A script, line by line.
 ghost use Rattle.std.specs.Prelude.{◌≡◌, ◌≤◌, ◌++◌, List, [], ℕ, Some, length, OnOk, IfOk};
 ghost use Rattle.std.specs.Option.{option_to_list};
-ghost use Rattle.seam_io.specs.Lines.{Line as Lines, Content, Long};
-ghost use Rattle.seam_defs.specs.Settings.{AreLegal};
-ghost use Rattle.seam_defs.specs.Types.{AreDefs};
-ghost use Rattle.seam_toml.specs.declared.header.Header.{Header as Headers};
-ghost use Rattle.seam_rule_lines.specs.Book.{Book as Books};
+ghost use Rattle.seam_node_steps.specs.Prelude.{AreLegal, AreDefs, opened};
+ghost use Rattle.seam_rule_rounds.specs.Prelude.{Line as Lines, Content, Long, Header as Headers, Book as Books, Standing, after_header};
+ghost use Rattle.seam_rule_rounds.specs.Prelude.{with_line, with_bounds, totals_of};
+ghost use Rattle.seam_law_transcript.specs.Prelude.{most_lines};
 ghost use Rattle.seam_accept.specs.Refines.{Refines as HoldsBook};
-ghost use Rattle.seam_node_steps.specs.Loads.{opened};
-ghost use Rattle.seam_rule_rounds.specs.Standing.{Standing, after_header, with_line};
-ghost use Rattle.seam_law_transcript.specs.Counts.{most_lines};
 ghost use Rattle.seam_world_rounds.specs.Following.{RoundEnds, LineFollowed, LineRead, InputEnded};
-ghost use Rattle.seam_rule_rounds.specs.Round.{with_bounds};
-ghost use Rattle.seam_rule_rounds.specs.Summary.{totals_of};
 ghost use Rattle.seam_world_rounds.specs.Script.{IsReady, ScriptRefines, Refines, Gives, HasAccepted};
 ghost use Rattle.seam_world_rounds.specs.Output.{AddsSums, refusal_output};
 

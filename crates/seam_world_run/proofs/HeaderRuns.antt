@@ -6,17 +6,12 @@ use Rattle.std.proofs.KnownBytes.{Appends-nil}
 use Rattle.std.proofs.lemmas.Option.{same_Some, none-some}
 use Rattle.std.specs.Prelude.{MatchOption}
 use Rattle.std.specs.Io.KnownBytes.{Consumes}
-use Rattle.seam_io.specs.Causes.{Rose}
-use Rattle.seam_io.specs.States.{SourceState}
-use Rattle.seam_io.specs.Lines.{Line, Long, whole_lines_of}
-use Rattle.seam_io.specs.Reading.{Reader, Reading, IsExact}
+use Rattle.seam_rule_rounds.specs.Prelude.{Rose, SourceState, Line, Long, whole_lines_of, Reader, Reading, IsExact, Header, AreHeaderLines}
+use Rattle.seam_rule_rounds.specs.Prelude.{BeginWithHeader, AwaitHeader, RefusesHeader, separator, Totals}
 use Rattle.seam_io.specs.declared.lines.Next.TheVariants as next
-use Rattle.seam_toml.specs.declared.header.Header.{Header}
 use Rattle.seam_toml.specs.declared.header.HeaderError.{HeaderError}
 use Rattle.seam_toml.specs.declared.header.HeaderError.TheVariants as error
 use Rattle.seam_toml.specs.Header.{number_of}
-use Rattle.seam_rule_lines.specs.Header.{AreHeaderLines, BeginWithHeader, AwaitHeader, RefusesHeader, separator}
-use Rattle.seam_rule_rounds.specs.declared.totals.Totals.{Totals}
 use Rattle.seam_rule_lines.proofs.HeaderLemmas.{await_at_first, long_line_for_header}
 use Rattle.seam_world_ends.specs.Status.{IsHeaderCause, IsHeaderEnd, IsRunEnd, refused_with, refusal_of}
 use Rattle.seam_world_ends.specs.Ends.{Tells, most_bytes, the_space}

@@ -6,18 +6,11 @@ use Rattle.std.proofs.lemmas.List.Elements.{filter_map-append}
 use Rattle.std.specs.Prelude.{MatchOption}
 use Rattle.std.specs.Io.KnownBytes.{Appends}
 use Rattle.std.proofs.lemmas.Option.{same_Some}
-use Rattle.seam_node_steps.specs.Nodes.{World}
-use Rattle.seam_node_steps.specs.Loads.{opened}
-use Rattle.seam_io.specs.Causes.{Rose}
-use Rattle.seam_io.specs.States.{SourceState, SinkState}
-use Rattle.seam_io.specs.Lines.{Line, whole_lines_of}
-use Rattle.seam_io.specs.Reading.{Reader, Reading, IsExact}
+use Rattle.seam_node_steps.specs.Prelude.{World, opened}
+use Rattle.seam_rule_rounds.specs.Prelude.{Rose, SourceState, SinkState, Line, whole_lines_of, Reader, Reading, IsExact, Header}
+use Rattle.seam_rule_rounds.specs.Prelude.{after_header, Piece, Step, PrintLines, journals_of, totals_of, Totals, Told, after_all, Journal}
 use Rattle.seam_io.specs.declared.lines.Next.TheVariants as next
-use Rattle.seam_toml.specs.declared.header.Header.{Header}
-use Rattle.seam_rule_rounds.specs.Standing.{after_header}
-use Rattle.seam_rule_rounds.specs.Transcript.{Piece, Step, PrintLines, journals_of, journal_of}
-use Rattle.seam_rule_rounds.specs.Summary.{totals_of}
-use Rattle.seam_rule_rounds.specs.declared.totals.Totals.{Totals}
+use Rattle.seam_rule_rounds.specs.Transcript.{journal_of}
 use Rattle.seam_rule_lines.proofs.RunLemmas.{run_with_line}
 use Rattle.seam_rule_lines.proofs.HeaderLemmas.{header_of_append}
 use Rattle.seam_world_rounds.specs.Transcripts.{PlayRounds}
@@ -27,8 +20,6 @@ use Rattle.seam_world_rounds.specs.declared.round.Output.{Output}
 use Rattle.seam_world_rounds.specs.declared.round.Output.TheVariants as output
 use Rattle.seam_world_rounds.specs.Script.{ScriptRefines, Refines, PlaysOn}
 use Rattle.seam_world_ends.specs.Status.{IsRunEnd}
-use Rattle.seam_watch.specs.Watching.{Told, after_all}
-use Rattle.seam_watch.specs.declared.journal.Journal.{Journal}
 use Rattle.seam_watch.proofs.Told.{told_nothing, told_more}
 use Rattle.seam_world_ends.specs.Ends.{AreAll, IsSoFar, Tells, most_bytes, the_space}
 use Rattle.seam_world_run.specs.Histories.{HasHeader, Going, OpenAs, EndedAs, Stopped}

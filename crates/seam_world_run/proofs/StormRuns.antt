@@ -3,18 +3,12 @@ use Rattle.std.proofs.Common.{◌≡◌, ◌≢◌, ◌≤◌, inl, inr, ℕ, fa
 use Rattle.std.proofs.KnownBytes.{Appends-trans, Appends-nil}
 use Rattle.std.specs.Io.KnownBytes.{Appends}
 use Rattle.std.specs.Prelude.{◌⊎◌}
-use Rattle.seam_io.specs.Causes.{Rose}
-use Rattle.seam_io.specs.States.{SourceState, SinkState}
-use Rattle.seam_io.specs.Lines.{Line, lines_of}
-use Rattle.seam_storm.specs.Storm.{text_of_storm}
-use Rattle.seam_defs.specs.declared.types.TypeDef.{TypeDef}
+use Rattle.seam_node_steps.specs.Prelude.{TypeDef}
+use Rattle.seam_rule_rounds.specs.Prelude.{Rose, SourceState, SinkState, Line, lines_of, text_of_storm, Told, Journal, Piece, PrintAll}
+use Rattle.seam_rule_rounds.specs.Prelude.{totals_text, Totals}
 use Rattle.seam_rule_lines.proofs.HeaderLemmas.{await_at_first}
-use Rattle.seam_watch.specs.Watching.{Told}
-use Rattle.seam_watch.specs.declared.journal.Journal.{Journal}
 use Rattle.seam_watch.proofs.Told.{told_nothing}
-use Rattle.seam_rule_rounds.specs.Transcript.{Piece, PrintAll, text_of}
-use Rattle.seam_rule_rounds.specs.Summary.{totals_text}
-use Rattle.seam_rule_rounds.specs.declared.totals.Totals.{Totals}
+use Rattle.seam_rule_rounds.specs.Transcript.{text_of}
 use Rattle.seam_rule_rounds.proofs.Beginning.{storm_begins, storm_is_short}
 use Rattle.seam_world_ends.specs.Ends.{IsPrefix, IsProperPrefix, IsSoFar, MayComplete, the_space}
 use Rattle.seam_world_rounds.specs.Output.{output_of}

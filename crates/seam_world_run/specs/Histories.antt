@@ -1,20 +1,10 @@
 -- What has happened since a run began: the functions of this crate speak of it.
 use Rattle.std.specs.Prelude.{◌≡◌, ℕ, ◌+◌, ◌≤◌, List, [], ◌∷◌, ◌++◌, length, ◌⊎◌, Option, None, Some, Result, Ok, Err}
 use Rattle.std.specs.Io.KnownBytes.{Consumes, Appends}
-use Rattle.seam_io.specs.Causes.{Rose}
-use Rattle.seam_io.specs.States.{SourceState, SinkState}
-use Rattle.seam_io.specs.Lines.{Line}
-use Rattle.seam_io.specs.Reading.{Reader, Reading}
-use Rattle.seam_toml.specs.declared.header.Header.{Header}
-use Rattle.seam_rule_lines.specs.Header.{AreHeaderLines, BeginWithHeader, AwaitHeader}
-use Rattle.seam_rule_lines.specs.Run.{Run}
-use Rattle.seam_rule_rounds.specs.Standing.{Standing, after_header}
-use Rattle.seam_rule_rounds.specs.Transcript.{Piece, journals_of, Step, PrintLines, PrintAll}
-use Rattle.seam_watch.specs.Watching.{Told, after_all}
-use Rattle.seam_watch.specs.declared.journal.Journal.{Journal}
-use Rattle.seam_rule_rounds.specs.Summary.{totals_of}
-use Rattle.seam_rule_rounds.specs.declared.totals.Totals.{Totals}
-use Rattle.seam_node_steps.specs.Loads.{opened}
+use Rattle.seam_node_steps.specs.Prelude.{opened}
+use Rattle.seam_rule_rounds.specs.Prelude.{Rose, SourceState, SinkState, Line, Reader, Reading, Header, AreHeaderLines, BeginWithHeader}
+use Rattle.seam_rule_rounds.specs.Prelude.{AwaitHeader, Run, Standing, after_header, Piece, journals_of, Step, PrintLines, PrintAll, Told}
+use Rattle.seam_rule_rounds.specs.Prelude.{after_all, Journal, totals_of, Totals}
 use Rattle.seam_world_rounds.specs.Transcripts.{PlayRounds, WerePlayed}
 use Rattle.seam_world_rounds.specs.Output.{output_of, sums_for}
 use Rattle.seam_world_rounds.specs.declared.round.Output.{Output}

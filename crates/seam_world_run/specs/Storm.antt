@@ -1,15 +1,8 @@
 -- How a run of a generated input ends, of which nothing but the summary is written.
 use Rattle.std.specs.Prelude.{◌≡◌, ◌⊎◌, ℕ, ◌≤◌, false, List, [], ◌++◌}
 use Rattle.std.specs.Io.KnownBytes.{Appends}
-use Rattle.seam_io.specs.Causes.{Rose}
-use Rattle.seam_io.specs.States.{SourceState, SinkState}
-use Rattle.seam_io.specs.Lines.{Line, lines_of}
-use Rattle.seam_storm.specs.Storm.{text_of_storm}
-use Rattle.seam_watch.specs.Watching.{Told, after_all}
-use Rattle.seam_watch.specs.declared.journal.Journal.{Journal}
-use Rattle.seam_toml.specs.declared.header.Header.{Header}
-use Rattle.seam_rule_rounds.specs.Transcript.{Piece, PrintAll, journals_of}
-use Rattle.seam_rule_rounds.specs.Summary.{summary_text}
+use Rattle.seam_rule_rounds.specs.Prelude.{Rose, SourceState, SinkState, Line, lines_of, text_of_storm, Told, after_all, Journal, Header}
+use Rattle.seam_rule_rounds.specs.Prelude.{Piece, PrintAll, journals_of, summary_text}
 use Rattle.seam_world_rounds.specs.Transcripts.{WerePlayed, IsOpen}
 use Rattle.seam_world_ends.specs.Ends.{IsPrefix, IsProperPrefix, HasFaultLine, the_space}
 use Rattle.seam_world_ends.specs.Status.{IsRunEnd}

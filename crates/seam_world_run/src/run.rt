@@ -1,12 +1,9 @@
 // The run of a script, from the bytes of a source to what is written to a sink, but for the fault line.
 ghost use Rattle.std.specs.Prelude.{◌≡◌, ◌<◌, ◌≤◌, ◌+◌, [], List, ℕ, Option, MatchOption, MatchResult};
 ghost use Rattle.std.specs.Prelude.{IfNone, IfOk, OnOk, OnErr};
-ghost use Rattle.seam_io.specs.States.{SourceState, SinkState};
-ghost use Rattle.seam_io.specs.Lines.{Line, Content, Long};
-ghost use Rattle.seam_io.specs.Reading.{Reading, budget};
-ghost use Rattle.seam_toml.specs.declared.header.Header.{Header as Headers};
-ghost use Rattle.seam_rule_rounds.specs.Standing.{Standing};
-ghost use Rattle.seam_law_transcript.specs.Counts.{most_lines};
+ghost use Rattle.seam_rule_rounds.specs.Prelude.{SourceState, SinkState, Line, Content, Long, Reading, budget, Header as Headers, Standing};
+ghost use Rattle.seam_rule_rounds.specs.Prelude.{Told, after_all};
+ghost use Rattle.seam_law_transcript.specs.Prelude.{most_lines};
 ghost use Rattle.seam_world_ends.specs.Status.{refusal_of};
 ghost use Rattle.seam_world_rounds.specs.Following.{LineRead, InputEnded};
 ghost use Rattle.seam_world_rounds.specs.Script.{ScriptRefines, Refines, Gives};
@@ -14,7 +11,6 @@ ghost use Rattle.seam_world_rounds.specs.declared.round.Output.{Output as Output
 ghost use Rattle.seam_world_ends.specs.Ends.{most_bytes, the_space};
 ghost use Rattle.seam_world_run.specs.Histories.{HasHeader, InHeader, HeaderLineRead, Going, Stopped, StoppedFirst};
 ghost use Rattle.seam_world_ends.specs.Printing.{Printed, Prints};
-ghost use Rattle.seam_watch.specs.Watching.{Told, after_all};
 ghost use Rattle.std.specs.Option.{option_to_list};
 
 use seam_accept::HeaderLines;

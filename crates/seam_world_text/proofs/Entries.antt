@@ -3,15 +3,12 @@ use Rattle.std.proofs.Common.{◌≡◌, ℕ, Bool, true, false, cond, List, [],
 use Rattle.std.specs.Prelude.{◌==◌, ◌||◌, find}
 use Rattle.std.specs.List.{AllByRecursion, list_any, filter_map}
 use Rattle.std.proofs.lemmas.Option.{none-some}
-use Rattle.seam_call.specs.declared.create.Create.{Create}
-use Rattle.seam_toml.specs.declared.header.Header.{Header}
-use Rattle.seam_rule_lines.specs.Book.{Book, creates_of, created_as, destroys, joins}
-use Rattle.seam_rule_lines.specs.declared.verdict.Entry.{Entry}
+use Rattle.seam_node_steps.specs.Prelude.{Create}
+use Rattle.seam_rule_rounds.specs.Prelude.{Header, Book, creates_of, created_as, destroys, joins, Entry}
+use Rattle.seam_law_book.specs.Prelude.{as_begun, IsNewEntity, IsUntouched, Brings}
 use Rattle.seam_rule_lines.specs.declared.verdict.Entry.TheVariants as entry
 use Rattle.seam_rule_lines.proofs.InOrderLemmas.{found_entity}
 use Rattle.seam_accept.specs.Batches.{joined, destroyed}
-use Rattle.seam_law_book.specs.Books.{as_begun}
-use Rattle.seam_law_book.specs.Bringing.{IsNewEntity, IsUntouched, Brings}
 use Rattle.seam_world_text.specs.Residents.{is_among}
 use Rattle.seam_world_text.proofs.Keeping.{find_in, MakesNew}
 

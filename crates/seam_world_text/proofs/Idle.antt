@@ -4,18 +4,10 @@ use Rattle.std.specs.Prelude.{◌==◌, ◌&&◌, filter}
 use Rattle.std.specs.List.{AllByRecursion, list_any}
 use Rattle.std.proofs.lemmas.Bool.{eqb-true}
 use Rattle.std.proofs.lemmas.List.Elements.{filter-append, filter_map-append}
-use Rattle.seam_defs.specs.declared.flags.Part.{Part}
-use Rattle.seam_call.specs.Calls.{is_from, same_part}
-use Rattle.seam_call.specs.Senders.{same_sender}
-use Rattle.seam_call.specs.declared.call.Call.{Call}
-use Rattle.seam_call.specs.declared.create.Create.{Create}
-use Rattle.seam_call.specs.declared.sender.Sender.{Sender}
-use Rattle.seam_toml.specs.declared.header.Header.{Header}
-use Rattle.seam_rule_lines.specs.Book.{Book, called, calls_of, destroys, accepted, was_dead}
-use Rattle.seam_rule_lines.specs.Orders.{of_sender, IsFull}
+use Rattle.seam_node_steps.specs.Prelude.{Part, is_from, same_part, same_sender, Call, Create, Sender}
+use Rattle.seam_rule_rounds.specs.Prelude.{Header, Book, called, calls_of, destroys, accepted, was_dead, of_sender, IsFull}
+use Rattle.seam_law_book.specs.Prelude.{as_begun, IsPresent, IsFitCall, Brings}
 use Rattle.seam_rule_lines.proofs.OneSender.{same_sender_of_itself}
-use Rattle.seam_law_book.specs.Books.{as_begun}
-use Rattle.seam_law_book.specs.Bringing.{IsPresent, IsFitCall, Brings}
 use Rattle.seam_law_book.proofs.Present.{alive}
 use Rattle.seam_world_text.proofs.Keeping.{MakesNew}
 use Rattle.seam_world_text.proofs.Gathering.{nothing_more}

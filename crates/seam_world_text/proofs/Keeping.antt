@@ -6,10 +6,9 @@ use Rattle.std.specs.Option.{option_or, option_map}
 use Rattle.std.specs.BTreeMap.{BTreeMap}
 use Rattle.std.proofs.lemmas.List.Elements.{filter_map-append}
 use Rattle.std.proofs.lemmas.List.Folds.{find-append, list_any-append}
-use Rattle.seam_call.specs.declared.create.Create.{Create}
-use Rattle.seam_rule_lines.specs.Book.{Book, entries, created, creates_of, created_as, live_as, destroys, joins, has_client, is_shown, was_dead}
-use Rattle.seam_rule_lines.specs.Book.{with_round_ended}
-use Rattle.seam_rule_lines.specs.declared.verdict.Entry.{Entry}
+use Rattle.seam_node_steps.specs.Prelude.{Create}
+use Rattle.seam_rule_rounds.specs.Prelude.{Book, entries, created, creates_of, created_as, live_as, destroys, joins, has_client, is_shown}
+use Rattle.seam_rule_rounds.specs.Prelude.{was_dead, with_round_ended, Entry}
 use Rattle.seam_rule_lines.proofs.BookEntries.{live_is_created}
 use Rattle.seam_rule_lines.proofs.InOrderLemmas.{found_entity}
 use Rattle.seam_world_text.specs.Residents.{present_as, is_among, newcomer, joined_if, Adds, Joins, Removes}

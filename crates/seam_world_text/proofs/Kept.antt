@@ -10,12 +10,9 @@ use Rattle.std.specs.BTreeMap.{BTreeMap, get, values}
 use Rattle.std.proofs.lemmas.Bool.{eqb-true}
 use Rattle.std.proofs.lemmas.Bool.Decides.{nat_tests}
 use Rattle.std.proofs.lemmas.List.Folds.{list_any-append}
-use Rattle.seam_defs.specs.declared.types.TypeDef.{TypeDef}
-use Rattle.seam_call.specs.declared.create.Create.{Create}
-use Rattle.seam_rule_lines.specs.Book.{Book, destroys, is_shown}
+use Rattle.seam_node_steps.specs.Prelude.{TypeDef, Create, Map, World}
+use Rattle.seam_rule_rounds.specs.Prelude.{Book, destroys, is_shown}
 use Rattle.seam_accept.specs.Batches.{destroyed}
-use Rattle.seam_node_steps.specs.Maps.{Map}
-use Rattle.seam_node_steps.specs.Nodes.{World}
 use Rattle.seam_world_text.specs.Residents.{ArePresent, IsByNumber, is_among, present_as}
 use Rattle.seam_world_text.specs.Farewells.{AreFarewells, AreOf, farewell_of, kept_of}
 use Rattle.seam_world_text.specs.declared.farewells.Farewell.{Farewell}

@@ -7,14 +7,9 @@ use Rattle.std.proofs.lemmas.List.{length-map}
 use Rattle.std.proofs.lemmas.List.Concat.{length-flat_map}
 use Rattle.std.proofs.lemmas.List.Folds.{flat_map-map, fold-map}
 use Rattle.seam_defs.specs.declared.flags.Part.TheVariants as part
-use Rattle.seam_defs.specs.declared.types.TypeDef.{TypeDef}
-use Rattle.seam_rule_lines.specs.Round.{DoneLine, HomeLine}
-use Rattle.seam_entity.specs.Reals.{RealView}
-use Rattle.seam_rule_lines.specs.Texts.{number_text, done_text, home_text, base_text}
-use Rattle.seam_rule_rounds.specs.Lines.{RoundData}
-use Rattle.seam_rule_rounds.specs.Texts.{ghost_text, client_text, bounds_text}
-use Rattle.seam_node_steps.specs.Maps.{Map}
-use Rattle.seam_node_steps.specs.Nodes.{World}
+use Rattle.seam_node_steps.specs.Prelude.{TypeDef, RealView, Map, World}
+use Rattle.seam_rule_rounds.specs.Prelude.{DoneLine, HomeLine, number_text, done_text, home_text, base_text, RoundData, ghost_text}
+use Rattle.seam_rule_rounds.specs.Prelude.{client_text, bounds_text}
 use Rattle.seam_world_text.specs.Finding.{home_found, done_found, home_line_at, homes_found, bases_found, ghosts_found, position_at, positions_found}
 use Rattle.seam_world_text.specs.Texts.{calls_text, ends_text, done_of_type, done_of, home_of, base_of, ghosts_of, shown_of}
 use Rattle.seam_world_text.specs.declared.farewells.Farewell.{Farewell}

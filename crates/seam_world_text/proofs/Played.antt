@@ -6,30 +6,18 @@ use Rattle.std.specs.FinMap as table
 use Rattle.std.proofs.lemmas.List.{length-map}
 use Rattle.std.proofs.lemmas.List.Concat.{length-flat_map}
 use Rattle.std.proofs.lemmas.List.Folds.{flat_map-map, list_any-append}
-use Rattle.seam_tree.specs.Division.{Division}
-use Rattle.seam_defs.specs.declared.flags.Part.{Part}
-use Rattle.seam_call.specs.declared.create.Create.{Create}
-use Rattle.seam_call.specs.declared.shown.Line.{Line}
-use Rattle.seam_toml.specs.declared.header.Header.{Header}
-use Rattle.seam_rule_lines.specs.Book.{Book, entries, created_as, live_as, destroys, joins, is_shown, was_dead, with_round_ended}
-use Rattle.seam_rule_lines.specs.Round.{Lists, DoneLine, done_lines}
+use Rattle.seam_node_steps.specs.Prelude.{Division, Part, Create, Line, RealView, PartView, Map, World}
+use Rattle.seam_rule_rounds.specs.Prelude.{Header, Book, entries, created_as, live_as, destroys, joins, is_shown, was_dead}
+use Rattle.seam_rule_rounds.specs.Prelude.{with_round_ended, Lists, DoneLine, done_lines, ClientLine, client_text}
+use Rattle.seam_law_calls.specs.Prelude.{entity_flow, real_in}
+use Rattle.seam_law_rounds.specs.Prelude.{IsBetweenRounds}
+use Rattle.seam_law_book.specs.Prelude.{frame_of, GoesWith, Lives, done_in}
+use Rattle.seam_law_transcript.specs.Prelude.{client_lines, lines_shown, lines_told}
 use Rattle.seam_rule_lines.proofs.Lists.{listed_is_one}
 use Rattle.seam_judge_expected.proofs.ListedLemmas.{lists_living}
-use Rattle.seam_rule_rounds.specs.Lines.{ClientLine}
-use Rattle.seam_rule_rounds.specs.Texts.{client_text}
-use Rattle.seam_entity.specs.Reals.{RealView}
-use Rattle.seam_node_steps.specs.Bases.{PartView}
-use Rattle.seam_node_steps.specs.Maps.{Map}
-use Rattle.seam_node_steps.specs.Nodes.{World}
-use Rattle.seam_law_calls.specs.Sights.{entity_flow}
-use Rattle.seam_law_calls.specs.Ones.{real_in}
-use Rattle.seam_law_rounds.specs.Between.{IsBetweenRounds}
 use Rattle.seam_law_rounds.proofs.Shape.{Nowhere}
 use Rattle.seam_law_book.proofs.Present.{undestroyed}
-use Rattle.seam_law_book.specs.Going.{frame_of, GoesWith, Lives}
-use Rattle.seam_law_book.specs.ExecutedRound.{done_in}
 use Rattle.seam_law_book.proofs.Ended.{live_ended}
-use Rattle.seam_law_transcript.specs.Reading.{client_lines, lines_shown, lines_told}
 use Rattle.seam_world_text.specs.Residents.{ArePresent, present_as}
 use Rattle.seam_world_text.specs.Farewells.{AreFarewells, kept_of}
 use Rattle.seam_world_text.specs.Finding.{node_for, done_found, part_found}

@@ -3,27 +3,16 @@ use Rattle.std.proofs.Common.{◌≡◌, ◌⊎◌, ℕ, ◌+◌, ◌%◌, ◌<�
 use Rattle.std.proofs.Common.{arith, inl, inr}
 use Rattle.std.specs.Option.{option_map}
 use Rattle.std.specs.FinSet as set
-use Rattle.seam_tree.specs.Division.{Division}
-use Rattle.seam_defs.specs.declared.flags.Part.{Part}
+use Rattle.seam_node_steps.specs.Prelude.{Division, Part, GhostCopy, cell_count, RealView, RouteView, World, copy_if}
+use Rattle.seam_rule_rounds.specs.Prelude.{Header}
+use Rattle.seam_law_calls.specs.Prelude.{entity_flow, real_in, proxy_of, lines_in}
+use Rattle.seam_law_rounds.specs.Prelude.{IsBetweenRounds}
+use Rattle.seam_law_ghosts.specs.Prelude.{copy_at, present, AreCopiesBetweenRounds}
+use Rattle.seam_law_book.specs.Prelude.{frame_of, base_node, done_by_real, done_by_part, done_in, ghost_read, ghosts_read}
+use Rattle.seam_law_transcript.specs.Prelude.{home_if, homes_read, base_if, bases_read, lines_shown}
 use Rattle.seam_defs.specs.declared.flags.Part.TheVariants as part
-use Rattle.seam_call.specs.declared.shown.GhostCopy.{GhostCopy}
-use Rattle.seam_toml.specs.declared.header.Header.{Header}
-use Rattle.seam_entity.specs.Here.{cell_count}
-use Rattle.seam_entity.specs.Reals.{RealView}
-use Rattle.seam_node_steps.specs.Bases.{RouteView}
-use Rattle.seam_node_steps.specs.Nodes.{World}
-use Rattle.seam_node_steps.specs.Settle.{copy_if}
-use Rattle.seam_law_calls.specs.Sights.{entity_flow}
-use Rattle.seam_law_calls.specs.Ones.{real_in}
-use Rattle.seam_law_rounds.specs.Between.{IsBetweenRounds}
 use Rattle.seam_law_rounds.proofs.Shape.{Somewhere, Nowhere, search_real}
-use Rattle.seam_law_ghosts.specs.Copies.{copy_at, present, AreCopiesBetweenRounds}
-use Rattle.seam_law_book.specs.Going.{frame_of, base_node}
-use Rattle.seam_law_book.specs.ExecutedRound.{done_by_real, done_by_part, done_in}
-use Rattle.seam_law_book.specs.Standings.{ghost_read, ghosts_read}
 use Rattle.seam_law_book.proofs.Executed.{none_in, one_in}
-use Rattle.seam_law_transcript.specs.Reading.{home_if, homes_read, base_if, bases_read, lines_shown}
-use Rattle.seam_law_calls.specs.Clients.{proxy_of, lines_in}
 use Rattle.seam_world_text.specs.Finding.{bases_of, node_for, by_route, home_found, done_at_home, done_found, home_line_at, homes_found}
 use Rattle.seam_world_text.specs.Finding.{bases_found, haunt_line, ghost_line, ghost_lines_at, ghosts_found, lines_found}
 use Rattle.seam_world_text.proofs.Gathering.{same_in_range}

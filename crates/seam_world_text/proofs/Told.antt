@@ -4,11 +4,8 @@ use Rattle.std.specs.List.{flat_map}
 use Rattle.std.proofs.Math.Seq.{take-suc}
 use Rattle.std.proofs.lemmas.List.{map-append}
 use Rattle.std.proofs.lemmas.List.Concat.{flat_map-append}
-use Rattle.seam_defs.specs.declared.types.TypeDef.{TypeDef}
-use Rattle.seam_call.specs.declared.create.Create.{Create}
-use Rattle.seam_call.specs.declared.shown.Line.{Line}
-use Rattle.seam_rule_rounds.specs.Lines.{ClientLine}
-use Rattle.seam_rule_rounds.specs.Texts.{client_text}
+use Rattle.seam_node_steps.specs.Prelude.{TypeDef, Create, Line}
+use Rattle.seam_rule_rounds.specs.Prelude.{ClientLine, client_text}
 use Rattle.seam_world_text.specs.Texts.{lines_text}
 
 abbrev pub line_to : Create → Line → ClientLine

@@ -6,22 +6,10 @@ use Rattle.std.specs.Option.{option_map}
 use Rattle.std.specs.FinMap as table
 use Rattle.std.proofs.lemmas.List.Elements.{All-nil, All-cons, All-head, All-tail, All-contains_itself}
 use Rattle.seam_defs.specs.declared.flags.Part.TheVariants as part
-use Rattle.seam_defs.specs.declared.types.TypeDef.{TypeDef}
-use Rattle.seam_call.specs.declared.create.Create.{Create}
-use Rattle.seam_call.specs.declared.shown.GhostCopy.{GhostCopy}
-use Rattle.seam_call.specs.declared.shown.Line.{Line}
-use Rattle.seam_call.specs.declared.shown.Shown.TheVariants.{Own, Enter, Set, Leave}
-use Rattle.seam_call.specs.declared.shown.ClientText.{ClientText}
+use Rattle.seam_node_steps.specs.Prelude.{TypeDef, Create, GhostCopy, Line, Own, Enter, Set, Leave, ClientText, Map, World}
+use Rattle.seam_rule_rounds.specs.Prelude.{Header, Book, created_as, destroys, is_shown, was_dead, shown_by, shown_by_lines, ShowsTruth}
+use Rattle.seam_rule_rounds.specs.Prelude.{IsOther, truth_of, other_at, Standing}
 use Rattle.seam_call.specs.declared.shown.ClientText.TheVariants as text
-use Rattle.seam_toml.specs.declared.header.Header.{Header}
-use Rattle.seam_rule_lines.specs.Book.{Book, created_as, destroys, is_shown, was_dead}
-use Rattle.seam_rule_clients.specs.Clients.{shown_by, shown_by_lines}
-use Rattle.seam_rule_clients.specs.Lines.{ShowsTruth}
-use Rattle.seam_rule_rounds.specs.Clients.{IsOther, truth_of}
-use Rattle.seam_rule_rounds.specs.FlatTable.{other_at}
-use Rattle.seam_rule_rounds.specs.Standing.{Standing}
-use Rattle.seam_node_steps.specs.Maps.{Map}
-use Rattle.seam_node_steps.specs.Nodes.{World}
 use Rattle.seam_report.specs.Spelled.{Versions, IsOf, ShowsOf}
 use Rattle.seam_world_text.specs.Farewells.{AreFarewells, kept_of}
 use Rattle.seam_world_text.specs.Finding.{lines_found}

@@ -4,11 +4,8 @@ use Rattle.std.specs.List.{list_any}
 use Rattle.std.specs.FinMap as table
 use Rattle.std.specs.Ordering.{nat_cmp}
 use Rattle.std.specs.BTreeMap.{BTreeMap, get}
-use Rattle.seam_defs.specs.declared.types.TypeDef.{TypeDef}
-use Rattle.seam_call.specs.declared.create.Create.{Create}
-use Rattle.seam_rule_lines.specs.Book.{Book, destroys, is_shown}
-use Rattle.seam_node_steps.specs.Maps.{Map}
-use Rattle.seam_node_steps.specs.Nodes.{World}
+use Rattle.seam_node_steps.specs.Prelude.{TypeDef, Create, Map, World}
+use Rattle.seam_rule_rounds.specs.Prelude.{Book, destroys, is_shown}
 use Rattle.seam_world_text.specs.Residents.{present_as, is_among}
 use Rattle.seam_world_text.specs.Finding.{lines_found}
 use Rattle.seam_world_text.specs.Texts.{shown_so_far}

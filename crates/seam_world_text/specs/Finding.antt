@@ -2,23 +2,12 @@
 use Rattle.std.specs.Prelude.{◌≡◌, ℕ, ◌+◌, ◌-◌, ◌%◌, List, [], ◌∷◌, length, Option, None, Some, option_map, if◌then◌else◌}
 use Rattle.std.specs.List.{flat_map}
 use Rattle.std.specs.FinSet as set
-use Rattle.seam_geo.specs.declared.pos.Pos.{Pos}
-use Rattle.seam_defs.specs.declared.flags.Part.{Part}
+use Rattle.seam_node_steps.specs.Prelude.{Pos, Part, Call, Line, cell_count, cell_numbers, RealView, RouteView, PartView, World}
+use Rattle.seam_rule_rounds.specs.Prelude.{HomeLine, BaseLine, GhostLine}
+use Rattle.seam_law_calls.specs.Prelude.{entity_flow, real_in, proxy_of, lines_in}
+use Rattle.seam_law_book.specs.Prelude.{done_by_part, home_read}
+use Rattle.seam_law_transcript.specs.Prelude.{base_if}
 use Rattle.seam_defs.specs.declared.flags.Part.TheVariants as part
-use Rattle.seam_call.specs.declared.call.Call.{Call}
-use Rattle.seam_call.specs.declared.shown.Line.{Line}
-use Rattle.seam_rule_lines.specs.Round.{HomeLine, BaseLine}
-use Rattle.seam_rule_rounds.specs.Lines.{GhostLine}
-use Rattle.seam_entity.specs.Here.{cell_count, cell_numbers}
-use Rattle.seam_entity.specs.Reals.{RealView}
-use Rattle.seam_node_steps.specs.Bases.{RouteView, PartView}
-use Rattle.seam_node_steps.specs.Nodes.{World}
-use Rattle.seam_law_calls.specs.Sights.{entity_flow}
-use Rattle.seam_law_calls.specs.Ones.{real_in}
-use Rattle.seam_law_calls.specs.Clients.{proxy_of, lines_in}
-use Rattle.seam_law_book.specs.ExecutedRound.{done_by_part}
-use Rattle.seam_law_book.specs.Standings.{home_read}
-use Rattle.seam_law_transcript.specs.Reading.{base_if}
 
 -- ---- the entity
 

@@ -1,7 +1,6 @@
 -- The round that is printed.
 use Rattle.std.specs.Prelude.{◌≡◌, ◌+◌}
-use Rattle.seam_toml.specs.declared.header.Header.{Header}
-use Rattle.seam_rule_rounds.specs.Standing.{Standing}
+use Rattle.seam_rule_rounds.specs.Prelude.{Header, Standing}
 use Rattle.seam_world_text.specs.Residents.{ArePresent}
 use Rattle.seam_world_text.specs.declared.round.PrintedRound.{PrintedRound}
 

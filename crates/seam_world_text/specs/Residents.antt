@@ -4,9 +4,8 @@ use Rattle.std.specs.List.{list_any}
 use Rattle.std.specs.Option.{option_or}
 use Rattle.std.specs.Ordering.{nat_cmp}
 use Rattle.std.specs.BTreeMap.{BTreeMap, get, IsOrdered}
-use Rattle.seam_call.specs.declared.create.Create.{Create}
-use Rattle.seam_rule_lines.specs.Book.{Book, created_as, live_as, has_client, is_shown, was_dead}
-use Rattle.seam_rule_lines.specs.Round.{Lists}
+use Rattle.seam_node_steps.specs.Prelude.{Create}
+use Rattle.seam_rule_rounds.specs.Prelude.{Book, created_as, live_as, has_client, is_shown, was_dead, Lists}
 use Rattle.seam_world_text.specs.declared.residents.Resident.{Resident}
 
 -- ---- by the book

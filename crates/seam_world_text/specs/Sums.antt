@@ -2,10 +2,8 @@
 use Rattle.std.specs.Prelude.{ℕ, ℤ, ◌+ℤ◌, length, fold, Option, None, Some, if◌then◌else◌}
 use Rattle.std.specs.FinMap as table
 use Rattle.seam_defs.specs.declared.flags.Part.TheVariants as part
-use Rattle.seam_rule_lines.specs.Round.{HomeLine}
-use Rattle.seam_rule_rounds.specs.Summary.{hp_of}
-use Rattle.seam_node_steps.specs.Maps.{Map}
-use Rattle.seam_node_steps.specs.Nodes.{World}
+use Rattle.seam_node_steps.specs.Prelude.{Map, World}
+use Rattle.seam_rule_rounds.specs.Prelude.{HomeLine, hp_of}
 use Rattle.seam_world_text.specs.Finding.{done_found, homes_found, lines_found}
 use Rattle.seam_world_text.specs.declared.farewells.Farewell.{Farewell}
 use Rattle.seam_world_text.specs.declared.residents.Resident.{Resident}

@@ -2,18 +2,10 @@
 use Rattle.std.specs.Prelude.{ℕ, List, [], ◌++◌, map, codes, Option, None, Some, if◌then◌else◌}
 use Rattle.std.specs.List.{flat_map}
 use Rattle.std.specs.FinMap as table
-use Rattle.seam_defs.specs.declared.flags.Part.{Part}
-use Rattle.seam_defs.specs.declared.types.TypeDef.{TypeDef}
-use Rattle.seam_call.specs.declared.call.Call.{Call}
-use Rattle.seam_call.specs.declared.create.Create.{Create}
-use Rattle.seam_call.specs.declared.shown.Line.{Line}
-use Rattle.seam_rule_lines.specs.Round.{DoneLine}
-use Rattle.seam_rule_lines.specs.Texts.{number_text, done_text, home_text, base_text}
-use Rattle.seam_rule_rounds.specs.Lines.{RoundData}
-use Rattle.seam_rule_rounds.specs.Texts.{ghost_text, client_text, bounds_text}
-use Rattle.seam_node_steps.specs.Maps.{Map}
-use Rattle.seam_node_steps.specs.Nodes.{World}
-use Rattle.seam_law_transcript.specs.Reading.{client_lines}
+use Rattle.seam_node_steps.specs.Prelude.{Part, TypeDef, Call, Create, Line, Map, World}
+use Rattle.seam_rule_rounds.specs.Prelude.{DoneLine, number_text, done_text, home_text, base_text, RoundData, ghost_text, client_text}
+use Rattle.seam_rule_rounds.specs.Prelude.{bounds_text}
+use Rattle.seam_law_transcript.specs.Prelude.{client_lines}
 use Rattle.seam_world_text.specs.Finding.{done_found, homes_found, bases_found, ghosts_found, lines_found}
 use Rattle.seam_world_text.specs.declared.farewells.Farewell.{Farewell}
 use Rattle.seam_world_text.specs.declared.residents.Resident.{Resident}

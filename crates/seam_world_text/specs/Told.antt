@@ -2,9 +2,7 @@
 use Rattle.std.specs.Prelude.{List, [], Option, None, Some, if◌then◌else◌}
 use Rattle.std.specs.List.{All}
 use Rattle.std.specs.FinMap as table
-use Rattle.seam_call.specs.declared.shown.Line.{Line}
-use Rattle.seam_node_steps.specs.Maps.{Map}
-use Rattle.seam_node_steps.specs.Nodes.{World}
+use Rattle.seam_node_steps.specs.Prelude.{Line, Map, World}
 use Rattle.seam_report.specs.Spelled.{Versions, ShowsOf}
 use Rattle.seam_world_text.specs.Finding.{lines_found}
 use Rattle.seam_world_text.specs.declared.farewells.Farewell.{Farewell}

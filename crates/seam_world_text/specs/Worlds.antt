@@ -1,17 +1,11 @@
 -- The two worlds off which a played round is read: where its calls have ended, and where it has ended.
 use Rattle.std.specs.Prelude.{◌≡◌, true, []}
-use Rattle.seam_tree.specs.Division.{Division}
-use Rattle.seam_defs.specs.declared.flags.Part.{Part}
-use Rattle.seam_call.specs.declared.create.Create.{Create}
-use Rattle.seam_toml.specs.declared.header.Header.{Header}
-use Rattle.seam_rule_lines.specs.Book.{was_dead, tree_of, with_round_ended}
-use Rattle.seam_rule_rounds.specs.Standing.{Standing}
-use Rattle.seam_node_steps.specs.Nodes.{World}
-use Rattle.seam_law_rounds.specs.Between.{IsBetweenRounds}
-use Rattle.seam_law_ghosts.specs.Copies.{AreCopiesBetweenRounds}
-use Rattle.seam_law_book.specs.Going.{frame_of, GoesWith}
-use Rattle.seam_law_book.specs.ExecutedRound.{done_in}
-use Rattle.seam_law_transcript.specs.Playing.{IsPlayed}
+use Rattle.seam_node_steps.specs.Prelude.{Division, Part, Create, World}
+use Rattle.seam_rule_rounds.specs.Prelude.{Header, was_dead, tree_of, with_round_ended, Standing}
+use Rattle.seam_law_rounds.specs.Prelude.{IsBetweenRounds}
+use Rattle.seam_law_ghosts.specs.Prelude.{AreCopiesBetweenRounds}
+use Rattle.seam_law_book.specs.Prelude.{frame_of, GoesWith, done_in}
+use Rattle.seam_law_transcript.specs.Prelude.{IsPlayed}
 
 -- what is true of them
 pub record AreAtRest (h : Header) (s : Standing) (tree : Division) (w v : World) (p : IsPlayed h s tree w v) : Type 0 where

@@ -2,13 +2,10 @@
 
 ghost use Rattle.std.specs.Prelude.{◌≡◌, ◌++◌, codes, Option, OnOk};
 ghost use Rattle.std.specs.List.{flat_map};
-ghost use Rattle.seam_tree.specs.Division.{Division};
+ghost use Rattle.seam_node_steps.specs.Prelude.{Division, World as AnyWorld};
+ghost use Rattle.seam_rule_rounds.specs.Prelude.{Header, done_text, Standing};
+ghost use Rattle.seam_law_transcript.specs.Prelude.{IsPlayed, data_of};
 ghost use Rattle.seam_defs.specs.declared.flags.Part.TheVariants as part;
-ghost use Rattle.seam_node_steps.specs.Nodes.{World as AnyWorld};
-ghost use Rattle.seam_toml.specs.declared.header.Header.{Header};
-ghost use Rattle.seam_rule_lines.specs.Texts.{done_text};
-ghost use Rattle.seam_rule_rounds.specs.Standing.{Standing};
-ghost use Rattle.seam_law_transcript.specs.Playing.{IsPlayed, data_of};
 ghost use Rattle.seam_world_text.specs.Finding.{RoutesLeadHome};
 ghost use Rattle.seam_world_text.specs.Printing.{IsOpenRound};
 ghost use Rattle.seam_world_text.specs.Texts.{calls_text, done_of, done_of_type};

@@ -3,14 +3,9 @@
 ghost use Rattle.std.specs.Prelude.{◌≡◌, ◌++◌, ◌∷◌, [], if◌then◌else◌, map, OnOk, IfOk, Option};
 ghost use Rattle.std.specs.List.{flat_map, All};
 ghost use Rattle.std.specs.FinSet as set;
-ghost use Rattle.seam_tree.specs.Division.{Division};
-ghost use Rattle.seam_entity.specs.Reals.{RealView};
-ghost use Rattle.seam_node_steps.specs.Nodes.{World as AnyWorld};
-ghost use Rattle.seam_toml.specs.declared.header.Header.{Header};
-ghost use Rattle.seam_rule_rounds.specs.Standing.{Standing};
-ghost use Rattle.seam_rule_rounds.specs.Texts.{ghost_text, bounds_text};
-ghost use Rattle.seam_entity.specs.Here.{cell_numbers};
-ghost use Rattle.seam_law_transcript.specs.Playing.{IsPlayed, data_of};
+ghost use Rattle.seam_node_steps.specs.Prelude.{Division, RealView, World as AnyWorld, cell_numbers};
+ghost use Rattle.seam_rule_rounds.specs.Prelude.{Header, Standing, ghost_text, bounds_text};
+ghost use Rattle.seam_law_transcript.specs.Prelude.{IsPlayed, data_of};
 ghost use Rattle.seam_world_text.specs.Residents.{ArePresent};
 ghost use Rattle.seam_world_text.specs.Finding.{RoutesLeadHome, ghost_line, haunt_line, lines_found, positions_found};
 ghost use Rattle.seam_world_text.specs.Farewells.{AreFarewells};

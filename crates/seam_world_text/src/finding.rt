@@ -4,8 +4,7 @@ ghost use Rattle.std.specs.Prelude.{◌≡◌, ℕ, Option, None, Some, option_m
 ghost use Rattle.std.specs.Option.{option_and_then};
 ghost use Rattle.seam_core.specs.Nodes.{base_in};
 ghost use Rattle.seam_world_text.specs.Finding.{node_for, part_found, home_found, RoutesLeadHome};
-ghost use Rattle.seam_law_calls.specs.Sights.{entity_flow};
-ghost use Rattle.seam_law_calls.specs.Ones.{real_in};
+ghost use Rattle.seam_law_calls.specs.Prelude.{entity_flow, real_in};
 
 use seam_base::{Base, BasePart};
 use seam_core::World;

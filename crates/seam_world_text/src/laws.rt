@@ -2,20 +2,12 @@
 
 ghost use Rattle.std.specs.Prelude.{◌≡◌, ◌++◌, ℕ, List, map, length, codes, Option};
 ghost use Rattle.std.specs.List.{All, flat_map, sum_by};
-ghost use Rattle.seam_tree.specs.Division.{Division};
+ghost use Rattle.seam_node_steps.specs.Prelude.{Division, TypeDef, Map, World};
+ghost use Rattle.seam_rule_rounds.specs.Prelude.{Header, Book, with_entry, with_round_ended, with_tree, number_text, Entry, RoundData};
+ghost use Rattle.seam_rule_rounds.specs.Prelude.{Standing, client_text, traced_text};
+ghost use Rattle.seam_law_book.specs.Prelude.{as_begun};
+ghost use Rattle.seam_law_transcript.specs.Prelude.{IsPlayed, data_of};
 ghost use Rattle.seam_defs.specs.declared.flags.Part.TheVariants as part;
-ghost use Rattle.seam_defs.specs.declared.types.TypeDef.{TypeDef};
-ghost use Rattle.seam_node_steps.specs.Maps.{Map};
-ghost use Rattle.seam_node_steps.specs.Nodes.{World};
-ghost use Rattle.seam_toml.specs.declared.header.Header.{Header};
-ghost use Rattle.seam_rule_lines.specs.Book.{Book, with_entry, with_round_ended, with_tree};
-ghost use Rattle.seam_rule_lines.specs.Texts.{number_text};
-ghost use Rattle.seam_rule_lines.specs.declared.verdict.Entry.{Entry};
-ghost use Rattle.seam_law_book.specs.Books.{as_begun};
-ghost use Rattle.seam_rule_rounds.specs.Lines.{RoundData};
-ghost use Rattle.seam_rule_rounds.specs.Standing.{Standing};
-ghost use Rattle.seam_rule_rounds.specs.Texts.{client_text, traced_text};
-ghost use Rattle.seam_law_transcript.specs.Playing.{IsPlayed, data_of};
 ghost use Rattle.seam_world_text.specs.Residents.{AreResidents, ArePresent};
 ghost use Rattle.seam_world_text.specs.Worlds.{AreAtRest};
 ghost use Rattle.seam_world_text.specs.Finding.{done_found, homes_found, bases_found, ghosts_found, RoutesLeadHome};

@@ -2,12 +2,10 @@
 
 ghost use Rattle.std.specs.Prelude.{◌≡◌, ℕ, ◌∷◌, [], OnOk};
 ghost use Rattle.std.specs.BTreeMap.{values};
-ghost use Rattle.seam_tree.specs.Division.{Division};
-ghost use Rattle.seam_defs.specs.Settings.{AreLegal};
-ghost use Rattle.seam_toml.specs.declared.header.Header.{Header};
-ghost use Rattle.seam_rule_lines.specs.Book.{Book, empty_book, with_round_ended, with_tree};
+ghost use Rattle.seam_node_steps.specs.Prelude.{Division, AreLegal};
+ghost use Rattle.seam_rule_rounds.specs.Prelude.{Header, Book, empty_book, with_round_ended, with_tree};
+ghost use Rattle.seam_law_book.specs.Prelude.{IsOfLines, as_begun};
 ghost use Rattle.seam_accept.specs.Batches.{batch_of};
-ghost use Rattle.seam_law_book.specs.Books.{IsOfLines, as_begun};
 ghost use Rattle.seam_world_text.specs.Residents.{AreResidents, ArePresent, IsByNumber, Adds, Joins, Removes};
 
 use seam_call::{Batch, Create};

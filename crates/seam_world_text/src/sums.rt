@@ -2,15 +2,13 @@
 
 ghost use Rattle.std.specs.Prelude.{◌≡◌, ◌+◌, ◌+ℤ◌, pos, length, fold, IfOk, Option};
 ghost use Rattle.std.specs.List.{sum_by};
-ghost use Rattle.seam_tree.specs.Division.{Division};
+ghost use Rattle.seam_node_steps.specs.Prelude.{Division, World as AnyWorld};
+ghost use Rattle.seam_rule_rounds.specs.Prelude.{Header, Standing, hp_of};
+ghost use Rattle.seam_law_transcript.specs.Prelude.{IsPlayed, data_of};
 ghost use Rattle.seam_defs.specs.Builtin.{avatar_properties};
 ghost use Rattle.seam_defs.specs.Deeds.{number_of, place_of, value_at};
 ghost use Rattle.seam_defs.specs.declared.flags.Group.TheVariants as group;
-ghost use Rattle.seam_node_steps.specs.Nodes.{World as AnyWorld};
-ghost use Rattle.seam_toml.specs.declared.header.Header.{Header};
-ghost use Rattle.seam_rule_rounds.specs.Standing.{Standing};
-ghost use Rattle.seam_rule_rounds.specs.Summary.{hp, hp_of};
-ghost use Rattle.seam_law_transcript.specs.Playing.{IsPlayed, data_of};
+ghost use Rattle.seam_rule_rounds.specs.Summary.{hp};
 ghost use Rattle.seam_world_text.specs.Residents.{ArePresent};
 ghost use Rattle.seam_world_text.specs.Finding.{RoutesLeadHome};
 ghost use Rattle.seam_world_text.specs.Farewells.{AreFarewells};

@@ -1,6 +1,5 @@
 use Rattle.std.proofs.Common.{arith}
-use Rattle.seam_defs.specs.Builtin.{builtin}
-use Rattle.seam_defs.specs.Settings.{standard}
+use Rattle.seam_node_steps.specs.Prelude.{builtin, standard}
 use Rattle.seam_rule_clients.specs.Clients.{new_client}
 use Rattle.seam_law_all.proofs.a_worked_batch_may_be_given.Goals as goal
 

@@ -1,12 +1,10 @@
 use Rattle.std.proofs.Common.{ℕ}
-use Rattle.seam_call.specs.declared.order.Batch.{Batch}
-use Rattle.seam_node_steps.specs.Nodes.{World}
-use Rattle.seam_law_calls.specs.Frames.{Frame}
+use Rattle.seam_node_steps.specs.Prelude.{Batch, World}
+use Rattle.seam_law_calls.specs.Prelude.{Frame}
+use Rattle.seam_law_rounds.specs.Prelude.{framed, MayBeLoaded}
+use Rattle.seam_law_clients.specs.Prelude.{clients_loaded}
+use Rattle.seam_law_all.specs.Prelude.{KeepsRecords, MayBeGiven}
 use Rattle.seam_rule_clients.specs.Clients.{ClientReplica}
-use Rattle.seam_law_rounds.specs.Between.{framed}
-use Rattle.seam_law_rounds.specs.Parts.{MayBeLoaded}
-use Rattle.seam_law_clients.specs.Clients.{clients_loaded}
-use Rattle.seam_law_all.specs.Records.{KeepsRecords, MayBeGiven}
 use Rattle.seam_law_all.proofs.calls_obey_the_laws.Goals as goal
 
 -- the batch may be loaded

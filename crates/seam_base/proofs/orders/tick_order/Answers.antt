@@ -1,8 +1,7 @@
 use Rattle.std.proofs.Common.{sym, ap, ◌∙◌, ◌++◌, ◌∷◌, [], map, append_assoc, arith}
 use Rattle.std.specs.List.{range_with_len}
 use Rattle.std.proofs.lemmas.List.FromFn.{map-range_with_len_more}
-use Rattle.seam_node_steps.specs.BaseCases.{tick_to}
-use Rattle.seam_entity.specs.declared.message.Msg.TheVariants.{Tick}
+use Rattle.seam_node_steps.specs.Prelude.{tick_to, Tick}
 use Rattle.seam_base.proofs.orders.tick_order.Goals as goal
 
 pub loop-k-preserved : goal.loop-k-preserved

@@ -1,7 +1,5 @@
 use Rattle.std.proofs.Common.{refl, sym}
-use Rattle.seam_defs.specs.Settings.{standard}
-use Rattle.seam_entity.specs.Preparing.{node_with}
-use Rattle.seam_node_steps.specs.Loads.{with_proxy}
+use Rattle.seam_node_steps.specs.Prelude.{standard, node_with, with_proxy}
 use Rattle.seam_base.specs.Nodes.{has_call, has_update}
 use Rattle.seam_base.proofs.Marks.{changed, unchanged, pass_alike, changed_none}
 use Rattle.seam_base.proofs.PartLemmas.{on_ok, on_err, either_way, attached_call, attached_update}

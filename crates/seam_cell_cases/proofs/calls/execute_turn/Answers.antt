@@ -1,6 +1,5 @@
 use Rattle.std.proofs.Common.{◌≡◌, sym, ap, subst, option_map, ◌∙◌}
-use Rattle.seam_entity.specs.Executing.{executed, shows, with_offer}
-use Rattle.seam_node_steps.specs.Settle.{settled}
+use Rattle.seam_node_steps.specs.Prelude.{executed, shows, with_offer, settled}
 use Rattle.seam_cell_parts.specs.Kept.{here_in}
 use Rattle.seam_cell_parts.specs.Stepping.{HasBegun, IsDone, parts_of, slot_in, core_of}
 use Rattle.seam_cell_cases.proofs.CallLemmas.{CanCall, can_call, after_is, executed_rises}

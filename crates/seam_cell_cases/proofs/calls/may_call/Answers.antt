@@ -1,7 +1,5 @@
 use Rattle.std.proofs.Common.{◌≡◌, ◌&&◌, true, false, sym, ap, ◌∙◌}
-use Rattle.seam_entity.specs.Orders.{order_of}
-use Rattle.seam_entity.specs.Calls.{may_offer}
-use Rattle.seam_entity.specs.Executing.{fits_cell_part, may_execute}
+use Rattle.seam_node_steps.specs.Prelude.{order_of, may_offer, fits_cell_part, may_execute}
 use Rattle.seam_cell_parts.specs.Kept.{here_in}
 use Rattle.seam_cell_cases.proofs.calls.may_call.Goals as goal
 

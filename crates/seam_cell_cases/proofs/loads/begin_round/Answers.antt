@@ -2,8 +2,7 @@ use Rattle.std.proofs.Common.{refl, sym, ap, subst, ◌∙◌}
 use Rattle.std.specs.List.Sorted.{IsStrictlySortedBy}
 use Rattle.std.specs.Ordering.{nat_cmp}
 use Rattle.std.specs.FinMap as table
-use Rattle.seam_entity.specs.Executing.{real_begins}
-use Rattle.seam_node_steps.specs.Cells.{real_is_ready, has_witness}
+use Rattle.seam_node_steps.specs.Prelude.{real_begins, real_is_ready, has_witness}
 use Rattle.seam_cell_parts.specs.Kept.{marked}
 use Rattle.seam_cell_cases.proofs.RoundLemmas.{marks_stay, keys_rise}
 use Rattle.seam_cell_cases.proofs.loads.begin_round.Goals as goal

@@ -1,8 +1,6 @@
 use Rattle.std.proofs.Common.{◌≡◌, ◌+◌, None, ap, ◌∙◌}
 use Rattle.std.specs.FinMap as table
-use Rattle.seam_ghosts.specs.Book.{ghost_after}
-use Rattle.seam_node_steps.specs.Maps.{set_at}
-use Rattle.seam_node_steps.specs.Cells.{CellView}
+use Rattle.seam_node_steps.specs.Prelude.{ghost_after, set_at, CellView}
 use Rattle.seam_cell_parts.specs.Kept.{cell_of}
 use Rattle.seam_cell_parts.proofs.MarkLemmas.{put_back}
 use Rattle.seam_cell_cases.proofs.ArriveLemmas.{reaped}

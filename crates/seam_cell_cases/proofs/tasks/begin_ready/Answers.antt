@@ -1,7 +1,6 @@
 use Rattle.std.proofs.Common.{sym, ap, subst, ◌∙◌}
 use Rattle.std.specs.Option.{unwrap_or}
-use Rattle.seam_tree.specs.Division.{IsInSpace}
-use Rattle.seam_entity.specs.Executing.{executed_ready}
+use Rattle.seam_node_steps.specs.Prelude.{IsInSpace, executed_ready}
 use Rattle.seam_cell_parts.specs.Kept.{here_in}
 use Rattle.seam_cell_parts.specs.Stepping.{HasBegun, parts_of}
 use Rattle.seam_cell_cases.proofs.KeptLemmas.{ready_there}

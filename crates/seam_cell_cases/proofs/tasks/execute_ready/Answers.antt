@@ -1,8 +1,7 @@
 use Rattle.std.proofs.Common.{◌≡◌, sym, ap, subst, option_map, ◌∙◌}
 use Rattle.std.proofs.lemmas.Option.{IfSome_then}
-use Rattle.seam_order.specs.Offers.{after_taking}
-use Rattle.seam_entity.specs.Executing.{executed_ready, shows, with_order}
-use Rattle.seam_node_steps.specs.Settle.{settled}
+use Rattle.seam_node_steps.specs.Prelude.{after_taking, executed_ready, shows, settled}
+use Rattle.seam_entity.specs.Executing.{with_order}
 use Rattle.seam_cell_parts.specs.Kept.{here_in}
 use Rattle.seam_cell_parts.specs.Stepping.{HasBegun, IsDone, parts_of, slot_in, core_of}
 use Rattle.seam_cell_cases.proofs.CallLemmas.{after_is}

@@ -1,9 +1,8 @@
 use Rattle.std.proofs.Common.{◌∙◌, ◌++◌, [], Some, ap, sym}
 use Rattle.std.specs.FinMap as table
 use Rattle.std.proofs.lemmas.Result.{on_ok_weaker, on_err_weaker}
-use Rattle.seam_entity.specs.Witnesses.{witness_of}
+use Rattle.seam_node_steps.specs.Prelude.{witness_of, CellView}
 use Rattle.seam_entity.specs.WitnessLooks.{other_of_real}
-use Rattle.seam_node_steps.specs.Cells.{CellView}
 use Rattle.seam_cell_parts.specs.Kept.{here_in}
 use Rattle.seam_cell_look.specs.Looking.{seeing}
 use Rattle.seam_cell_look.proofs.LookLemmas.{looked_around, told_around, put_as_it_was}

@@ -1,12 +1,6 @@
 use Rattle.std.proofs.Common.{◌++◌, ℕ, ap, sym, ◌∙◌}
 use Rattle.std.specs.FinMap as table
-use Rattle.seam_ghosts.specs.declared.Ghost.{Ghost}
-use Rattle.seam_call.specs.declared.shown.GhostCopy.{GhostCopy}
-use Rattle.seam_machine.specs.Views.{Stepped}
-use Rattle.seam_entity.specs.Reals.{RealView}
-use Rattle.seam_entity.specs.declared.message.Msg.{Msg}
-use Rattle.seam_node_steps.specs.Maps.{Map}
-use Rattle.seam_node_steps.specs.Cells.{CellView, known_to, stepped, looks_around}
+use Rattle.seam_node_steps.specs.Prelude.{Ghost, GhostCopy, Stepped, RealView, Msg, Map, CellView, known_to, stepped, looks_around}
 use Rattle.seam_cell_parts.specs.Kept.{cell_of}
 use Rattle.seam_cell_parts.proofs.SetLemmas.{first_taken}
 use Rattle.seam_cell_look.specs.Looking.{seeing}

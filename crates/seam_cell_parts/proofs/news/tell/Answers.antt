@@ -1,10 +1,7 @@
 use Rattle.std.proofs.Common.{◌≡◌, ◌++◌, ◌-◌, ◌+◌, List, take, length, ap, sym, ◌∙◌, refl, arith, append-nil, append_assoc}
 use Rattle.std.proofs.Math.Seq.{take-append_seam}
 use Rattle.std.specs.FinSet as set
-use Rattle.seam_defs.specs.Settings.{standard}
-use Rattle.seam_entity.specs.Executing.{copy_with}
-use Rattle.seam_entity.specs.Preparing.{node_with}
-use Rattle.seam_haunt.specs.Telling.{word}
+use Rattle.seam_node_steps.specs.Prelude.{standard, copy_with, node_with, word}
 use Rattle.seam_cell_parts.specs.News.{state_of, said, listed, news}
 use Rattle.seam_cell_parts.proofs.NewsLemmas.{news_more, news_same, news_end, left_later, left_without, left_none}
 use Rattle.seam_cell_parts.proofs.news.tell.Goals as goal

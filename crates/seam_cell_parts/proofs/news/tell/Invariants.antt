@@ -1,7 +1,5 @@
 use Rattle.std.proofs.Common.{◌≡◌, ◌++◌, ℕ}
-use Rattle.seam_defs.specs.declared.settings.Settings.{Settings}
-use Rattle.seam_entity.specs.Executing.{copy_with}
-use Rattle.seam_entity.specs.Preparing.{node_with}
+use Rattle.seam_node_steps.specs.Prelude.{Settings, copy_with, node_with}
 use Rattle.seam_cell_parts.specs.News.{state_of, news}
 use Rattle.seam_cell_parts.proofs.NewsLemmas.{AreLeft}
 use Rattle.seam_cell_parts.proofs.news.tell.Given as goal

@@ -1,7 +1,5 @@
 use Rattle.std.proofs.Common.{◌++◌, [], ◌∷◌, ap, sym, ◌∙◌}
-use Rattle.seam_entity.specs.declared.message.Msg.TheVariants.{GhostSet}
-use Rattle.seam_entity.specs.Executing.{copy_with}
-use Rattle.seam_entity.specs.Preparing.{node_with}
+use Rattle.seam_node_steps.specs.Prelude.{GhostSet, copy_with, node_with}
 use Rattle.seam_cell_parts.specs.News.{state_of, said, listed}
 use Rattle.seam_cell_parts.proofs.news.tell_cell.Goals as goal
 

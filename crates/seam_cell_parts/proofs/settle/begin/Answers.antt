@@ -1,6 +1,5 @@
 use Rattle.std.proofs.Common.{nat_lt, refl, sym, ap, ◌∙◌}
-use Rattle.seam_entity.specs.Executing.{copy_with}
-use Rattle.seam_entity.specs.Preparing.{node_with}
+use Rattle.seam_node_steps.specs.Prelude.{copy_with, node_with}
 use Rattle.seam_cell_parts.specs.News.{state_of}
 use Rattle.seam_cell_parts.specs.Kept.{here_in}
 use Rattle.seam_cell_parts.specs.Stepping.{telling_at, parts_of}

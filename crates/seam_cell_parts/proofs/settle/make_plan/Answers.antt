@@ -1,7 +1,5 @@
 use Rattle.std.proofs.Common.{◌+◌, ap, ◌∙◌}
-use Rattle.seam_haunt.specs.Haunts.{haunts_of}
-use Rattle.seam_entity.specs.Preparing.{node_with}
-use Rattle.seam_node_steps.specs.Settle.{haunts_at}
+use Rattle.seam_node_steps.specs.Prelude.{haunts_of, node_with, haunts_at}
 use Rattle.seam_cell_parts.specs.Settling.{former}
 use Rattle.seam_cell_parts.proofs.settle.make_plan.Goals as goal
 

@@ -1,7 +1,5 @@
 use Rattle.std.proofs.Common.{Some, ap, sym, ◌∙◌}
-use Rattle.seam_entity.specs.Executing.{copy_with}
-use Rattle.seam_entity.specs.Preparing.{node_with}
-use Rattle.seam_node_steps.specs.Settle.{copy_if}
+use Rattle.seam_node_steps.specs.Prelude.{copy_with, node_with, copy_if}
 use Rattle.seam_cell_parts.specs.News.{state_of}
 use Rattle.seam_cell_parts.proofs.settle.own_copy.Goals as goal
 

@@ -1,10 +1,7 @@
 use Rattle.std.proofs.Common.{ap, sym, ◌∙◌}
 use Rattle.std.specs.FinMap as table
 use Rattle.std.proofs.lemmas.Result.{on_ok_weaker}
-use Rattle.seam_ghosts.specs.Book.{ghost_after}
-use Rattle.seam_entity.specs.Executing.{copy_with}
-use Rattle.seam_entity.specs.Preparing.{node_with}
-use Rattle.seam_node_steps.specs.Maps.{set_at}
+use Rattle.seam_node_steps.specs.Prelude.{ghost_after, copy_with, node_with, set_at}
 use Rattle.seam_cell_parts.specs.News.{state_of}
 use Rattle.seam_cell_parts.proofs.SettleLemmas.{other_test, heard_away}
 use Rattle.seam_cell_parts.proofs.settle.tell_all.Goals as goal

@@ -1,8 +1,7 @@
 use Rattle.std.proofs.Common.{◌≡◌, ℕ, ◌+◌, ◌<◌, [], length, take, get_or, ap, ◌∙◌, arith}
 use Rattle.std.specs.Prelude.{slice_index_or}
-use Rattle.seam_machine.specs.Totals.{total}
+use Rattle.seam_node_steps.specs.Prelude.{total, carried}
 use Rattle.seam_net_runs.specs.Weights.{totals}
-use Rattle.seam_node_steps.specs.Holders.{carried}
 use Rattle.seam_core.proofs.Counts.{totals-take, counted_on}
 use Rattle.seam_core.proofs.holders.count_from.Goals as goal
 

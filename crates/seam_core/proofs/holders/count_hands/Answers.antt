@@ -1,8 +1,7 @@
 use Rattle.std.proofs.Common.{◌+◌, ◌<◌, [], length, take, arith}
-use Rattle.seam_machine.specs.Totals.{total}
+use Rattle.seam_node_steps.specs.Prelude.{total, carried}
 use Rattle.seam_machine.proofs.Totals.{total-take}
 use Rattle.seam_net_runs.specs.Weights.{row_weight}
-use Rattle.seam_node_steps.specs.Holders.{carried}
 use Rattle.seam_core.proofs.Counts.{counted_on}
 use Rattle.seam_core.proofs.holders.count_hands.Goals as goal
 

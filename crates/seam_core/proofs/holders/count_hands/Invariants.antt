@@ -1,7 +1,6 @@
 use Rattle.std.proofs.Common.{◌≡◌, ◌+◌, min, take}
-use Rattle.seam_machine.specs.Totals.{total}
+use Rattle.seam_node_steps.specs.Prelude.{total, carried}
 use Rattle.seam_net_runs.specs.Weights.{row_weight}
-use Rattle.seam_node_steps.specs.Holders.{carried}
 use Rattle.seam_core.proofs.Counts.{most}
 use Rattle.seam_core.proofs.holders.count_hands.Given as goal
 

@@ -1,7 +1,5 @@
 use Rattle.std.proofs.Common.{◌+◌, min, take, sym, ap, ◌∙◌}
-use Rattle.seam_machine.specs.Nets.{link}
-use Rattle.seam_machine.specs.Totals.{total}
-use Rattle.seam_node_steps.specs.Holders.{carried}
+use Rattle.seam_node_steps.specs.Prelude.{link, total, carried}
 use Rattle.seam_core.proofs.Counts.{most, total_next, counted_on}
 use Rattle.seam_core.proofs.holders.count_on_link.Goals as goal
 

@@ -1,7 +1,5 @@
 use Rattle.std.proofs.Common.{◌≡◌, ◌+◌, min, take}
-use Rattle.seam_machine.specs.Nets.{link}
-use Rattle.seam_machine.specs.Totals.{total}
-use Rattle.seam_node_steps.specs.Holders.{carried}
+use Rattle.seam_node_steps.specs.Prelude.{link, total, carried}
 use Rattle.seam_core.proofs.Counts.{most}
 use Rattle.seam_core.proofs.holders.count_on_link.Given as goal
 

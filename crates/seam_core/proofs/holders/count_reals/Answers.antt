@@ -1,6 +1,5 @@
 use Rattle.std.proofs.Common.{◌+◌, min, take, sym, ap, ◌∙◌}
-use Rattle.seam_machine.specs.Totals.{total}
-use Rattle.seam_node_steps.specs.Holders.{held_at}
+use Rattle.seam_node_steps.specs.Prelude.{total, held_at}
 use Rattle.seam_core.proofs.Counts.{most, total_next, counted_on}
 use Rattle.seam_core.proofs.holders.count_reals.Goals as goal
 

@@ -1,6 +1,5 @@
 use Rattle.std.proofs.Common.{◌≡◌, ◌+◌, min, take}
-use Rattle.seam_machine.specs.Totals.{total}
-use Rattle.seam_node_steps.specs.Holders.{held_at}
+use Rattle.seam_node_steps.specs.Prelude.{total, held_at}
 use Rattle.seam_core.proofs.Counts.{most}
 use Rattle.seam_core.proofs.holders.count_reals.Given as goal
 

@@ -1,6 +1,5 @@
 use Rattle.std.proofs.Common.{◌≡◌, sym, subst}
-use Rattle.seam_machine.specs.Events.{EachNode}
-use Rattle.seam_node_steps.specs.Nodes.{World}
+use Rattle.seam_node_steps.specs.Prelude.{EachNode, World}
 use Rattle.seam_core.specs.Loads.{IsNumbered}
 use Rattle.seam_core.proofs.Loading.{known_ordered}
 use Rattle.seam_core.proofs.loads.give_all.Goals as goal

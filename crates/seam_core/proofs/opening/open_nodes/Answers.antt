@@ -1,6 +1,5 @@
 use Rattle.std.proofs.Common.{◌+◌, refl, ap, ◌∙◌}
-use Rattle.seam_entity.specs.Here.{cell_count}
-use Rattle.seam_node_steps.specs.Loads.{empty_base}
+use Rattle.seam_node_steps.specs.Prelude.{cell_count, empty_base}
 use Rattle.seam_core.proofs.Opened.{one_after}
 use Rattle.seam_core.proofs.opening.open_nodes.Goals as goal
 

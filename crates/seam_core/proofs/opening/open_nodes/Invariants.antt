@@ -1,7 +1,6 @@
 use Rattle.std.proofs.Common.{◌≡◌, ◌++◌, map}
 use Rattle.std.specs.List.{range_with_len}
-use Rattle.seam_entity.specs.Here.{cell_count}
-use Rattle.seam_node_steps.specs.Loads.{empty_base}
+use Rattle.seam_node_steps.specs.Prelude.{cell_count, empty_base}
 use Rattle.seam_core.proofs.opening.open_nodes.Given as goal
 
 abbrev pub invariant-loop-k : goal.invariant-loop-k

@@ -1,7 +1,6 @@
 use Rattle.std.proofs.Common.{sym, subst, ℕ}
 use Rattle.std.specs.List.{list_any}
-use Rattle.seam_rule_lines.specs.Book.{created_as, entries, live_as, destroys}
-use Rattle.seam_rule_lines.specs.Round.{Lists}
+use Rattle.seam_rule_rounds.specs.Prelude.{created_as, entries, live_as, destroys, Lists}
 use Rattle.seam_judge_data.specs.Standings.{standing_of}
 use Rattle.seam_judge_expected.proofs.ListedLemmas.{lists_living, if_ok}
 use Rattle.seam_judge_expected.proofs.entities.live_among.Goals as goal

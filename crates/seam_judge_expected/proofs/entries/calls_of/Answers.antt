@@ -1,7 +1,6 @@
 use Rattle.std.proofs.Common.{[], ◌∷◌, ◌++◌, ◌∙◌, ap}
 use Rattle.std.proofs.lemmas.List.Elements.{filter_map-append}
-use Rattle.seam_rule_lines.specs.Book.{called, calls_of}
-use Rattle.seam_rule_lines.specs.declared.verdict.Entry.{Entry}
+use Rattle.seam_rule_rounds.specs.Prelude.{called, calls_of, Entry}
 use Rattle.seam_judge_expected.proofs.Walks.{appended}
 use Rattle.seam_judge_expected.proofs.entries.calls_of.Goals as goal
 

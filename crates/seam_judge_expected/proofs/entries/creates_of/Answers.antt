@@ -1,7 +1,6 @@
 use Rattle.std.proofs.Common.{[], ◌∷◌, ◌++◌, ◌∙◌, ap}
 use Rattle.std.proofs.lemmas.List.Elements.{filter_map-append}
-use Rattle.seam_rule_lines.specs.Book.{created, creates_of}
-use Rattle.seam_rule_lines.specs.declared.verdict.Entry.{Entry}
+use Rattle.seam_rule_rounds.specs.Prelude.{created, creates_of, Entry}
 use Rattle.seam_judge_expected.proofs.Walks.{appended}
 use Rattle.seam_judge_expected.proofs.entries.creates_of.Goals as goal
 

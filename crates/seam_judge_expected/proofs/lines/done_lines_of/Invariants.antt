@@ -1,7 +1,6 @@
 use Rattle.std.proofs.Common.{◌≡◌, take}
 use Rattle.std.specs.Prelude.{filter}
-use Rattle.seam_call.specs.Calls.{is_for}
-use Rattle.seam_rule_lines.specs.Round.{done_lines}
+use Rattle.seam_rule_rounds.specs.Prelude.{is_for, done_lines}
 use Rattle.seam_judge_expected.proofs.lines.done_lines_of.Given as goal
 
 abbrev pub invariant-loop-create : goal.invariant-loop-create

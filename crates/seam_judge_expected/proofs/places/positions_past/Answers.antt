@@ -1,8 +1,7 @@
 use Rattle.std.proofs.Common.{◌≡◌, ◌+◌, ◌-◌, ◌++◌, ◌∷◌, [], ◌∙◌, sym, ap, map, arith, ℕ}
 use Rattle.std.specs.List.{range_with_len}
 use Rattle.std.proofs.lemmas.List.FromFn.{map-range_with_len_more}
-use Rattle.seam_geo.specs.declared.pos.Pos.{Pos}
-use Rattle.seam_rule_rounds.specs.FlatTable.{position_at}
+use Rattle.seam_rule_rounds.specs.Prelude.{Pos, position_at}
 use Rattle.seam_judge_expected.proofs.places.positions_past.Goals as goal
 
 pub loop-v-preserved : goal.loop-v-preserved

@@ -1,7 +1,5 @@
 use Rattle.std.proofs.Common.{◌≡◌, ◌<◌, take}
-use Rattle.seam_tree.specs.Division.{cells_of}
-use Rattle.seam_haunt.specs.Places.{settled_all}
-use Rattle.seam_rule_rounds.specs.RoundPlaces.{distances}
+use Rattle.seam_rule_rounds.specs.Prelude.{cells_of, settled_all, distances}
 use Rattle.seam_judge_expected.proofs.places.settled_along.Given as goal
 
 abbrev pub invariant-loop-pos : goal.invariant-loop-pos

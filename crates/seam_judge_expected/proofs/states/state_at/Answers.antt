@@ -1,6 +1,5 @@
 use Rattle.std.proofs.Common.{◌∙◌, ap, Bor, arith}
-use Rattle.seam_defs.specs.Deeds.{after}
-use Rattle.seam_call.specs.declared.call.Call.{Call}
+use Rattle.seam_rule_rounds.specs.Prelude.{after, Call}
 use Rattle.seam_judge_expected.proofs.Walks.{flat_more}
 use Rattle.seam_judge_expected.proofs.states.state_at.Goals as goal
 

@@ -1,8 +1,7 @@
 use Rattle.std.proofs.Common.{◌∙◌, ap}
 use Rattle.std.specs.Prelude.{filter}
 use Rattle.std.proofs.lemmas.List.Elements.{filter-append}
-use Rattle.seam_call.specs.Calls.{is_for}
-use Rattle.seam_rule_lines.specs.Book.{calls_of}
+use Rattle.seam_rule_rounds.specs.Prelude.{is_for, calls_of}
 use Rattle.seam_judge_plain.proofs.places.with_calls.Goals as goal
 
 pub returns : goal.returns

@@ -2,12 +2,7 @@ use Rattle.std.proofs.Common.{◌≡◌, ◌∙◌, ap, subst, map, List}
 use Rattle.std.specs.Prelude.{filter}
 use Rattle.std.specs.List.{flat_map}
 use Rattle.seam_defs.specs.declared.flags.Part.TheVariants as part
-use Rattle.seam_call.specs.Calls.{is_for}
-use Rattle.seam_call.specs.declared.create.Create.{Create}
-use Rattle.seam_rule_lines.specs.Book.{calls_of}
-use Rattle.seam_rule_lines.specs.Round.{HomeLine, done_lines}
-use Rattle.seam_rule_rounds.specs.FlatTable.{rows_of}
-use Rattle.seam_rule_rounds.specs.Round.{home_line, base_line, ghost_lines}
+use Rattle.seam_rule_rounds.specs.Prelude.{is_for, Create, calls_of, HomeLine, done_lines, rows_of, home_line, base_line, ghost_lines}
 use Rattle.seam_judge_data.specs.Standings.{standing_of}
 use Rattle.seam_judge_rounds.specs.Bounds.{PrintsBounds}
 use Rattle.seam_judge_plain.specs.Plain.{orders_after, places_after, lines_of}

@@ -1,7 +1,6 @@
 use Rattle.std.proofs.Common.{◌≡◌, ◌∙◌, ap, map, take, length, List, arith}
 use Rattle.std.proofs.lemmas.List.{take_all}
-use Rattle.seam_rule_lines.specs.Round.{HomeLine}
-use Rattle.seam_rule_rounds.specs.Lines.{RoundData}
+use Rattle.seam_rule_rounds.specs.Prelude.{HomeLine, RoundData}
 use Rattle.seam_judge_data.specs.Standings.{place_among}
 use Rattle.seam_judge_data.specs.declared.standing.Held.{Held}
 use Rattle.seam_judge_rounds.proofs.Leaving.{held_of, held_is}

@@ -1,6 +1,5 @@
 use Rattle.std.proofs.Common.{ℕ, ◌<◌, get_or, IsTrue}
-use Rattle.seam_rule_lines.specs.Book.{is_shown}
-use Rattle.seam_rule_rounds.specs.Lines.{ClientLine}
+use Rattle.seam_rule_rounds.specs.Prelude.{is_shown, ClientLine}
 use Rattle.seam_judge_data.specs.Standings.{standing_of}
 use Rattle.seam_judge_rounds.proofs.clients.are_of_clients.Given as goal
 

@@ -1,6 +1,5 @@
 use Rattle.std.proofs.Common.{ℕ, ◌<◌, get_or}
-use Rattle.seam_call.specs.declared.create.Create.{Create}
-use Rattle.seam_rule_rounds.specs.Clients.{ShowsClient}
+use Rattle.seam_rule_rounds.specs.Prelude.{Create, ShowsClient}
 use Rattle.seam_judge_data.specs.Standings.{standing_of}
 use Rattle.seam_judge_rounds.proofs.clients.show_each.Given as goal
 

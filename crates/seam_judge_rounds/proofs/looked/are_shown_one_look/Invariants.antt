@@ -1,9 +1,6 @@
 use Rattle.std.proofs.Common.{◌≡◌, ◌++◌, ℕ, ◌<◌, get_or, map}
-use Rattle.seam_call.specs.declared.create.Create.{Create}
+use Rattle.seam_rule_rounds.specs.Prelude.{Create, one_look, replica_of, texts_to, base_texts}
 use Rattle.seam_call.specs.declared.shown.ClientText.TheVariants as text
-use Rattle.seam_rule_clients.specs.Looks.{one_look}
-use Rattle.seam_rule_rounds.specs.Standing.{replica_of}
-use Rattle.seam_rule_rounds.specs.Clients.{texts_to, base_texts}
 use Rattle.seam_judge_data.specs.Standings.{standing_of}
 use Rattle.seam_judge_rounds.proofs.looked.are_shown_one_look.Given as goal
 

@@ -1,6 +1,5 @@
 use Rattle.std.proofs.Common.{◌≡◌, [], ◌∙◌, sym, subst, ℕ, List}
-use Rattle.seam_rule_clients.specs.Looks.{Row, one_look}
-use Rattle.seam_rule_rounds.specs.Standing.{replica_of}
+use Rattle.seam_rule_rounds.specs.Prelude.{Row, one_look, replica_of}
 use Rattle.seam_judge_data.specs.Standings.{standing_of}
 use Rattle.seam_judge_expected.proofs.ListedLemmas.{if_ok}
 use Rattle.seam_judge_rounds.proofs.ClientLists.{each_number}

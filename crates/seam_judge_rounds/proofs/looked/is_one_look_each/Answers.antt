@@ -1,8 +1,6 @@
 use Rattle.std.proofs.Common.{◌≡◌, ◌++◌, ◌∙◌, sym, subst, map, ℕ, List}
 use Rattle.seam_call.specs.declared.shown.ClientText.TheVariants as text
-use Rattle.seam_rule_clients.specs.Looks.{Row, one_look}
-use Rattle.seam_rule_rounds.specs.Standing.{replica_of}
-use Rattle.seam_rule_rounds.specs.Clients.{texts_to, base_texts}
+use Rattle.seam_rule_rounds.specs.Prelude.{Row, one_look, replica_of, texts_to, base_texts}
 use Rattle.seam_judge_data.specs.Standings.{standing_of}
 use Rattle.seam_judge_expected.proofs.ListedLemmas.{if_ok}
 use Rattle.seam_judge_rounds.proofs.ClientLists.{each_number}

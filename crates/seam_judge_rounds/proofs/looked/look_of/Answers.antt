@@ -1,7 +1,6 @@
 use Rattle.std.proofs.Common.{◌∙◌, ap, map, List}
 use Rattle.seam_call.specs.declared.shown.Line.{Line}
-use Rattle.seam_rule_clients.specs.Clients.{ClientReplica, new_client, after_lines}
-use Rattle.seam_rule_clients.specs.Looks.{one_look}
+use Rattle.seam_rule_rounds.specs.Prelude.{ClientReplica, new_client, after_lines, one_look}
 use Rattle.seam_judge_expected.proofs.ListedLemmas.{if_ok}
 use Rattle.seam_judge_rounds.proofs.looked.look_of.Goals as goal
 

@@ -1,7 +1,5 @@
 use Rattle.std.proofs.Common.{◌≡◌, [], true, arith}
-use Rattle.seam_call.specs.declared.create.Create.{Create}
-use Rattle.seam_rule_clients.specs.Looks.{one_look}
-use Rattle.seam_rule_rounds.specs.Standing.{replica_of}
+use Rattle.seam_rule_rounds.specs.Prelude.{Create, one_look, replica_of}
 use Rattle.seam_judge_data.specs.Standings.{standing_of}
 use Rattle.seam_judge_rounds.proofs.Agreeing.{all_more}
 use Rattle.seam_judge_rounds.proofs.looked.show_nothing.Goals as goal

@@ -2,10 +2,7 @@ use Rattle.std.proofs.Common.{◌+◌, ◌-◌, ◌∙◌, sym, ap, map, length,
 use Rattle.std.specs.List.{range_with_len}
 use Rattle.std.proofs.lemmas.List.{length-map}
 use Rattle.seam_defs.specs.declared.flags.Part.TheVariants as part
-use Rattle.seam_call.specs.declared.call.Call.{Call}
-use Rattle.seam_rule_lines.specs.Book.{tree_of}
-use Rattle.seam_rule_rounds.specs.FlatTable.{position_at}
-use Rattle.seam_rule_rounds.specs.RoundPlaces.{distances, place_before}
+use Rattle.seam_rule_rounds.specs.Prelude.{Call, tree_of, position_at, distances, place_before}
 use Rattle.seam_judge_data.specs.Standings.{standing_of}
 use Rattle.seam_judge_rounds.proofs.Settling.{place_decided}
 use Rattle.seam_judge_rounds.proofs.places.has_place.Goals as goal

@@ -1,6 +1,5 @@
 use Rattle.std.proofs.Common.{ap, length, refl, arith}
-use Rattle.seam_tree.specs.Division.{cells_of}
-use Rattle.seam_rule_lines.specs.Book.{tree_of}
+use Rattle.seam_rule_rounds.specs.Prelude.{cells_of, tree_of}
 use Rattle.seam_judge_data.specs.Standings.{standing_of}
 use Rattle.seam_judge_rounds.proofs.Homes.{every_home}
 use Rattle.seam_judge_rounds.proofs.places.have_homes.Goals as goal

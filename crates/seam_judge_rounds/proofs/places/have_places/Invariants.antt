@@ -1,6 +1,5 @@
 use Rattle.std.proofs.Common.{ℕ, ◌<◌, get_or}
-use Rattle.seam_call.specs.declared.create.Create.{Create}
-use Rattle.seam_rule_rounds.specs.RoundPlaces.{HasPlace}
+use Rattle.seam_rule_rounds.specs.Prelude.{Create, HasPlace}
 use Rattle.seam_judge_data.specs.Standings.{standing_of}
 use Rattle.seam_judge_rounds.proofs.places.have_places.Given as goal
 

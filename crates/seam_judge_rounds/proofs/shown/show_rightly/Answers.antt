@@ -1,8 +1,6 @@
 use Rattle.std.proofs.Common.{◌∙◌, ap, map, List}
 use Rattle.seam_call.specs.declared.shown.Line.{Line}
-use Rattle.seam_rule_clients.specs.Clients.{new_client, after_lines, shown_by_lines}
-use Rattle.seam_rule_rounds.specs.Standing.{replica_of}
-use Rattle.seam_rule_rounds.specs.Clients.{truth_of}
+use Rattle.seam_rule_rounds.specs.Prelude.{new_client, after_lines, shown_by_lines, replica_of, truth_of}
 use Rattle.seam_judge_data.specs.Standings.{standing_of}
 use Rattle.seam_judge_looks.specs.Replicas.{client_of}
 use Rattle.seam_judge_rounds.proofs.Rightly.{rightly}

@@ -1,7 +1,5 @@
 use Rattle.std.proofs.Common.{◌≡◌, true, subst, arith, Bor}
-use Rattle.seam_call.specs.declared.shown.Shown.{Shown}
-use Rattle.seam_rule_clients.specs.Lines.{Truth, ShowsTruth}
-use Rattle.seam_rule_rounds.specs.Clients.{truth_of}
+use Rattle.seam_rule_rounds.specs.Prelude.{Shown, Truth, ShowsTruth, truth_of}
 use Rattle.seam_judge_data.specs.Standings.{standing_of}
 use Rattle.seam_judge_rounds.proofs.Agreeing.{all_more}
 use Rattle.seam_judge_rounds.proofs.truth.are_true.Goals as goal

@@ -1,7 +1,5 @@
 use Rattle.std.proofs.Common.{ℕ, ◌<◌, get_or, Bor}
-use Rattle.seam_call.specs.declared.shown.Shown.{Shown}
-use Rattle.seam_rule_clients.specs.Lines.{ShowsTruth}
-use Rattle.seam_rule_rounds.specs.Clients.{truth_of}
+use Rattle.seam_rule_rounds.specs.Prelude.{Shown, ShowsTruth, truth_of}
 use Rattle.seam_judge_data.specs.Standings.{standing_of}
 use Rattle.seam_judge_rounds.proofs.truth.are_true.Given as goal
 

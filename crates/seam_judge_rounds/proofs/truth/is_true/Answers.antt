@@ -1,9 +1,6 @@
 use Rattle.std.proofs.Common.{sym, subst, IsTrue, ◌↔◌}
 use Rattle.std.specs.Prelude.{IfOk}
-use Rattle.seam_call.specs.declared.shown.Shown.{Shown}
-use Rattle.seam_call.specs.declared.shown.Shown.TheVariants.{Enter, Set}
-use Rattle.seam_rule_clients.specs.Lines.{ShowsTruth}
-use Rattle.seam_rule_rounds.specs.Clients.{truth_of}
+use Rattle.seam_rule_rounds.specs.Prelude.{Shown, Enter, Set, ShowsTruth, truth_of}
 use Rattle.seam_judge_data.specs.Standings.{standing_of}
 use Rattle.seam_judge_rounds.proofs.truth.is_true.Goals as goal
 

@@ -1,8 +1,6 @@
 use Rattle.std.proofs.Common.{◌∙◌, sym, ap, subst, List, Option, None, Some, IsTrue, ◌↔◌}
 use Rattle.std.specs.Prelude.{IfOk}
-use Rattle.seam_tree.specs.Division.{Division}
-use Rattle.seam_rule_lines.specs.Round.{HomeLine}
-use Rattle.seam_rule_rounds.specs.Lines.{RoundData}
+use Rattle.seam_rule_rounds.specs.Prelude.{Division, HomeLine, RoundData}
 use Rattle.seam_judge_data.specs.Standings.{standing_of}
 use Rattle.seam_judge_rounds.specs.Bounds.{PrintsBounds}
 use Rattle.seam_judge_rounds.proofs.verdict.are_printed.Goals as goal

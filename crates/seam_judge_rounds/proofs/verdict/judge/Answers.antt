@@ -1,8 +1,5 @@
 use Rattle.std.proofs.Common.{◌≡◌, ◌≤◌, subst, None, ◌↔◌}
-use Rattle.seam_tree.specs.declared.area_table.TheConstants.{MOST_CELLS}
-use Rattle.seam_tree.specs.Division.{Division, cells_of}
-use Rattle.seam_rule_rounds.specs.Standing.{Standing}
-use Rattle.seam_rule_rounds.specs.Round.{IsRound}
+use Rattle.seam_rule_rounds.specs.Prelude.{MOST_CELLS, Division, cells_of, Standing, IsRound}
 use Rattle.seam_judge_data.specs.Standings.{standing_of}
 use Rattle.seam_judge_expected.proofs.ListedLemmas.{if_ok}
 use Rattle.seam_judge_rounds.proofs.AllPoints.{never_left}

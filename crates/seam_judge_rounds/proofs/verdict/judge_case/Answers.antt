@@ -1,14 +1,8 @@
 use Rattle.std.proofs.Common.{◌≡◌, ◌∙◌, ap, refl, map, List, None}
 use Rattle.std.specs.List.{All, flat_map}
 use Rattle.seam_defs.specs.declared.flags.Part.TheVariants as part
-use Rattle.seam_call.specs.declared.create.Create.{Create}
-use Rattle.seam_rule_lines.specs.Book.{tree_of}
-use Rattle.seam_rule_lines.specs.Round.{DoneLine, HomeLine, BaseLine, ExtendsOrders}
-use Rattle.seam_rule_rounds.specs.Standing.{Standing}
-use Rattle.seam_rule_rounds.specs.RoundPlaces.{HasPlace}
-use Rattle.seam_rule_rounds.specs.Lines.{GhostLine, RoundData}
-use Rattle.seam_rule_rounds.specs.Clients.{HasLooked}
-use Rattle.seam_rule_rounds.specs.Round.{home_line, base_line, ghost_lines}
+use Rattle.seam_rule_rounds.specs.Prelude.{Create, tree_of, DoneLine, HomeLine, BaseLine, ExtendsOrders, Standing, HasPlace, GhostLine}
+use Rattle.seam_rule_rounds.specs.Prelude.{RoundData, HasLooked, home_line, base_line, ghost_lines}
 use Rattle.seam_judge_data.specs.Standings.{standing_of}
 use Rattle.seam_judge_rounds.specs.Points.{Holds}
 use Rattle.seam_judge_rounds.specs.declared.verdict.Point.{Point}

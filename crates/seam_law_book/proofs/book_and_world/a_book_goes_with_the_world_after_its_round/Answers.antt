@@ -1,13 +1,10 @@
 use Rattle.std.proofs.Common.{◌≡◌, ℕ, None, arith}
-use Rattle.seam_rule_lines.specs.Book.{created_as}
-use Rattle.seam_law_book.specs.Bringing.{IsUntouched}
-use Rattle.seam_law_book.specs.Books.{as_begun}
+use Rattle.seam_rule_rounds.specs.Prelude.{created_as}
+use Rattle.seam_law_rounds.specs.Prelude.{framed, MayBeLoaded}
+use Rattle.seam_law_clients.specs.Prelude.{clients_loaded, clients_shown}
+use Rattle.seam_law_all.specs.Prelude.{clients_looked}
+use Rattle.seam_law_book.specs.Prelude.{IsUntouched, as_begun, frame_of}
 use Rattle.seam_accept.specs.Batches.{batch_of}
-use Rattle.seam_law_rounds.specs.Between.{framed}
-use Rattle.seam_law_rounds.specs.Parts.{MayBeLoaded}
-use Rattle.seam_law_clients.specs.Clients.{clients_loaded, clients_shown}
-use Rattle.seam_law_all.specs.LookLaws.{clients_looked}
-use Rattle.seam_law_book.specs.Going.{frame_of}
 use Rattle.seam_law_book.proofs.Given.{present_one}
 use Rattle.seam_law_book.proofs.Ended.{goes_again}
 use Rattle.seam_law_book.proofs.book_and_world.a_book_goes_with_the_world_after_its_round.Goals as goal

@@ -1,20 +1,16 @@
 use Rattle.std.proofs.Common.{◌≡◌, ℕ, ◌++◌, None, sym, ap, ◌∙◌, subst}
 use Rattle.seam_defs.specs.declared.flags.Part.TheVariants as part
-use Rattle.seam_rule_lines.specs.Book.{created_as}
+use Rattle.seam_node_steps.specs.Prelude.{loaded}
+use Rattle.seam_rule_rounds.specs.Prelude.{created_as}
+use Rattle.seam_law_rounds.specs.Prelude.{framed, MayBeLoaded}
+use Rattle.seam_law_clients.specs.Prelude.{clients_loaded, clients_shown}
+use Rattle.seam_law_book.specs.Prelude.{as_begun, IsUntouched, frame_of, base_node, done_by_part, IsPartInTable}
 use Rattle.seam_accept.specs.Batches.{batch_of}
-use Rattle.seam_law_book.specs.Books.{as_begun}
-use Rattle.seam_law_book.specs.Bringing.{IsUntouched}
 use Rattle.seam_law_book.proofs.Present.{live_is_present}
 use Rattle.seam_law_book.proofs.Untouched.{orderly}
-use Rattle.seam_node_steps.specs.Loads.{loaded}
-use Rattle.seam_law_rounds.specs.Between.{framed}
 use Rattle.seam_law_rounds.proofs.Framing.{in_frame}
 use Rattle.seam_law_rounds.proofs.Going.{spared_loaded}
 use Rattle.seam_law_rounds.proofs.Shape.{search_real}
-use Rattle.seam_law_rounds.specs.Parts.{MayBeLoaded}
-use Rattle.seam_law_clients.specs.Clients.{clients_loaded, clients_shown}
-use Rattle.seam_law_book.specs.Going.{frame_of, base_node}
-use Rattle.seam_law_book.specs.ExecutedRound.{done_by_part, IsPartInTable}
 use Rattle.seam_law_book.proofs.Given.{present_one}
 use Rattle.seam_law_book.proofs.Ended.{live_ended}
 use Rattle.seam_law_book.proofs.Parts.{looks_leave_part}

@@ -1,12 +1,9 @@
 use Rattle.std.proofs.Common.{◌≡◌, ℕ, None, refl}
-use Rattle.seam_rule_lines.specs.Book.{created_as}
+use Rattle.seam_rule_rounds.specs.Prelude.{created_as}
+use Rattle.seam_law_rounds.specs.Prelude.{framed}
+use Rattle.seam_law_clients.specs.Prelude.{clients_loaded, clients_shown}
+use Rattle.seam_law_book.specs.Prelude.{as_begun, IsUntouched, frame_of, done_in}
 use Rattle.seam_accept.specs.Batches.{batch_of}
-use Rattle.seam_law_book.specs.Books.{as_begun}
-use Rattle.seam_law_book.specs.Bringing.{IsUntouched}
-use Rattle.seam_law_rounds.specs.Between.{framed}
-use Rattle.seam_law_clients.specs.Clients.{clients_loaded, clients_shown}
-use Rattle.seam_law_book.specs.Going.{frame_of}
-use Rattle.seam_law_book.specs.ExecutedRound.{done_in}
 use Rattle.seam_law_book.proofs.Given.{present_one}
 use Rattle.seam_law_book.proofs.Done.{all_executed, done_on}
 use Rattle.seam_law_book.proofs.book_and_world.each_part_executed_what_was_accepted.Goals as goal

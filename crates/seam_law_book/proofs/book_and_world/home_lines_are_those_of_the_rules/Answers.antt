@@ -1,9 +1,7 @@
 use Rattle.std.proofs.Common.{◌≡◌, sym, ap, ◌∙◌, inl, inr}
 use Rattle.std.proofs.lemmas.Bool.{cases_eq}
-use Rattle.seam_haunt.specs.Places.{Place}
-use Rattle.seam_entity.specs.Reals.{RealView}
-use Rattle.seam_law_calls.specs.Sights.{entity_flow}
-use Rattle.seam_law_calls.specs.Ones.{real_in}
+use Rattle.seam_node_steps.specs.Prelude.{Place, RealView}
+use Rattle.seam_law_calls.specs.Prelude.{entity_flow, real_in}
 use Rattle.seam_law_book.proofs.book_and_world.home_lines_are_those_of_the_rules.Goals as goal
 
 pub returns : goal.returns

@@ -1,18 +1,14 @@
 use Rattle.std.proofs.Common.{◌≡◌, ℕ, None, sym, ap, ◌∙◌}
 use Rattle.seam_defs.specs.declared.flags.Part.TheVariants as part
-use Rattle.seam_rule_lines.specs.Book.{created_as}
+use Rattle.seam_node_steps.specs.Prelude.{RealView, loaded}
+use Rattle.seam_rule_rounds.specs.Prelude.{created_as}
+use Rattle.seam_law_rounds.specs.Prelude.{framed}
+use Rattle.seam_law_clients.specs.Prelude.{clients_loaded, clients_shown}
+use Rattle.seam_law_book.specs.Prelude.{as_begun, IsUntouched, frame_of, done_in}
 use Rattle.seam_accept.specs.Batches.{batch_of}
-use Rattle.seam_law_book.specs.Books.{as_begun}
-use Rattle.seam_law_book.specs.Bringing.{IsUntouched}
 use Rattle.seam_law_book.proofs.Untouched.{orderly}
 use Rattle.seam_law_book.proofs.Present.{live_is_present}
-use Rattle.seam_entity.specs.Reals.{RealView}
-use Rattle.seam_law_rounds.specs.Between.{framed}
 use Rattle.seam_law_rounds.proofs.Shape.{search_real}
-use Rattle.seam_node_steps.specs.Loads.{loaded}
-use Rattle.seam_law_clients.specs.Clients.{clients_loaded, clients_shown}
-use Rattle.seam_law_book.specs.Going.{frame_of}
-use Rattle.seam_law_book.specs.ExecutedRound.{done_in}
 use Rattle.seam_law_book.proofs.Given.{present_one}
 use Rattle.seam_law_book.proofs.Done.{began_by, done_cell, done_on}
 use Rattle.seam_law_book.proofs.Ended.{live_ended}

@@ -1,22 +1,18 @@
 use Rattle.std.proofs.Common.{◌≡◌, List, [], ◌++◌, sym, ap, ◌∙◌, subst, inl, inr, ◌⊎◌}
 use Rattle.seam_view.specs.Replica.{IsView}
-use Rattle.seam_rule_lines.specs.Book.{Book, live_as, tree_of, with_round_ended}
-use Rattle.seam_rule_lines.specs.Round.{Lists}
+use Rattle.seam_node_steps.specs.Prelude.{Create}
+use Rattle.seam_rule_rounds.specs.Prelude.{Book, live_as, tree_of, with_round_ended, Lists, rows_but, look_by, one_look, properties}
+use Rattle.seam_law_flow.specs.Prelude.{letters_of}
+use Rattle.seam_law_calls.specs.Prelude.{shown_in, lines_in, proxy_of}
+use Rattle.seam_law_rounds.specs.Prelude.{framed}
+use Rattle.seam_law_clients.specs.Prelude.{clients_loaded, clients_shown}
+use Rattle.seam_law_all.specs.Prelude.{clients_looked, shown_to}
+use Rattle.seam_law_book.specs.Prelude.{frame_of, base_node, done_in, with_done}
 use Rattle.seam_accept.specs.Batches.{batch_of}
-use Rattle.seam_law_rounds.specs.Between.{framed}
 use Rattle.seam_law_rounds.proofs.Shape.{Somewhere, Nowhere, search_real}
-use Rattle.seam_law_clients.specs.Clients.{clients_loaded, clients_shown}
-use Rattle.seam_law_all.specs.LookLaws.{clients_looked, shown_to}
-use Rattle.seam_law_flow.specs.Flows.{letters_of}
-use Rattle.seam_law_calls.specs.Clients.{shown_in, lines_in, proxy_of}
-use Rattle.seam_call.specs.declared.create.Create.{Create}
-use Rattle.seam_rule_clients.specs.Looks.{rows_but, look_by, one_look}
 use Rattle.seam_law_clients.specs.Tables as world
 use Rattle.seam_law_clients.proofs.Rows.{row_found}
 use Rattle.seam_law_clients.proofs.OneLook.{row_nowhere}
-use Rattle.seam_rule_rounds.specs.FlatTable.{properties}
-use Rattle.seam_law_book.specs.Going.{frame_of, base_node}
-use Rattle.seam_law_book.specs.ExecutedRound.{done_in, with_done}
 use Rattle.seam_law_book.proofs.Ended.{live_ended}
 use Rattle.seam_law_book.proofs.Rows.{rows_are}
 use Rattle.seam_law_book.proofs.Further.{has_witness, its_witness}

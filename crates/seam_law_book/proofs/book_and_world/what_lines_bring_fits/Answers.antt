@@ -1,18 +1,12 @@
 use Rattle.std.proofs.Common.{◌≡◌, ℕ, ◌+◌, ◌^◌, ◌<◌, true, None, arith, inl, inr, ◌⊎◌}
 use Rattle.std.proofs.lemmas.Bool.Decides.{nat_tests}
-use Rattle.seam_rule_lines.specs.Book.{created_as}
-use Rattle.seam_law_book.specs.Books.{as_begun}
-use Rattle.seam_law_book.specs.Bringing.{IsUntouched}
+use Rattle.seam_node_steps.specs.Prelude.{limit, may_rise, holders, loaded, RealView}
+use Rattle.seam_rule_rounds.specs.Prelude.{created_as}
+use Rattle.seam_law_rounds.specs.Prelude.{numbers_of, MayBeLoaded}
+use Rattle.seam_law_book.specs.Prelude.{as_begun, IsUntouched, frame_of}
 use Rattle.seam_accept.specs.Batches.{batch_of}
 use Rattle.seam_law_book.proofs.Adding.{all_turn}
-use Rattle.seam_entity.specs.Numbers.{limit, may_rise}
-use Rattle.seam_node_steps.specs.Holders.{holders}
-use Rattle.seam_node_steps.specs.Loads.{loaded}
-use Rattle.seam_law_rounds.specs.Between.{numbers_of}
 use Rattle.seam_law_rounds.proofs.Shape.{Somewhere, Nowhere, search_real}
-use Rattle.seam_law_rounds.specs.Parts.{MayBeLoaded}
-use Rattle.seam_entity.specs.Reals.{RealView}
-use Rattle.seam_law_book.specs.Going.{frame_of}
 use Rattle.seam_law_book.proofs.Given.{may_be_given, present_one}
 use Rattle.seam_law_book.proofs.Started.{no_one, made_now, real_comes}
 use Rattle.seam_law_book.proofs.Origins.{was, made}

@@ -1,13 +1,11 @@
 use Rattle.std.proofs.Common.{[], length, ap, ◌∙◌}
-use Rattle.seam_machine.specs.Nets.{link}
+use Rattle.seam_node_steps.specs.Prelude.{link, loaded, World, node_steps, node_has_work}
+use Rattle.seam_law_rounds.specs.Prelude.{framed}
+use Rattle.seam_law_bounds.specs.Prelude.{LooksAmong, LooksFit}
 use Rattle.seam_machine.proofs.Quiet.{quiet_links}
-use Rattle.seam_node_steps.specs.Loads.{loaded}
 use Rattle.seam_net_runs.proofs.Runs.{leads_nowhere}
-use Rattle.seam_node_steps.specs.Nodes.{World, node_steps, node_has_work}
-use Rattle.seam_law_rounds.specs.Between.{framed}
 use Rattle.seam_law_rounds.proofs.Framing.{in_frame}
 use Rattle.seam_law_rounds.proofs.Loading.{loaded_is}
-use Rattle.seam_law_bounds.specs.Looking.{LooksAmong, LooksFit}
 use Rattle.seam_law_clients.proofs.Round.{called_between, reaped_between, reaped_room}
 use Rattle.seam_law_bounds.proofs.Naming.{among_these}
 use Rattle.seam_law_bounds.proofs.RoundGrowth.{numbers_most, told_end}

@@ -1,12 +1,8 @@
 use Rattle.std.proofs.Common.{Some, List, sym, subst}
-use Rattle.seam_call.specs.declared.shown.Shown.{Shown}
-use Rattle.seam_entity.specs.Reals.{RealView, WitnessView}
-use Rattle.seam_node_steps.specs.CellLooks.{looks_of, shown_of, after_looking}
-use Rattle.seam_node_steps.specs.Cells.{known_to}
+use Rattle.seam_node_steps.specs.Prelude.{Shown, RealView, WitnessView, looks_of, shown_of, after_looking, known_to}
+use Rattle.seam_law_clients.specs.Prelude.{rows_of, FitsWitness}
 use Rattle.seam_rule_clients.specs.Clients.{after_all_shown}
 use Rattle.seam_rule_clients.specs.Looks.{one_look}
-use Rattle.seam_law_clients.specs.Tables.{rows_of}
-use Rattle.seam_law_clients.specs.Witnesses.{FitsWitness}
 use Rattle.seam_law_clients.proofs.After.{look_fits}
 use Rattle.seam_law_clients.proofs.looks.a_client_fits_after_a_look.Goals as goal
 

@@ -1,9 +1,7 @@
 use Rattle.std.proofs.Common.{Some, refl, sym, subst}
-use Rattle.seam_entity.specs.Reals.{WitnessView}
-use Rattle.seam_node_steps.specs.CellLooks.{shown_of}
-use Rattle.seam_node_steps.specs.Cells.{known_to}
+use Rattle.seam_node_steps.specs.Prelude.{WitnessView, shown_of, known_to}
+use Rattle.seam_law_clients.specs.Prelude.{FitsWithin, truth_of_look}
 use Rattle.seam_rule_clients.specs.Clients.{after_all_shown}
-use Rattle.seam_law_clients.specs.Fits.{FitsWithin, truth_of_look}
 use Rattle.seam_law_clients.proofs.Looking.{look_shows, look_fits}
 use Rattle.seam_law_clients.proofs.shown.a_look_is_shown_rightly.Goals as goal
 

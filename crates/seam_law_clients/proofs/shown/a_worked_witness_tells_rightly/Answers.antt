@@ -1,7 +1,6 @@
-use Rattle.seam_law_calls.specs.BaseCallsExample.{world_shown}
+use Rattle.seam_law_calls.specs.Prelude.{world_shown, frame}
+use Rattle.seam_law_clients.specs.Prelude.{true_between}
 use Rattle.seam_law_calls.proofs.ExampleClient.{load_shown}
-use Rattle.seam_law_calls.specs.HandOverExample.{frame}
-use Rattle.seam_law_clients.specs.RoundTruths.{true_between}
 use Rattle.seam_law_clients.proofs.ExampleShown.{worked_starts, worked_runs}
 use Rattle.seam_law_clients.proofs.shown.a_worked_witness_tells_rightly.Goals as goal
 

@@ -1,8 +1,6 @@
 use Rattle.std.proofs.Common.{◌++◌, refl, ap, ◌∙◌}
 use Rattle.std.specs.Prelude.{slice_get}
-use Rattle.seam_law_calls.specs.Sights.{entity_flow}
-use Rattle.seam_law_calls.specs.BaseTurns.{home_of}
-use Rattle.seam_law_calls.specs.Clients.{shown_at}
+use Rattle.seam_law_calls.specs.Prelude.{entity_flow, home_of, shown_at}
 use Rattle.seam_law_clients.proofs.ShownOnce.{cell_at, shown_until, shown_once}
 use Rattle.seam_law_clients.proofs.shown.each_client_is_shown_one_look.Goals as goal
 

@@ -1,20 +1,14 @@
 use Rattle.std.proofs.Common.{◌≡◌, [], ◌∷◌, Some, refl, ap, ◌∙◌}
 use Rattle.std.specs.Prelude.{Contains}
 use Rattle.seam_defs.specs.declared.flags.Part.TheVariants as part
-use Rattle.seam_call.specs.declared.create.Create.{Create}
-use Rattle.seam_rule_lines.specs.Book.{live_as, tree_of, with_round_ended}
+use Rattle.seam_node_steps.specs.Prelude.{Create}
+use Rattle.seam_rule_rounds.specs.Prelude.{live_as, tree_of, with_round_ended, replica_of, HasPlace, home_line, base_line, ghost_lines}
+use Rattle.seam_law_rounds.specs.Prelude.{framed}
+use Rattle.seam_law_clients.specs.Prelude.{clients_loaded, clients_shown}
+use Rattle.seam_law_book.specs.Prelude.{frame_of, AreInPlace, ghosts_read}
+use Rattle.seam_law_transcript.specs.Prelude.{may_play, standing_of, homes_read, base_if, bases_read, place_read}
 use Rattle.seam_accept.specs.Batches.{batch_of}
-use Rattle.seam_law_rounds.specs.Between.{framed}
-use Rattle.seam_law_clients.specs.Clients.{clients_loaded, clients_shown}
-use Rattle.seam_rule_rounds.specs.Standing.{replica_of}
-use Rattle.seam_rule_rounds.specs.RoundPlaces.{HasPlace}
-use Rattle.seam_rule_rounds.specs.Round.{home_line, base_line, ghost_lines}
-use Rattle.seam_law_book.specs.Going.{frame_of}
-use Rattle.seam_law_book.specs.Standings.{AreInPlace, ghosts_read}
 use Rattle.seam_law_book.proofs.Ended.{live_ended}
-use Rattle.seam_law_transcript.specs.Beside.{may_play}
-use Rattle.seam_law_transcript.specs.Playing.{standing_of}
-use Rattle.seam_law_transcript.specs.Reading.{homes_read, base_if, bases_read, place_read}
 use Rattle.seam_law_transcript.proofs.Held.{one_of_each, same_of_each, all_of_each, home_is, place_is}
 use Rattle.seam_law_transcript.proofs.legal_rounds.a_played_round_is_legal_but_for_clients.Goals as goal
 

@@ -2,28 +2,20 @@ use Rattle.std.proofs.Common.{◌≡◌, ◌+◌, Bool, true, false, ◌++◌, l
 use Rattle.std.proofs.Common.{length-append, append-nil}
 use Rattle.std.specs.Prelude.{is_some, not, filter, ◌&&◌}
 use Rattle.std.specs.List.{list_any}
-use Rattle.seam_call.specs.declared.create.Create.{Create}
-use Rattle.seam_rule_lines.specs.Book.{entries, creates_of, calls_of, created_as, live_as, joins, destroys, was_dead, tree_of, with_round_ended, with_tree}
-use Rattle.seam_rule_lines.specs.Orders.{IsFull}
+use Rattle.seam_node_steps.specs.Prelude.{Create, is_from, PartView, ProxyView}
+use Rattle.seam_rule_rounds.specs.Prelude.{entries, creates_of, calls_of, created_as, live_as, joins, destroys, was_dead, tree_of}
+use Rattle.seam_rule_rounds.specs.Prelude.{with_round_ended, with_tree, IsFull, told_in, replica_of}
+use Rattle.seam_law_calls.specs.Prelude.{entity_flow}
+use Rattle.seam_law_rounds.specs.Prelude.{framed}
+use Rattle.seam_law_clients.specs.Prelude.{clients_loaded, clients_shown}
+use Rattle.seam_law_book.specs.Prelude.{frame_of, base_node, done_in, with_done, AreInPlace}
+use Rattle.seam_law_transcript.specs.Prelude.{may_play, data_of, place_read}
 use Rattle.seam_rule_lines.proofs.BookEntries.{live_is_created}
 use Rattle.seam_rule_lines.proofs.InOrderLemmas.{found_entity}
 use Rattle.seam_accept.specs.Batches.{batch_of}
 use Rattle.seam_law_book.proofs.Present.{any_split, alive, neither, undestroyed}
-use Rattle.seam_call.specs.Calls.{is_from}
-use Rattle.seam_node_steps.specs.Bases.{PartView, ProxyView}
-use Rattle.seam_law_calls.specs.Sights.{entity_flow}
-use Rattle.seam_law_rounds.specs.Between.{framed}
-use Rattle.seam_law_clients.specs.Clients.{clients_loaded, clients_shown}
-use Rattle.seam_rule_rounds.specs.Lines.{told_in}
-use Rattle.seam_rule_rounds.specs.Standing.{replica_of}
-use Rattle.seam_law_book.specs.Going.{frame_of, base_node}
-use Rattle.seam_law_book.specs.ExecutedRound.{done_in, with_done}
-use Rattle.seam_law_book.specs.Standings.{AreInPlace}
 use Rattle.seam_law_book.proofs.Ended.{live_ended, client_of}
 use Rattle.seam_law_book.proofs.Parts.{both_seen}
-use Rattle.seam_law_transcript.specs.Beside.{may_play}
-use Rattle.seam_law_transcript.specs.Playing.{data_of}
-use Rattle.seam_law_transcript.specs.Reading.{place_read}
 use Rattle.seam_law_transcript.proofs.Held.{place_is}
 use Rattle.seam_law_transcript.proofs.Replicas.{is_shown_by}
 use Rattle.seam_law_transcript.proofs.legal_rounds.a_standing_goes_with_the_world_after_its_round.Goals as goal

@@ -2,32 +2,21 @@ use Rattle.std.proofs.Common.{◌≡◌, ℕ, ◌+◌, true, false, [], ◌++◌
 use Rattle.std.specs.Prelude.{if◌then◌else◌}
 use Rattle.std.specs.List.{list_any}
 use Rattle.seam_defs.specs.declared.flags.Part.TheVariants as part
-use Rattle.seam_rule_lines.specs.Book.{created_as, destroys, is_new_client}
+use Rattle.seam_node_steps.specs.Prelude.{PartView, ProxyView, loaded}
+use Rattle.seam_rule_rounds.specs.Prelude.{created_as, destroys, is_new_client, base_shown, base_versions, replica_of}
+use Rattle.seam_law_calls.specs.Prelude.{here_at, entity_flow}
+use Rattle.seam_law_rounds.specs.Prelude.{framed, MayBeLoaded}
+use Rattle.seam_law_clients.specs.Prelude.{base_lines, first_lines, lines_after, clients_loaded, clients_shown}
+use Rattle.seam_law_book.specs.Prelude.{as_begun, IsUntouched, frame_of, base_node, done_by_part, done_in}
+use Rattle.seam_law_transcript.specs.Prelude.{may_play, standing_of, lines_shown, lines_told}
 use Rattle.seam_accept.specs.Batches.{batch_of}
-use Rattle.seam_law_book.specs.Books.{as_begun}
-use Rattle.seam_law_book.specs.Bringing.{IsUntouched}
-use Rattle.seam_node_steps.specs.Bases.{PartView, ProxyView}
-use Rattle.seam_node_steps.specs.Loads.{loaded}
-use Rattle.seam_law_calls.specs.Frames.{here_at}
-use Rattle.seam_law_calls.specs.Sights.{entity_flow}
-use Rattle.seam_law_rounds.specs.Between.{framed}
 use Rattle.seam_law_rounds.proofs.Going.{settled_loaded}
 use Rattle.seam_law_rounds.proofs.Loaded.{no_mail}
 use Rattle.seam_law_rounds.proofs.Ready.{one_holder, quiet_home}
-use Rattle.seam_law_rounds.specs.Parts.{MayBeLoaded}
 use Rattle.seam_law_rounds.proofs.Joining.{is_among}
-use Rattle.seam_law_clients.specs.BaseLines.{base_lines, first_lines, lines_after}
-use Rattle.seam_law_clients.specs.Clients.{clients_loaded, clients_shown}
 use Rattle.seam_law_clients.proofs.Loading.{among_is}
-use Rattle.seam_rule_rounds.specs.Clients.{base_shown, base_versions}
-use Rattle.seam_rule_rounds.specs.Standing.{replica_of}
-use Rattle.seam_law_book.specs.Going.{frame_of, base_node}
-use Rattle.seam_law_book.specs.ExecutedRound.{done_by_part, done_in}
 use Rattle.seam_law_book.proofs.Ended.{live_ended}
 use Rattle.seam_law_book.proofs.Parts.{among_joined}
-use Rattle.seam_law_transcript.specs.Beside.{may_play}
-use Rattle.seam_law_transcript.specs.Playing.{standing_of}
-use Rattle.seam_law_transcript.specs.Reading.{lines_shown, lines_told}
 use Rattle.seam_law_transcript.proofs.Who.{is_there, was_joined, lives_on, unjoined_before, client_by}
 use Rattle.seam_law_transcript.proofs.BaseVersions.{texts_are}
 use Rattle.seam_law_transcript.proofs.Told.{IsShown, by_death, base_texts_are, called_shown, ended_shown, ended_last}

@@ -2,31 +2,21 @@ use Rattle.std.proofs.Common.{◌≡◌, ℕ, true, eqb, ◌++◌, Some, None, s
 use Rattle.std.specs.Prelude.{is_some, if◌then◌else◌}
 use Rattle.std.specs.List.{list_any}
 use Rattle.std.proofs.lemmas.Bool.{cases_eq}
-use Rattle.seam_law_flow.specs.Flows.{letters_of}
-use Rattle.seam_call.specs.declared.create.Create.{Create}
-use Rattle.seam_rule_lines.specs.Book.{entries, creates_of, created_as, live_as, joins, destroys}
+use Rattle.seam_node_steps.specs.Prelude.{Create, RealView}
+use Rattle.seam_rule_rounds.specs.Prelude.{entries, creates_of, created_as, live_as, joins, destroys, new_client, after_all_shown}
+use Rattle.seam_rule_rounds.specs.Prelude.{after_lines, told_in, replica_of}
+use Rattle.seam_law_flow.specs.Prelude.{letters_of}
+use Rattle.seam_law_calls.specs.Prelude.{entity_flow, real_in, shown_in}
+use Rattle.seam_law_rounds.specs.Prelude.{framed, MayBeLoaded}
+use Rattle.seam_law_clients.specs.Prelude.{clients_loaded, clients_shown}
+use Rattle.seam_law_book.specs.Prelude.{as_begun, IsUntouched, frame_of}
+use Rattle.seam_law_transcript.specs.Prelude.{may_play, data_of, standing_of, clients_ended_in, lines_shown}
 use Rattle.seam_rule_lines.proofs.BookEntries.{live_is_created}
 use Rattle.seam_rule_lines.proofs.InOrderLemmas.{found_entity}
 use Rattle.seam_accept.specs.Batches.{batch_of}
-use Rattle.seam_law_book.specs.Books.{as_begun}
-use Rattle.seam_law_book.specs.Bringing.{IsUntouched}
 use Rattle.seam_law_book.proofs.Present.{any_split, alive, neither, undestroyed}
-use Rattle.seam_entity.specs.Reals.{RealView}
-use Rattle.seam_law_calls.specs.Sights.{entity_flow}
-use Rattle.seam_law_calls.specs.Ones.{real_in}
-use Rattle.seam_law_rounds.specs.Between.{framed}
-use Rattle.seam_law_calls.specs.Clients.{shown_in}
-use Rattle.seam_law_rounds.specs.Parts.{MayBeLoaded}
-use Rattle.seam_law_clients.specs.Clients.{clients_loaded, clients_shown}
 use Rattle.seam_law_clients.proofs.Loading.{among_is}
-use Rattle.seam_rule_clients.specs.Clients.{new_client, after_all_shown, after_lines}
-use Rattle.seam_rule_rounds.specs.Lines.{told_in}
-use Rattle.seam_rule_rounds.specs.Standing.{replica_of}
-use Rattle.seam_law_book.specs.Going.{frame_of}
 use Rattle.seam_law_book.proofs.Ended.{live_ended, client_of}
-use Rattle.seam_law_transcript.specs.Beside.{may_play}
-use Rattle.seam_law_transcript.specs.Playing.{data_of, standing_of, clients_ended_in}
-use Rattle.seam_law_transcript.specs.Reading.{lines_shown}
 use Rattle.seam_law_transcript.proofs.Who.{unjoined_before}
 use Rattle.seam_law_transcript.proofs.Replicas.{begun_by, after_more, fit_by, is_shown_by}
 use Rattle.seam_law_transcript.proofs.legal_rounds.clients_show_what_they_were_told.Goals as goal

@@ -2,50 +2,30 @@ use Rattle.std.proofs.Common.{◌≡◌, ℕ, ◌≤◌, true, eqb, List, ◌++�
 use Rattle.std.specs.Prelude.{is_some}
 use Rattle.std.specs.List.{AllByRecursion, list_any}
 use Rattle.seam_law_flow.proofs.TokenLemmas.{sole_here}
-use Rattle.seam_machine.specs.Nets.{LeadsTo}
-use Rattle.seam_machine.specs.declared.machines.Event.{Event}
-use Rattle.seam_defs.specs.Deeds.{other_of, ghost_of, projected}
-use Rattle.seam_defs.specs.Types.{type_of}
+use Rattle.seam_node_steps.specs.Prelude.{LeadsTo, Event, other_of, ghost_of, projected, type_of, Property, State, Call, Create, GhostCopy}
+use Rattle.seam_node_steps.specs.Prelude.{cell_count, RealView, WitnessView, loaded, World, node_steps, node_has_work}
+use Rattle.seam_rule_rounds.specs.Prelude.{entries, creates_of, created_as, new_client, after_lines, ShowsRightly, IsOwn, IsOther, truth_of}
+use Rattle.seam_rule_rounds.specs.Prelude.{replica_of}
+use Rattle.seam_law_calls.specs.Prelude.{entity_flow, real_in, real_of, HasOne, account_of}
+use Rattle.seam_law_rounds.specs.Prelude.{framed}
+use Rattle.seam_law_clients.specs.Prelude.{clients_loaded, WasOther, true_between}
+use Rattle.seam_law_all.specs.Prelude.{shown_to}
+use Rattle.seam_law_book.specs.Prelude.{as_begun, IsPresent, IsUntouched, frame_of, IsDoneOn, done_by_real, done_in}
+use Rattle.seam_law_transcript.specs.Prelude.{may_play, standing_of}
 use Rattle.seam_defs.specs.declared.flags.Group.TheVariants as group
-use Rattle.seam_defs.specs.declared.types.Property.{Property}
 use Rattle.seam_defs.specs.declared.flags.Part.TheVariants as part
-use Rattle.seam_defs.specs.declared.states.State.{State}
-use Rattle.seam_call.specs.declared.call.Call.{Call}
-use Rattle.seam_call.specs.declared.create.Create.{Create}
-use Rattle.seam_call.specs.declared.shown.GhostCopy.{GhostCopy}
-use Rattle.seam_rule_lines.specs.Book.{entries, creates_of, created_as}
 use Rattle.seam_rule_lines.proofs.InOrderLemmas.{found_entity}
 use Rattle.seam_accept.specs.Batches.{batch_of}
-use Rattle.seam_law_book.specs.Books.{as_begun}
-use Rattle.seam_law_book.specs.Bringing.{IsPresent, IsUntouched}
-use Rattle.seam_entity.specs.Here.{cell_count}
-use Rattle.seam_entity.specs.Reals.{RealView, WitnessView}
-use Rattle.seam_node_steps.specs.Loads.{loaded}
-use Rattle.seam_node_steps.specs.Nodes.{World, node_steps, node_has_work}
-use Rattle.seam_law_calls.specs.Sights.{entity_flow}
-use Rattle.seam_law_calls.specs.Ones.{real_in, real_of, HasOne}
-use Rattle.seam_law_calls.specs.Replays.{account_of}
-use Rattle.seam_law_rounds.specs.Between.{framed}
 use Rattle.seam_law_rounds.proofs.Framing.{in_frame}
 use Rattle.seam_law_rounds.proofs.Going.{settled_loaded, spared_loaded}
 use Rattle.seam_law_rounds.proofs.Loaded.{no_mail}
 use Rattle.seam_law_rounds.proofs.Ready.{one_holder, quiet_home}
 use Rattle.seam_law_rounds.proofs.Attaching.{are_for_loaded}
-use Rattle.seam_law_clients.specs.Clients.{clients_loaded}
 use Rattle.seam_law_clients.proofs.Loading.{among_is}
-use Rattle.seam_rule_clients.specs.Clients.{new_client, after_lines}
-use Rattle.seam_rule_clients.specs.Lines.{ShowsRightly}
-use Rattle.seam_law_clients.specs.RoundTruths.{WasOwn, WasOther, true_between}
-use Rattle.seam_rule_rounds.specs.Clients.{IsOwn, IsOther, truth_of}
-use Rattle.seam_rule_rounds.specs.Standing.{replica_of}
-use Rattle.seam_law_all.specs.LookLaws.{shown_to}
-use Rattle.seam_law_book.specs.Going.{frame_of}
-use Rattle.seam_law_book.specs.ExecutedRound.{IsDoneOn, done_by_real, done_in}
+use Rattle.seam_law_clients.specs.RoundTruths.{WasOwn}
 use Rattle.seam_law_book.proofs.Accounts.{done_after}
 use Rattle.seam_law_book.proofs.Executed.{one_in}
 use Rattle.seam_law_book.proofs.Parts.{both_seen}
-use Rattle.seam_law_transcript.specs.Beside.{may_play}
-use Rattle.seam_law_transcript.specs.Playing.{standing_of}
 use Rattle.seam_law_transcript.proofs.Who.{is_there, was_joined, unjoined_before, client_by, there_created, there_alive}
 use Rattle.seam_law_transcript.proofs.Replicas.{begun_by}
 use Rattle.seam_law_transcript.proofs.Truths.{own_now_is, from_start, up_to_end, other_is, not_before, not_after, at}

@@ -1,32 +1,21 @@
 use Rattle.std.proofs.Common.{◌≡◌, ℕ, ◌≤◌, true, false, eqb, ◌++◌, length, None, refl, sym, ap, ◌∙◌, subst, arith, length-append}
 use Rattle.std.specs.Prelude.{slice_get}
 use Rattle.std.specs.List.{list_any}
-use Rattle.seam_rule_lines.specs.Book.{created_as, live_as, destroys, tree_of, with_round_ended}
-use Rattle.seam_rule_lines.specs.Round.{Lists}
+use Rattle.seam_node_steps.specs.Prelude.{Cell}
+use Rattle.seam_rule_rounds.specs.Prelude.{created_as, live_as, destroys, tree_of, with_round_ended, Lists, new_client, after_lines}
+use Rattle.seam_rule_rounds.specs.Prelude.{shown_by_lines, MayShowAll, ShowsRightly, one_look, truth_of, rows_of, replica_of}
+use Rattle.seam_law_rounds.specs.Prelude.{framed}
+use Rattle.seam_law_clients.specs.Prelude.{clients_loaded, clients_shown}
+use Rattle.seam_law_all.specs.Prelude.{shown_to}
+use Rattle.seam_law_book.specs.Prelude.{as_begun, IsUntouched, frame_of, done_in}
+use Rattle.seam_law_transcript.specs.Prelude.{may_play, standing_of, lines_shown}
 use Rattle.seam_defs.specs.declared.flags.Part.TheVariants as part
 use Rattle.seam_accept.specs.Batches.{batch_of}
-use Rattle.seam_law_book.specs.Books.{as_begun}
-use Rattle.seam_law_book.specs.Bringing.{IsUntouched}
-use Rattle.seam_node_steps.specs.Nodes.NodeView.{Cell}
-use Rattle.seam_law_rounds.specs.Between.{framed}
-use Rattle.seam_law_clients.specs.Clients.{clients_loaded, clients_shown}
 use Rattle.seam_law_clients.proofs.InTurn.{rightly_append}
 use Rattle.seam_law_clients.proofs.Loading.{among_is}
 use Rattle.seam_law_clients.proofs.ShownOnce.{cell_at}
-use Rattle.seam_rule_clients.specs.Clients.{new_client, after_lines, shown_by_lines}
-use Rattle.seam_rule_clients.specs.Lines.{MayShowAll, ShowsRightly}
-use Rattle.seam_rule_clients.specs.Looks.{one_look}
-use Rattle.seam_law_all.specs.LookLaws.{shown_to}
-use Rattle.seam_rule_rounds.specs.Clients.{truth_of}
-use Rattle.seam_rule_rounds.specs.FlatTable.{rows_of}
-use Rattle.seam_rule_rounds.specs.Standing.{replica_of}
-use Rattle.seam_law_book.specs.Going.{frame_of}
-use Rattle.seam_law_book.specs.ExecutedRound.{done_in}
 use Rattle.seam_law_book.proofs.Ended.{live_ended}
 use Rattle.seam_law_book.proofs.Further.{has_witness, its_witness}
-use Rattle.seam_law_transcript.specs.Beside.{may_play}
-use Rattle.seam_law_transcript.specs.Playing.{standing_of}
-use Rattle.seam_law_transcript.specs.Reading.{lines_shown}
 use Rattle.seam_law_transcript.proofs.Who.{lives_on, unjoined_before}
 use Rattle.seam_law_transcript.proofs.Replicas.{begun_by, shown_is}
 use Rattle.seam_law_transcript.proofs.Told.{by_death}

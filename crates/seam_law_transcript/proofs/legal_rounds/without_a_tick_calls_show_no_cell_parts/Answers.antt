@@ -1,24 +1,19 @@
 use Rattle.std.proofs.Common.{◌≡◌, ℕ, true, [], length, Option, None, Some, refl, ap, ◌∙◌}
 use Rattle.std.specs.Prelude.{is_some}
-use Rattle.seam_rule_lines.specs.Book.{created_as}
+use Rattle.seam_node_steps.specs.Prelude.{WitnessView, loaded}
+use Rattle.seam_rule_rounds.specs.Prelude.{created_as, replica_of}
+use Rattle.seam_law_calls.specs.Prelude.{sent_by}
+use Rattle.seam_law_rounds.specs.Prelude.{framed, MayBeLoaded, next_to, base_calls_of}
+use Rattle.seam_law_book.specs.Prelude.{as_begun, IsUntouched, frame_of}
+use Rattle.seam_law_transcript.specs.Prelude.{may_play}
 use Rattle.seam_accept.specs.Batches.{batch_of}
-use Rattle.seam_law_book.specs.Books.{as_begun}
-use Rattle.seam_law_book.specs.Bringing.{IsUntouched}
-use Rattle.seam_entity.specs.Reals.{WitnessView}
-use Rattle.seam_node_steps.specs.Loads.{loaded}
-use Rattle.seam_law_rounds.specs.Between.{framed}
 use Rattle.seam_law_rounds.proofs.Framing.{in_frame}
 use Rattle.seam_law_rounds.proofs.Going.{settled_loaded}
 use Rattle.seam_law_rounds.proofs.Loaded.{no_mail}
 use Rattle.seam_law_rounds.proofs.Ready.{one_holder, quiet_home}
-use Rattle.seam_law_calls.specs.WitnessMoves.{sent_by}
-use Rattle.seam_law_rounds.specs.Parts.{MayBeLoaded, next_to, base_calls_of}
 use Rattle.seam_law_rounds.proofs.Attaching.{are_for_loaded}
 use Rattle.seam_law_rounds.proofs.Joining.{is_among}
-use Rattle.seam_rule_rounds.specs.Standing.{replica_of}
-use Rattle.seam_law_book.specs.Going.{frame_of}
 use Rattle.seam_law_book.proofs.Parts.{both_seen}
-use Rattle.seam_law_transcript.specs.Beside.{may_play}
 use Rattle.seam_law_transcript.proofs.Who.{is_there, was_joined, unjoined_before, client_by}
 use Rattle.seam_law_transcript.proofs.Numbered.{loaded_unshown}
 use Rattle.seam_law_transcript.proofs.OneLook.{no_ticks}

@@ -2,36 +2,27 @@ use Rattle.std.proofs.Common.{◌≡◌, ℕ, true, false, eqb, [], ◌++◌, ma
 use Rattle.std.proofs.Common.{inl, inr, append-nil, ◌⊎◌}
 use Rattle.std.specs.Prelude.{filter, IsTrue}
 use Rattle.std.specs.List.{list_any}
-use Rattle.seam_law_flow.specs.Flows.{letters_of}
-use Rattle.seam_call.specs.declared.create.Create.{Create}
+use Rattle.seam_node_steps.specs.Prelude.{Create}
+use Rattle.seam_rule_rounds.specs.Prelude.{entries, creates_of, created_as, live_as, destroys, is_shown, tree_of, with_round_ended, Lists}
+use Rattle.seam_rule_rounds.specs.Prelude.{new_client, after_all_shown, after_lines, rows_but, look_by, one_look, is_base, base_texts}
+use Rattle.seam_rule_rounds.specs.Prelude.{texts_to, rows_of, replica_of}
+use Rattle.seam_law_flow.specs.Prelude.{letters_of}
+use Rattle.seam_law_calls.specs.Prelude.{shown_in}
+use Rattle.seam_law_rounds.specs.Prelude.{framed, MayBeLoaded}
+use Rattle.seam_law_clients.specs.Prelude.{clients_loaded, clients_shown}
+use Rattle.seam_law_book.specs.Prelude.{as_begun, IsUntouched, frame_of, base_node}
+use Rattle.seam_law_transcript.specs.Prelude.{may_play, data_of, standing_of, lines_shown}
 use Rattle.seam_call.specs.declared.shown.ClientText.TheVariants as text
-use Rattle.seam_rule_lines.specs.Book.{entries, creates_of, created_as, live_as, destroys, is_shown, tree_of, with_round_ended}
-use Rattle.seam_rule_lines.specs.Round.{Lists}
 use Rattle.seam_rule_lines.proofs.InOrderLemmas.{found_entity}
 use Rattle.seam_accept.specs.Batches.{batch_of}
-use Rattle.seam_law_book.specs.Books.{as_begun}
-use Rattle.seam_law_book.specs.Bringing.{IsUntouched}
 use Rattle.seam_law_book.proofs.Present.{undestroyed}
-use Rattle.seam_law_rounds.specs.Between.{framed}
 use Rattle.seam_law_rounds.proofs.Shape.{Somewhere, Nowhere, search_real}
-use Rattle.seam_law_calls.specs.Clients.{shown_in}
-use Rattle.seam_law_rounds.specs.Parts.{MayBeLoaded}
 use Rattle.seam_law_rounds.proofs.Joining.{is_among}
-use Rattle.seam_law_clients.specs.Clients.{clients_loaded, clients_shown}
 use Rattle.seam_law_clients.proofs.Loading.{among_is}
-use Rattle.seam_rule_clients.specs.Clients.{new_client, after_all_shown, after_lines}
-use Rattle.seam_rule_clients.specs.Looks.{rows_but, look_by, one_look}
 use Rattle.seam_law_clients.specs.Tables as world
 use Rattle.seam_law_clients.proofs.Rows.{row_found}
 use Rattle.seam_law_clients.proofs.OneLook.{row_nowhere}
-use Rattle.seam_rule_rounds.specs.Clients.{is_base, base_texts, texts_to}
-use Rattle.seam_rule_rounds.specs.FlatTable.{rows_of}
-use Rattle.seam_rule_rounds.specs.Standing.{replica_of}
-use Rattle.seam_law_book.specs.Going.{frame_of, base_node}
 use Rattle.seam_law_book.proofs.Ended.{live_ended}
-use Rattle.seam_law_transcript.specs.Beside.{may_play}
-use Rattle.seam_law_transcript.specs.Playing.{data_of, standing_of}
-use Rattle.seam_law_transcript.specs.Reading.{lines_shown}
 use Rattle.seam_law_transcript.proofs.Who.{is_there, was_joined, was_created, lives_on, unjoined_before, client_by}
 use Rattle.seam_law_transcript.proofs.Replicas.{begun_by}
 use Rattle.seam_law_transcript.proofs.Told.{by_death, later_lines}

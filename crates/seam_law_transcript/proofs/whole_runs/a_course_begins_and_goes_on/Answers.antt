@@ -1,13 +1,12 @@
 use Rattle.std.proofs.Common.{◌≡◌, ℕ, [], ◌∷◌, ◌++◌, sym, ap, ◌∙◌, arith, length-append}
 use Rattle.std.proofs.lemmas.Option.{none-some}
-use Rattle.seam_law_book.specs.Books.{empty, accepts}
+use Rattle.seam_node_steps.specs.Prelude.{opened}
+use Rattle.seam_rule_rounds.specs.Prelude.{with_line}
+use Rattle.seam_law_calls.specs.Prelude.{has_none, entity_flow, real_in, IsFrame}
+use Rattle.seam_law_rounds.specs.Prelude.{first_frame}
+use Rattle.seam_law_book.specs.Prelude.{empty, accepts}
 use Rattle.seam_law_book.proofs.Untouched.{one_cell_tree}
-use Rattle.seam_node_steps.specs.Loads.{opened}
-use Rattle.seam_law_calls.specs.Sights.{has_none, entity_flow}
-use Rattle.seam_law_calls.specs.Ones.{real_in, IsFrame}
-use Rattle.seam_law_rounds.specs.LastPhases.{first_frame}
 use Rattle.seam_law_rounds.proofs.Opened.{opened_is_new}
-use Rattle.seam_rule_rounds.specs.Standing.{with_line}
 use Rattle.seam_law_transcript.proofs.whole_runs.a_course_begins_and_goes_on.Goals as goal
 
 pub returns-clause-opened : goal.returns-clause-opened

@@ -1,15 +1,12 @@
 use Rattle.std.proofs.Common.{◌+◌, ◌*◌, length, sym, subst, arith}
-use Rattle.seam_rule_lines.specs.Book.{entries}
+use Rattle.seam_node_steps.specs.Prelude.{loaded}
+use Rattle.seam_rule_rounds.specs.Prelude.{entries, replica_of}
+use Rattle.seam_law_calls.specs.Prelude.{sent_by}
+use Rattle.seam_law_rounds.specs.Prelude.{numbers_of, MayBeLoaded}
+use Rattle.seam_law_bounds.specs.Prelude.{AreAtMost, AreAmong}
+use Rattle.seam_law_book.specs.Prelude.{frame_of}
+use Rattle.seam_law_transcript.specs.Prelude.{may_play, most_told}
 use Rattle.seam_accept.specs.Batches.{batch_of}
-use Rattle.seam_node_steps.specs.Loads.{loaded}
-use Rattle.seam_law_rounds.specs.Between.{numbers_of}
-use Rattle.seam_law_calls.specs.WitnessMoves.{sent_by}
-use Rattle.seam_law_rounds.specs.Parts.{MayBeLoaded}
-use Rattle.seam_rule_rounds.specs.Standing.{replica_of}
-use Rattle.seam_law_book.specs.Going.{frame_of}
-use Rattle.seam_law_transcript.specs.Beside.{may_play}
-use Rattle.seam_law_bounds.specs.Most.{AreAtMost, AreAmong}
-use Rattle.seam_law_transcript.specs.Counts.{most_told}
 use Rattle.seam_law_transcript.proofs.Created.{few_created}
 use Rattle.seam_law_transcript.proofs.Present.{names, names_many, is_named}
 use Rattle.seam_law_transcript.proofs.Ends.{reals_after, told_after}

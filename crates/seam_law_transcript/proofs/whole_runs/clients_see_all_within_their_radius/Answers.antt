@@ -1,7 +1,5 @@
 use Rattle.std.proofs.Common.{ap, sym, ◌∙◌}
-use Rattle.seam_rule_clients.specs.Looks.{rows_but, look_by}
-use Rattle.seam_rule_rounds.specs.FlatTable.{rows_of}
-use Rattle.seam_rule_rounds.specs.Standing.{replica_of}
+use Rattle.seam_rule_rounds.specs.Prelude.{rows_but, look_by, rows_of, replica_of}
 use Rattle.seam_law_transcript.proofs.whole_runs.clients_see_all_within_their_radius.Goals as goal
 
 pub returns : goal.returns

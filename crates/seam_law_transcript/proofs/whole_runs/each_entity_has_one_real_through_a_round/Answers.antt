@@ -1,19 +1,15 @@
 use Rattle.std.proofs.Common.{◌≡◌, ℕ, [], Some, eqb, false, refl, sym, subst, ◌∙◌}
 use Rattle.std.specs.List.{AllByRecursion, filter_map}
 use Rattle.std.proofs.lemmas.Bool.{eq-eqb}
-use Rattle.seam_call.specs.declared.create.Create.{Create}
-use Rattle.seam_node_steps.specs.Holders.{holders}
-use Rattle.seam_node_steps.specs.Loads.{loaded, look_loaded}
-use Rattle.seam_law_rounds.specs.Between.{framed}
-use Rattle.seam_law_clients.specs.Clients.{clients_loaded, clients_shown}
-use Rattle.seam_rule_lines.specs.Book.{live_as}
+use Rattle.seam_node_steps.specs.Prelude.{Create, holders, loaded, look_loaded}
+use Rattle.seam_rule_rounds.specs.Prelude.{live_as, replica_of}
+use Rattle.seam_law_rounds.specs.Prelude.{framed}
+use Rattle.seam_law_clients.specs.Prelude.{clients_loaded, clients_shown}
+use Rattle.seam_law_book.specs.Prelude.{IsPresent, frame_of}
+use Rattle.seam_law_transcript.specs.Prelude.{may_play}
 use Rattle.seam_accept.specs.Batches.{batch_of, destroyed}
-use Rattle.seam_law_book.specs.Bringing.{IsPresent}
 use Rattle.seam_law_book.proofs.Adding.{all_turn}
 use Rattle.seam_law_book.proofs.Present.{live_is_present, undestroyed, undestroyed_apart}
-use Rattle.seam_rule_rounds.specs.Standing.{replica_of}
-use Rattle.seam_law_book.specs.Going.{frame_of}
-use Rattle.seam_law_transcript.specs.Beside.{may_play}
 use Rattle.seam_law_transcript.specs.OneReal.{KeepsNoReal}
 use Rattle.seam_law_transcript.proofs.whole_runs.each_entity_has_one_real_through_a_round.Goals as goal
 

@@ -1,6 +1,5 @@
 use Rattle.std.proofs.Common.{arith}
-use Rattle.seam_defs.specs.Builtin.{builtin}
-use Rattle.seam_defs.specs.Settings.{standard}
+use Rattle.seam_node_steps.specs.Prelude.{builtin, standard}
 use Rattle.seam_quiet.proofs.laws.a_worked_round_may_run.Goals as goal
 
 pub returns : goal.returns

@@ -1,8 +1,7 @@
 use Rattle.std.proofs.Common.{◌++◌, sym, subst, ◌∙◌, arith}
 use Rattle.std.proofs.lemmas.List.{length-append}
-use Rattle.seam_machine.specs.Nets.{IsQuiet}
+use Rattle.seam_node_steps.specs.Prelude.{IsQuiet, node_steps, node_has_work}
 use Rattle.seam_net_runs.proofs.Runs.{leads_join, leads_keeps}
-use Rattle.seam_node_steps.specs.Nodes.{node_steps, node_has_work}
 use Rattle.seam_core.specs.Worlds.{IsWorld, Leads}
 use Rattle.seam_core.proofs.Worlds.{still_world}
 use Rattle.seam_quiet.proofs.round.bring_to_rest.Goals as goal

@@ -1,6 +1,5 @@
 use Rattle.std.proofs.Common.{◌-◌, length}
-use Rattle.seam_machine.specs.Nets.{ArePeers, LeadsTo}
-use Rattle.seam_node_steps.specs.Nodes.{node_steps, node_has_work, node_peers}
+use Rattle.seam_node_steps.specs.Prelude.{ArePeers, LeadsTo, node_steps, node_has_work, node_peers}
 use Rattle.seam_quiet.proofs.round.come_to_rest.Given as goal
 
 abbrev pub invariant-loop-event : goal.invariant-loop-event

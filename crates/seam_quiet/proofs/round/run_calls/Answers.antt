@@ -1,6 +1,5 @@
 use Rattle.std.proofs.Common.{length}
-use Rattle.seam_node_steps.specs.Nodes.{node_steps, node_has_work}
-use Rattle.seam_node_steps.specs.Loads.{loaded}
+use Rattle.seam_node_steps.specs.Prelude.{node_steps, node_has_work, loaded}
 use Rattle.seam_net_runs.specs.Finishing.{EndsWithin}
 use Rattle.seam_quiet.specs.RoundRuns.{most_of_calls}
 use Rattle.seam_quiet.proofs.Phases.{may_be_loaded, by_bases}

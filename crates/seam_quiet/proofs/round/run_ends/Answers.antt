@@ -1,15 +1,11 @@
 use Rattle.std.proofs.Common.{◌*◌, ◌≤◌, List, length, subst}
 use Rattle.std.proofs.lemmas.Result.{IfOk-weaker}
-use Rattle.seam_machine.specs.Nets.{IsQuiet}
-use Rattle.seam_machine.specs.declared.machines.Event.{Event}
-use Rattle.seam_node_steps.specs.Nodes.{World, node_has_work}
-use Rattle.seam_node_steps.specs.Loads.{loaded}
-use Rattle.seam_law_rounds.specs.Between.{framed}
-use Rattle.seam_law_rounds.specs.LastPhases.{AreReapable}
-use Rattle.seam_law_clients.specs.Clients.{clients_loaded, clients_shown}
-use Rattle.seam_law_all.specs.Records.{KeepsRecordsWithin}
+use Rattle.seam_node_steps.specs.Prelude.{IsQuiet, Event, World, node_has_work, loaded}
+use Rattle.seam_law_rounds.specs.Prelude.{framed, AreReapable}
+use Rattle.seam_law_clients.specs.Prelude.{clients_loaded, clients_shown}
+use Rattle.seam_law_all.specs.Prelude.{KeepsRecordsWithin}
+use Rattle.seam_law_bounds.specs.Prelude.{entities, all_witnesses, events_of_looks}
 use Rattle.seam_core.specs.Worlds.{Leads}
-use Rattle.seam_law_bounds.specs.Phases.{entities, all_witnesses, events_of_looks}
 use Rattle.seam_quiet.specs.RoundRuns.{most_of_calls}
 use Rattle.seam_quiet.proofs.Phases.{may_be_loaded, reapable, by_bases, each_ends}
 use Rattle.seam_quiet.proofs.round.run_ends.Goals as goal

@@ -1,7 +1,6 @@
 use Rattle.std.proofs.Common.{◌≡◌, true, false, sym, ap, ◌∙◌}
 use Rattle.std.specs.Prelude.{Result, Ok, Err, IfOk, OnErr}
-use Rattle.seam_machine.specs.Nets.{enabled, IsQuiet}
-use Rattle.seam_node_steps.specs.Nodes.{node_has_work}
+use Rattle.seam_node_steps.specs.Prelude.{enabled, IsQuiet, node_has_work}
 use Rattle.seam_quiet.proofs.round.run_phase.Goals as goal
 use Rattle.seam_quiet.proofs.round.run_phase.Goals.{Else-is_quiet}
 

@@ -1,9 +1,7 @@
 use Rattle.std.proofs.Common.{◌≡◌, ℕ, sym, ◌∙◌, subst}
-use Rattle.seam_defs.specs.Settings.{standard}
-use Rattle.seam_node_steps.specs.Loads.{opened}
-use Rattle.seam_node_steps.specs.Rows.{empty_world}
+use Rattle.seam_node_steps.specs.Prelude.{standard, opened, empty_world}
+use Rattle.seam_law_rounds.specs.Prelude.{opening}
 use Rattle.seam_rule_clients.specs.Clients.{ClientReplica, new_client}
-use Rattle.seam_law_rounds.specs.FirstBatchExample.{opening}
 use Rattle.seam_quiet.specs.RoundRuns.{MayRun}
 use Rattle.seam_quiet.proofs.tests.run.Goals as goal
 

@@ -1,7 +1,6 @@
 use Rattle.std.proofs.Common.{◌++◌, sym, subst, ap, ◌∙◌}
 use Rattle.std.proofs.lemmas.Result.{on_ok_weaker}
-use Rattle.seam_call.specs.declared.shown.ClientText.{ClientText}
-use Rattle.seam_rule_rounds.specs.Texts.{client_text}
+use Rattle.seam_rule_rounds.specs.Prelude.{ClientText, client_text}
 use Rattle.seam_report.specs.Spelled.{ShowsOf}
 use Rattle.seam_report.proofs.told.push_client.Goals as goal
 

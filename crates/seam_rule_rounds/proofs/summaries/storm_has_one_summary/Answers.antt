@@ -1,7 +1,5 @@
 use Rattle.std.proofs.Common.{ap}
-use Rattle.seam_io.specs.Lines.{lines_of}
-use Rattle.seam_storm.specs.Storm.{text_of_storm}
-use Rattle.seam_rule_rounds.specs.Summary.{totals_of, totals_text}
+use Rattle.seam_rule_rounds.specs.Prelude.{lines_of, text_of_storm, totals_of, totals_text}
 use Rattle.seam_rule_rounds.proofs.Inputs.{sums_are_one}
 use Rattle.seam_rule_rounds.proofs.Storm.{sender_of, storm_is_fine}
 use Rattle.seam_rule_rounds.proofs.summaries.storm_has_one_summary.Goals as goal

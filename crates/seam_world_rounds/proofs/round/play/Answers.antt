@@ -1,9 +1,8 @@
 use Rattle.std.proofs.Common.{◌≡◌, map, ap, sym, subst, ◌∙◌}
-use Rattle.seam_call.specs.declared.order.Batch.{Batch}
-use Rattle.seam_toml.specs.declared.header.Header.{Header as Headers}
+use Rattle.seam_node_steps.specs.Prelude.{Batch}
+use Rattle.seam_rule_rounds.specs.Prelude.{Header as Headers, tree_of}
+use Rattle.seam_law_transcript.specs.Prelude.{data_of}
 use Rattle.seam_accept.specs.Batches.{batch_of}
-use Rattle.seam_rule_lines.specs.Book.{tree_of}
-use Rattle.seam_law_transcript.specs.Playing.{data_of}
 use Rattle.seam_world_text.specs.Farewells.{AreFarewells}
 use Rattle.seam_world_rounds.specs.PlayedRound.{IsBalancedBy}
 use Rattle.seam_quiet.specs.RoundRuns.{MayRun}

@@ -1,7 +1,5 @@
 use Rattle.std.proofs.Common.{◌≡◌, ◌≤◌, List, [], length}
-use Rattle.seam_io.specs.States.{SourceState}
-use Rattle.seam_io.specs.Lines.{Line}
-use Rattle.seam_io.specs.Reading.{Reading, budget}
+use Rattle.seam_rule_rounds.specs.Prelude.{SourceState, Line, Reading, budget}
 use Rattle.seam_world_ends.specs.Ends.{most_bytes}
 use Rattle.seam_world_run.specs.Histories.{InHeader}
 use Rattle.seam_world_run.proofs.run.read_header.Given as goal

@@ -2,9 +2,8 @@ use Rattle.std.proofs.Common.{◌≡◌, ◌++◌, List, ap, ◌∙◌, subst}
 use Rattle.std.specs.List.{flat_map}
 use Rattle.std.proofs.lemmas.Result.{on_ok_weaker}
 use Rattle.seam_defs.specs.declared.flags.Part.TheVariants as part
-use Rattle.seam_defs.specs.declared.types.TypeDef.{TypeDef}
-use Rattle.seam_node_steps.specs.Nodes.{World}
-use Rattle.seam_law_transcript.specs.Playing.{data_of}
+use Rattle.seam_node_steps.specs.Prelude.{TypeDef, World}
+use Rattle.seam_law_transcript.specs.Prelude.{data_of}
 use Rattle.seam_world_text.specs.Finding.{RoutesLeadHome, done_found}
 use Rattle.seam_world_text.specs.Texts.{calls_text, done_of_type}
 use Rattle.seam_world_text.proofs.Pieces.{calls_written}

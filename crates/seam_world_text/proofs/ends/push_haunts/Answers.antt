@@ -4,10 +4,8 @@ use Rattle.std.specs.FinSet as set
 use Rattle.std.specs.Ordering.{nat_cmp}
 use Rattle.std.specs.List.{flat_map, range_with_len}
 use Rattle.std.proofs.lemmas.List.Concat.{flat_map-append}
-use Rattle.seam_entity.specs.Here.{cell_numbers}
-use Rattle.seam_entity.specs.Reals.{RealView}
-use Rattle.seam_rule_rounds.specs.Lines.{GhostLine}
-use Rattle.seam_rule_rounds.specs.Texts.{ghost_text}
+use Rattle.seam_node_steps.specs.Prelude.{cell_numbers, RealView}
+use Rattle.seam_rule_rounds.specs.Prelude.{GhostLine, ghost_text}
 use Rattle.seam_world_text.specs.Finding.{haunt_line, ghost_line}
 use Rattle.seam_world_text.proofs.Gathering.{next_in_range}
 use Rattle.seam_world_text.proofs.ends.push_haunts.Goals as goal

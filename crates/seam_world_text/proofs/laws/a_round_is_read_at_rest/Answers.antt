@@ -1,14 +1,10 @@
 use Rattle.std.proofs.Common.{◌≡◌, ℕ, None}
-use Rattle.seam_rule_lines.specs.Book.{created_as}
+use Rattle.seam_rule_rounds.specs.Prelude.{created_as, replica_of}
+use Rattle.seam_law_rounds.specs.Prelude.{framed}
+use Rattle.seam_law_clients.specs.Prelude.{clients_loaded, clients_shown}
+use Rattle.seam_law_book.specs.Prelude.{as_begun, IsUntouched, frame_of, done_in}
+use Rattle.seam_law_transcript.specs.Prelude.{may_play}
 use Rattle.seam_accept.specs.Batches.{batch_of}
-use Rattle.seam_law_book.specs.Books.{as_begun}
-use Rattle.seam_law_book.specs.Bringing.{IsUntouched}
-use Rattle.seam_law_rounds.specs.Between.{framed}
-use Rattle.seam_law_clients.specs.Clients.{clients_loaded, clients_shown}
-use Rattle.seam_rule_rounds.specs.Standing.{replica_of}
-use Rattle.seam_law_book.specs.Going.{frame_of}
-use Rattle.seam_law_book.specs.ExecutedRound.{done_in}
-use Rattle.seam_law_transcript.specs.Beside.{may_play}
 use Rattle.seam_world_text.proofs.Entries.{makes_new}
 use Rattle.seam_world_text.proofs.Idle.{idle}
 use Rattle.seam_world_text.proofs.laws.a_round_is_read_at_rest.Goals as goal

@@ -1,12 +1,10 @@
 use Rattle.std.proofs.Common.{◌≡◌, None, subst, ap, ◌∙◌}
 use Rattle.std.specs.Prelude.{if◌then◌else◌}
 use Rattle.seam_defs.specs.declared.flags.Part.TheVariants as part
-use Rattle.seam_rule_lines.specs.Book.{tree_of}
-use Rattle.seam_law_book.specs.Standings.{ghosts_read}
+use Rattle.seam_rule_rounds.specs.Prelude.{tree_of, told_in}
+use Rattle.seam_law_book.specs.Prelude.{ghosts_read}
+use Rattle.seam_law_transcript.specs.Prelude.{data_of, standing_of, homes_read, base_if, bases_read, lines_shown}
 use Rattle.seam_law_book.proofs.Ended.{live_ended}
-use Rattle.seam_rule_rounds.specs.Lines.{told_in}
-use Rattle.seam_law_transcript.specs.Playing.{data_of, standing_of}
-use Rattle.seam_law_transcript.specs.Reading.{homes_read, base_if, bases_read, lines_shown}
 use Rattle.seam_world_text.specs.Finding.{home_line_at, homes_found, bases_found, ghost_lines_at, ghosts_found}
 use Rattle.seam_world_text.specs.Finding.{lines_found}
 use Rattle.seam_world_text.specs.Told.{ShowOf}

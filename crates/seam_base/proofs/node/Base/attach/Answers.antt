@@ -1,6 +1,5 @@
 use Rattle.std.proofs.Common.{◌≡◌, ap, subst, OnOk}
-use Rattle.seam_node_steps.specs.Loads.{attached}
-use Rattle.seam_node_steps.specs.Nodes.NodeView.{Base}
+use Rattle.seam_node_steps.specs.Prelude.{attached, Base}
 use Rattle.seam_base.specs.Nodes.{node_of}
 use Rattle.seam_base.proofs.PartLemmas.{on_ok}
 use Rattle.seam_base.proofs.node.Base.attach.Goals as goal

@@ -1,6 +1,5 @@
 use Rattle.std.proofs.Common.{ap, ◌∙◌, ◌&&◌}
-use Rattle.seam_entity.specs.Calls.{may_offer}
-use Rattle.seam_entity.specs.Orders.{order_of}
+use Rattle.seam_node_steps.specs.Prelude.{may_offer, order_of}
 use Rattle.seam_node_steps.specs.BaseCases.{may_execute}
 use Rattle.seam_base.proofs.part.BasePart.may_call.Goals as goal
 

@@ -1,7 +1,6 @@
 use Rattle.std.proofs.Common.{◌≡◌, true, sym, ap, ◌∙◌, if◌then◌else◌, eq-eqb}
 use Rattle.std.specs.FinMap as table
-use Rattle.seam_node_steps.specs.Loads.{new_part}
-use Rattle.seam_node_steps.specs.BaseCases.{is_base_node_of}
+use Rattle.seam_node_steps.specs.Prelude.{new_part, is_base_node_of}
 use Rattle.seam_base.specs.Nodes.{here_in, has_call, has_update}
 use Rattle.seam_base.proofs.PartLemmas.{new_has_no_call}
 use Rattle.seam_base.proofs.parts.Parts.add.Goals as goal

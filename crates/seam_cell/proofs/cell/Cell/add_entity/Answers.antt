@@ -1,6 +1,5 @@
 use Rattle.std.proofs.Common.{Some, sym, subst}
-use Rattle.seam_tree.specs.Division.{IsInSpace}
-use Rattle.seam_entity.specs.Executing.{created}
+use Rattle.seam_node_steps.specs.Prelude.{IsInSpace, created}
 use Rattle.seam_cell_parts.specs.Kept.{here_in}
 use Rattle.seam_cell.proofs.LoadLemmas.{whole_or, created_fits}
 use Rattle.seam_cell_look.proofs.ToldLemmas.{none_told}

@@ -1,9 +1,7 @@
 use Rattle.std.proofs.Common.{◌≡◌, ◌++◌, true, ap, sym, subst, option_map, ◌∙◌}
 use Rattle.std.proofs.lemmas.Result.{on_ok_weaker, on_err_weaker}
-use Rattle.seam_machine.specs.declared.machines.Input.TheVariants.{From}
+use Rattle.seam_node_steps.specs.Prelude.{From, set_at, cell_steps}
 use Rattle.seam_entity.specs.declared.message.Msg.TheVariants.{Call}
-use Rattle.seam_node_steps.specs.Maps.{set_at}
-use Rattle.seam_node_steps.specs.Cells.{cell_steps}
 use Rattle.seam_cell_parts.specs.Kept.{AreWhole}
 use Rattle.seam_cell_cases.specs.Calling.{is_called, IsTurn}
 use Rattle.seam_cell_parts.specs.Stepping.{core_of}

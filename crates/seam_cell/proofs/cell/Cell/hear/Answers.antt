@@ -1,7 +1,6 @@
 use Rattle.std.proofs.Common.{◌++◌, ap, sym, ◌∙◌}
 use Rattle.std.proofs.lemmas.Result.{on_ok_weaker}
-use Rattle.seam_machine.specs.declared.machines.Input.TheVariants.{From}
-use Rattle.seam_node_steps.specs.Cells.{cell_steps}
+use Rattle.seam_node_steps.specs.Prelude.{From, cell_steps}
 use Rattle.seam_cell.proofs.cell.Cell.hear.Goals as goal
 
 pub take_call-requires : goal.take_call-requires

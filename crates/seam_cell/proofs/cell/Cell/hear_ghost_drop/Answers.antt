@@ -1,8 +1,6 @@
 use Rattle.std.proofs.Common.{ap, sym, ◌∙◌}
 use Rattle.std.proofs.lemmas.Result.{on_ok_weaker}
-use Rattle.seam_machine.specs.declared.machines.Input.TheVariants.{From}
-use Rattle.seam_entity.specs.declared.message.Msg.TheVariants.{GhostDrop}
-use Rattle.seam_node_steps.specs.Cells.{cell_steps}
+use Rattle.seam_node_steps.specs.Prelude.{From, GhostDrop, cell_steps}
 use Rattle.seam_cell.specs.contracts.cell.Cell.{the_view}
 use Rattle.seam_cell.proofs.CellLemmas.{ghost_dropped}
 use Rattle.seam_cell.proofs.cell.Cell.hear_ghost_drop.Goals as goal

@@ -1,9 +1,6 @@
 use Rattle.std.proofs.Common.{ap, sym, ◌∙◌}
 use Rattle.std.proofs.lemmas.Result.{on_ok_weaker}
-use Rattle.seam_machine.specs.declared.machines.Input.TheVariants.{From}
-use Rattle.seam_entity.specs.declared.message.Msg.TheVariants.{GhostSet}
-use Rattle.seam_node_steps.specs.CellCases.{stray_ghost_set}
-use Rattle.seam_node_steps.specs.Cells.{cell_steps}
+use Rattle.seam_node_steps.specs.Prelude.{From, GhostSet, stray_ghost_set, cell_steps}
 use Rattle.seam_cell.specs.contracts.cell.Cell.{the_view}
 use Rattle.seam_cell.proofs.CellLemmas.{ghost_set_here, stray_set}
 use Rattle.seam_cell_cases.proofs.Lookups.{none_there}

@@ -1,8 +1,6 @@
 use Rattle.std.proofs.Common.{◌++◌, ap, ◌∙◌}
 use Rattle.std.proofs.lemmas.Result.{on_ok_weaker, on_err_weaker}
-use Rattle.seam_machine.specs.declared.machines.Input.TheVariants.{From}
-use Rattle.seam_entity.specs.declared.message.Msg.TheVariants.{Reap}
-use Rattle.seam_node_steps.specs.Cells.{cell_steps}
+use Rattle.seam_node_steps.specs.Prelude.{From, Reap, cell_steps}
 use Rattle.seam_cell_cases.proofs.StepLemmas.{whole_either}
 use Rattle.seam_cell_look.proofs.ToldLemmas.{none_told}
 use Rattle.seam_cell.proofs.cell.Cell.hear_reap.Goals as goal

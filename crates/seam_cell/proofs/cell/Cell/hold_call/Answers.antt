@@ -1,9 +1,8 @@
 use Rattle.std.proofs.Common.{◌≡◌, true, ap, sym, subst, ◌∙◌}
 use Rattle.std.specs.FinMap as table
 use Rattle.std.proofs.lemmas.Result.{on_ok_weaker, on_err_weaker}
-use Rattle.seam_machine.specs.declared.machines.Input.TheVariants.{From}
+use Rattle.seam_node_steps.specs.Prelude.{From, cell_steps}
 use Rattle.seam_entity.specs.declared.message.Msg.TheVariants.{Call}
-use Rattle.seam_node_steps.specs.Cells.{cell_steps}
 use Rattle.seam_cell_parts.specs.Kept.{AreWhole}
 use Rattle.seam_cell_cases.specs.Calling.{is_called, IsTurn}
 use Rattle.seam_cell_cases.proofs.StepLemmas.{by_result, whole_after, whole_again, held_sends, held_left, held_not}

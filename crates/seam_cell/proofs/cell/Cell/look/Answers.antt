@@ -1,7 +1,6 @@
 use Rattle.std.proofs.Common.{◌≡◌, ◌++◌, ap, sym, ◌∙◌}
 use Rattle.std.proofs.lemmas.Result.{on_ok_weaker, on_err_weaker}
-use Rattle.seam_machine.specs.declared.machines.Input.TheVariants.{Task}
-use Rattle.seam_node_steps.specs.Cells.{cell_steps, look_next, ready_entity}
+use Rattle.seam_node_steps.specs.Prelude.{Task, cell_steps, look_next, ready_entity}
 use Rattle.seam_cell_parts.specs.Kept.{cell_of}
 use Rattle.seam_cell_cases.proofs.StepLemmas.{whole_either, task_looks}
 use Rattle.seam_cell.proofs.cell.Cell.look.Goals as goal

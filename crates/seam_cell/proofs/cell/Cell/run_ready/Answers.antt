@@ -1,11 +1,7 @@
 use Rattle.std.proofs.Common.{◌≡◌, ◌++◌, true, Some, OnOk, OnErr, ap, sym, option_map, ◌∙◌}
 use Rattle.std.specs.FinMap as table
 use Rattle.std.proofs.lemmas.Result.{on_ok_weaker, on_err_weaker}
-use Rattle.seam_machine.specs.declared.machines.Input.TheVariants.{Task}
-use Rattle.seam_entity.specs.Calls.{has_ready}
-use Rattle.seam_entity.specs.Executing.{may_execute}
-use Rattle.seam_node_steps.specs.Maps.{set_at}
-use Rattle.seam_node_steps.specs.Cells.{CellView, cell_steps, ready_entity}
+use Rattle.seam_node_steps.specs.Prelude.{Task, has_ready, may_execute, set_at, CellView, cell_steps, ready_entity}
 use Rattle.seam_cell_parts.specs.Kept.{cell_of, AreWhole}
 use Rattle.seam_cell_cases.specs.Calling.{may_run}
 use Rattle.seam_cell_parts.specs.Stepping.{core_of}

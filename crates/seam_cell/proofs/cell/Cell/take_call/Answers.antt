@@ -1,6 +1,5 @@
 use Rattle.std.proofs.Common.{◌++◌, ap, sym, ◌∙◌}
-use Rattle.seam_machine.specs.declared.machines.Input.TheVariants.{From}
-use Rattle.seam_node_steps.specs.Cells.{cell_steps}
+use Rattle.seam_node_steps.specs.Prelude.{From, cell_steps}
 use Rattle.seam_cell.proofs.cell.Cell.take_call.Goals as goal
 
 pub returns-in-Ok-clause-state : goal.returns-in-Ok-clause-state

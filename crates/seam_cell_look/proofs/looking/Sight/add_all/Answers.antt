@@ -2,8 +2,7 @@ use Rattle.std.proofs.Common.{get_or, take, ap, sym, ◌∙◌}
 use Rattle.std.specs.List.{filter_map}
 use Rattle.std.proofs.lemmas.List.{take_all}
 use Rattle.seam_view.specs.declared.Look.TheVariants.{Leave}
-use Rattle.seam_node_steps.specs.CellLooks.{shown_for}
-use Rattle.seam_node_steps.specs.Cells.{CellView, known_to}
+use Rattle.seam_node_steps.specs.Prelude.{shown_for, CellView, known_to}
 use Rattle.seam_cell_parts.specs.Kept.{here_in}
 use Rattle.seam_cell_parts.specs.News.{listed}
 use Rattle.seam_cell_look.specs.Looking.{seeing}

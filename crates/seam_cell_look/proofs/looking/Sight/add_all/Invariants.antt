@@ -1,7 +1,6 @@
 use Rattle.std.proofs.Common.{◌≡◌, take}
 use Rattle.std.specs.List.{filter_map}
-use Rattle.seam_node_steps.specs.CellLooks.{shown_for}
-use Rattle.seam_node_steps.specs.Cells.{CellView, known_to}
+use Rattle.seam_node_steps.specs.Prelude.{shown_for, CellView, known_to}
 use Rattle.seam_cell_parts.specs.Kept.{here_in}
 use Rattle.seam_cell_look.specs.Looking.{seeing}
 use Rattle.seam_cell_look.specs.Told.{known_with, AreStillTold}

@@ -1,9 +1,6 @@
 use Rattle.std.proofs.Common.{[], ◌∷◌, ap, ◌∙◌}
 use Rattle.std.proofs.lemmas.Result.{on_ok_weaker}
-use Rattle.seam_defs.specs.Deeds.{own_of}
-use Rattle.seam_call.specs.declared.shown.Shown.TheVariants.{Own}
-use Rattle.seam_entity.specs.Here.{properties}
-use Rattle.seam_node_steps.specs.CellLooks.{own_due}
+use Rattle.seam_node_steps.specs.Prelude.{own_of, Own, properties, own_due}
 use Rattle.seam_cell_parts.specs.Kept.{here_in}
 use Rattle.seam_cell_look.specs.Looking.{own_when}
 use Rattle.seam_cell_look.specs.Updates.{with_shown}

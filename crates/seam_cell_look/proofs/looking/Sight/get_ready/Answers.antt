@@ -7,8 +7,7 @@ use Rattle.seam_view.specs.declared.Look.{Look}
 use Rattle.seam_view.specs.ViewLooks.{one_look}
 use Rattle.seam_view.specs.Replica.{IsView, HasRoom}
 use Rattle.seam_view.proofs.Room.{room_for_fewer}
-use Rattle.seam_node_steps.specs.CellLooks.{seen_as, all_shown}
-use Rattle.seam_node_steps.specs.Cells.{CellView, known_to}
+use Rattle.seam_node_steps.specs.Prelude.{seen_as, all_shown, CellView, known_to}
 use Rattle.seam_node_steps.proofs.Knowing.{known_in_order}
 use Rattle.seam_cell_parts.specs.Kept.{here_in}
 use Rattle.seam_cell_look.specs.Looking.{seeing}

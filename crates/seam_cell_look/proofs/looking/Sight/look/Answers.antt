@@ -1,11 +1,7 @@
 use Rattle.std.proofs.Common.{◌≡◌, ◌∙◌, ◌++◌, ◌+◌, ap, sym, map, length}
 use Rattle.std.proofs.lemmas.List.{append-nil}
 use Rattle.seam_view.specs.Replica.{after_looks}
-use Rattle.seam_entity.specs.WitnessLooks.{told_after}
-use Rattle.seam_entity.specs.Numbers.{is_small}
-use Rattle.seam_entity.specs.Witnesses.{witness_of}
-use Rattle.seam_node_steps.specs.CellLooks.{numbered, own_due, seen_as, shown_of}
-use Rattle.seam_node_steps.specs.Cells.{CellView, known_to}
+use Rattle.seam_node_steps.specs.Prelude.{told_after, is_small, witness_of, numbered, own_due, seen_as, shown_of, CellView, known_to}
 use Rattle.seam_node_steps.proofs.Knowing.{known_in_order}
 use Rattle.seam_cell_parts.specs.Kept.{here_in}
 use Rattle.seam_cell_look.specs.Looking.{seeing}

@@ -4,8 +4,7 @@ use Rattle.seam_cell_look.specs.Near.{is_near}
 use Rattle.std.specs.FinMap as table
 use Rattle.std.specs.List.Sorted.{IsStrictlySortedBy}
 use Rattle.std.specs.Ordering.{nat_cmp}
-use Rattle.seam_node_steps.specs.CellLooks.{seen_as}
-use Rattle.seam_node_steps.specs.Cells.{CellView, known_to}
+use Rattle.seam_node_steps.specs.Prelude.{seen_as, CellView, known_to}
 use Rattle.seam_node_steps.proofs.Knowing.{known_in_order}
 use Rattle.seam_cell_parts.specs.Kept.{here_in}
 use Rattle.seam_cell_look.specs.Looking.{seeing}

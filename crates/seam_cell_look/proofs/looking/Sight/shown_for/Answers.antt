@@ -1,8 +1,6 @@
 use Rattle.std.proofs.Common.{ap, sym, ◌∙◌}
 use Rattle.std.specs.Prelude.{option_map}
-use Rattle.seam_call.specs.declared.shown.Shown.TheVariants.{Set, Enter}
-use Rattle.seam_node_steps.specs.CellLooks.{shown_for}
-use Rattle.seam_node_steps.specs.Cells.{CellView, known_to}
+use Rattle.seam_node_steps.specs.Prelude.{Set, Enter, shown_for, CellView, known_to}
 use Rattle.seam_cell_parts.specs.Kept.{here_in}
 use Rattle.seam_cell_look.specs.Looking.{seeing}
 use Rattle.seam_cell_look.proofs.looking.Sight.shown_for.Goals as goal

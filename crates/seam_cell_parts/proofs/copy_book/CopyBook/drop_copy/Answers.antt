@@ -1,9 +1,6 @@
 use Rattle.std.proofs.Common.{None, ap, sym, ◌∙◌}
 use Rattle.std.specs.FinMap as map
-use Rattle.seam_ghosts.specs.declared.Ghost.{Ghost}
-use Rattle.seam_call.specs.declared.shown.GhostCopy.{GhostCopy}
-use Rattle.seam_ghosts.specs.Book.{ghost_after}
-use Rattle.seam_node_steps.specs.Maps.{set_at}
+use Rattle.seam_node_steps.specs.Prelude.{Ghost, GhostCopy, ghost_after, set_at}
 use Rattle.seam_cell_parts.specs.Spots.{copy_places}
 use Rattle.seam_cell_parts.proofs.SettleLemmas.{book_after}
 use Rattle.seam_cell_parts.proofs.SpotLemmas.{copy_changed}

@@ -1,8 +1,7 @@
 use Rattle.std.proofs.Common.{sym, subst, ap, ◌∙◌}
 use Rattle.std.specs.List.{AllByRecursion}
-use Rattle.seam_node_steps.specs.Nodes.{NodeView}
-use Rattle.seam_node_steps.specs.Loads.{created_at, attached}
-use Rattle.seam_law_rounds.specs.Loaded.{each}
+use Rattle.seam_node_steps.specs.Prelude.{NodeView, created_at, attached}
+use Rattle.seam_law_rounds.specs.Prelude.{each}
 use Rattle.seam_core.specs.Begun.{HasSpace}
 use Rattle.seam_core.proofs.Nodes.{IsUnseen, unseen_peopled, space_after}
 use Rattle.seam_core.proofs.node.Node.begin.Goals as goal

@@ -1,8 +1,6 @@
 use Rattle.std.proofs.Common.{◌≡◌, None, take, get_or, sym, subst, arith}
-use Rattle.seam_call.specs.declared.create.Create.{Create}
-use Rattle.seam_node_steps.specs.Nodes.{NodeView}
-use Rattle.seam_law_calls.specs.Sights.{has_of}
-use Rattle.seam_law_calls.specs.Ones.{real_in}
+use Rattle.seam_node_steps.specs.Prelude.{Create, NodeView}
+use Rattle.seam_law_calls.specs.Prelude.{has_of, real_in}
 use Rattle.seam_core.specs.Loads.{IsNumbered}
 use Rattle.seam_core.specs.Begun.{HasSpace}
 use Rattle.seam_core.proofs.Nodes.{number_made, space_made, new_at}

@@ -1,7 +1,5 @@
 use Rattle.std.proofs.Common.{sym, subst, ap, ◌∙◌}
-use Rattle.seam_machine.specs.Events.{EachNode}
-use Rattle.seam_node_steps.specs.Nodes.{World}
-use Rattle.seam_node_steps.specs.Loads.{loaded}
+use Rattle.seam_node_steps.specs.Prelude.{EachNode, World, loaded}
 use Rattle.seam_core.specs.Worlds.{IsWorld}
 use Rattle.seam_core.specs.Loads.{MayLoad, IsNumbered}
 use Rattle.seam_core.proofs.Worlds.{leads_none}

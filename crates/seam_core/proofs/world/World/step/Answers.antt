@@ -1,6 +1,5 @@
 use Rattle.std.proofs.Common.{◌≡◌, true, subst, sym, ap, ◌∙◌}
-use Rattle.seam_machine.specs.Nets.{enabled, happens}
-use Rattle.seam_node_steps.specs.Nodes.{node_steps, node_has_work}
+use Rattle.seam_node_steps.specs.Prelude.{enabled, happens, node_steps, node_has_work}
 use Rattle.seam_core.specs.Worlds.{IsWorld}
 use Rattle.seam_core.proofs.Worlds.{still_world, leads_on}
 use Rattle.seam_core.proofs.world.World.step.Goals as goal

@@ -1,7 +1,6 @@
 use Rattle.std.proofs.Common.{sym, subst, IsTrue, ◌↔◌}
 use Rattle.std.specs.Prelude.{IfOk}
-use Rattle.seam_call.specs.declared.shown.Shown.{Shown}
-use Rattle.seam_rule_clients.specs.Lines.{MayShow, MayEnter, MaySet}
+use Rattle.seam_rule_rounds.specs.Prelude.{Shown, MayShow, MayEnter, MaySet}
 use Rattle.seam_judge_looks.specs.Replicas.{client_of}
 use Rattle.seam_judge_looks.proofs.replica.Replica.may_show.Goals as goal
 

@@ -1,6 +1,5 @@
 use Rattle.std.proofs.Common.{◌≡◌, take, map}
-use Rattle.seam_rule_clients.specs.Clients.{after_all_shown}
-use Rattle.seam_rule_clients.specs.Lines.{MayShowAll}
+use Rattle.seam_rule_rounds.specs.Prelude.{after_all_shown, MayShowAll}
 use Rattle.seam_judge_looks.specs.Replicas.{client_of}
 use Rattle.seam_judge_looks.proofs.replica.Replica.show_all.Given as goal
 

@@ -1,7 +1,5 @@
 use Rattle.std.proofs.Common.{◌≢◌, [], refl, sym, ◌∙◌, subst, append-nil}
-use Rattle.seam_rule_lines.specs.Book.{open_lines, with_entry}
-use Rattle.seam_rule_lines.specs.declared.limits.TheConstants.{MOST_LINES}
-use Rattle.seam_rule_rounds.specs.Standing.{with_line, with_book}
+use Rattle.seam_rule_rounds.specs.Prelude.{open_lines, with_entry, MOST_LINES, with_line, with_book}
 use Rattle.seam_accept.specs.declared.answers.Accepted.{Accepted}
 use Rattle.seam_world_rounds.specs.Script.{HasAccepted, Refines}
 use Rattle.seam_world_rounds.proofs.Counting.{no_pieces_counted}

@@ -1,9 +1,5 @@
 use Rattle.std.proofs.Common.{◌≤◌}
-use Rattle.seam_io.specs.States.{SourceState, SinkState}
-use Rattle.seam_io.specs.Reading.{budget}
-use Rattle.seam_toml.specs.declared.header.Header.{Header}
-use Rattle.seam_rule_rounds.specs.Standing.{Standing}
-use Rattle.seam_watch.specs.Watching.{Told}
+use Rattle.seam_rule_rounds.specs.Prelude.{SourceState, SinkState, budget, Header, Standing, Told}
 use Rattle.seam_world_run.specs.Histories.{Going}
 use Rattle.seam_world_rounds.specs.Script.{ScriptRefines}
 use Rattle.seam_world_run.proofs.run.Runner.run.Given as goal

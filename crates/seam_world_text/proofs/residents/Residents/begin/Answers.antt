@@ -1,11 +1,9 @@
 use Rattle.std.proofs.Common.{◌≡◌, ℕ, List, None, sym, ap, ◌∙◌, subst}
 use Rattle.std.specs.List.{filter_map}
-use Rattle.seam_call.specs.declared.create.Create.{Create}
-use Rattle.seam_call.specs.declared.order.Batch.{Batch}
-use Rattle.seam_rule_lines.specs.Book.{created_as, live_as, has_client, is_shown}
+use Rattle.seam_node_steps.specs.Prelude.{Create, Batch}
+use Rattle.seam_rule_rounds.specs.Prelude.{created_as, live_as, has_client, is_shown}
+use Rattle.seam_law_book.specs.Prelude.{as_begun, IsUntouched}
 use Rattle.seam_accept.specs.Batches.{joined}
-use Rattle.seam_law_book.specs.Books.{as_begun}
-use Rattle.seam_law_book.specs.Bringing.{IsUntouched}
 use Rattle.seam_world_text.specs.Residents.{AreResidents, present_as, Adds, Joins}
 use Rattle.seam_world_text.specs.declared.residents.Resident.{Resident}
 use Rattle.seam_world_text.proofs.Listing.{from_list, to_list}
