@@ -19,7 +19,7 @@ use crate::count::next_len;
 use crate::entity::{Entity, keep_destroyed, keep_last};
 use crate::judging::{judge_call, judge_client, judge_create, judge_destroy, make_cut, make_shift};
 use indexmap::IndexMap;
-use seam_call::{Batch, Call, Create, Order, Sender};
+use seam_call::{Batch, Call, Create, Order, Sender, base_node_of};
 use seam_defs::{Listed, Part};
 use seam_io::LONGEST_LINE;
 use seam_rule_lines::{Entry, Header};
@@ -276,7 +276,7 @@ fn node_of(sender: Sender, bases: u32) -> u8
 {
     match sender {
         Sender::Base(node) => MOST_CELLS as u8 + node.place() as u8,
-        Sender::Client(entity) => MOST_CELLS as u8 + (entity % bases) as u8,
+        Sender::Client(entity) => base_node_of(entity, bases),
     }
 }
 

@@ -4,7 +4,6 @@ ghost use Rattle.std.specs.Prelude.{◌≡◌, ◌≤◌};
 ghost use Rattle.seam_entity.specs.Here.{base_of};
 ghost use Rattle.seam_base.specs.Nodes.{here_in};
 
-use crate::routes::CELLS;
 use seam_defs::{Defs, MOST_BASE_NODES, Settings};
 
 /// The node's number, how many cells the tree has, the definitions and the settings.
@@ -23,6 +22,6 @@ impl BaseContext {
         requires most { self.now.settings.bases ≤ MOST_BASE_NODES }
         ensures { result ≡ base_of (here_in self.now) e }
     {
-        CELLS + (e % self.settings.bases) as u8
+        seam_call::base_node_of(e, self.settings.bases)
     }
 }

@@ -1,8 +1,10 @@
 // The base nodes of a world.
-ghost use Rattle.std.specs.Prelude.{◌≡◌, ◌↔◌, ◌+◌, ◌<◌, IsSome, IfSome};
+ghost use Rattle.std.specs.Prelude.{◌≡◌, ◌↔◌, ◌+◌, ◌<◌, ◌≤◌, ◌%◌, ◌^◌, IsSome, IfSome};
+ghost use Rattle.seam_tree.specs.declared.area_table.TheConstants.{MOST_CELLS as most_cells};
 ghost use Rattle.seam_call.specs.BaseNodes.{IsBaseNode};
 
 use seam_defs::MOST_BASE_NODES;
+use seam_tree::MOST_CELLS;
 use std::marker::Model;
 
 /// A base node, by its number from 1 to 8: the node that keeps the base parts of entities, and takes the calls of the world
@@ -63,4 +65,14 @@ impl BaseNode {
     {
         self.number as usize - 1
     }
+}
+
+/// The number of the node that keeps an entity's base part, among so many base nodes, which come after the cells: entities go
+/// round them by their numbers.
+pub fn base_node_of(entity: u32, bases: u32) -> u8
+    requires some { 1 ≤ bases }
+    requires byte { most_cells + bases < 2 ^ 8 }
+    ensures { result ≡ most_cells + (entity % bases) }
+{
+    MOST_CELLS as u8 + (entity % bases) as u8
 }

@@ -14,7 +14,7 @@ mod order;
 mod sender;
 mod shown;
 
-pub use base_node::BaseNode;
+pub use base_node::{BaseNode, base_node_of};
 pub use call::Call;
 pub use create::Create;
 pub use laws::{base_nodes_come_first, ranks_tell_senders, same_senders_are_equal};

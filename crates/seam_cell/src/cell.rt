@@ -10,9 +10,9 @@ ghost use Rattle.seam_entity.specs.declared.message.Msg.TheVariants as msg;
 ghost use Rattle.seam_cell.specs.Machines.{cell_peers, cell_targets, cell_keeps_peers, cell_stays_valid};
 ghost use Rattle.seam_cell_cases.specs.Calling.{is_called, IsTurn, may_run};
 
-use seam_call::{Call, GhostCopy};
+use seam_call::{Call, Create, GhostCopy};
 use seam_cell_cases::{
-    Making, Turn, arrive, begin_round, execute_ready, execute_turn, give_witness, hold, make_real,
+    Turn, arrive, begin_round, execute_ready, execute_turn, give_witness, hold, make_real,
     may_call, may_execute, reap, survey_task,
 };
 use seam_cell_look::{ToldCopies, look_task};
@@ -105,17 +105,16 @@ impl Cell {
     }
 
     /// Load, point 1: makes the real of an entity that is new, where this cell is the leaf of its position.
-    pub fn add_entity(&mut self, alloc: Global, making: Making) -> Result<(), AllocError>
-        requires inside { IsInSpace self.old.tree making.pos }
-        requires new { table.get self.old.reals making.entity ≡ None }
-        ensures after { OnOk result (self.new
-            ≡ real_if true self.old (record { entity = making.entity; ty = making.ty; pos = making.pos })) }
+    pub fn add_entity(&mut self, alloc: Global, create: Create) -> Result<(), AllocError>
+        requires inside { IsInSpace self.old.tree create.pos }
+        requires new { table.get self.old.reals create.entity ≡ None }
+        ensures after { OnOk result (self.new ≡ real_if true self.old create) }
 
         // If allocation fails, nothing has changed.
         ensures err { OnErr result (self.new ≡ self.old) }
     {
         self.told.clear();
-        make_real(alloc, &self.known, making, &mut self.reals)
+        make_real(alloc, &self.known, create, &mut self.reals)
     }
 
     /// Load, point 2: the entity's real, where it is here, gets a witness.

@@ -9,4 +9,3 @@
 mod cell;
 
 pub use cell::Cell;
-pub use seam_cell_cases::Making;

@@ -7,37 +7,29 @@ ghost use Rattle.seam_entity.specs.WitnessLooks.{with_witness};
 ghost use Rattle.seam_cell_parts.specs.Kept.{here_in, AreKept};
 ghost use Rattle.seam_cell_cases.specs.Beginning.{changed_at};
 
+use seam_call::Create;
 use seam_cell_parts::{
     CellContext, EntityQueue, EntityRow, RealTable, Reals, make_place, put_in, take_out,
 };
 use seam_entity::{Real, Witness};
-use seam_geo::Pos;
 use std::alloc::{AllocError, Global};
-
-/// A real that is to be made.
-#[derive(Clone, Copy, Debug)]
-pub struct Making {
-    pub entity: u32,
-    pub ty: u16,
-    pub pos: Pos,
-}
 
 /// Makes the real of an entity of which none is here.
 pub fn make_real(
     alloc: Global,
     known: &CellContext,
-    making: Making,
+    create: Create,
     reals: &mut Reals,
 ) -> Result<(), AllocError>
-    requires gone { table.get reals.old.items.items making.entity ≡ None }
+    requires gone { table.get reals.old.items.items create.entity ≡ None }
     requires kept { AreKept reals.old }
-    ensures after { OnOk result (reals.new.items.items ≡ table.insert reals.old.items.items making.entity
-        (created (here_in known.now) making.entity making.ty making.pos)) }
+    ensures after { OnOk result (reals.new.items.items ≡ table.insert reals.old.items.items create.entity
+        (created (here_in known.now) create.entity create.ty create.pos)) }
     ensures err { OnErr result (reals.new.items.items ≡ reals.old.items.items) }
     ensures kept { AreKept reals.new }
 {
-    let e = making.entity;
-    let real = Real::create(alloc, &known.defs, e, making.ty, making.pos)?;
+    let e = create.entity;
+    let real = Real::create(alloc, &known.defs, e, create.ty, create.pos)?;
     make_place(reals, e, false)?;
     put_in(reals, e, real);
     Ok(())

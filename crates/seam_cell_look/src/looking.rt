@@ -24,7 +24,6 @@ use seam_cell_parts::{CellContext, CopyBook, Lists, Places, RealTable, Reals, pu
 use seam_entity::{Msg, Observed, Real, Witness, is_small};
 use seam_machine::Out;
 use seam_table::Shared;
-use seam_tree::MOST_CELLS;
 use seam_view::{Look, Seen};
 use std::alloc::{AllocError, Global};
 
@@ -333,7 +332,7 @@ fn base_node_of(known: &CellContext, e: u32) -> u8
     requires most { known.now.settings.bases ≤ MOST_BASE_NODES }
     ensures { result ≡ base_of (here_in known.now) e }
 {
-    MOST_CELLS as u8 + (e % known.settings.bases) as u8
+    seam_call::base_node_of(e, known.settings.bases)
 }
 
 // Whether n more updates have small numbers.

@@ -15,10 +15,10 @@ ghost use Rattle.seam_core.specs.Begun.{begun, HasSpace, MayBegin};
 
 use crate::node::{Kind, Node};
 use seam_base::Base;
-use seam_call::{Batch, Create, Order};
-use seam_cell::{Cell, Making};
+use seam_call::{Batch, Create, Order, base_node_of};
+use seam_cell::Cell;
 use seam_machine::Net;
-use seam_tree::{MOST_CELLS, Tree};
+use seam_tree::Tree;
 use std::alloc::{AllocError, Global};
 
 // Makes the entity's real, where this is the cell of its position.
@@ -30,12 +30,7 @@ fn make_in(cell: &mut Cell, alloc: Global, is_here: bool, x: Create) -> Result<(
     if !is_here {
         return Ok(());
     }
-    let making = Making {
-        entity: x.entity,
-        ty: x.ty,
-        pos: x.pos,
-    };
-    match cell.add_entity(alloc, making) {
+    match cell.add_entity(alloc, x) {
         Ok(()) => return Ok(()),
         Err(error) => return Err(error),
     }
@@ -211,7 +206,7 @@ fn give_reap(net: &mut Net<Node>, bases: u32, e: u32) -> Result<(), AllocError>
     requires few { bases ≤ 239 }
     ensures { OnOk result (net.new ≡ with_reap net.old e) }
 {
-    let to = MOST_CELLS as u8 + (e % bases) as u8;
+    let to = base_node_of(e, bases);
     give(net, to, Order::Reap(e))
 }
 

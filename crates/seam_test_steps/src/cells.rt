@@ -4,7 +4,8 @@ ghost use Rattle.seam_node_steps.specs.Loads.{one_cell};
 
 use crate::feeding::{AVATAR, Fed, PLACE, builtin, feed};
 use crate::told::{Told, are_sent};
-use seam_cell::{Cell, Making};
+use seam_call::Create;
+use seam_cell::Cell;
 use seam_defs::Settings;
 use seam_machine::Machine;
 use seam_tree::{Axis, Tree};
@@ -65,8 +66,8 @@ fn begin(cell: &mut Cell, alloc: Global) -> Result<(), AllocError>
     cell.start_round(alloc, tree)
 }
 
-fn avatar(entity: u32) -> Making {
-    Making {
+fn avatar(entity: u32) -> Create {
+    Create {
         entity,
         ty: AVATAR,
         pos: PLACE,
@@ -74,18 +75,18 @@ fn avatar(entity: u32) -> Making {
 }
 
 // A real is made in it, where it has none of the entity yet and the place lies in its space.
-fn make(cell: &mut Cell, alloc: Global, making: Making, space: &Tree) -> Result<(), AllocError>
+fn make(cell: &mut Cell, alloc: Global, create: Create, space: &Tree) -> Result<(), AllocError>
     requires { cell.old.tree ≡ space.now }
     ensures tree { cell.new.tree ≡ cell.old.tree }
     ensures here { cell.new.here ≡ cell.old.here }
 {
-    if cell.has_real(making.entity) {
+    if cell.has_real(create.entity) {
         return Ok(());
     }
-    if !space.holds(making.pos) {
+    if !space.holds(create.pos) {
         return Ok(());
     }
-    cell.add_entity(alloc, making)
+    cell.add_entity(alloc, create)
 }
 
 // Entities 1 and 2 are made in it, and a round begins.

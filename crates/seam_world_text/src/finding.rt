@@ -7,6 +7,7 @@ ghost use Rattle.seam_world_text.specs.Finding.{node_for, part_found, home_found
 ghost use Rattle.seam_law_calls.specs.Prelude.{entity_flow, real_in};
 
 use seam_base::{Base, BasePart};
+use seam_call::base_node_of;
 use seam_core::World;
 use seam_entity::Parcel;
 use seam_tree::MOST_CELLS;
@@ -20,7 +21,7 @@ fn base_of(world: &World, e: u32) -> Option<&Base>
     if bases == 0 {
         return None;
     }
-    net.node(MOST_CELLS as u8 + (e % bases) as u8)?.as_base()
+    net.node(base_node_of(e, bases))?.as_base()
 }
 
 // The real of an entity, if it is in that cell.

@@ -8,7 +8,7 @@ use Rattle.seam_cell.proofs.cell.Cell.add_entity.Goals as goal
 pub invariant_of-self : goal.invariant_of-self
 invariant_of-self c =
     let old = c.self.inside in
-    let made = c.args.making in
+    let made = c.args.create in
     let h = here_in old.known in (
       whole_or old.known old.reals c.make_real.new.reals old.places old.lists made.entity (Some (created h made.entity made.ty made.pos))
           c.make_real.result c.self.invariant.0 c.make_real.ensures.kept c.make_real.ensures.after c.make_real.ensures.err
