@@ -2,6 +2,10 @@
 
 //! Reads the lines of a script, one after another: the book of what was accepted judges each by the definition *the book* of
 //! `seam_rule_lines`, and gives what a round brings as a batch for the core.
+//!
+//! A command holds words until it is judged. The book looks up what they name, so that a line that names no type, sender or method is
+//! refused by the book and not for its form. The live entities that have a client are a set, whose size is how many there are: so nothing
+//! is counted down. A call's arguments are a part of the caller's table of words.
 #![tactic(auto)]
 
 mod answers;

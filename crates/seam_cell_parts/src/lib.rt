@@ -2,11 +2,17 @@
 
 //! The parts of a cell, and how a real settles among them.
 //!
-//! Which reals have a ready call, which have a witness, and which are to settle or to look are ordered sets, so that no step searches
-//! all reals; where reals and copies are is kept for looks, where there are many. Settling first does all that may want memory, the
-//! last of which is what the own book hears; what comes then cannot fail. Of `proofs/`, `SetLemmas`, `MarkLemmas` and `RealLemmas`
-//! (what the marks of reals are after a change), `NewsLemmas` (what haunts are told), `SettleLemmas` (what settling leaves) and
-//! `SpotLemmas` (lists of all places) are for callers.
+//! Which reals have a ready call and which have a witness are ordered sets, and those that are to settle or to look are queues, so that no
+//! step searches all reals; where reals and copies are is kept for looks, where there are many. Settling first does all that may want
+//! memory, the last of which is what the own book hears; what comes then cannot fail.
+//!
+//! A real is taken out of its cell while a step changes it, and its place stays open. Its entity is marked as ready before anything that
+//! may fail, and the mark goes where the real that is put in has no ready call. A next place and a hand-over are one act: a real is moved
+//! into its parcel, so no edit of the code can leave it behind as well. Haunts are told at once, and what was sent is taken back where
+//! something after it fails (`Out::cut`). Neither the cell that settles a real nor the real's new home is sent its ghost.
+//!
+//! Of `proofs/`, `SetLemmas`, `MarkLemmas` and `RealLemmas` (what the marks of reals are after a change), `NewsLemmas` (what haunts are
+//! told), `SettleLemmas` (what settling leaves) and `SpotLemmas` (lists of all places) are for callers.
 #![tactic(auto)]
 
 mod context;

@@ -10,6 +10,10 @@
 //! `specs/Reals` has what contracts see of a real, `specs/Orders` what they see of the calls that it holds, `specs/Executing` which
 //! calls a real executes and what they leave of it, and `specs/Here` what a node knows beside its entities. Of `proofs/`,
 //! `HeldLemmas` (calls that are held all pass a test, whatever becomes of their orders) is for callers.
+//!
+//! What a call leaves of a real, and what a witness tells of what is known, is defined here, below the steps of nodes that cite it
+//! (`seam_node_steps`): messages carry a real, and steps speak of messages. A real that looks gives its witness out and takes it back, so that
+//! whoever keeps the looks sees the room that `View::plan` made, and a real's value shows none for looks.
 #![tactic(auto)]
 
 mod fitting;

@@ -38,9 +38,9 @@ pub fn an_empty_book_goes_with_an_opened_world()
     seam_law_rounds::a_round_goes_from_record_to_record();
 }
 
-/// Where the open round of a book may be played in a world, what it brings may be given to that world (`given`).
-/// Once it is loaded, each entity that is there in the round has its real and its base part (`there`), and no other has a real (`comes`). Where its calls leave the world
-/// quiet, the entities that it destroys may be reaped (`reaped`).
+/// Where the open round of a book may be played in a world, what it brings may be given to that world (`given`). Once it is loaded, each
+/// entity that is there in the round has its real and its base part (`there`), and no other has a real (`comes`). Where its calls leave the
+/// world quiet, the entities that it destroys may be reaped (`reaped`).
 pub fn what_lines_bring_fits()
     ensures given { (h : Header) (b : Book) (t : Division) (clients : ℕ → ClientReplica) (w : World) → MayPlay h b t clients w →
         MayBeGiven (frame_of h t) w (batch_of h b) }

@@ -3,9 +3,9 @@
 // How much a round adds to the numbers of a world that only rise.
 //
 // A real's version, beat and generation rise by its calls and by its settling, and the number of what its witness told by its looks. In a
-// round the first three together rise by at most three for each order of the batch and two more. A witness looks at most sixteen times for
-// each order, once in each cell, and once more at the end; each look tells at most a line for each entity that there is to look at, and one
-// for its own.
+// round the first three together rise by at most three for each order of the batch and two more. A witness looks at most sixteen times
+// for each order, once in each cell, and once more at the end; each look tells at most a line for each entity that there is to look at,
+// and one for its own.
 
 ghost use Rattle.std.specs.Prelude.{ℕ, ◌+◌, ◌*◌, List, length};
 ghost use Rattle.seam_node_steps.specs.Prelude.{IsQuiet, Batch, loaded, World, node_has_work};

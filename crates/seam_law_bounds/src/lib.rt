@@ -5,6 +5,11 @@
 //! `ranks` bounds how often a call is passed on; `measure` how many events a phase takes, in any order. Each law is a clause of a function
 //! that does nothing. The head of each module says which modules of `proofs` crates above cite.
 //!
+//! That base parts and clients hold nothing (*HoldsNothing*) is kept beside the records: that of base parts says nothing of a part whose
+//! entity is gone. What there is to look at is a list of entities where a phase begins (*LooksAmong*), since a view may name one that is
+//! reaped in the round. A tick that comes to a cell weighs by the witnesses of that cell: with one weight for all cells the bound of the
+//! looks would be sixteen times as great.
+//!
 //! Each phase of a round ends, by the records between rounds alone: what a world keeps from one round to the next bounds all three phases.
 //!
 //! The bounds of `seam_law_bounds` ask that base parts and clients hold nothing and that views name what is there (`specs/Records`). Both
@@ -17,9 +22,9 @@
 //! How much a round adds to the numbers of a world that only rise.
 //!
 //! A real's version, beat and generation rise by its calls and by its settling, and the number of what its witness told by its looks. In a
-//! round the first three together rise by at most three for each order of the batch and two more. A witness looks at most sixteen times for
-//! each order, once in each cell, and once more at the end; each look tells at most a line for each entity that there is to look at, and one
-//! for its own.
+//! round the first three together rise by at most three for each order of the batch and two more. A witness looks at most sixteen times
+//! for each order, once in each cell, and once more at the end; each look tells at most a line for each entity that there is to look at,
+//! and one for its own.
 #![tactic(auto)]
 
 mod growth;

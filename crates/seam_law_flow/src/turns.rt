@@ -7,6 +7,10 @@
 // a life: it waits at one place, and then nowhere. A step does one of eight things with the calls, or two of them in a row
 // (`specs/CallMoves`), and each keeps them in turn (`specs/Desks`), for any net whose steps are such moves.
 //
+// A sender's calls are seen by its eyes alone: an entity's flow is narrowed to one sender's calls, so that neither other senders nor
+// ghosts nor witnesses come into the law. It asks for room for one number more than the laws of one real, since a call that comes has to
+// raise a version.
+//
 // Crates above cite these modules of `proofs`: `Steps` (a step of one or two moves), `Ends` (the start of a round, what comes to the part,
 // and where nothing moves any more).
 

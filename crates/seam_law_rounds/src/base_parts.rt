@@ -8,7 +8,11 @@
 // whether it was there before or the batch creates it, and whether it has a client or not.
 //
 // Of a client the record says that it is in step with its entity's witness: all that the witness told was shown, and nothing is on its
-// way. Its numbers have room by what `seam_law_calls` says of what a witness tells: the record says that entities have numbers below a bound.
+// way. Its numbers have room by what `seam_law_calls` says of what a witness tells: the record says that entities have numbers below a
+// bound.
+//
+// The record says that a client is in step with its witness by numbers alone (*AreInStep*). That it shows what the witness remembers is a
+// record of its own, which `seam_law_clients` keeps from round to round.
 //
 // Of `proofs/`, `PartLoads` (what a load makes of a base part at a node), `Joining` and `Attaching` (of a witness and of a client),
 // `PartsLoaded` (and in the world), `PartTurns` (its calls), `Serving` (a client over a list of events), `Ticking` (how much it is told), `Updates`

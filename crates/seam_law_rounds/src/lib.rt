@@ -5,6 +5,9 @@
 //! `between` has the record between rounds and what a load makes of a world that keeps it; `rounds` the record again at the end of each
 //! phase. Each law is a clause of a function that does nothing. The head of each module says which modules of `proofs` crates above cite.
 //!
+//! A fitting batch's tree is of the settings' space (*IsFitting*): a real is in that space, and its leaf holds it only where the tree
+//! divides it.
+//!
 //! Base parts and clients from round to round: what the laws of calls to base parts ask of a loaded world is true of each that a fitting
 //! batch makes of one that keeps the record of base parts.
 //!
@@ -13,7 +16,11 @@
 //! whether it was there before or the batch creates it, and whether it has a client or not.
 //!
 //! Of a client the record says that it is in step with its entity's witness: all that the witness told was shown, and nothing is on its
-//! way. Its numbers have room by what `seam_law_calls` says of what a witness tells: the record says that entities have numbers below a bound.
+//! way. Its numbers have room by what `seam_law_calls` says of what a witness tells: the record says that entities have numbers below a
+//! bound.
+//!
+//! The record says that a client is in step with its witness by numbers alone (*AreInStep*). That it shows what the witness remembers is a
+//! record of its own, which `seam_law_clients` keeps from round to round.
 //!
 //! Of `proofs/`, `PartLoads` (what a load makes of a base part at a node), `Joining` and `Attaching` (of a witness and of a client),
 //! `PartsLoaded` (and in the world), `PartTurns` (its calls), `Serving` (a client over a list of events), `Ticking` (how much it is told), `Updates`

@@ -13,8 +13,8 @@
 //! lines alone (`specs/Counts`), its batch may be run, what it prints is a legal round, and the standing after it goes on with the world
 //! that it leaves. So an input of no more lines than there may be (*most_lines*) never runs out of numbers, however many rounds it has.
 //!
-//! While such a round is played each live entity has one real, whatever events happen (`specs/OneReal`), and after it clients show all that is
-//! within their radius (`specs/Radius`).
+//! While such a round is played each live entity has one real, whatever events happen, and one that the round destroys has it until its
+//! Reap comes, and none from then on (`specs/OneReal`). After it clients show all that is within their radius (`specs/Radius`).
 //!
 //! With `given`, and the fields `between.keeps` and `bounded`, there is all that `seam_quiet::run_round` asks; the round that it runs, and
 //! that this has ended, are fields of what it answers (*StandsFor*), and so they are where a caller runs the phases one by one.

@@ -5,6 +5,9 @@
 //! An event is one step of one node (Lamport, "Time, Clocks, and the Ordering of Events in a Distributed System", 1978). A law over
 //! all runs is an induction over the list of events: what is proved here of one event holds after every run.
 //!
+//! Machines, laws over runs and laws of one entity's flow (`seam_law_flow`) are three crates, so that an edit of a law proves no net anew. A
+//! law over any fact takes the fact as a ghost member of a type parameter, since a clause cannot range over facts.
+//!
 //! Crates above cite these modules of `proofs`: `Runs` (join, part and extend runs; what they keep; how long they are), `Keeping`
 //! (each node, each link, each link exactly), `Weighing` (the weight of a net, by the node to which a message goes), `MapSums` (sums
 //! over finite maps), `Soundness` (a net of machines stays one), `Seeing` (a net through a function on its nodes).

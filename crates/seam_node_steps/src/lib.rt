@@ -8,6 +8,10 @@
 //! alone, `proofs/Peers` and `proofs/ValidBases` that a step keeps what a node knows, `proofs/Targets` that it sends to nodes of
 //! the net, `proofs/Tables` how worlds of a few entities compute, and `proofs/Early` what is true of the worlds of its row.
 //!
+//! What a cell has of one entity is a function of its three maps (*slot_of*). Stray input is one test for each kind of input, made first:
+//! input that meets no case, or a case whose conditions do not hold, changes nothing. A load's points have an order: base nodes begin the
+//! round, entities are created, clients attached, cells begin the round, and then the orders are given.
+//!
 //! What a cell knows of others: its reals, and its copies of those whose reals are not there.
 //!
 //! Definitions and laws alone. For callers, `proofs/Sorted` has what is found in a list in rising number, and `proofs/Knowing` what is

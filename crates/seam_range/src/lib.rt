@@ -1,6 +1,10 @@
 // SPDX-License-Identifier: MIT
 
 //! Entities by their positions, for queries of those that are near. Each has its version beside the position, which a query gives too.
+//!
+//! Positions are kept a second time in a map ordered by strip of x, row of z and entity. A query reads, of each strip that it meets, the
+//! rows of its z alone, also where all stand on one x; what it found is sorted once. Where there are no more entities than strips, or many
+//! are near, it looks at each entity.
 #![tactic(auto)]
 
 ghost use Rattle.std.specs.Prelude.{◌≡◌, ◌≤◌, ℕ, ◌+◌, true, is_some, Some, None, IfOk, IfSome, OnOk, OnErr};

@@ -2,6 +2,9 @@
 
 //! Writes the lines of refused lines and of rounds, rounds, and their steps, as `Texts` of `seam_rule_lines` and of `seam_rule_rounds` say. If
 //! allocation fails, a text has no use.
+//!
+//! What writes lines, and what reads them (`seam_accept`), are crates of their own, so that programs that judge or draw a transcript use
+//! them, too.
 #![tactic(auto)]
 
 mod bounds;

@@ -5,6 +5,8 @@
 //! `Book`, `Judging`, `Orders`, `FlatTable`, `Round`, `Texts` and `Run` of `specs/`, and the words of the crates below that they use, goes
 //! on with `seam_rule_rounds`, which says what a legal round is, and a transcript.
 //!
+//! Whether an entity's client is shown lines asks also that the entity was made (*is_shown*), so that no premise on books is needed.
+//!
 //! Of `proofs/`, these are for callers: `CommandWords`, `Verdicts`, `Refusals`, `SkipLemmas` and `LineLaws` (a line has one command and one
 //! verdict; lines without words, and lines that are refused whatever the book has), `Names` (places of names among types and methods),
 //! `HeaderLemmas`, `Lists` (entities in rising number), `InOrderLemmas` (calls executed as they were accepted), `BookEntries`, `RunLemmas`

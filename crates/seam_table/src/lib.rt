@@ -8,6 +8,10 @@
 //! An item is found by the hash of its number, and the one that was found last where it lies. [`Table::numbers`] gathers and sorts the
 //! numbers of all, for a walk over the items in rising number. [`Table::change_each`] changes all items where they lie.
 //!
+//! [`Table::get_mut`] lends an item to be changed where it lies, by one search: what was written is seen as if it had been put there. The
+//! hash has a fixed seed, so that runs are alike; numbers that a script chooses so that they collide make look-ups long. No contract tells
+//! of places.
+//!
 //! Of `proofs/`, `Found` (what a search of a table's entries finds) and `Changed` (what a table has after `change_each`) are for callers.
 //!
 //! Memory: a value that many may keep, and what a call that keeps an item answers if allocation fails.

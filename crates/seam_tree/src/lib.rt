@@ -5,6 +5,9 @@
 //! The tree of boundaries is that of the cells of a BigWorld space (BigWorld Server Overview, load balancing). For callers,
 //! `proofs/Leaves` says that a leaf is a cell; `proofs/Steps`, `Areas`, `Agree`, `Padded`, `Changes`, `Moves` and `Filled`
 //! say what one more cut and another place make of areas.
+//!
+//! A tree is seen as the list of its cuts, from which areas follow; so a shift changes one number. It keeps the table of its cells' areas
+//! as well, a function of the cuts, since each real that settles asks for areas while the tree stays as it is.
 #![tactic(auto)]
 
 mod area_table;

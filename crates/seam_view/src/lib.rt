@@ -5,6 +5,11 @@
 //! An entity enters a view within a radius, and leaves it beyond the radius and a hysteresis. (After the area of interest
 //! of the BigWorld Server Overview.)
 //!
+//! Those in view lie in enter order, with their places in rising number beside them. Those that left and are not back are in a map by hash;
+//! so each version shown stands once. A plan goes through those in view by number beside those known, and notes in enter order what becomes
+//! of each; leaves and sets are read off the notes. Where the next one is looked for first is a guess, of which no clause speaks. A plan
+//! makes no place for a set: so looks have room only where each that they set is in view when its turn comes (*HasRoom*).
+//!
 //! Of `proofs/`, `Only` (looks at two lists that agree on all that matters) and `Room` (what has room for looks has room for
 //! fewer) are for callers.
 #![tactic(auto)]

@@ -2,6 +2,10 @@
 
 //! The words of a line: what is between spaces and tabs, or in quotes.
 //!
+//! Words are found in any line whose places are numbers of 32 bits: that a line has at most 4,096 bytes is its reader's business. A
+//! backslash at the end of a line is a bad escape and no open quote, since its place is left of the line's end. A line is read without
+//! memory: its words stand in a table of the caller's.
+//!
 //! Of `proofs/`, `WordTexts` (a line has one list of words, and none where they are at fault) is for callers.
 #![tactic(auto)]
 

@@ -7,9 +7,14 @@
 //! the net is the run of the events that are returned (Lamport, "Time, Clocks, and the Ordering of Events in a Distributed
 //! System", 1978).
 //!
-//! While one node alone has something to do, nothing can be done side by side, and events happen on the net itself (`alone`).
+//! While one node alone has something to do, nothing can be done side by side, and events happen on the net itself (`alone`), at most as
+//! many as a worker has turns. Then threads start where anything is left, though one node may still be the only one that has it.
 //!
 //! No clause of `run_workers` says that two workers run at once, how much they do, or that they end: tests show it.
+//!
+//! The lock of a node holds no promise of which node it is. Each node keeps a claim to its number, of which there is one, so that nodes
+//! that come back from the locks are known to be all and each once. A worker's shift counts its tries, and only a visit adds one. That a
+//! try answers want of memory without having met it no contract can refuse; a test does.
 #![tactic(auto)]
 
 ghost use Rattle.std.specs.Prelude.{◌≡◌, ◌≢◌, ℕ, ◌+◌, ◌%◌, ◌<◌, ◌≤◌, [], length, map, true, Some, IfOk, vec_len, slice_get};
@@ -458,8 +463,8 @@ where
 
 /// Runs the net by workers in threads. Each node that has a task makes a step.
 ///
-/// While one node alone has something to do, at most `turns` events happen at once: no thread is started and no link is made before
-/// two nodes have something to do, and none at all where nothing has. If allocation fails, nothing is given back.
+/// While one node alone has something to do, events happen on the net itself, at most `turns` of them. No thread is started and no link
+/// is made where nothing is left then. If allocation fails, nothing is given back.
 pub fn run_workers<M: Machine + Send, G: Gate + Sync, R: Threads + Wait + Sync>(
     rt: &R,
     alloc: Global,
