@@ -22,7 +22,7 @@ use seam_tree::Axis;
 use seam_value::whole_number;
 use std::collections::BTreeSet;
 
-/// The base node of this name, of so many: `b`, and its number from 1 on.
+/// The base node of this name, one of `bases`. The name is `b` and the node's number, from 1 on.
 pub fn base_named(name: &[u8], bases: u32) -> Option<BaseNode>
     ensures { MatchOption result
         ((n : ℕ) → IsBaseNodeOf bases n → sender_text (Sender.Base n) ≢ name.now)
@@ -43,7 +43,7 @@ pub fn base_named(name: &[u8], bases: u32) -> Option<BaseNode>
     }
 }
 
-/// The sender of this name that is there: a base node, of so many, or the client of a live entity.
+/// The sender of this name: a base node of the header's, or the client of a live entity.
 pub fn sender_named(header: &Header, clients: &BTreeSet<u32>, name: &[u8]) -> Option<Sender>
     ensures { (b : Book) (entities : List (ℕ × Entity)) → EntitiesRefine b entities → ClientsRefine b clients.now.keys → MatchOption result
         ((s : Senders) → ¬ (NamesSender header.now b name.now s)) (NamesSender header.now b name.now) }

@@ -1,7 +1,9 @@
 // SPDX-License-Identifier: MIT
 
-//! New places for a tree's boundaries, by which each divides the positions on its two sides as evenly as it may
-//! (BigWorld Server Overview, load balancing).
+//! New places for a tree's boundaries, by which each divides the positions on its two sides as evenly as it may (BigWorld Server Overview,
+//! load balancing).
+//!
+//! For callers, of `proofs/`: `One` (there is at most one best place of a boundary, and one balanced tree).
 #![tactic(auto)]
 
 ghost use Rattle.std.specs.Prelude.{◌≡◌, IfOk, OnOk, OnErr};
@@ -23,12 +25,11 @@ use seam_geo::Pos;
 use seam_tree::Tree;
 use std::alloc::{AllocError, Global};
 
-/// The tree with its boundaries at new places, chosen in turn from the root on: a boundary, then those below its lower
-/// side, then those below its upper side.
+/// The tree with its boundaries at new places, chosen in turn from the root on: a boundary, then those below its lower side, then those
+/// below its upper side.
 ///
-/// Each goes to a place at most `shift` away at which no cell's area is empty, and among those to the one for which the
-/// number of positions of its divided area below the place differs least from the number at or above it; of several
-/// such, to the lowest.
+/// Each goes to a place at most `shift` away at which no cell's area is empty. Of these places it takes the one where the number of
+/// positions below it, within the area that it divides, differs least from the number at or above it; of several such, the lowest.
 pub fn balance(
     alloc: Global,
     tree: &Tree,

@@ -125,7 +125,7 @@ impl Base {
         self.parts.attach(alloc, &self.known.defs, e)
     }
 
-    /// Load, point 3: a round begins, with a tree of so many cells; nothing was done and no line was shown in it yet.
+    /// Load, point 3: begins a round with a tree of `cells` cells. Nothing was done and no line was shown in it yet.
     pub fn start_round(&mut self, cells: u8)
         requires { cells ≤ CELLS }
         ensures { self.new ≡ base_begins cells self.old }

@@ -15,8 +15,8 @@ use seam_order::InOrder;
 use std::alloc::{AllocError, Global};
 use std::marker::Model;
 
-/// Makes room for one more line. A client that is shown a line is most often shown many, so a full list gets room for three times as
-/// many as it has.
+/// Makes room for one more line. A client that is shown one line is most often shown many, so a full list gets room for three times as many
+/// as it has.
 pub(crate) fn reserve_line(lines: &mut Vec<Line>) -> Result<(), AllocError>
     ensures same { lines.new.items ≡ lines.old.items }
     ensures room { OnOk result (vec_len lines.new < vec_capacity lines.new) }

@@ -278,8 +278,8 @@ impl Parts {
         ready_in(&mut self.items, &mut self.calls, known, e)
     }
 
-    /// Offers the update to the client, if there is one, of the entity's part, if it is here and may be offered it. The update is
-    /// used up then.
+    /// Offers the update to the client of the entity's part. Nothing changes if the part is not here, has no client, or may not be offered
+    /// it. Unless allocation failed, the update is used up then.
     pub fn offer_update(&mut self, update: &mut Update) -> Result<(), AllocError>
         ensures after { OnOk result (self.new ≡ parts_with_update update.old self.old) }
 

@@ -33,7 +33,7 @@ fn gives_way(route: &Route, new: Route) -> bool
     new.cell < CELLS && (is_small(new.generation) && route.generation < new.generation)
 }
 
-/// Puts the new route in place of the one that it finds, where that one gives way.
+/// Puts the new route in place of this one, if this one gives way: the new one is not stray, and has a greater generation.
 pub fn renew(route: &mut Route, new: Route)
     ensures { route.new ≡ (if route_gives_way (Some route.old) new then new else route.old) }
 {

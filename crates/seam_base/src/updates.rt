@@ -103,7 +103,7 @@ fn new_proxy(alloc: Global) -> Proxy
 }
 
 impl BasePart {
-    /// Whether the client, if there is one, may not be offered the update, or a further line would have no number.
+    /// Whether the client may not be offered the update, or a further line would have no number. `false` where there is no client.
     pub fn refuses(&self, update: &Update) -> bool
         ensures { result ≡ stray_proxy_update update.now self.now.proxy }
     {
@@ -113,7 +113,7 @@ impl BasePart {
         }
     }
 
-    /// Whether the client, if there is one, has a ready update after it was offered this one exactly where it has one before.
+    /// Whether the update makes no difference to whether the client has a ready one. `true` where there is no client.
     pub fn stays_as_ready(&self, update: &Update) -> bool
         requires { stray_proxy_update update.now self.now.proxy ≡ false }
         ensures { IsTrue result ↔ has_update (with_update update.now self.now) ≡ has_update self.now }
@@ -161,7 +161,7 @@ impl BasePart {
         }
     }
 
-    /// Gives the part a client, which is shown the part where its type has something for clients.
+    /// Gives the part a client. If the part's type has something for clients, the client is shown the part.
     pub fn attach(&mut self, alloc: Global, defs: &Defs) -> Result<(), AllocError>
         ensures after { (me : ℕ) (settings : AllSettings) → OnOk result (self.new ≡ with_proxy (node_with defs.now me settings) self.old) }
         ensures err { OnErr result (self.new ≡ self.old) }

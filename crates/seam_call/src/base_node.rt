@@ -67,8 +67,8 @@ impl BaseNode {
     }
 }
 
-/// The number of the node that keeps an entity's base part, among so many base nodes, which come after the cells: entities go
-/// round them by their numbers.
+/// The number of the node that keeps an entity's base part. The base nodes, `bases` of them, come after the cells, and entities go round
+/// them by their numbers.
 pub fn base_node_of(entity: u32, bases: u32) -> u8
     requires some { 1 ≤ bases }
     requires byte { most_cells + bases < 2 ^ 8 }

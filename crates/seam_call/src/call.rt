@@ -16,14 +16,14 @@ pub struct Call {
 }
 
 impl Call {
-    /// Whether it is for a part of an entity.
+    /// Whether the call is for this part of this entity.
     pub fn is_for(&self, part: Part, entity: u32) -> bool
         ensures { result ≡ is_for_part part entity self.now }
     {
         self.entity == entity && self.part == part
     }
 
-    /// Whether it is for a part of an entity, and from a sender.
+    /// Whether the call is for this part of this entity, and was sent by this sender.
     pub fn is_from(&self, part: Part, entity: u32, sender: Sender) -> bool
         ensures { result ≡ is_from_sender part entity sender self.now }
     {

@@ -17,8 +17,8 @@ pub enum Order {
     Reap(u32),
 }
 
-/// What a round brings: the tree that applies from its start, the entities to be created and those that get a client, each
-/// order with the number of its base node, the entities that die at its end, and whether the boundaries are balanced then.
+/// What a round brings: the tree that applies from its start, the entities that are created and those that get a client, each order with
+/// the number of its base node, the entities that die at its end, and whether the boundaries are balanced then.
 #[derive(Drop)]
 pub struct Batch {
     pub tree: Tree,

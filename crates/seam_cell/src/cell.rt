@@ -29,7 +29,7 @@ use seam_tree::{MOST_CELLS, Tree};
 use std::alloc::{AllocError, Global};
 use std::marker::Model;
 
-/// A cell: the reals and the ghosts of a part of the space, and where reals went.
+/// A cell: the reals and the ghosts of a part of the space, and to which cells reals went.
 #[derive(Drop)]
 pub struct Cell {
     known: CellContext,
@@ -104,7 +104,7 @@ impl Cell {
         }
     }
 
-    /// Load, point 1: makes the real of an entity that is new, where this cell is the leaf of its position.
+    /// Load, point 1: makes the real of a new entity, if this cell is the leaf of its position.
     pub fn add_entity(&mut self, alloc: Global, create: Create) -> Result<(), AllocError>
         requires inside { IsInSpace self.old.tree create.pos }
         requires new { table.get self.old.reals create.entity ≡ None }
@@ -117,7 +117,7 @@ impl Cell {
         make_real(alloc, &self.known, create, &mut self.reals)
     }
 
-    /// Load, point 2: the entity's real, where it is here, gets a witness.
+    /// Load, point 2: gives the entity's real, if it is here, a witness.
     pub fn attach(&mut self, alloc: Global, e: u32) -> Result<(), AllocError>
         ensures after { OnOk result (CellNode self.new ≡ attached e (CellNode self.old)) }
         ensures err { OnErr result (self.new ≡ self.old) }
@@ -126,8 +126,8 @@ impl Cell {
         give_witness(alloc, &self.known, e, &mut self.reals)
     }
 
-    /// Load, point 3: a round begins, with that tree: no real has done anything in it yet, where reals went is forgotten, and all
-    /// reals are to settle.
+    /// Load, point 3: begins a round with that tree. No real has done anything in it yet, all reals are to settle, and the cell forgets
+    /// where reals went.
     pub fn start_round(&mut self, alloc: Global, tree: Tree) -> Result<(), AllocError>
         requires { tree.size ≡ self.old.here.settings.size }
         ensures after { OnOk result (self.new ≡ cell_begins tree self.old) }
@@ -142,7 +142,7 @@ impl Cell {
         Ok(())
     }
 
-    /// Ghost set: the own book takes the copy at its beat, where the real is not here.
+    /// Ghost set: unless the real is here, the cell's book takes the copy at its beat.
     pub fn hear_ghost_set(
         &mut self,
         e: u32,
@@ -165,7 +165,7 @@ impl Cell {
         self.places.copies.set(e, beat, copy)
     }
 
-    /// Ghost drop: the own book drops the copy at that beat.
+    /// Ghost drop: the cell's book drops the copy at that beat.
     pub fn hear_ghost_drop(&mut self, e: u32, beat: u64) -> Result<(), AllocError>
         ensures state { (from : ℕ) → OnOk result (self.new ≡ (cell_steps self.old (From from (msg.GhostDrop e beat))).state) }
         ensures sent { (from : ℕ) → (cell_steps self.old (From from (msg.GhostDrop e beat))).sent ≡ [] }
@@ -178,7 +178,7 @@ impl Cell {
         self.places.copies.drop_copy(e, beat)
     }
 
-    /// Tick: the witnesses here are to look.
+    /// Tick: all witnesses here are to look.
     pub fn hear_tick(&mut self) -> Result<(), AllocError>
         ensures state { (from : ℕ) → OnOk result (self.new ≡ (cell_steps self.old (From from msg.Tick)).state) }
         ensures sent { (from : ℕ) → (cell_steps self.old (From from msg.Tick)).sent ≡ [] }
@@ -201,8 +201,8 @@ impl Cell {
         self.reals.items.get(e)
     }
 
-    /// Call: where the real is here and may be offered the call, it executes it in its turn and settles, or holds it where it is
-    /// early; where the real is not here, the call is sent to the next place.
+    /// Call. If the real is here and may be offered the call, it executes it in its turn and settles, and holds it if it is early. If the
+    /// real is not here, the call is sent to the next place.
     pub fn hear_call(&mut self, call: Call, out: &mut Out<Msg>) -> Result<(), NoMemoryFor<Call>>
         ensures state { (from : ℕ) → OnOk result (self.new ≡ (cell_steps self.old (From from (msg.Call call))).state) }
         ensures sent { (from : ℕ) →
@@ -480,7 +480,7 @@ impl Cell {
         }
     }
 
-    /// Call, next place: a call whose real is not here is sent to the next place as it is, where there is one.
+    /// Call, next place: a call whose real is not here is sent as it is to the entity's next place, if there is one.
     pub fn pass_call_on(&self, call: Call, out: &mut Out<Msg>) -> Result<(), NoMemoryFor<Call>>
         requires { is_some (table.get self.now.reals call.entity) ≡ false }
         ensures state { (from : ℕ) → (cell_steps self.now (From from (msg.Call call))).state ≡ self.now }

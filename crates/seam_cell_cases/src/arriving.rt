@@ -109,8 +109,8 @@ fn settle_in(
     put_in(reals, e, real);
 }
 
-/// Hand-over comes: the real is put in its place, with the calls that it holds, its witness and its haunts; its next place goes, the
-/// own book drops the copy at the real's beat, and every base node is told.
+/// Hand-over comes: the real is put in its place, with the calls that it holds, its witness and its haunts. The entity's next place goes,
+/// the cell's book drops the copy at the real's beat, and every base node is told.
 pub fn arrive(
     known: &CellContext,
     parcel: Parcel,

@@ -156,7 +156,7 @@ pub struct Held {
     pub result: Result<(), NoMemoryFor<Call>>,
 }
 
-/// Call, real here, whose turn it is not: the real holds it where it is early, and nothing changes where it is late.
+/// Call, real here, whose turn it is not: the real holds an early call, and a late one changes nothing.
 pub fn hold(known: &CellContext, turn: Turn) -> Held
     requires may { real_may_call (here_in known.now) turn.real.core turn.call ≡ true }
     ensures after { OnOk result.result (result.real.core ≡ offered (here_in known.now) turn.real.core turn.call) }

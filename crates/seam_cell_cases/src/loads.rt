@@ -14,7 +14,7 @@ use seam_cell_parts::{
 use seam_entity::{Real, Witness};
 use std::alloc::{AllocError, Global};
 
-/// Makes the real of an entity of which none is here.
+/// Makes the real of an entity that has none here.
 pub fn make_real(
     alloc: Global,
     known: &CellContext,

@@ -47,7 +47,7 @@ fn may_go(reals: &Reals, e: u32) -> bool
     }
 }
 
-/// Reap: the real goes, with its entries in both lists, and its haunts and the own book drop their copies at the next beat.
+/// Reap: the real goes, with its entries in both lists. Its haunts and the cell's book drop their copies at the next beat.
 pub fn reap(
     e: u32,
     reals: &mut Reals,

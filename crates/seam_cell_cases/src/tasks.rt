@@ -60,7 +60,7 @@ fn begin_ready(
     Ok(Made { after, begun })
 }
 
-/// Ready-call task: the real executes the ready call of its least sender that has one, and settles.
+/// Ready-call task: of the senders that have a ready call, the least one's is executed, and the real settles.
 pub fn execute_ready(
     known: &CellContext,
     mut real: Real,

@@ -7,8 +7,10 @@
 //! (`seam_node_steps`), over the parts of the cell; if allocation fails, nothing has changed.
 //!
 //! An entity in view that is not near leaves, unless it is known and was shown at a greater version; that is asked for those that leave and
-//! for no other. A witness looks while its real is taken out: what is known of others is the same without it (`seam_node_steps`), so no copy of
-//! the reals is made.
+//! for no other. A witness looks while its real is taken out: what is known of others is the same without it (`seam_node_steps`), so no
+//! copy of the reals is made.
+//!
+//! For callers, of `proofs/`: `ToldLemmas` (what was told of entities, where that is what is known of them).
 #![tactic(auto)]
 
 mod looking;

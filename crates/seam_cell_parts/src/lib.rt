@@ -7,12 +7,14 @@
 //! memory, the last of which is what the own book hears; what comes then cannot fail.
 //!
 //! A real is taken out of its cell while a step changes it, and its place stays open. Its entity is marked as ready before anything that
-//! may fail, and the mark goes where the real that is put in has no ready call. A next place and a hand-over are one act: a real is moved
-//! into its parcel, so no edit of the code can leave it behind as well. Haunts are told at once, and what was sent is taken back where
-//! something after it fails (`Out::cut`). Neither the cell that settles a real nor the real's new home is sent its ghost.
+//! may fail, and the mark goes where the real that is put in has no ready call.
 //!
-//! Of `proofs/`, `SetLemmas`, `MarkLemmas` and `RealLemmas` (what the marks of reals are after a change), `NewsLemmas` (what haunts are
-//! told), `SettleLemmas` (what settling leaves) and `SpotLemmas` (lists of all places) are for callers.
+//! A next place and a hand-over are one act: a real is moved into its parcel, so no edit of the code can leave it behind as well. Haunts
+//! are told at once, and what was sent is taken back where something after it fails (`Out::cut`). Neither the cell that settles a real nor
+//! the real's new home is sent its ghost.
+//!
+//! For callers, of `proofs/`: `SetLemmas` (ordered sets), `MarkLemmas` and `RealLemmas` (what the marks of reals are after a change),
+//! `NewsLemmas` (what haunts are told), `SettleLemmas` (what settling leaves) and `SpotLemmas` (lists of all places).
 #![tactic(auto)]
 
 mod context;

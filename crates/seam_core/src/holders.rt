@@ -87,8 +87,7 @@ fn count_reals(net: &Net<Node>, e: u32) -> u32
     count
 }
 
-/// In how many places the entity's real is: nodes that have it, and hand-overs that carry it. The count stands still at the
-/// greatest number.
+/// In how many places the entity's real is: nodes that have it, and hand-overs that carry it; the greatest `u32` if there are more.
 pub(crate) fn count_holders(net: &Net<Node>, e: u32) -> u32
     ensures { result ≡ min (holders net.now e) (2 ^ 32 - 1) }
 {

@@ -8,7 +8,7 @@ ghost use Rattle.seam_rule_clients.specs.Clients.{ClientReplica};
 ghost use Rattle.seam_core.specs.Worlds.{KeepsLaws};
 ghost use Rattle.seam_core.specs.Loads.{MayLoad};
 
-/// Every world obeys the laws of the phase that it is in, wherever it comes from.
+/// Every world obeys the laws of its phase, wherever it comes from.
 pub fn every_world_obeys_the_laws()
     ensures { (v : World) → KeepsLaws v }
 {
@@ -19,7 +19,7 @@ pub fn every_world_obeys_the_laws()
     seam_law_rounds::reaps_end_reals();
 }
 
-/// What the rules ask of a batch lets a world load it: one that keeps the records between rounds may be given each that fits it.
+/// A world that keeps the records between rounds may load each batch that it may be given by the rules.
 pub fn a_fitting_batch_may_be_loaded()
     ensures { (f : Frame) (clients : ℕ → ClientReplica) (w : World) → KeepsRecords f clients w → (b : Batch) → MayBeGiven f w b →
         MayLoad w b }

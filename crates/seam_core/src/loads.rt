@@ -210,7 +210,7 @@ fn give_reap(net: &mut Net<Node>, bases: u32, e: u32) -> Result<(), AllocError>
     give(net, to, Order::Reap(e))
 }
 
-/// Gives each entity's reap to its base node, of so many.
+/// Gives the reap of each entity to its base node, one of `bases`.
 pub(crate) fn reap_all(net: &mut Net<Node>, bases: u32, es: &[u32]) -> Result<(), AllocError>
     requires numbered { EachNode IsNumbered net.old.nodes }
     requires bases { EachNode (λ k s. HasBases bases s) net.old.nodes }

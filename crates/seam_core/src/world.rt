@@ -109,8 +109,7 @@ impl World {
         Ok(World { net })
     }
 
-    /// In how many places the entity's real is: cells that have it, and hand-overs that carry it. The count stands still at the
-    /// greatest number.
+    /// In how many places the entity's real is: cells that have it, and hand-overs that carry it; the greatest `u32` if there are more.
     ///
     /// Of an entity that lives it is 1 at every moment of a round.
     pub fn holders(&self, e: u32) -> u32
@@ -121,7 +120,7 @@ impl World {
         count_holders(&self.net, e)
     }
 
-    /// Does nothing: it is called for its clause.
+    /// Does nothing. Its clause says what holds of every world (*IsWorld*).
     pub fn known(&self)
         ensures { IsWorld self.now }
     {
@@ -135,9 +134,9 @@ impl World {
         &self.net
     }
 
-    /// One event, which is enabled, happens. If allocation fails, nothing has changed.
+    /// Lets one event happen, which has to be enabled. If allocation fails, nothing has changed.
     ///
-    /// Whatever list of events led here from a loaded world, one more leads on; and the world obeys the laws of its phase.
+    /// A list of events that led here from a loaded world leads on with this one, and the world obeys the laws of its phase.
     pub fn step(&mut self, alloc: Global, event: Event) -> Result<(), AllocError>
         requires { enabled node_has_work self.old event ≡ true }
         ensures happens { OnOk result (self.new ≡ happens node_steps self.old event) }
@@ -162,7 +161,7 @@ impl World {
         net
     }
 
-    /// The world of a net, which events made of a world's; it obeys the laws of its phase.
+    /// Makes a world again of the net of one, to which events may have happened. It obeys the laws of its phase.
     pub fn over(net: Net<Node>) -> World
         requires { IsWorld net }
         ensures world { result ≡ net }

@@ -59,9 +59,10 @@ impl Operation {
 }
 
 impl TypeDef {
-    /// Does a deed on a state of the part that it is for, and answers whether what others may see of the part has changed
-    /// in value: of a cell part the position and the ghosted properties, of a base part what its client is shown. A state
-    /// whose values are of the part's group keeps that under a deed that fits. If allocation fails the state is as it was.
+    /// Does a deed on a state of the part that it is for. The answer is whether what others may see of the part has changed in value: of a
+    /// cell part the position and the ghosted properties, of a base part what its client is shown.
+    ///
+    /// A state whose values are of the part's group keeps that under a deed that fits. If allocation fails, the state is as it was.
     pub fn apply(&self, state: &mut State, deed: &Deed) -> Result<bool, AllocError>
         requires { IsType self.now }
         ensures ok { OnOk result (state.new ≡ after self.now state.old deed.now) }

@@ -93,7 +93,7 @@ impl Props {
         self.values().count()
     }
 
-    /// The value at a place, counted from 0: None where there are not so many.
+    /// The value at a place, counted from 0; `None` where there is no such place.
     pub fn at(&self, i: usize) -> Option<&Value>
         ensures { option_copied result ≡ slice_get self.now i }
     {

@@ -1,11 +1,11 @@
 // SPDX-License-Identifier: MIT
 
-//! Which cells have a ghost of a real: those near enough, and those that had one and are not yet far (BigWorld Server
-//! Overview, ghost entities). And the place of an entity: its home, and the cells with a ghost of it; and what
-//! each cell is told of a real that settles.
+//! Which cells have a ghost of a real: those near enough, and those that had one and are not yet far (BigWorld Server Overview, ghost
+//! entities). And the place of an entity: its home, and the cells with a ghost of it; and what each cell is told of a
+//! real that settles.
 //!
-//! Of `proofs/`, `Chosen` (which numbers of a range are in a set that was chosen by a test) and `Settling` (what settling makes of a place,
-//! and of one that is settled already) are for callers.
+//! For callers, of `proofs/`: `Chosen` (which numbers of a range are in a set that was chosen by a test) and `Settling` (a place that is
+//! settled twice at one position).
 #![tactic(auto)]
 
 ghost use Rattle.std.specs.Prelude.{◌≡◌, ℕ, ◌+◌, ◌-◌, ◌<◌, ◌≤◌, ◌↔◌, ◌⊎◌, nat_le, IsTrue};

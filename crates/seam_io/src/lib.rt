@@ -4,10 +4,12 @@
 //!
 //! Of a source of 2^40 bytes and more only whole lines count: nobody looked whether the input ends after an unended rest. One carriage
 //! return before a line feed is dropped, and a second one is content; a rest of one carriage return at the end of the input is a line with
-//! empty content. No contract can count the reads inside one call of `Lines::next`. It says that all but the last 4,096 bytes taken in a
-//! call have no line feed, and that no read is made where the next answer needs none.
+//! empty content.
 //!
-//! Of `proofs/`, `LineLemmas` (the lines of bytes to which more are appended) is for callers.
+//! No contract can count the reads inside one call of `Lines::next`. In place of that its contract says that all but the last 4,096 bytes
+//! taken in a call have no line feed, and that no read is made where the next answer needs none.
+//!
+//! For callers, of `proofs/`: `LineLemmas` (the lines of bytes to which more are appended).
 #![tactic(auto)]
 
 mod laws;

@@ -1,14 +1,15 @@
 // SPDX-License-Identifier: MIT
 
-//! A whole round and the standing between two rounds, as data: what a server prints of a round, what it was left with by the rounds
-//! before, and when two of such values are the same.
+//! A whole round and the standing between two rounds, as data: what a server prints of a round, and what the rounds before left.
 //!
-//! Contracts see a line as the one of the definitions of a legal round (`seam_rule_lines`, `seam_rule_rounds`), and a round as its data;
-//! *standing_of* is the standing that the plain lists of `Standing` are.
+//! Contracts see a line as the one of the definitions of a legal round (`seam_rule_lines`, `seam_rule_rounds`), and a round as its data.
+//! `lines` has the lines, `round` a round of them, `standing` the plain lists of a standing; *standing_of* (`specs/Standings`) is the
+//! standing that these lists are. `specs/Codes` says how a place is stored.
 //!
-//! When two values of the world are the same, and copies of them: of calls and states, and of what clients are shown. Slow programs use it
-//! that compare what a server did with what it has to do. The server itself moves its values, and copies none; it only finds out whether
-//! a state that a client is shown was spelled before.
+//! `same` and `same_lines` tell whether two values are the same, and `copies` and `entries` copy them: calls, states, and what clients are
+//! shown. The slow programs that judge a server use both. Of the server's crates `seam_report` alone uses this one: it writes a `Round`.
+//!
+//! For callers, of `proofs/`: `CellNumbers` (places of cells that a tree can have).
 #![tactic(auto)]
 
 mod copies;

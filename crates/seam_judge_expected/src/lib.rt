@@ -3,7 +3,7 @@
 //! What a round has to print, computed from plain lists: each list of a round by the standing that the round leaves, entity by entity and
 //! call by call from the first one on. It is slow, and as plain as the definitions of `seam_rule_rounds` that its contracts cite.
 //!
-//! Of `proofs/`, `ListedLemmas` (lists of entities in rising number) is for callers.
+//! For callers, of `proofs/`: `ListedLemmas` (lists of entities in rising number).
 #![tactic(auto)]
 
 mod entities;

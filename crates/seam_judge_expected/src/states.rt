@@ -11,7 +11,7 @@ use seam_judge_data::Same;
 use seam_rule_lines::Header;
 use std::alloc::{AllocError, Global};
 
-/// The state of a part after so many calls of its order.
+/// The state of a part after the first `version` calls of its order.
 pub fn state_at(
     header: &Header,
     part: Part,

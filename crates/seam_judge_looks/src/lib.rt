@@ -1,7 +1,8 @@
 // SPDX-License-Identifier: MIT
 
 //! What a client shows, what it is shown next, and what it may be shown, computed from plain lists: the flat table, one look at it, and the
-//! lines about a base part. It is slow, and as plain as the definitions of `seam_rule_clients` and `seam_rule_rounds` that its contracts cite.
+//! lines about a base part. It is slow, and as plain as the definitions of `seam_rule_clients` and `seam_rule_rounds` that its contracts
+//! cite.
 #![tactic(auto)]
 
 mod base;

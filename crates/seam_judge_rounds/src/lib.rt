@@ -1,8 +1,8 @@
 // SPDX-License-Identifier: MIT
 
 //! The plain judge of a whole round: point by point, whether what a round prints is legal, computed anew from plain lists. Each function
-//! decides one field of *IsRound* (`seam_rule_rounds`), exactly: it answers `true` where the field holds of the standing before the round, of
-//! what the round prints and of the standing after it, and `false` where it does not.
+//! decides one field of *IsRound* (`seam_rule_rounds`), exactly: it answers `true` where the field holds of the standing before the round,
+//! of what the round prints and of the standing after it, and `false` where it does not.
 //!
 //! Of the points about clients, `has_shown` decides *HasShown* and `has_looked` *HasLooked*; `show_rightly` decides one field of one client
 //! (*right* of *ShowsClient*), `are_true` a part of it, and `is_nothing_left` one field for all (*nothing_left* of *HasLooked*).

@@ -47,7 +47,7 @@ pub enum Point {
     Bounds,
 }
 
-// A point that does not hold, or else what is said of the later ones.
+// This point where it does not hold, or else what comes of the later ones.
 fn unless(holds: bool, point: Point, later: Option<Point>) -> Option<Point>
     ensures none { (result ≡ None) ↔ (IsTrue holds × (later ≡ None)) }
     ensures some { (p : Points) → result ≡ Some p → ((p ≡ point) × IsFalse holds) ⊎ (later ≡ Some p) }
@@ -84,7 +84,7 @@ fn are_printed(alloc: Global, case: &Case<'_>) -> Result<bool, AllocError>
     }
 }
 
-// The first point that does not hold of a round whose number is right.
+// A point that does not hold of a round whose number is right.
 fn judge_case(
     alloc: Global,
     case: &Case<'_>,
@@ -124,9 +124,11 @@ fn judge_case(
     Ok(unless(did, Point::Did, from_dob))
 }
 
-/// The first point of a legal round that does not hold of what a round prints, after a standing whose book has all lines of the round;
-/// `None` where the round is legal. The standing that the round leaves is the one that its lines show, and where the round is not legal
-/// with it, it is with none.
+/// `None` where what a round prints is legal after a standing whose book has all lines of the round; else a point of a legal round that
+/// does not hold of it. The points are tried in their order, but the clauses say of the point that is named only that it does not hold.
+///
+/// The standing that the round leaves is the one that its lines show. Where the round is not legal with that standing, it is legal with
+/// none.
 pub fn judge(
     alloc: Global,
     header: &Header,

@@ -17,11 +17,11 @@ pub(crate) enum Wrong {
     Header,
     /// The refusal of the line of this number is not printed where it is due.
     Refusal(u64),
-    /// The text of the round after so many is no text of a round, or its steps are not those that the watch was told.
+    /// The text of the round after this number of rounds is no text of a round, or its steps are not those that the watch was told.
     NoRound(u64),
-    /// The round after so many is not legal, at this point.
+    /// The round after this number of rounds is not legal, at this point.
     Round(u64, Point),
-    /// There is no plain round after so many.
+    /// There is no plain round after this number of rounds.
     NoPlainRound(u64),
     /// There is more text.
     More,

@@ -7,7 +7,7 @@ pub(crate) struct Kind {
     /// Methods with their arguments, some of them at fault.
     pub(crate) calls: &'static [&'static str],
     pub(crate) bases: u32,
-    /// Entities and boundaries are at places from `low` on, of which there are so many on each axis.
+    /// Entities and boundaries are at places from `low` on, `places` of them on each axis.
     pub(crate) low: u32,
     pub(crate) places: u32,
 }

@@ -146,7 +146,7 @@ fn raised(alloc: Global, line: &str, place: usize) -> Result<String, AllocError>
     Ok(changed)
 }
 
-/// What was printed without the step at this place among all steps; `None` where there are no more than so many.
+/// What was printed without the step at this place among all steps; `None` where there is no such place.
 pub(crate) fn without_step(
     alloc: Global,
     printed: &str,

@@ -21,11 +21,11 @@ use std::alloc::{AllocError, Global};
 pub(crate) enum Unlike {
     /// The script begins with no header.
     Header,
-    /// The text of the round after so many is no text of a round with its steps.
+    /// The text of the round after this number of rounds is no text of a round with its steps.
     NoRound(u64),
-    /// The round after so many cannot be played by its steps.
+    /// The round after this number of rounds cannot be played by its steps.
     Round(u64, Misstep),
-    /// The text of the round after so many is another one.
+    /// The text of the round after this number of rounds is another one.
     Text(u64),
     /// The refusal of the line of this number is not printed where it is due.
     Refusal(u64),

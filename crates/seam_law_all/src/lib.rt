@@ -3,8 +3,10 @@
 //! All laws of a round, together: what a world keeps between rounds, and what is then true over every list of events of each phase.
 //!
 //! The laws are proved one by one in the crates below. Here they stand as records with a field for each, in one place: `specs/Records` has
-//! what a world keeps between rounds and which batches it may be given, `specs/Calls`, `specs/Reaps` and `specs/LookLaws` what is true in the
-//! three phases of a round, at each moment and where the phase leaves the world quiet.
+//! what a world keeps between rounds and which batches it may be given, `specs/Calls`, `specs/Reaps` and `specs/LookLaws` what is true in
+//! the three phases of a round, at each moment and where the phase leaves the world quiet.
+//!
+//! `specs/Prelude` re-exports what crates above cite of this one and of those below it, so that one import names it.
 #![tactic(auto)]
 
 ghost use Rattle.std.specs.Prelude.{◌≡◌, ℕ, ◌≤◌, List, Some};
@@ -18,8 +20,8 @@ ghost use Rattle.seam_law_all.specs.Prelude.{AreGone, ObeysLawsOfLooks, AreShown
 ghost use Rattle.seam_rule_clients.specs.Clients.{ClientReplica, new_client};
 ghost use Rattle.seam_law_clients.specs.Crossing as crossing;
 
-/// A world as it is opened, with definitions and a space that are such and a base node, keeps the records, whatever clients show: there
-/// are none.
+/// A world as it is opened keeps the records, whatever clients show: there are none. Its definitions and settings have to make a frame
+/// (*IsFrame*), with a base node, and ghosts have to reach as far as a witness sees (*GhostsReach*).
 pub fn an_opened_world_keeps_the_records()
     ensures { (defs : List TypeDef) (settings : Settings) → IsFrame (first_frame defs settings) → 1 ≤ settings.bases →
         GhostsReach settings → (clients : ℕ → ClientReplica) → KeepsRecords (first_frame defs settings) clients (opened defs settings) }

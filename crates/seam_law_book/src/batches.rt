@@ -3,10 +3,11 @@
 // What lines bring to the core: laws of the batch that the open round of a book is (*batch_of* of `seam_accept`).
 //
 // `specs/Books` says which books lines make, and `specs/Bringing` what the open round of one brings, by the book as the round began: which
-// entities it makes, gives a client and destroys, which calls, and under which numbers. The crate of laws that joins the script and the
-// core reads off it that the batch fits a world that goes with the book.
+// entities it makes, gives a client and destroys, which calls, and under which numbers. From that `book_and_world` has that the batch fits
+// a world that goes with the book.
 //
-// Of `proofs/`, `Adding` (what one more entry adds), `Present` (who is there) and `Untouched` are for callers.
+// For callers, of `proofs/`: `Adding` (what one more entry adds), `Present` (who is there) and `Untouched` (what holds of all entries of a
+// book that lines made).
 
 ghost use Rattle.std.specs.Prelude.{◌≡◌, ℕ, None};
 ghost use Rattle.seam_node_steps.specs.Prelude.{AreLegal};

@@ -2,13 +2,13 @@
 
 // The script and the core together: a book of accepted lines beside a world, from round to round.
 //
-// `specs/Going` says which book goes with which quiet world, and `specs/Playing` what the laws below ask of the two, so that the open
-// round may be played. Then what its lines bring may be given to that world, and when the world has gone through the round, the book with
-// its round ended goes with it again.
+// `specs/Going` says which book goes with which quiet world, and `specs/Playing` what the laws below ask of the two, so that the open round
+// may be played. Then what its lines bring may be given to that world, and when the world has gone through the round, the book with its
+// round ended goes with it again.
 //
-// Crates above cite these modules of `proofs`: `Accounts` and `PartsTable` (what calls make of a part is what the flat table has), `Parts`
-// (base parts and their clients along the last phases), `Executed` (what one of all cells has), `Ended` (who lives and has a client) and
-// `Further` (a client's witness).
+// For callers, of `proofs/`: `Accounts` and `PartsTable` (what calls make of a part is what the flat table has), `Rows` (the table of a
+// world is that of the rules), `Parts` (base parts and their clients along the last phases), `Executed` (what one of all cells has),
+// `Ended` (who lives and has a client) and `Further` (a client's witness).
 
 ghost use Rattle.std.specs.Prelude.{◌≡◌, ℕ, List, [], ◌++◌, Some, IsTrue};
 ghost use Rattle.std.specs.List.{AllByRecursion};
@@ -78,7 +78,7 @@ pub fn a_book_goes_with_the_world_after_its_round()
 }
 
 /// Where the calls of that round leave the world quiet, each part executed all that was accepted for it, each sender's calls in their order
-/// and once (`full`), whatever of them each part executed before; and each of them is done on that part of the entity's type (`on`). So the
+/// and once (`full`), whatever of them each part executed before. Each of them is done on that part of the entity's type (`on`). So the
 /// lines of what was executed are those that the rules ask for (`lines`).
 pub fn each_part_executed_what_was_accepted()
     ensures full { (h : Header) (b : Book) (t : Division) (clients : ℕ → ClientReplica) (w : World) → MayPlay h b t clients w →

@@ -1,22 +1,16 @@
 // SPDX-License-Identifier: MIT
 
-//! What lines bring to the core: laws of the batch that the open round of a book is (*batch_of* of `seam_accept`).
+//! The script and the core together: what the lines of a script bring to a world, and the book of these lines beside that world, from round
+//! to round.
 //!
-//! `specs/Books` says which books lines make, and `specs/Bringing` what the open round of one brings, by the book as the round began: which
-//! entities it makes, gives a client and destroys, which calls, and under which numbers. The crate of laws that joins the script and the
-//! core reads off it that the batch fits a world that goes with the book.
+//! `batches` has the laws of the batch that the open round of a book is (*batch_of* of `seam_accept`); `book_and_world` says that a book
+//! goes with a world, that what its lines bring may be given to that world, and that both go together again after the round. Each law is a
+//! clause of a function that does nothing.
 //!
-//! Of `proofs/`, `Adding` (what one more entry adds), `Present` (who is there) and `Untouched` are for callers.
+//! Of `specs/`, `Books` and `Bringing` are for `batches`; `Going`, `Playing`, `ExecutedRound` and `Standings` for `book_and_world`.
+//! `specs/Prelude` re-exports what crates above cite of this one and of those below it, so that one import names it.
 //!
-//! The script and the core together: a book of accepted lines beside a world, from round to round.
-//!
-//! `specs/Going` says which book goes with which quiet world, and `specs/Playing` what the laws below ask of the two, so that the open
-//! round may be played. Then what its lines bring may be given to that world, and when the world has gone through the round, the book with
-//! its round ended goes with it again.
-//!
-//! Crates above cite these modules of `proofs`: `Accounts` and `PartsTable` (what calls make of a part is what the flat table has), `Parts`
-//! (base parts and their clients along the last phases), `Executed` (what one of all cells has), `Ended` (who lives and has a client) and
-//! `Further` (a client's witness).
+//! The heads of the two modules say which modules of `proofs/` are for callers.
 #![tactic(auto)]
 
 mod batches;

@@ -1,30 +1,21 @@
 // SPDX-License-Identifier: MIT
 
-//! How long a phase lasts.
+//! How long the phases of a round last, and by how much a round raises the numbers that only rise.
 //!
-//! `ranks` bounds how often a call is passed on; `measure` how many events a phase takes, in any order. Each law is a clause of a function
-//! that does nothing. The head of each module says which modules of `proofs` crates above cite.
+//! `ranks` bounds how often a call is passed on, and `measure` how many events a phase takes, in any order. `phases` has that each phase of
+//! a round ends, by what worlds keep between rounds alone, and `growth` bounds the numbers. Each law is a clause of a function that does
+//! nothing.
+//!
+//! Of `specs/`, `Ranks` and `Passes` are for `ranks`; `Weights`, `Events`, `Phases` and `Looking` for `measure`; `Records` has what bounds
+//! the phases of a world's next round; `Most` is for `growth`. `specs/Prelude` re-exports what crates above cite of this one and of those
+//! below it, so that one import names it.
 //!
 //! That base parts and clients hold nothing (*HoldsNothing*) is kept beside the records: that of base parts says nothing of a part whose
 //! entity is gone. What there is to look at is a list of entities where a phase begins (*LooksAmong*), since a view may name one that is
-//! reaped in the round. A tick that comes to a cell weighs by the witnesses of that cell: with one weight for all cells the bound of the
-//! looks would be sixteen times as great.
+//! reaped in the round.
 //!
-//! Each phase of a round ends, by the records between rounds alone: what a world keeps from one round to the next bounds all three phases.
-//!
-//! The bounds of `seam_law_bounds` ask that base parts and clients hold nothing and that views name what is there (`specs/Records`). Both
-//! hold of an opened world, and a whole round keeps them, beside the records of `seam_law_all`: after it the views name what is there since
-//! each witness looked after the reaps, and a look leaves no one in view who is not known.
-//!
-//! Of `proofs`, `Viewed` (who is in view after a look), `Seen` (the phase of looks) and `Bounds` (what there is to look at) are for
-//! callers.
-//!
-//! How much a round adds to the numbers of a world that only rise.
-//!
-//! A real's version, beat and generation rise by its calls and by its settling, and the number of what its witness told by its looks. In a
-//! round the first three together rise by at most three for each order of the batch and two more. A witness looks at most sixteen times
-//! for each order, once in each cell, and once more at the end; each look tells at most a line for each entity that there is to look at,
-//! and one for its own.
+//! A tick that comes to a cell weighs by the witnesses of that cell: with one weight for all cells the bound of the looks would be sixteen
+//! times as great.
 #![tactic(auto)]
 
 mod growth;

@@ -2,17 +2,13 @@
 //!
 //! Each item of a world has a weight (`specs/Weights`): at least the number of events that it can still cause. An event lowers the sum of
 //! them, but for one that passes a call on, which keeps it; so a run is no longer than what its start weighs and the calls that it passes
-//! on. A call is passed on at most as often as its entity is handed over, which is at most once for each of its calls and once more. What
-//! a load brings weighs what the table of its phase says (`specs/Phases`): so taking enabled events in any order ends, and the numbers of
-//! the table are the most that it takes.
+//! on. A call is passed on at most as often as its entity is handed over, which is at most once for each of its calls and once more. What a
+//! load brings weighs what the table of its phase says (`specs/Phases`): so taking enabled events in any order ends, and the numbers of the
+//! table are the most that it takes.
 //!
 //! Where witnesses look, the bound is by what there is to look at where the phase begins (`specs/Looking`): no event brings more, and a
 //! look has at most a line for each. Of a loaded world that is what it has, by the records. So it is by the record of base parts and
 //! clients that clients' lines have numbers.
-//!
-//! Crates above cite these modules of `proofs`: `NetWeights` (an event and a run), `QuietWeights` (a quiet world), `Ordered` (orders only
-//! go), `Batched` (calls on their way were ordered), `HandOvers` (how often a real is handed over), `Among` and `There` (what there is to
-//! look at; what each real had, each real of a loaded world has).
 
 ghost use Rattle.std.specs.Prelude.{◌≡◌, ℕ, ◌+◌, ◌*◌, ◌≤◌, true, false, List, [], length};
 ghost use Rattle.std.specs.List.{AllByRecursion, range_with_len};

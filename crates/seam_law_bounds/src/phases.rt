@@ -2,12 +2,9 @@
 
 // Each phase of a round ends, by the records between rounds alone: what a world keeps from one round to the next bounds all three phases.
 //
-// The bounds of `seam_law_bounds` ask that base parts and clients hold nothing and that views name what is there (`specs/Records`). Both
-// hold of an opened world, and a whole round keeps them, beside the records of `seam_law_all`: after it the views name what is there since
-// each witness looked after the reaps, and a look leaves no one in view who is not known.
-//
-// Of `proofs`, `Viewed` (who is in view after a look), `Seen` (the phase of looks) and `Bounds` (what there is to look at) are for
-// callers.
+// The bounds of `measure` ask that base parts and clients hold nothing and that views name what is there (`specs/Records`). Both hold of an
+// opened world, and a whole round keeps them, beside the records of `seam_law_all`: after it the views name what is there since each
+// witness looked after the reaps, and a look leaves no one in view who is not known.
 
 ghost use Rattle.std.specs.Prelude.{◌≡◌, ℕ, ◌*◌, ◌≤◌, List, length};
 ghost use Rattle.seam_node_steps.specs.Prelude.{IsQuiet, LeadsTo, Event, Settings, TypeDef, GhostsReach, Batch, World, node_steps};
@@ -40,9 +37,9 @@ pub fn a_round_keeps_what_bounds_it()
     crate::reaps_end();
 }
 
-/// So each phase of a round ends, by the records alone: its calls, ticks among them, within the table of a round, its reaps within eighteen
-/// events for each, and its looks within the table of looks, by the entities of the loaded world, those that die in the round among them,
-/// and the witnesses that are left.
+/// So each phase of a round ends, by the records alone. Its calls, ticks among them, end within the table of a round, and its reaps within
+/// eighteen events for each. Its looks end within the table of looks, by the entities of the loaded world, those that die in the round
+/// among them, and by the witnesses that are left.
 pub fn each_phase_of_a_round_ends()
     ensures calls { (f : Frame) (w : World) (b : Batch) → MayBeLoaded f w b → AreCopiesBetweenRounds f w → HoldsNothing w →
         SeesWhatIsThere w → (v : World) (es : List Event) → LeadsTo node_has_work node_steps (loaded w b) es v →

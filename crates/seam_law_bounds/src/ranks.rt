@@ -2,11 +2,9 @@
 //!
 //! A node's rank is the generation of the entity's real where that is here; where it was here, the generation with which it left. No event
 //! lowers a rank. A call that is passed on comes to a node of higher rank: the next place has it, or the hand-over that brings it is on its
-//! way before the call. No rank is above the generation of the real, and that rises by one with each hand-over, and with nothing else. So
-//! a call is passed on at most as often as the entity was handed over in the round. How often events do either is counted as they happen
+//! way before the call. No rank is above the generation of the real, and that rises by one with each hand-over, and with nothing else. So a
+//! call is passed on at most as often as the entity was handed over in the round. How often events do either is counted as they happen
 //! (`specs/Passes`); since a call waits at one place alone, its ranks are followed there.
-//!
-//! Crates above cite these modules of `proofs`: `Ranking` (a step, and every list of events), `HandedOver` (how often a call is passed on).
 
 ghost use Rattle.std.specs.Prelude.{◌≡◌, ℕ, ◌+◌, ◌≤◌, true, List, None, Some};
 ghost use Rattle.seam_node_steps.specs.Prelude.{happens, enabled, LeadsTo, Event, Batch, RealView, Msg, NextPlace, World, node_steps};

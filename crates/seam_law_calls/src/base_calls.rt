@@ -1,24 +1,24 @@
 //! Each call once, over every list of events: calls to base parts; and nothing that comes to a base node is stray.
 //!
-//! An entity's base part is at its base node and never travels. Any sender's calls to it wait among the orders of the sender's node, on
-//! the link to the base node, or with the part, which holds what came early; a call that is ordered at the base node itself comes to the
-//! part without a link. Of each sender's calls the part has executed the first ones, in the order of their numbers, and each of the others
-//! waits at one place alone (BigWorld Server Overview, base entities and proxies; Server Programming Guide, messages to an entity arrive
-//! in order).
+//! An entity's base part is at its base node and never travels. Any sender's calls to it wait among the orders of the sender's node, on the
+//! link to the base node, or with the part, which holds what came early; a call that is ordered at the base node itself comes to the part
+//! without a link. Of each sender's calls the part has executed the first ones, in the order of their numbers, and each of the others waits
+//! at one place alone (BigWorld Server Overview, base entities and proxies; Server Programming Guide, messages to an entity arrive in
+//! order).
 //!
 //! A part may have a client. It is shown what its witness told, in the order of its numbers, and the base part whenever that changes; so
-//! its lines are no more than the updates and the calls (`specs/Clients`). How many updates there may be in a round is a question of what
-//! a witness has in view, and a premise here (*HasToldAtMost*). Together with routes (`specs/Strays`) no message is stray at a base node.
+//! its lines are no more than the updates and the calls (`specs/Clients`). How many updates there may be in a round is a question of what a
+//! witness has in view, and a premise here (*HasToldAtMost*). Together with routes (`specs/Strays`) no message is stray at a base node.
 //!
 //! The moves of a base part and of a witness are digests of the moves of a node (`specs/PartMoves`, `specs/WitnessMoves`): each law is
 //! proved over them.
 //!
-//! Of `proofs/`, `PartSteps` (each move is one of a base part's), `BaseRuns` (an event), `AloneRuns` and `ClientLeads` (a list of
-//! events, without and with a client), `ClientRuns` (what an update finds), `BaseQuiet` (what a quiet world has left), `RightNodes` (where
-//! messages go), `RoutesKept` (a route stays one), `StrayRuns` (routes, and that nothing is stray), `Reaped` (after a reap), `ClientTold`
-//! (what a step does with a client's updates), `WitnessSteps` and `WitnessKept` (what a step does with a witness, and what stays true of
-//! it), `NoLooks` (no ticks), `BaseSilent` (what base nodes do not send) and `ExampleClient` (the examples, and that loads make them) are
-//! for callers.
+//! For callers, of `proofs/`: `PartSteps` (each move is one of a base part's), `BaseRuns` (an event), `AloneRuns` and `ClientLeads` (a list
+//! of events, without and with a client), `ClientRuns` (what an update finds), `BaseQuiet` (what a quiet world has left), `PartEasing`
+//! (what a part has yet to do), `RoutesKept` (a route stays one), `StrayRuns` (routes, and that nothing is stray), `NodeStray` (the node's
+//! own tests of that), `Reaped` (after a reap), `ClientTold` (what a step does with a client's updates), `WitnessSteps` and `WitnessKept`
+//! (what a step does with a witness, and what stays true of it), `NoLooks` (no ticks), `BaseSilent` (what base nodes do not send) and
+//! `ExampleClient` (the examples, and that loads make them).
 
 ghost use Rattle.std.specs.Prelude.{◌≡◌, ℕ, ◌<◌, ◌≤◌, List, [], ◌∷◌, length, true, None, Some, is_some, slice_get};
 ghost use Rattle.std.specs.FinMap as table;
@@ -34,9 +34,9 @@ ghost use Rattle.seam_call.specs.declared.order.Order.TheVariants as order;
 ghost use Rattle.seam_call.specs.declared.shown.Update.{Update as UpdateData};
 ghost use Rattle.seam_law_calls.specs.BaseCallsExample as example;
 
-/// In a world that has an entity's base part with its calls in turn, no one reaping it, it has so after every list of events: `alone`
-/// where the entity has no client, `client` where it has one whose witness has told at most n updates in the end, for which there is room,
-/// and `before_looks` where none is to look.
+/// If a world has an entity's base part with its calls in turn, and no one reaps it, it has so after every list of events. `alone` says it
+/// where the entity has no client, `client` where it has one and in the end its witness has told at most n updates, for which there is
+/// room, and `before_looks` where no witness is to look.
 pub fn each_base_call_waits_once()
     ensures alone { (f : Frame) (e ty : ℕ) (first : ℕ → ℕ) (batch : ℕ → List CallData) (w v : World) (es : List Event) →
         HasBaseCalls f e ty first batch w → HasNoClient e w → LeadsTo node_has_work node_steps w es v →
@@ -95,8 +95,8 @@ pub fn routes_are_kept()
 {}
 
 /// So nothing about the entity is stray at a base node: no message that is the first of its link, no order that is a node's first, and no
-/// part whose turn it is: in such a world (`now`), and after every list of events, without a client (`alone`) and with one (`client`);
-/// by what the node has of the entity, and so by the node's own tests (`node`).
+/// part whose turn it is. That holds in such a world (`now`), and after every list of events, without a client (`alone`) and with one
+/// (`client`). It is said by what the node has of the entity, and so by the node's own tests (`node`).
 pub fn nothing_is_stray_at_a_base_node()
     ensures now { (f : Frame) (e ty : ℕ) (first : ℕ → ℕ) (batch : ℕ → List CallData) (update n : ℕ) (w : World) →
         HasBaseCalls f e ty first batch w → HasRoutes f e w → LinesHaveRoom f e ty update n w → NothingIsStray f e w }

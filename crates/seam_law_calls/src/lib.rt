@@ -1,21 +1,22 @@
 // SPDX-License-Identifier: MIT
 
-//! Each entity once, and each of its calls once, over every list of events.
+//! Each entity once, and each of its calls once, over every list of events; and what base nodes do with calls, routes and updates.
 //!
-//! `moves` has what each step of a node does with one entity; the other modules are laws over those moves: `ones`, exactly one real, and
-//! what it is; `ways`, calls find their way to it; `once`, each call to a cell part is executed once and in order. Each law is a clause of
-//! a function that does nothing. The head of each module says which modules of `proofs` crates above cite.
+//! `moves` has what each step of a node does with one entity; the other modules are laws over those moves. `ones`: exactly one real, and
+//! what it is. `ways`: calls find their way to it. `once`: each call to a cell part is executed once and in order. `base_calls`: so is each
+//! call to a base part, and nothing that comes to a base node is stray. `told`: how much a witness tells its client.
+//!
+//! Each law is a clause of a function that does nothing; the head of each module says which modules of `proofs/` are for callers.
+//!
+//! `specs/` has the moves (`Moves`, `CellMoves`, `BaseMoves`, `PartMoves`, `WitnessMoves`) and what the laws speak of, a file a topic.
+//! `HandOverExample`, `TurnsExample` and `BaseCallsExample` are worlds for which what the laws ask is true. `specs/Prelude` re-exports what
+//! crates above cite of this one and of those below it, so that one import names it.
 //!
 //! The moves of an entity name every case of a step, stray input too, so that a step is a move without a premise. A move of a cell holds
-//! the step of the entity's slot as it is, so that no case is written twice. Numbers stay small by a sum that no step raises: a real's
-//! version, beat and generation weigh what they are, a waiting call three, an entry of the survey list two and a reap one. So the bound
-//! needs neither that there is one real nor that each call comes once.
+//! the step of the entity's slot as it is, so that no case is written twice.
 //!
-//! What base nodes do with calls, routes and updates, over every list of events.
-//!
-//! `base_calls` has calls to base parts, each executed once and in order, and that nothing comes to a base node that is stray; `told` how
-//! much a witness tells its client. Each law is a clause of a function that does nothing. The head of each module says which modules of
-//! `proofs` crates above cite.
+//! Numbers stay small by a sum that no step raises: a real's version, beat and generation weigh what they are, a waiting call three, an
+//! entry of the survey list two and a reap one. So the bound needs neither that there is one real nor that each call comes once.
 //!
 //! What a witness may tell is bounded by ticks and by the numbers of entities, which are below 2^32 as their type says, and not by the
 //! number of events: a look tells any number of updates in one event. The bound is loose, since all that it is for is that lines have

@@ -1,11 +1,10 @@
 //! What each step of a node does with one entity: the moves of its flow, a kind of move for each case.
 //!
-//! A world of many entities is, for each of them, a flow of what the nodes have of it and of the messages that concern it (those that
-//! name it, and ticks). Each step of a cell or a base node is one of the moves of `specs/CellMoves` and `specs/BaseMoves`, whatever the
-//! entity; so a law of one entity is proved over moves alone, and the cases of the steps are taken apart here only.
+//! A world of many entities is, for each of them, a flow of what the nodes have of it and of the messages that concern it (those that name
+//! it, and ticks). Each step of a cell or a base node is one of the moves of `specs/CellMoves` and `specs/BaseMoves`, whatever the entity;
+//! so a law of one entity is proved over moves alone, and the cases of the steps are taken apart here only.
 //!
-//! Crates above cite these modules of `proofs`: `Classify` (a step and an event are moves, nodes as machines, the frame is kept),
-//! `Lists` (what of a list concerns the entity).
+//! For callers, of `proofs/`: `Classify` (a step and an event are moves, nodes as machines, the frame is kept).
 
 ghost use Rattle.std.specs.Prelude.{◌≡◌, ℕ, true};
 ghost use Rattle.seam_node_steps.specs.Prelude.{happens, enabled, Occurs, Input, Event, Msg, NodeView, World, node_steps, IsNode};

@@ -6,10 +6,10 @@
 //! that comes to the real is never late and never held already; in a quiet world all are executed (BigWorld Server Programming Guide:
 //! messages to an entity arrive in order; sequence numbers, as of the Transmission Control Protocol).
 //!
-//! What a world is to one sender is in `specs/CellTurns`: each step of a node is one or two of the moves of `seam_law_flow`, for each sender.
+//! What a world is to one sender is in `specs/CellTurns`: each step of a node is one or two of the moves of `seam_law_flow`, for each
+//! sender.
 //!
-//! Of `proofs/`, `CellRuns` (an event and a list of events), `DeskLemmas` (one sender's desk after an offer and after a taking) and
-//! `Quieting` (what is not there in a quiet world) are for callers.
+//! For callers, of `proofs/`: `CellRuns` (an event and a list of events) and `Quieting` (what is not there in a quiet world).
 
 ghost use Rattle.std.specs.Prelude.{◌≡◌, ℕ, ◌+◌, ◌<◌, List, ◌∷◌, length, Some};
 ghost use Rattle.seam_node_steps.specs.Prelude.{IsQuiet, LeadsTo, Event, Call as CallData, RealView, Msg, limit, World, node_steps};
@@ -21,8 +21,8 @@ ghost use Rattle.seam_entity.specs.declared.message.Msg.TheVariants.{Call};
 ghost use Rattle.seam_node_steps.specs.EarlyCall as early;
 ghost use Rattle.seam_law_calls.specs.TurnsExample.{calls_of};
 
-/// In a world of an entity that fits, has one real and is not reaped, where calls find their way, each sender's calls to the cell part
-/// are in turn, and the numbers have room for one more, they are in turn after every list of events.
+/// Let a world have an entity that fits, has one real and is not reaped, and let calls find their way. If each sender's calls to the cell
+/// part are in turn, and the numbers have room for one more, the calls are in turn after every list of events.
 pub fn each_cell_call_waits_once()
     ensures { (f : Frame) (e ty : ℕ) (w v : World) (es : List Event) → IsFrame f → ty < length f.defs → HasOne f e ty w →
         IsSpared e w → AllLead (entity_flow e w) → (first : ℕ → ℕ) (batch : ℕ → List CallData) → AreCallsOf f e ty batch →

@@ -7,11 +7,11 @@
 //! The invariants that carry this are definitions: what fits of an entity wherever it is (`specs/Fits`), and what is yet to do, a number
 //! that no step raises and that has versions, beats and generations in it, so that they stay small (`specs/Burdens`).
 //!
-//! Crates above cite these modules of `proofs`: `OneReal` (an event and a list of events), `Counting` (holders and the one place),
-//! `Gone` (a Reap, and an entity that no one has), `Easing` (what is yet to do after an event), `Paying` (orders that weigh no less than
-//! what is sent for them), `Handling` and `RealsKept` (what each move does with the real), `Replaying` (the calls that it executed),
-//! `Sparing` (an entity that no one reaps), `ExampleMet` (the example, node by node), `Plain` (sends that some eyes do not see),
-//! `HeldCounts` (held calls after an offer) and `Holds` (that they all pass a test, and what two tests pass).
+//! For callers, of `proofs/`: `OneReal` (an event and a list of events), `Counting` (holders and the one place), `Gone` (a Reap, and an
+//! entity that no one has), `Easing` (what is yet to do after an event), `Paying` (orders that weigh no less than what is sent for them),
+//! `Handling` and `RealsKept` (what each move does with the real), `Replaying` (the calls that it executed), `Sparing` (an entity that no
+//! one reaps), `ExampleMet` (the example, node by node), `Plain` (sends that carry no real and are no reap), `HeldCounts` (held calls after
+//! an offer) and `Holds` (that they all pass a test, and what two tests pass).
 
 ghost use Rattle.std.specs.Prelude.{◌≡◌, ℕ, ◌<◌, ◌≤◌, List, length, Some};
 ghost use Rattle.seam_node_steps.specs.Prelude.{happens, run, AllEnabled, LeadsTo, Occurs, Event, RealView, Reap, holders, World};

@@ -4,17 +4,16 @@
 //! look tells at most its own state, what leaves and what changes of what is in view, and what enters of what its cell knows. A cell knows
 //! only entities that are somewhere, and the number of each is below a bound (`specs/Telling`).
 //!
-//! Of `proofs/`, `Below` (lists of entities below the bound), `Absent` (no other entity comes), `Looking` (what a step does with a
-//! witness), `LooksLeft` (how often it may look), `Telling` (what stays true of a real where its witness looks, and what it told) and
-//! `Silent` (when it tells nothing) are for callers.
+//! For callers, of `proofs/`: `Below` (lists of entities below the bound), `Absent` (no other entity comes), `Looking` (what a step does
+//! with a witness), `LooksLeft` (how often it may look), `Telling` (what it told) and `Silent` (when it tells nothing).
 
 ghost use Rattle.std.specs.Prelude.{◌≡◌, ℕ, ◌+◌, ◌*◌, List};
 ghost use Rattle.seam_node_steps.specs.Prelude.{LeadsTo, Event, World, node_steps, node_has_work};
 ghost use Rattle.seam_law_calls.specs.Prelude.{Frame, IsInFrame, IsFrame, EachReal, HasToldAtMost, HasFewEntities, SeesFew, looks_left};
 ghost use Rattle.seam_law_calls.specs.Prelude.{most_shown, IsToldNothing};
 
-/// In a world whose entities have numbers below the bound, an entity's witness tells at most so many updates for each look that is left of
-/// the ticks ordered, on their way, or come.
+/// In a world whose entities have numbers below the bound, an entity's witness tells at most *most_shown* updates for each look that is
+/// left of the ticks ordered, on their way, or come.
 pub fn a_witness_tells_few()
     ensures { (f : Frame) (e n : ℕ) (w v : World) (es : List Event) → IsFrame f → IsInFrame f w → HasFewEntities w →
         EachReal e SeesFew w → HasToldAtMost e n w → LeadsTo node_has_work node_steps w es v →

@@ -4,7 +4,7 @@
 //! route, a route on its way or a call on its way, leads to one where the real is, was in this round, or comes before the call; so a call
 //! that comes to a cell finds the real or the next place there, and is never stray for want of them.
 //!
-//! Crates above cite these modules of `proofs`: `Finding` (a list of events), `Leading` (an event), `WayMoves` (what each move does).
+//! For callers, of `proofs/`: `Finding` (a list of events) and `WayMoves` (what each move does).
 
 ghost use Rattle.std.specs.Prelude.{◌≡◌, ℕ, ◌<◌, List, [], ◌∷◌, length, true, None, Some, is_some};
 ghost use Rattle.seam_node_steps.specs.Prelude.{LeadsTo, Event, Call as CallData, RealView, Msg, RouteView, World, node_steps};

@@ -1,14 +1,14 @@
 //! The clients of a whole round: the record of clients goes from record to record, each is shown its base part where that is due, and the
 //! client of an entity that dies is shown no more.
 //!
-//! `shown` has what clients are shown of cell parts in each phase of a round. Here stand the phases together, with the load and the
-//! reaps, which no client is shown anything of. `specs/Clients` has what clients show along a round, `specs/BaseLines` what a client is
-//! shown of its entity's base part.
+//! `shown` has what clients are shown of cell parts in each phase of a round. Here stand the phases together, with the load and the reaps,
+//! which no client is shown anything of. `specs/Clients` has what clients show along a round, `specs/BaseLines` what a client is shown of
+//! its entity's base part.
 //!
-//! Of `proofs`, `Loading` (the load), `Reaping` (the reaps), `Reaped` (a part until it is gone), `Room` (of looks), `Round` (the phases
-//! together), `BaseLines` (what a part's client is shown over a list of events), `FirstLines` (where it is attached) and `Finding` (what an
-//! update finds) are for callers. `Crossing`, `CrossingLooks` and `ExampleCrossing` are a worked round, of which `specs/Crossing` has the
-//! worlds.
+//! For callers, of `proofs/`: `Loading` (the load), `Reaping` (the reaps), `Room` (of looks), `Round` (the phases together) and `BaseLines`
+//! (what a part's client is shown over a list of events).
+//!
+//! `specs/Crossing` has the worlds of a worked round.
 
 ghost use Rattle.std.specs.Prelude.{◌≡◌, ℕ, ◌==◌, ◌≤◌, List, [], ◌∷◌, ◌++◌, Some, if◌then◌else◌};
 ghost use Rattle.std.specs.List.{AllByRecursion, list_any};
@@ -30,11 +30,13 @@ ghost use Rattle.seam_rule_clients.specs.Looks.{one_look};
 ghost use Rattle.seam_law_clients.specs.Crossing as crossing;
 
 /// The record of clients holds of a world as it is opened, whatever clients show: there is none. It holds again of a loaded world, in which
-/// the batch's clients show nothing yet (`load`); where its calls leave the world quiet, of the clients that were shown what their proxies
-/// showed (`calls`); of the same clients where reaps do (`reaps`); and where looks do, of the clients that were shown one look (`looks`),
-/// for which each has room (`room`). So a whole round keeps it (`round`): where the world is quiet at the end, the clients, which were
-/// shown what their proxies showed in the round, fit their witnesses. All that a round needs is that the world keeps the records at its
-/// start, that the batch fits, and that ghosts reach as far as a witness sees.
+/// the batch's clients show nothing yet (`load`). It holds where the calls leave the world quiet, of the clients that were shown what their
+/// proxies showed (`calls`); of the same clients where reaps do (`reaps`); and where looks do, of the clients that were shown one look
+/// (`looks`), for which each has room (`room`).
+///
+/// So a whole round keeps it (`round`): where the world is quiet at the end, the clients, which were shown what their proxies showed in the
+/// round, fit their witnesses. A round needs only that the world keeps the records at its start, that the batch fits, and that ghosts reach
+/// as far as a witness sees.
 pub fn clients_go_from_record_to_record()
     ensures opened { (defs : List TypeDef) (settings : Settings) → IsFrame (first_frame defs settings) → 1 ≤ settings.bases →
         (clients : ℕ → ClientReplica) → ClientsFit (first_frame defs settings) clients (opened defs settings) }
@@ -61,10 +63,11 @@ pub fn clients_go_from_record_to_record()
     crate::shown::each_client_is_shown_one_look();
 }
 
-/// Of its entity's base part a client is shown what its type has for clients: once as it is attached (`load`: a new one, and one that was
-/// there nothing), and then the part after each call that changed that, once, between its other lines, whose numbers follow one another;
-/// over every list of events in which the entity is not reaped (`along`), and so in a round (`round`). Where its calls leave the world
-/// quiet, these are all calls of the batch (`all`).
+/// Of its entity's base part a client is shown what its type has for clients. As it is attached, it is shown the part once (`load`: so is a
+/// new client, and one that was there is shown nothing). Then it is shown the part once after each call that changed what it is shown.
+/// These lines come between its other lines, and the numbers of all follow one another. That holds over every list of events in which the
+/// entity is not reaped (`along`), and so in a round (`round`). Where the round's calls leave the world quiet, the calls that the part
+/// executed are all those of the batch (`all`).
 pub fn the_base_part_is_shown_at_each_change()
     ensures along { (f : Frame) (e : ℕ) (w v : World) (es : List Event) → IsInFrame f w → IsSpared e w →
         LeadsTo node_has_work node_steps w es v → (k : ℕ) (p : PartView) (x : ProxyView) →
@@ -99,8 +102,9 @@ pub fn a_reaped_client_is_shown_no_more()
         AllByRecursion (λ e. HasNoPart e v) es }
 {}
 
-/// An update without a client never comes: in a round, and where witnesses look, the first message of a link that is an update, about any
-/// entity, finds that entity's client at its base node, which may be offered it; and where entities are reaped no update is on its way.
+/// An update without a client never comes. In a round, and where witnesses look, take a message that is an update and the first of its
+/// link: the client of its entity is at the base node to which it goes, and may be offered it. Where entities are reaped no update is on
+/// its way.
 pub fn an_update_without_a_client_never_comes()
     ensures round { (f : Frame) (w : World) (b : Batch) → MayBeLoaded f w b → (v : World) (es : List Event) →
         LeadsTo node_has_work node_steps (loaded w b) es v → (e a k : ℕ) (u : UpdateData) (ms : List Msg) →
@@ -114,11 +118,11 @@ pub fn an_update_without_a_client_never_comes()
     seam_law_rounds::an_update_finds_its_client();
 }
 
-/// What these laws, and those of `shown`, ask is true of an opened world and a batch that creates two witnesses, on either side of a
-/// boundary between two cells, and an entity near it: the batch fits, and the clients, which show nothing yet, fit their witnesses
-/// (`may`, `copies`, `reach`, `none`, `fits`). Over the events of its calls that entity crosses the boundary, and the world is quiet
-/// (`before`, `calls`, `quiet`, `after`). It goes through the whole round (`round`, `ended`), in which each client is shown its own entity,
-/// the other one over the boundary, and the one that crossed, which one of them sees over it (`shown_1`, `shown_2`).
+/// What these laws, and those of `shown`, ask is true of an opened world and a batch. The batch creates two witnesses, on either side of a
+/// boundary between two cells, and an entity near it. It fits, and the clients, which show nothing yet, fit their witnesses (`may`,
+/// `copies`, `reach`, `none`, `fits`). Over the events of its calls that entity crosses the boundary, and the world is quiet (`before`,
+/// `calls`, `quiet`, `after`). It goes through the whole round (`round`, `ended`). In that round each client is shown its own entity, the
+/// other one over the boundary, and the one that crossed, which one of them sees over it (`shown_1`, `shown_2`).
 pub fn an_entity_crosses_between_two_witnesses()
     ensures may { MayBeLoaded opening empty_world crossing.batch }
     ensures copies { AreCopiesBetweenRounds opening empty_world }

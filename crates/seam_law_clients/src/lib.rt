@@ -4,12 +4,17 @@
 //!
 //! `looks` says that a look in a quiet world is one look at the flat table; `shown`, that a client is shown nothing that its entity never
 //! was, and nothing older than before; `clients` puts the phases of a round together. Each law is a clause of a function that does nothing.
-//! The head of each module says which modules of `proofs` crates above cite.
+//! The head of each module says which modules of `proofs/` are for callers.
+//!
+//! Of `specs/`, `Tables`, `Witnesses` and `Phases` are for `looks`, `Fits`, `Telling` and `RoundTruths` for `shown`, `Clients` and
+//! `BaseLines` for `clients`; `Crossing` is a worked round. `specs/Prelude` re-exports what crates above cite of this one and of those
+//! below it, so that one import names it.
 //!
 //! A look whose updates would pass the limit of numbers is not made, so that each witness looks once asks for room (*HaveRoomToLook*); a
-//! bound on what a witness has told would hold where no look is made, too. The laws name their truths, since a clause cannot range over
-//! them: that of a look (*truth_of_look*), what cells knew (*known_between*), what was so in a round (*true_between*). Base lines are told
-//! by the calls that the part executed, each of which makes a version.
+//! bound on what a witness has told would hold where no look is made, too.
+//!
+//! The laws name their truths, since a clause cannot range over them: that of a look (*truth_of_look*), what cells knew (*known_between*),
+//! what was so in a round (*true_between*). Base lines are told by the calls that the part executed, each of which makes a version.
 //!
 //! Three wrong looks were tried in place of that of `seam_node_steps`. One that forgets what those that left were shown at is refused by
 //! `a_look_is_shown_rightly`; one that shows others an entity's own values, and one that sees no copies, by

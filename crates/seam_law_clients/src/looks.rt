@@ -1,13 +1,13 @@
 //! Quiet means shown: what one look of a witness tells its client in a world between rounds is one look at the flat table.
 //!
-//! `specs/Tables` has the flat table of a world, in which each entity is as its real is now, and `specs/Witnesses` the record of clients
-//! between rounds, beside those of reals (`seam_law_rounds`), base parts (`seam_law_rounds`), places and copies (`seam_law_ghosts`): each client
-//! shows what its witness remembers that it told. The look at a flat table and what lines leave of a client are those of `seam_rule_clients`. (After the witness and the area of interest of the BigWorld Server Overview: a cell knows whom a witness
-//! in it may see, by the real or by the ghost.)
+//! `specs/Tables` has the flat table of a world, in which each entity is as its real is now. `specs/Witnesses` has the record of clients
+//! between rounds: each client shows what its witness remembers that it told. It is kept beside the records of reals and base parts
+//! (`seam_law_rounds`) and of places and copies (`seam_law_ghosts`). The look at a flat table, and what lines leave of a client, are those
+//! of `seam_rule_clients`. (After the witness and the area of interest of the BigWorld Server Overview: a cell knows whom a witness in it
+//! may see, by the real or by the ghost.)
 //!
-//! Crates above cite these modules of `proofs`: `Near` (a look at a flat table depends on those that are near), `Rows` (the rows of a
-//! world), `OneLook` (a look), `After` (what it leaves of a client), `LookCells`, `LookBases`, `LookRuns`, `LookEnds` and `LookFits` (the
-//! phase of looks: a cell, a base node, every list of events, its quiet end, and its clients).
+//! For callers, of `proofs/`: `Near` (a look at a flat table depends on those that are near), `Rows` (the rows of a world), `OneLook` (a
+//! look) and `LookEnds` (the phase of looks).
 
 ghost use Rattle.std.specs.Prelude.{◌≡◌, ℕ, ◌≤◌, List, None, Some, slice_get};
 ghost use Rattle.seam_node_steps.specs.Prelude.{IsQuiet, LeadsTo, Event, Settings, TypeDef, builtin, GhostsReach, standard, RealView};
@@ -28,9 +28,9 @@ pub fn the_table_has_each_real()
     ensures none { (f : Frame) (w : World) → IsBetweenRounds f w → (e : ℕ) → holders w e ≡ 0 → row_of (rows_of w) e ≡ None }
 {}
 
-/// In a world between rounds, with its copies and its places, and where ghosts reach as far as a witness sees, what the witness of an
-/// entity tells in a look, by what its cell knows of others, is one look of its client at the flat table. Whoever is near is known there,
-/// by the real or by the present copy, and both show the same; nothing known is older than what was shown.
+/// In a world between rounds, with its copies and its places, let ghosts reach as far as a witness sees. Then what a witness tells in a
+/// look, by what its cell knows of others, is one look of its client at the flat table. Whoever is near is known there, by the real or by
+/// the present copy, and both show the same. Nothing known is older than what was shown.
 pub fn a_look_is_one_look_at_the_table()
     ensures { (f : Frame) (w : World) → IsBetweenRounds f w → AreCopiesBetweenRounds f w → ArePlaced f w → GhostsReach f.settings →
         (e k : ℕ) (r : RealView) → real_in ((entity_flow e w).slot k) ≡ Some r → (v : WitnessView) → (c : ClientReplica) →
@@ -55,8 +55,8 @@ pub fn a_client_fits_after_a_look()
     seam_view::versions_shown_never_fall();
 }
 
-/// Where the witnesses of a world between rounds look, each has looked exactly once when the world is quiet again: each real is in the same
-/// cell, and is what one look makes of it by what the cell knew before the phase, whatever the order of the events.
+/// Where the witnesses of a world between rounds look, each has looked exactly once when the world is quiet again. Each real is in the same
+/// cell. It is what one look makes of it, by what the cell knew before the phase, whatever the order of the events.
 pub fn each_witness_looks_once()
     ensures { (f : Frame) (u : World) → IsBetweenRounds f u → HaveRoomToLook u → (vs : List Event) (v : World) →
         LeadsTo node_has_work node_steps (look_loaded u) vs v → IsQuiet node_has_work v → (e k : ℕ) (r : RealView) →
@@ -82,8 +82,8 @@ pub fn clients_of_an_opened_world_fit()
         (clients : ℕ → ClientReplica) → ClientsFit (first_frame defs settings) clients (opened defs settings) }
 {}
 
-/// What these laws ask is true of a worked world (`seam_node_steps`: "view hysteresis"), in which a batch created an entity with a client, which
-/// was shown nothing yet, and another one near it, and which is quiet.
+/// What these laws ask is true of a worked world (`seam_node_steps`: "view hysteresis"), in which a batch created an entity with a client,
+/// which was shown nothing yet, and another one near it, and which is quiet.
 pub fn a_worked_client_fits_its_witness()
     ensures between { IsBetweenRounds (first_frame builtin standard) view.first_2 }
     ensures copies { AreCopiesBetweenRounds (first_frame builtin standard) view.first_2 }

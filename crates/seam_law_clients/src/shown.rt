@@ -1,18 +1,13 @@
 //! Never had, never older: what a client is shown in a round, over every list of events.
 //!
 //! What a look tells depends on what the cell knows, which within a round may be old: but it is what each entity was at some version, and
-//! the view keeps out what is older than what was shown. So the client is shown rightly (*ShowsRightly* of `seam_rule_clients`): one line after
-//! another may come, and each is true. (After the witness and the area of interest of the BigWorld Server Overview.)
+//! the view keeps out what is older than what was shown. So the client is shown rightly (*ShowsRightly* of `seam_rule_clients`): one line
+//! after another may come, and each is true. (After the witness and the area of interest of the BigWorld Server Overview.)
 //!
 //! `specs/Fits` has what a client and its witness agree on within a round, `specs/Telling` what a witness told over a list of events, and
 //! `specs/RoundTruths` what is true between two worlds: nothing of before the first.
 //!
-//! Crates above cite these modules of `proofs`: `Apart` (looks at different entities), `Lines` (what a look tells of others), `Looking` (a
-//! look), `Silent` (where none is taken), `Reals` (a real that goes on), `InTurn` (lines in parts), `Tells` (what is true of what a witness
-//! told, over every list of events), `Along` (that it is right), `Starts` (where a witness begins to tell, and where all was shown),
-//! `ShownOnce` (the phase of looks), `Further` and `FurtherLooks` (a further look, at what a view knows and at the flat table),
-//! `RoundTruth` (what cells know in a round), `Ending` (where the calls of a round end), `Joined` (the clients of a round), `ExampleShown`
-//! and `ExampleRound` (a worked world and a worked round).
+//! For callers, of `proofs/`: `InTurn` (lines in parts) and `ShownOnce` (the phase of looks).
 
 ghost use Rattle.std.specs.Prelude.{◌≡◌, ◌+◌, ℕ, List, [], ◌∷◌, ◌++◌, None, Some};
 ghost use Rattle.seam_view.specs.Replica.{IsView};
@@ -46,10 +41,9 @@ pub fn a_look_is_shown_rightly()
 {}
 
 /// A witness tells its client rightly over every list of events, of calls and of ticks, whatever the order in which copies come: each line
-/// may be shown when it is its turn. `starts`: where the client fits and the first number is
-/// the witness's next. `known`: each shows what the real
-/// was, or what a cell knew, in some world since. `round`: in a round, what entities were since its load, and nothing of before. No more
-/// is asked than that the witness's updates stay few, which `seam_law_calls` has.
+/// may be shown when it is its turn. `starts`: where the client fits and the first number is the witness's next. `known`: each shows what
+/// the real was, or what a cell knew, in some world since. `round`: in a round, what entities were since its load, and nothing of before.
+/// No more is asked than that the witness's updates stay few, which `seam_law_calls` has.
 pub fn a_witness_tells_rightly()
     ensures starts { (f : Frame) (e ty first : ℕ) (w v : World) → HasClient f e ty first w → (k : ℕ) (r : RealView) →
         real_in ((entity_flow e w).slot k) ≡ Some r → (x : WitnessView) → r.witness ≡ Some x → x.sent + 1 ≡ first → (c : ClientReplica) →
@@ -101,9 +95,9 @@ pub fn a_client_fits_where_calls_end()
     seam_defs::laws::others_see_the_ghost();
 }
 
-/// Where the witnesses of a world between rounds look, each client is shown exactly one look, at the flat table from before, when the world
-/// is quiet again: its proxy showed those lines, in order, after what it had shown in the round, whatever the order of the events (`all`).
-/// At each moment until then it showed a first part of them (`until`).
+/// Where the witnesses of a world between rounds look, each client was shown exactly one look, at the flat table from before, when the
+/// world is quiet again. Its proxy showed those lines, in order, after what it had shown in the round, whatever the order of the events
+/// (`all`). At each moment until then it showed a first part of them (`until`).
 pub fn each_client_is_shown_one_look()
     ensures until { (f : Frame) (u : World) → IsBetweenRounds f u → HasPartsBetweenRounds f u → HasSmallNumbers f u →
         AreCopiesBetweenRounds f u → ArePlaced f u → GhostsReach f.settings → HaveRoomToLook u → (clients : ℕ → ClientReplica) →
@@ -145,10 +139,10 @@ pub fn a_worked_witness_tells_rightly()
         TellsRightly frame 1 0 1 (known_between frame 1 example.world_shown v) (new_client standard) v }
 {}
 
-/// The clients of a whole round. Where a world keeps the records between rounds, a batch fits them, and each client fits its witness as the
-/// batch is loaded, each client is shown rightly, over every list of events, what its proxy showed since (`shown`); an entity without a
-/// witness is shown nothing (`bare`). Where the calls leave the world quiet, the clients, which were shown that, fit their witnesses again
-/// (`fits`): so the record of clients goes on to reaps and looks.
+/// The clients of a whole round. Let a world keep the records between rounds, a batch fit them, and each client fit its witness as the
+/// batch is loaded. Then each client is shown rightly, over every list of events, what its proxy showed since (`shown`), and an entity
+/// without a witness is shown nothing (`bare`). Where the calls leave the world quiet, the clients, which were shown that, fit their
+/// witnesses again (`fits`): so the record of clients goes on to reaps and looks.
 pub fn clients_of_a_round_are_shown_rightly()
     ensures shown { (f : Frame) (w : World) (b : Batch) → MayBeLoaded f w b → AreCopiesBetweenRounds f w → (clients : ℕ → ClientReplica) →
         ClientsFit (framed f b) clients (loaded w b) → (v : World) (es : List Event) → LeadsTo node_has_work node_steps (loaded w b) es v →
@@ -170,8 +164,8 @@ pub fn clients_of_a_round_are_shown_rightly()
     a_client_fits_where_calls_end();
 }
 
-/// What that law asks is true of a worked round (`seam_node_steps`: "view hysteresis"), of an opened world: the batch creates two entities, the
-/// first of them with a client that was shown nothing yet; and its calls end in a quiet world.
+/// What that law asks is true of a worked round (`seam_node_steps`: "view hysteresis"), of an opened world: the batch creates two entities,
+/// the first of them with a client that was shown nothing yet; and its calls end in a quiet world.
 pub fn a_worked_round_of_clients_is_such()
     ensures may { MayBeLoaded opening empty_world view.batch_1 }
     ensures copies { AreCopiesBetweenRounds opening empty_world }

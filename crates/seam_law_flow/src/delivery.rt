@@ -2,13 +2,12 @@
 
 // Tokens that begin and end, and delivery in number order.
 //
-// A source numbers its items 1, 2, 3 and so on and sends them to one node, from wherever it is. Each number is a token with a life:
-// it waits nowhere, then on a link, then with the node that holds it until its turn, and then nowhere. So each item is delivered
-// once, and all are delivered in the order of their numbers (sequence numbers, as of the Transmission Control Protocol).
+// A source numbers its items 1, 2, 3 and so on and sends them to one node, from wherever it is. Each number is a token with a life: it
+// waits nowhere, then on a link, then with the node that holds it until its turn, and then nowhere. So each item is delivered once, and all
+// are delivered in the order of their numbers (sequence numbers, as of the Transmission Control Protocol).
 //
-// Crates above cite these modules of `proofs`: `Lives` (a token begins, is met or ends), `Lasting` (a token that may be anywhere,
-// if there is one), `Numbers` (items with rising numbers), `Delivering` (what each step keeps of a delivery, and when all was
-// delivered).
+// For callers, of `proofs/`: `Lives` (a token begins, is met or ends), `Numbers` (items with rising numbers) and `Delivering` (what each
+// step keeps of a delivery, and when all was delivered).
 
 ghost use Rattle.std.specs.Prelude.{◌≡◌, ℕ, ◌+◌, ◌≤◌, ◌^◌, List, [], ◌++◌, length, Option, None, Some};
 ghost use Rattle.seam_law_flow.specs.Flows.{Flow, comes, Goes, letters_of};

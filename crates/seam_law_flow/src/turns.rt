@@ -2,17 +2,17 @@
 
 // Numbered calls in turn: each waits once, and all are executed in the order of their numbers, though the part that executes them travels.
 //
-// A sender numbers its calls to one part of an entity 1, 2, 3 and so on. A call waits among a node's orders, then on links, where it may
-// be passed on, then with the part until its turn, and a part that holds calls may itself be on its way. So each number is a token with
-// a life: it waits at one place, and then nowhere. A step does one of eight things with the calls, or two of them in a row
+// A sender numbers its calls to one part of an entity 1, 2, 3 and so on. A call waits among a node's orders, then on links, where it may be
+// passed on, then with the part until its turn, and a part that holds calls may itself be on its way. So each number is a token with a
+// life: it waits at one place, and then nowhere. A step does one of eight things with the calls, or two of them in a row
 // (`specs/CallMoves`), and each keeps them in turn (`specs/Desks`), for any net whose steps are such moves.
 //
-// A sender's calls are seen by its eyes alone: an entity's flow is narrowed to one sender's calls, so that neither other senders nor
-// ghosts nor witnesses come into the law. It asks for room for one number more than the laws of one real, since a call that comes has to
-// raise a version.
+// A sender's calls are seen by its eyes alone: an entity's flow is narrowed to one sender's calls, so that neither other senders nor ghosts
+// nor witnesses come into the law. It asks for room for one number more than the laws of one real, since a call that comes has to raise a
+// version.
 //
-// Crates above cite these modules of `proofs`: `Steps` (a step of one or two moves), `Ends` (the start of a round, what comes to the part,
-// and where nothing moves any more).
+// For callers, of `proofs/`: `Steps` (a step of one or two moves) and `Ends` (the start of a round, what comes to the part, and where
+// nothing moves any more).
 
 ghost use Rattle.std.specs.Prelude.{◌≡◌, ℕ, ◌+◌, ◌<◌, ◌≤◌, List, ◌∷◌, length, None, Some};
 ghost use Rattle.seam_law_flow.specs.Prelude.{Flow, Goes, TokenPlace, Passes, Twice, Desk, Post, Mail, Item, InTurn, AreInTurn, IsStill};

@@ -25,12 +25,9 @@ copy_at e w k = (book_entry ((entity_flow e w).slot k)).1
 -- ---- while messages are on their way
 
 -- Of the entries of cell k, which are its book's and each that is on its way there, the one of greatest beat has what the real wants, and
--- its beat is at most the real's.
--- What does not hold of it:
--- that it is in the book or comes from the real's cell, since it may come from a cell where the real was;
--- that a cell which is no haunt has no copy, or a drop on its way from the real's cell;
--- that no ghost message comes where the real is;
--- that the book of the real's cell has its beat.
+-- its beat is at most the real's. What does not hold of it: that it is in the book or comes from the real's cell, since it may come from a
+-- cell where the real was; that a cell which is no haunt has no copy, or a drop on its way from the real's cell; that no ghost message
+-- comes where the real is; that the book of the real's cell has its beat.
 pub record IsTold (f : Frame) (e : ℕ) (w : World) (r : RealView) (k : ℕ) : Type 0 where
   pub beat : ℕ
   pub low : beat ≤ r.beat

@@ -4,7 +4,10 @@
 //!
 //! `stray_messages` says that no input of a cell is stray; `truths`, that each copy is what its entity was at the copy's version; `places`,
 //! where entities and their haunts are; `newest`, that copies are what their reals want once the world is quiet. Each law is a clause of a
-//! function that does nothing. The head of each module says which modules of `proofs` crates above cite.
+//! function that does nothing. The head of each module says which modules of `proofs/` are for callers.
+//!
+//! Of `specs/`, `Tasks` is for `stray_messages`, `Truths`, `GhostMoves` and `Entries` for `truths`, `RealPlaces` for `places`, and `Copies`
+//! for `newest`. `specs/Prelude` re-exports what crates above cite of this one and of those below it, so that one import names it.
 //!
 //! The way of a place has three forms: settled from the start on, settled from the first call on, and not settled yet while the survey list
 //! has the entity. "Settled from the start on, or still on the list" does not hold: a call that comes before the survey may hand the real
@@ -12,8 +15,10 @@
 //!
 //! Of a cell's book and all that is on its way there, the newest entry is what the real wants. What is said of one link or of one book is
 //! false: the newest entry may come from a cell where the real was, a cell that is no haunt may have a copy, and a copy may come where the
-//! real is. The record of copies says two things more than that haunts have the present copy: the cell of a real is none of its haunts, and
-//! no cell has a copy of an entity without a holder. The next round needs both.
+//! real is.
+//!
+//! The record of copies says two things more than that haunts have the present copy: the cell of a real is none of its haunts, and no cell
+//! has a copy of an entity without a holder. The next round needs both.
 #![tactic(auto)]
 
 mod newest;

@@ -5,9 +5,7 @@
 //! Server Overview: a ghost is kept up to date by its real). `specs/Copies` has it, and the record of copies between rounds, which is kept
 //! beside that of `seam_law_rounds`. From the two records all laws of ghosts follow for each entity of a loaded world.
 //!
-//! Crates above cite these modules of `proofs`: `NewestTelling` (what a settling tells a cell), `Moving` (a move), `Still` (where nothing is on
-//! its way), `Running` (every list of events), `Loading` (what a load leaves of copies), `Rounding`, `Phasing` and `Ending` (each phase),
-//! `Routing` (routes).
+//! For callers, of `proofs/`: `Loading` (what a load leaves of copies), `Rounding` (a round's calls) and `Ending` (the end of each phase).
 
 ghost use Rattle.std.specs.Prelude.{◌≡◌, ℕ, ◌<◌, ◌+◌, ◌≤◌, ◌⊎◌, List, [], ◌∷◌, length, None, Some};
 ghost use Rattle.std.specs.List.{AllByRecursion};
@@ -58,7 +56,7 @@ pub fn ghosts_of_a_round_are_true()
 {}
 
 /// In a round the newest route of each base node, of the one that it has and those on their way there, has the generation of the real and
-/// the cell where it is; while the real is on its way, each route is of a smaller generation than it.
+/// the cell where it is. While the real is on its way, each route is of a smaller generation than the real.
 pub fn the_newest_route_leads_to_the_real()
     ensures { (f : Frame) (w : World) (b : Batch) → IsBetweenRounds f w → IsFitting f w b → (v : World) (es : List Event) →
         LeadsTo node_has_work node_steps (loaded w b) es v → (e : ℕ) → holders (loaded w b) e ≡ 1 → (p : TokenPlace) (q : RealView) →
@@ -126,9 +124,9 @@ pub fn near_entities_are_known()
     crate::places::who_may_be_seen_is_known();
 }
 
-/// What these laws ask is true of an opened world and a worked batch (`seam_node_steps`: "a late ghost message"), which creates an entity near
-/// two borders of three cells and moves it over one. Where its calls leave the world quiet, both records hold, the haunt has the copy of
-/// what the entity is now, and the entity may be reaped.
+/// What these laws ask is true of an opened world and a worked batch (`seam_node_steps`: "a late ghost message"), which creates an entity
+/// near two borders of three cells and moves it over one. Where its calls leave the world quiet, both records hold, the haunt has the copy
+/// of what the entity is now, and the entity may be reaped.
 pub fn a_worked_round_keeps_the_records()
     ensures between { IsBetweenRounds (first_frame builtin standard) empty_world }
     ensures fits { IsFitting (first_frame builtin standard) empty_world late.batch }

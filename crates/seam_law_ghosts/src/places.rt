@@ -5,8 +5,7 @@
 //! These laws say, over every list of events, that its place is on its way, and that a round leaves it at a right one, whatever the order
 //! of the events. `specs/RealPlaces` has the way, what a right place is, and the record of places that a world keeps between rounds.
 //!
-//! Crates above cite these modules of `proofs`: `Begun` (a load), `Placing` (what each move does with a place), `Along` (an event, and
-//! every list of events), `Ends` (a quiet world, and the last phases), `NearKnown` (which cells are near, and who is known in them).
+//! For callers, of `proofs/`: `Ends` (a quiet world, and the last phases).
 
 ghost use Rattle.std.specs.Prelude.{◌≡◌, ℕ, ◌+◌, ◌<◌, ◌≤◌, ◌⊎◌, true, List, length, Some};
 ghost use Rattle.std.specs.List.{AllByRecursion};

@@ -7,8 +7,8 @@
 //! A copy that comes where the real is changes nothing; that its beat is not greater is left to the laws of ghosts, and that the updates of
 //! a look have numbers to those of what clients are shown.
 //!
-//! Crates above cite these modules of `proofs`: `Sending` (what is sent fits), `Lasting` (lists and letters over every list of events),
-//! `Unknown` (an entity that is nowhere), `Beginning` (what a loaded world has of one), `InRound`, `InPhases` and `NoStrays` (each phase).
+//! For callers, of `proofs/`: `Unknown` (an entity that is nowhere), `Beginning` (what a loaded world has of one), `Strays` (messages and
+//! tasks about one entity), `InRound` (a round) and `NoStrays` (each phase).
 
 ghost use Rattle.std.specs.Prelude.{◌≡◌, ℕ, false, List, ◌∷◌, Some, slice_get};
 ghost use Rattle.seam_node_steps.specs.Prelude.{link, LeadsTo, Event, Batch, Msg, about, is_stray, CellView, slot_of, World, node_steps};

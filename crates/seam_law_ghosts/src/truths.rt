@@ -4,9 +4,7 @@
 //! copy's version (BigWorld Server Overview: a ghost is a copy of the relevant data of an entity from a nearby cell). What was told is a
 //! table from beats to copies, which only grows at its end along the events; copies that were there at the start keep their places in it.
 //!
-//! Crates above cite these modules of `proofs`: `Steps` (each move is one of those of what ghosts are told), `Making` (what a move makes
-//! of the real, and what it writes and sends), `Present` (what others may see now), `Telling` (an event, and every list of events), `Books`
-//! (the beats of books), `Hushing` (what comes to the cell of the real).
+//! For callers, of `proofs/`: `Present` (what others may see now).
 //!
 //! That the newest entry of a cell is the one that the real wants, so that a quiet world is settled, is said in `newest`.
 

@@ -7,17 +7,16 @@
 // between rounds and the fitting batch of `seam_law_rounds`; *MayBeLoaded* is both. These laws speak of each entity of the loaded world,
 // whether it was there before or the batch creates it, and whether it has a client or not.
 //
-// Of a client the record says that it is in step with its entity's witness: all that the witness told was shown, and nothing is on its
-// way. Its numbers have room by what `seam_law_calls` says of what a witness tells: the record says that entities have numbers below a
-// bound.
+// Of a client the record says that it is in step with its entity's witness: all that the witness told was shown, and nothing is on its way.
+// Its numbers have room by what `seam_law_calls` says of what a witness tells: the record says that entities have numbers below a bound.
 //
 // The record says that a client is in step with its witness by numbers alone (*AreInStep*). That it shows what the witness remembers is a
 // record of its own, which `seam_law_clients` keeps from round to round.
 //
-// Of `proofs/`, `PartLoads` (what a load makes of a base part at a node), `Joining` and `Attaching` (of a witness and of a client),
-// `PartsLoaded` (and in the world), `PartTurns` (its calls), `Serving` (a client over a list of events), `Ticking` (how much it is told), `Updates`
-// (what an update finds), `PartsGoing` (every list of events), `BaseCallsEnd` (a quiet world after them), `Still` (a part that no one calls),
-// `Idling` and `Calms` (reaps and looks) are for callers.
+// For callers, of `proofs/`: `PartLoads` (what a load makes of a base part at a node), `Joining` and `Attaching` (of a witness and of a
+// client), `PartsLoaded` (and in the world), `PartTurns` (its calls), `Serving` (a client over a list of events), `Ticking` (how much it is
+// told), `PartsGoing` (every list of events), `BaseCallsEnd` (a quiet world after them), `Still` (a part that no one calls), `Idling` and
+// `Calms` (reaps and looks), `FirstBatchFits` (a batch that fits an opened world) and `ExampleRound` (a worked round of a client).
 
 ghost use Rattle.std.specs.Prelude.{◌≡◌, ℕ, ◌≤◌, List, [], ◌∷◌, ◌++◌, Some};
 ghost use Rattle.seam_node_steps.specs.Prelude.{IsQuiet, LeadsTo, Event, Settings, TypeDef, Batch, RealView, Msg, Update, PartView};
@@ -70,9 +69,9 @@ pub fn nothing_about_a_loaded_entity_is_stray_at_a_base_node()
         NothingIsStray (framed f b) e v }
 {}
 
-/// At each moment of a round, and of the looks at its end, an entity has neither a witness nor a client, or it has both, and the client was
-/// shown the first ones of what its witness told since the load, in order; each of the others is held or on its way, once. In a quiet world
-/// it was shown all.
+/// At each moment of a round, and of the looks at its end, an entity has neither a witness nor a client, or it has both. The client was
+/// shown the first ones of what its witness told since the load, in order. Each of the others is held or on its way, once. In a quiet world
+/// the client was shown all.
 pub fn each_client_is_shown_its_updates_in_order()
     ensures round { (f : Frame) (w : World) (b : Batch) → MayBeLoaded f w b → (e k : ℕ) (r : RealView) →
         real_in ((entity_flow e (loaded w b)).slot k) ≡ Some r → (v : World) (es : List Event) →

@@ -1,13 +1,12 @@
-//! Worlds between rounds: what the laws of the core ask of a loaded world is true of each that a fitting batch makes of one that keeps
-//! the record.
+//! Worlds between rounds: what the laws of the core ask of a loaded world is true of each that a fitting batch makes of one that keeps the
+//! record.
 //!
-//! `specs/Between` has the record, a sentence for each of its fields, and what a fitting batch is; `specs/Loaded` has what a load makes
-//! of each node. These laws speak of each entity of the loaded world, whether it was there before or the batch creates it.
+//! `specs/Between` has the record, a sentence for each of its fields, and what a fitting batch is; `specs/Loaded` has what a load makes of
+//! each node. These laws speak of each entity of the loaded world, whether it was there before or the batch creates it.
 //!
-//! Crates above cite these modules of `proofs`: `Loading` (a load node by node), `Framing` (the frame), `Staying` (what a load leaves of
-//! an entity at a node), `Making` (what it makes of one that the batch creates), `Loaded` (and in the world), `Ready` (what the laws ask of
-//! a settled entity), `Turns` (its calls), `Room` (room in its numbers, and sums over nodes), `Going` (every list of events),
-//! `ExampleBetween` (the worked world).
+//! For callers, of `proofs/`: `Loading` (a load node by node), `Framing` (the frame), `Staying` (what a load leaves of an entity at a
+//! node), `Making` (what it makes of one that the batch creates), `Loaded` (and in the world), `Ready` (what the laws ask of a settled
+//! entity), `Turns` (its calls), `Room` (room in its numbers), `Going` (every list of events) and `ExampleBetween` (the worked world).
 
 ghost use Rattle.std.specs.Prelude.{◌≡◌, ℕ, ◌+◌, ◌<◌, List, Some};
 ghost use Rattle.std.specs.List.{AllByRecursion};
@@ -36,8 +35,8 @@ pub fn a_load_keeps_reals_and_makes_new_ones()
         AllByRecursion (λ x. x.entity ≡ e → ⊥) b.creates → holders (loaded w b) e ≡ 0 }
 {}
 
-/// Each real of a loaded world is its entity's one real, fits, and is where the routes go, and it has no call left of the last round; no
-/// one reaps it, whatever leads to a cell leads to it, and its numbers have room for all that is to be done.
+/// Each real of a loaded world is its entity's one real, fits, and is where the routes go. It has no call left of the last round, and no
+/// one reaps it. Whatever leads to a cell leads to it, and its numbers have room for all that is to be done.
 pub fn an_entity_of_a_loaded_world_is_ready()
     ensures settled { (f : Frame) (w : World) (b : Batch) → IsBetweenRounds f w → IsFitting f w b → (e k : ℕ) (r : RealView) →
         real_in ((entity_flow e (loaded w b)).slot k) ≡ Some r → IsSettled (framed f b) e k r (loaded w b) }
@@ -80,8 +79,8 @@ pub fn calls_of_a_batch_are_executed_once()
         real_in ((entity_flow e v).slot j) ≡ Some q → (s : ℕ) → letters_of (from_sender s) q.done ≡ calls_of b e s }
 {}
 
-/// A world keeps the record at the end of a run: that of two cells of `seam_law_calls`, whose entity was handed over and executed three calls
-/// of two senders. A batch with one more call fits it, and one whose call leaves a number out does not.
+/// A world keeps the record at the end of a run: that of two cells of `seam_law_calls`, whose entity was handed over and executed three
+/// calls of two senders. A batch with one more call fits it, and one whose call leaves a number out does not.
 pub fn a_run_ends_between_rounds()
     ensures between { IsBetweenRounds frame early.world_12 }
     ensures fits { IsFitting frame early.world_12 next_batch }

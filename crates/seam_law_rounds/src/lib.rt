@@ -1,31 +1,17 @@
 // SPDX-License-Identifier: MIT
 
-//! Worlds between rounds, and the phases of a round that lead from one to the next.
+//! Worlds between rounds, and the phases of a round that lead from one to the next: reals, their routes, base parts and clients' numbers.
 //!
-//! `between` has the record between rounds and what a load makes of a world that keeps it; `rounds` the record again at the end of each
-//! phase. Each law is a clause of a function that does nothing. The head of each module says which modules of `proofs` crates above cite.
+//! `between` has the record between rounds and what a load makes of a world that keeps it, `rounds` the record again at the end of each
+//! phase, and `base_parts` both for base parts and their clients. Each law is a clause of a function that does nothing; the head of each
+//! module says which modules of `proofs/` are for callers.
+//!
+//! Of `specs/`, `Between`, `Loaded` and `NextBatchExample` are for `between`, `LastPhases` and `Routes` for `rounds`, and `Parts` and
+//! `FirstBatchExample` for `base_parts`. `specs/Prelude` re-exports what crates above cite of this one and of those below it, so that one
+//! import names it.
 //!
 //! A fitting batch's tree is of the settings' space (*IsFitting*): a real is in that space, and its leaf holds it only where the tree
 //! divides it.
-//!
-//! Base parts and clients from round to round: what the laws of calls to base parts ask of a loaded world is true of each that a fitting
-//! batch makes of one that keeps the record of base parts.
-//!
-//! `specs/Parts` has that record, a sentence for each of its fields, and what a batch brings to base parts. They stand beside the record
-//! between rounds and the fitting batch of `seam_law_rounds`; *MayBeLoaded* is both. These laws speak of each entity of the loaded world,
-//! whether it was there before or the batch creates it, and whether it has a client or not.
-//!
-//! Of a client the record says that it is in step with its entity's witness: all that the witness told was shown, and nothing is on its
-//! way. Its numbers have room by what `seam_law_calls` says of what a witness tells: the record says that entities have numbers below a
-//! bound.
-//!
-//! The record says that a client is in step with its witness by numbers alone (*AreInStep*). That it shows what the witness remembers is a
-//! record of its own, which `seam_law_clients` keeps from round to round.
-//!
-//! Of `proofs/`, `PartLoads` (what a load makes of a base part at a node), `Joining` and `Attaching` (of a witness and of a client),
-//! `PartsLoaded` (and in the world), `PartTurns` (its calls), `Serving` (a client over a list of events), `Ticking` (how much it is told), `Updates`
-//! (what an update finds), `PartsGoing` (every list of events), `BaseCallsEnd` (a quiet world after them), `Still` (a part that no one calls),
-//! `Idling` and `Calms` (reaps and looks) are for callers.
 #![tactic(auto)]
 
 mod base_parts;

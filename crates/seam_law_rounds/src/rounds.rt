@@ -4,10 +4,10 @@
 //! its own. In the last two no call is made and no real is handed over: an entity is calm, and its real stays where it is until its Reap
 //! comes.
 //!
-//! Crates above cite these modules of `proofs`: `Shape` (the frame and the nodes stay; where a real is; what is sent, by node), `Publics`
-//! (public versions), `Calm`, `CalmMoves` and `CalmRuns` (a calm entity), `Starting` and `Giving` (what a load gives it), `Phases` and
-//! `Ending` (calm over every list of events, and at its end), `Reaping`, `Looking`, `RoadMoves` and `RoadRuns` (generations and routes),
-//! `CallsEnd` (where a round's calls end), `Opened` (an opened world).
+//! For callers, of `proofs/`: `Shape` (the frame and the nodes stay, and where a real is), `Publics` (public versions), `Calm`, `CalmMoves`
+//! and `CalmRuns` (a calm entity), `Starting` and `Giving` (what a load gives it), `Phases` and `Ending` (calm over every list of events,
+//! and at its end), `Reaping` and `Looking` (one real in these phases), `RoadMoves` and `RoadRuns` (generations and routes), `CallsEnd`
+//! (where a round's calls end) and `Opened` (an opened world).
 
 ghost use Rattle.std.specs.Prelude.{◌≡◌, ℕ, ◌≤◌, List, [], ◌∷◌, if◌then◌else◌};
 ghost use Rattle.std.specs.List.{AllByRecursion};
@@ -48,9 +48,9 @@ pub fn looks_keep_reals()
         LeadsTo node_has_work node_steps (look_loaded u) vs v → (e : ℕ) → holders u e ≡ 1 → HasNoCalls e v }
 {}
 
-/// The record between rounds holds of a world as it is opened, with definitions and a space that are such and a base node. It holds again
-/// where a round's calls leave the world quiet, now by the batch's tree, then where the reaps do, and then where the looks do. (What it
-/// says is of entities and their cell parts; clients and base parts are not in it.)
+/// The record between rounds holds of a world as it is opened, if its definitions and settings make a frame (*IsFrame*), with a base node.
+/// It holds again where a round's calls leave the world quiet, now by the batch's tree, then where the reaps do, and then where the looks
+/// do. (What it says is of entities and their cell parts; clients and base parts are not in it.)
 pub fn a_round_goes_from_record_to_record()
     ensures opened { (defs : List TypeDef) (settings : Settings) → IsFrame (first_frame defs settings) → 1 ≤ settings.bases →
         IsBetweenRounds (first_frame defs settings) (opened defs settings) }

@@ -47,9 +47,9 @@ pub fn a_played_round_is_legal_but_for_clients()
     seam_law_book::ghost_lines_are_those_of_the_rules();
 }
 
-/// The lines of its clients are gathered from entity to entity in rising number (`rising`), those of its clients alone (`only`), each under
-/// its entity's type (`types`); and those of an entity's client are the ones that this was shown (`told`), which are none where the entity
-/// has no client (`none`).
+/// The lines of a round's clients are gathered from entity to entity in rising number (`rising`), those of its clients alone (`only`), each
+/// under its entity's type (`types`). Those of an entity's client are the lines that this client was shown (`told`); where the entity has
+/// no client, there are none (`none`).
 pub fn client_lines_are_gathered()
     ensures rising { (h : Header) (s : Standing) (tree : Division) (w v : World) (p : IsPlayed h s tree w v) (bounds : Option Division) →
         IsNonDecreasing (map (λ l. l.entity) (data_of h s tree w v p bounds).shown) }
@@ -202,8 +202,8 @@ pub fn what_clients_are_shown_is_right()
     what_calls_show_of_cell_parts_is_right();
 }
 
-/// The next round begins with the tree that the rules ask for: with the round's own where no `balance` was accepted (`kept`), and where one
-/// was, with the tree that has its boundaries where the homes of the round balance them (`balanced`), which may take the place of the
+/// The next round begins with the tree that the rules ask for. Where no `balance` was accepted, that is the round's own (`kept`). Where one
+/// was, it is the tree that has its boundaries where the homes of the round balance them (`balanced`), and this may take the place of the
 /// round's tree (`replaces`).
 pub fn the_next_round_has_the_tree_of_the_rules()
     ensures kept { (h : Header) (s : Standing) (tree : Division) (w v : World) (p : IsPlayed h s tree w v) →

@@ -1,23 +1,12 @@
 // SPDX-License-Identifier: MIT
 
-//! What a round prints, read off the worlds that it goes through, is a legal round.
+//! What a run prints, read off the worlds that it goes through, is a transcript: each round is legal, and the next one may be run.
 //!
-//! `specs/Beside` says which standing goes with which world, `specs/Playing` that the standing's open round was played there, and
-//! `specs/Reading` what is then read off two of the worlds that it went through: what it prints (*data_of*), and the standing that it
-//! leaves (*standing_of*). Each law here is about one point of a legal round (*IsRound* of `seam_rule_rounds`).
+//! `legal_rounds` has that what one round prints is a legal round, and `whole_runs` the course of a run, from the header to the last line.
+//! Each law is a clause of a function that does nothing.
 //!
-//! The course of a run: a standing beside a world, from the header to the last line, round after round.
-//!
-//! `specs/Course` says what a loop over the lines of an input keeps of its standing and its world (*GoesOn*). It holds after the header, of
-//! the opened world; each line keeps it, whether it is skipped, refused or accepted; and where the open round may end, by the count of the
-//! lines alone (`specs/Counts`), its batch may be run, what it prints is a legal round, and the standing after it goes on with the world
-//! that it leaves. So an input of no more lines than there may be (*most_lines*) never runs out of numbers, however many rounds it has.
-//!
-//! While such a round is played each live entity has one real, whatever events happen, and one that the round destroys has it until its
-//! Reap comes, and none from then on (`specs/OneReal`). After it clients show all that is within their radius (`specs/Radius`).
-//!
-//! With `given`, and the fields `between.keeps` and `bounded`, there is all that `seam_quiet::run_round` asks; the round that it runs, and
-//! that this has ended, are fields of what it answers (*StandsFor*), and so they are where a caller runs the phases one by one.
+//! Of `specs/`, `Beside`, `Playing` and `Reading` are for `legal_rounds`; `Course`, `Counts`, `OneReal` and `Radius` for `whole_runs`.
+//! `specs/Prelude` re-exports what crates above cite of this one and of those below it, so that one import names it.
 #![tactic(auto)]
 
 mod legal_rounds;

@@ -68,9 +68,9 @@ pub fn a_round_leaves_few_numbers()
     a_round_may_be_run();
 }
 
-/// What such a round prints, read off the worlds that it goes through, is a legal round, and the standing that it leaves goes on with the
-/// world that it leaves, by the round's tree: where no `balance` was accepted (`kept`), and where one was, and the next round begins with
-/// the tree that is balanced by where the homes are (`balanced`).
+/// What such a round prints, read off the worlds that it goes through, is a legal round. The standing that it leaves goes on with the world
+/// that it leaves. Where no `balance` was accepted, that is by the round's tree (`kept`). Where one was, the next round begins with the
+/// tree that is balanced by where the homes are (`balanced`).
 pub fn a_run_round_is_legal()
     ensures kept { (h : Header) (s : Standing) (tree : Division) (w : World) → GoesOn h s tree w → MayEnd s → (v : World)
         (round : GoesThroughRound w (batch_of h s.book) v) → HasEnded h s.book w v round → (made live : List Create) →

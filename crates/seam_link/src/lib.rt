@@ -1,14 +1,16 @@
 // SPDX-License-Identifier: MIT
 
-//! Links with two ends: one puts items, the other one takes them, in two threads or in one. No item is lost, and all come in
-//! the order in which they were put.
+//! Links with two ends: one puts items, the other one takes them, in two threads or in one. No item is lost, and all come in the order in
+//! which they were put.
 //!
-//! A link is a ring of a fixed size between one producer and one consumer, as Lamport, "Proving the Correctness of
-//! Multiprocess Programs" (1977), and a spill at the producer's end for what the ring has no room for.
+//! A link is a ring of a fixed size between one producer and one consumer, as Lamport, "Proving the Correctness of Multiprocess Programs"
+//! (1977), and a spill at the producer's end for what the ring has no room for.
 //!
-//! Each end names its ring in what contracts see, and two ends can be met only where the names are equal. Counts of the looks that found
-//! nothing, and of those that found the ring full, rise for ever, and only contracts see them; so a flush tells that it moved all that the
-//! ring had room for, though the other end makes room at any time. An item is moved and has no copy, so no body can give it twice.
+//! Each end names its ring in what contracts see, and two ends can be met only where the names are equal. An item is moved and has no copy,
+//! so no body can give it twice.
+//!
+//! Counts of the looks that found nothing, and of those that found the ring full, rise for ever, and only contracts see them; so a flush
+//! tells that it moved all that the ring had room for, though the other end makes room at any time.
 #![tactic(auto)]
 
 ghost use Rattle.std.specs.Prelude.{◌≡◌, ◌≢◌, ℕ, ◌+◌, ◌<◌, ◌≤◌, [], ◌∷◌, ◌++◌, OnOk, IfOk, IfErr, IfSome, IfNone, true, false};

@@ -1,12 +1,12 @@
 // SPDX-License-Identifier: MIT
 
-// The links of all nodes of a net, each as a link of two ends: they are made from the links of a net, and give these back once
-// both ends of each are in one thread again.
+// The links of all nodes of a net, each as a link of two ends: they are made from the links of a net, and give these back once both ends of
+// each are in one thread again.
 //
-// With n nodes, the link from a to b is at place `a * n + b` of a list of links. Of `proofs/`, `LinkPlaces` is for callers.
+// With n nodes, the link from a to b is at place `a * n + b` of a list of links.
 //
-// Rings are small, since most of what it costs to make those of all pairs of nodes is memory that is touched anew: 324 rings for 64
-// letters of 16 bytes took 121 microseconds and 80 page faults in a plain program, rings for 8 took 43 and 10.
+// Rings are small, since most of what it costs to make those of all pairs of nodes is memory that is touched anew: 324 rings for 64 letters
+// of 16 bytes took 121 microseconds and 80 page faults in a plain program, rings for 8 took 43 and 10.
 
 ghost use Rattle.std.specs.Prelude.{◌≡◌, ◌≢◌, ℕ, ◌+◌, ◌*◌, ◌<◌, ◌≤◌, ◌⊎◌, List, [], ◌∷◌, ◌++◌, length, drop, map, OnOk, IfOk};
 ghost use Rattle.std.specs.Prelude.{slice_index_or};

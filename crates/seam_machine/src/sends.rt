@@ -202,7 +202,7 @@ impl<T> Out<T> {
 }
 
 impl<T: Drop> Out<T> {
-    /// Takes back what was sent last, so that at most so many items are left.
+    /// Takes back what was sent last, so that at most `len` items are left.
     pub fn cut(&mut self, len: usize)
         ensures { self.new.items ≡ take len self.old.items }
     {

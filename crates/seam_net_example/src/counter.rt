@@ -27,7 +27,7 @@ impl Model for Counter {
 }
 
 impl Counter {
-    /// The counter before `next` in a ring of so many, which is to pass on the given number.
+    /// The counter before `next` in a ring of `peers` counters. It is to pass on the given number, if there is one.
     pub fn new(next: u8, peers: u8, given: Option<u64>) -> Counter
         requires { next < peers }
         ensures { result ≡ record { next = next; peers = peers; given = given } }

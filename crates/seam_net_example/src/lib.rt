@@ -2,11 +2,14 @@
 
 //! The small machine that shows how nets of machines and their laws are used: counters in a ring that pass numbers on.
 //!
-//! A counter that was given a number passes it to the next counter. A number that comes is passed on, lowered by one, and is gone
-//! once it is 0. So each event lowers what is left to do by one, and every run ends.
+//! A counter that was given a number passes it to the next counter. A number that comes is passed on, lowered by one, and is gone once it
+//! is 0. So each event lowers what is left to do by one, and every run ends.
 //!
-//! Tests of links, of logs, and of the ring of counters as a net and run by workers in threads: what no clause says of them is tested
-//! here, since a crate with tests of its own is proved twice.
+//! `counter` is the machine, and `laws` has what is proved of rings of counters. `specs/Views` has what contracts see of a counter,
+//! `specs/Counters` its steps, and `specs/Rings` the rings.
+//!
+//! The other modules are tests: `links` and `logs` of these two, `rings` of the ring as a net, and `workers` of the ring that workers run
+//! in threads. They test what no clause says, and stand here since a crate with tests of its own is proved twice.
 #![tactic(auto)]
 
 mod counter;

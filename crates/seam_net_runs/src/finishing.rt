@@ -2,10 +2,8 @@
 
 // Nets that come to rest: their events happen one after the other, on one thread, until no node has anything left to do.
 //
-// Which event is next is settled, so the same net takes the same events each time. That a net comes to rest at all is for the caller
-// to know: every list of its events is no longer than some number.
-//
-// Of `proofs`, `Firsts` (one event more, of a net whose events are each the first) is for callers with a loop of their own.
+// `finish` lets the first enabled event happen each time, so the same net has the same events each time. That a net comes to rest at all is
+// for the caller to know: every list of its events is no longer than some number.
 
 ghost use Rattle.std.specs.Prelude.{◌≡◌, ◌⊎◌, ℕ, length, IfOk, OnErr};
 ghost use Rattle.seam_machine.specs.Nets.{ArePeers, IsQuiet, LeadsTo};
@@ -14,7 +12,7 @@ ghost use Rattle.seam_net_runs.specs.Finishing.{EndsWithin, TakesFirst};
 use seam_machine::{Event, Machine, Net};
 use std::alloc::{AllocError, Global};
 
-/// Lets at most so many events happen, each time the first that is enabled, and gives them back in their order.
+/// Lets events happen until the net is quiet or `most` of them have happened, and gives them back in their order.
 ///
 /// If allocation fails, nothing is given back.
 pub fn begin<M: Machine>(

@@ -116,9 +116,9 @@ pub fn links_are_exact<N, T>()
         link (happens steps w e).rows x y ≡ link_left w.rows e.node e.from x y ++ link_added e.node (steps o.node o.input).sent x y }
 {}
 
-/// The weight of a net, where a message weighs by the node to which it goes, changes by an event as that of its node and input does, so
-/// what a step keeps, lowers or raises, the event does.
-/// A node and its input weigh at most what the net weighs.
+/// The weight of a net, where a message weighs by the node to which it goes. An event changes it as the step changes the weight of the
+/// node, of its input and of what it sends (`moved`): so what a step keeps, lowers or raises, the event does. A node and its input weigh at
+/// most what the net weighs (`bound`).
 pub fn weights_move<N, T>()
     ensures moved { (f : N → ℕ) (g : ℕ → T → ℕ) (steps : N → Input T → Stepped N T) (w : NetView N T) (e : Event) (o : Occurs w e) →
         IsSquare w → AllBelow (length w.nodes) (steps o.node o.input).sent →
@@ -152,8 +152,8 @@ pub fn soundness_is_kept<M: Machine>()
         AllBelow (length w.nodes) (M.steps o.node o.input).sent }
 {}
 
-/// Where a function sees each step of a node as a step of what it sees, it sees each event and each run of a net of nodes as that
-/// event and that run of the net that it sees, enabled where it is seen to be.
+/// Let a function see each step of a node as a step of what it makes of the node. Then it sees each event and each run of a net of nodes as
+/// that event and that run of the net that it sees. An event is enabled where it is seen to be.
 pub fn nets_are_seen<N, V, T>()
     ensures event { (f : N → V) (steps : N → Input T → Stepped N T) (seen_steps : V → Input T → Stepped V T) →
         SeesSteps f steps seen_steps →

@@ -1,23 +1,21 @@
 // SPDX-License-Identifier: MIT
 
-//! Runs of a net of machines: what every enabled event keeps, lowers or leaves exactly, and so what every list of events does.
+//! Runs of a net of machines: what every enabled event keeps, lowers or leaves exactly, and so what every list of events does; and nets
+//! that come to rest.
 //!
-//! An event is one step of one node (Lamport, "Time, Clocks, and the Ordering of Events in a Distributed System", 1978). A law over
-//! all runs is an induction over the list of events: what is proved here of one event holds after every run.
+//! An event is one step of one node (Lamport, "Time, Clocks, and the Ordering of Events in a Distributed System", 1978). A law over all
+//! runs is an induction over the list of events: what is proved here of one event holds after every run.
 //!
-//! Machines, laws over runs and laws of one entity's flow (`seam_law_flow`) are three crates, so that an edit of a law proves no net anew. A
-//! law over any fact takes the fact as a ghost member of a type parameter, since a clause cannot range over facts.
+//! `laws` has the laws of events and runs, each a clause of a function that does nothing; `finishing` lets events happen on one thread
+//! until nothing is left to do. Of `specs/`, `Sound` says what is true of a net at every moment, `Kept` what stays true of links, `Weights`
+//! and `Sums` what weighs how much, and `Seen` how a net is seen through a function on its nodes. `Finishing` is for `finishing`.
 //!
-//! Crates above cite these modules of `proofs`: `Runs` (join, part and extend runs; what they keep; how long they are), `Keeping`
-//! (each node, each link, each link exactly), `Weighing` (the weight of a net, by the node to which a message goes), `MapSums` (sums
-//! over finite maps), `Soundness` (a net of machines stays one), `Seeing` (a net through a function on its nodes).
+//! Machines, laws over runs and laws of one entity's flow (`seam_law_flow`) are three crates, so that an edit of a law proves no net anew.
+//! A law over any fact takes the fact as a ghost member of a type parameter, since a clause cannot range over facts.
 //!
-//! Nets that come to rest: their events happen one after the other, on one thread, until no node has anything left to do.
-//!
-//! Which event is next is settled, so the same net takes the same events each time. That a net comes to rest at all is for the caller
-//! to know: every list of its events is no longer than some number.
-//!
-//! Of `proofs`, `Firsts` (one event more, of a net whose events are each the first) is for callers with a loop of their own.
+//! For callers, of `proofs/`: `Runs` (join, part and extend runs; what they keep; how long they are), `Keeping` (each node, each link, each
+//! link exactly), `Weighing` (the weight of a net, by the node to which a message goes), `MapSums` (sums over finite maps), `Soundness` (a
+//! net of machines stays one) and `Seeing` (a net through a function on its nodes).
 #![tactic(auto)]
 
 mod finishing;

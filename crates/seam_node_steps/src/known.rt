@@ -1,9 +1,6 @@
 // SPDX-License-Identifier: MIT
 
 // What a cell knows of others: its reals, and its copies of those whose reals are not there.
-//
-// Definitions and laws alone. For callers, `proofs/Sorted` has what is found in a list in rising number, and `proofs/Knowing` what is
-// known of an entity.
 
 ghost use Rattle.std.specs.Prelude.{◌≡◌, ℕ, map};
 ghost use Rattle.std.specs.List.Sorted.{IsStrictlySortedBy};

@@ -1,21 +1,30 @@
 // SPDX-License-Identifier: MIT
 
-//! What the steps of cells and base nodes mean: definitions alone, and laws about them.
+//! What the steps of cells and base nodes mean: definitions, and laws about them. Nothing here runs.
 //!
-//! A cell (BigWorld's CellApp) has reals and ghosts, and hands reals over; a base node (BaseApp) has base parts and proxies,
-//! and passes calls on. `specs/` has what contracts see of both, each case of their steps as one function, and what loads
-//! make of a world. Nothing here runs. For callers, `proofs/Slots` says that a step of one entity's slot changes that slot
-//! alone, `proofs/Peers` and `proofs/ValidBases` that a step keeps what a node knows, `proofs/Targets` that it sends to nodes of
-//! the net, `proofs/Tables` how worlds of a few entities compute, and `proofs/Early` what is true of the worlds of its row.
+//! A cell (BigWorld's CellApp) has reals and ghosts, and hands reals over; a base node (BaseApp) has base parts and proxies, and passes
+//! calls on.
+//!
+//! `specs/Cells` and `specs/Bases` have what contracts see of both, and their steps. Each case of a step is one function, in `CellCases`,
+//! `CellLooks`, `Settle` and `BaseCases`. `Nodes` has worlds of nodes, `Loads` what a world is as it is opened and what loads make of it,
+//! `Valid` what is true of every node.
+//!
+//! `Slots`, `Holders` and `Knowing` are about one entity: what a cell has of it, who has its real, what a cell knows of it. `Maps` has
+//! finite maps by number. `Rows` says what a worked row is, and `OneStep`, `EarlyCall`, `LateGhost` and `ViewRounds` are such rows.
+//!
+//! `specs/Prelude` re-exports what crates above cite of this one and of those below it, so that one import names it.
+//!
+//! The laws stand in `laws` (every step of every node), `base_steps`, `cell_steps` and `look_steps` (single steps, exactly), `loads`,
+//! `known` (what a cell knows of others) and `rows` (the worked rows).
 //!
 //! What a cell has of one entity is a function of its three maps (*slot_of*). Stray input is one test for each kind of input, made first:
 //! input that meets no case, or a case whose conditions do not hold, changes nothing. A load's points have an order: base nodes begin the
 //! round, entities are created, clients attached, cells begin the round, and then the orders are given.
 //!
-//! What a cell knows of others: its reals, and its copies of those whose reals are not there.
-//!
-//! Definitions and laws alone. For callers, `proofs/Sorted` has what is found in a list in rising number, and `proofs/Knowing` what is
-//! known of an entity.
+//! For callers, of `proofs/`: `Slots` (a step of one entity's slot changes that slot alone), `Peers`, `ValidBases` and `ValidCells` (a step
+//! keeps what a node knows, and what is true of it), `Targets` (it sends to nodes of the net), `Quiet` (when a world is quiet), `Sorted`
+//! (what is found in a list in rising number), `Knowing` (what is known of an entity), `Tables` (how worlds of a few entities compute), and
+//! `Early` and `Views` (the worlds of two worked rows).
 #![tactic(auto)]
 
 pub mod base_steps;

@@ -2,13 +2,13 @@
 
 //! Numbered items, given out in the order of their numbers.
 //!
-//! A sender numbers its items 1, 2, 3 and so on. They may come over several ways, so a later one can come first;
-//! it is kept until its turn. No item is given twice, and none is left out.
+//! A sender numbers its items 1, 2, 3 and so on. They may come over several ways, so a later one can come first; it is kept until its turn.
+//! No item is given twice, and none is left out.
 //!
 //! Held items are in an ordered map by number, so early items in any order cost a search each. Items in order touch it only to find that
 //! nothing is held.
 //!
-//! Of `proofs/`, `OrderLaws` (what an offer and taking the next item do to the held items) is for callers.
+//! For callers, of `proofs/`: `OrderLaws` (what an offer and taking the next item do to the held items).
 #![tactic(auto)]
 
 ghost use Rattle.std.specs.Prelude.{◌≡◌, ◌<◌, ◌≤◌, ◌^◌, [], ◌∷◌, length, false, IfOk, IfErr, OnOk, OnErr, option_map, slice_get, is_some};

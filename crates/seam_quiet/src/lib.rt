@@ -3,10 +3,12 @@
 //! Rounds of a world.
 //!
 //! A round has three phases: the calls of its batch, the reaps of the entities that die in it, and the looks of the witnesses that are
-//! left. The first is one call and the others are another, so that what the calls did can be read where they ended (`run_calls`,
-//! `run_ends`); or all are one (`run_round`). In each phase events happen until the world is quiet: the first of them on the caller's
-//! thread, and where more are left side by side in threads (`seam_workers`), until the caller takes those that the workers left
-//! (`seam_net_runs`). Which events happened is the round's journal, for who watches (`seam_watch`); no clause says that threads start.
+//! left. `run_calls` runs the first and `run_ends` the other two, so that what the calls did can be read where they ended. `run_round` runs
+//! all three.
+//!
+//! In each phase events happen until the world is quiet. The first of them happen on the caller's thread. Where more are left and there are
+//! several workers, these go on side by side in threads (`seam_workers`). What is left then happens on the caller's thread again
+//! (`seam_net_runs`). No clause says that threads start. Which events happened is the round's journal, for who watches (`seam_watch`).
 #![tactic(auto)]
 
 mod laws;

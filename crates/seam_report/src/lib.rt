@@ -1,7 +1,7 @@
 // SPDX-License-Identifier: MIT
 
-//! Writes the lines of refused lines and of rounds, rounds, and their steps, as `Texts` of `seam_rule_lines` and of `seam_rule_rounds` say. If
-//! allocation fails, a text has no use.
+//! Writes the lines of refused lines and of rounds, rounds, and their steps, as `Texts` of `seam_rule_lines` and of `seam_rule_rounds` say.
+//! If allocation fails, a text has no use.
 //!
 //! What writes lines, and what reads them (`seam_accept`), are crates of their own, so that programs that judge or draw a transcript use
 //! them, too.

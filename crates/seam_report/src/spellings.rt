@@ -31,8 +31,8 @@ impl Spelling<'_> {
 
 /// The texts of the copies that clients were shown last, by entity: what many of them are shown of one state is spelled once.
 ///
-/// A copy is told from another one of its entity by the version alone, so that no value is looked at again. Contracts see the types by which
-/// copies are spelled, and those that were spelled; a text is right where no two copies that are asked for differ at one version.
+/// A copy is told from another one of its entity by the version alone, so that no value is looked at again. Contracts see the types by
+/// which copies are spelled, and those that were spelled; a text is right where no two copies that are asked for differ at one version.
 #[derive(Drop)]
 pub struct Spellings<'a> {
     defs: &'a Defs,

@@ -2,13 +2,12 @@
 
 //! What a client shows: the model of the lines that a client is shown, and of the looks that its witness takes.
 //!
-//! A client's replica is the fold of its lines (*after_lines*). A look brings it up to a flat table, in which every live entity is as it
-//! is now (*one_look*). Which lines may come is a relation, one line at a time (*MayShow*), beside which each line is to be true
-//! (*ShowsTruth*). The laws of cells and the rounds that are printed both speak of these. (After the witness and the area of interest
-//! of the BigWorld Server Overview.)
+//! A client's replica is the fold of its lines (*after_lines*). A look brings it up to a flat table, in which every live entity is as it is
+//! now (*one_look*). Which lines may come is a relation, one line at a time (*MayShow*), beside which each line is to be true
+//! (*ShowsTruth*). The laws of cells and the rounds that are printed both speak of these. (After the witness and the area of interest of
+//! the BigWorld Server Overview.)
 //!
-//! Of `proofs/`, `InParts`, `Older` (what lines leave of a replica), `Table` (a look that shows nothing) and `EachOne` (what holds of each
-//! item of a list) are for callers.
+//! For callers, of `proofs/`: `EachOne` (what holds of each item of a list).
 #![tactic(auto)]
 
 mod laws;

@@ -7,10 +7,10 @@
 //!
 //! Whether an entity's client is shown lines asks also that the entity was made (*is_shown*), so that no premise on books is needed.
 //!
-//! Of `proofs/`, these are for callers: `CommandWords`, `Verdicts`, `Refusals`, `SkipLemmas` and `LineLaws` (a line has one command and one
-//! verdict; lines without words, and lines that are refused whatever the book has), `Names` (places of names among types and methods),
-//! `HeaderLemmas`, `Lists` (entities in rising number), `InOrderLemmas` (calls executed as they were accepted), `BookEntries`, `RunLemmas`
-//! (runs through lines), and `OneSender` (where a part has one order).
+//! For callers, of `proofs/`: `Verdicts` (a line has one verdict), `Refusals` and `SkipLemmas` (lines that are refused whatever the book
+//! has, and lines without words), `Names` (places of names among types and methods), `HeaderLemmas` (the lines of headers), `Lists`
+//! (entities in rising number), `InOrderLemmas` (calls executed as they were accepted), `BookEntries` (what a book has created, with one
+//! more entry), `RunLemmas` (runs through lines) and `OneSender` (where a part has one order).
 #![tactic(auto)]
 
 mod asked;

@@ -28,7 +28,7 @@ pub enum Cause {
     BadWords(WordsError),
     /// Its first word is not that of a command.
     NoCommand,
-    /// The command has not so many words.
+    /// The command has another number of words.
     WrongCount,
     /// A word that has to be a number is none.
     BadNumber,

@@ -53,8 +53,8 @@ pub fn a_round_is_legal()
     ensures text { round_text header.defs round ≡ text_of_round }
 {}
 
-/// The two hystereses of a place, at a boundary at x = 5000: a home is kept at the distance 10 from its area and left at 11; a cell gets a
-/// ghost at the distance 400 and none at 401; one that has a ghost keeps it at 420 and loses it at 421.
+/// The two hystereses of a place, at a boundary at x = 5000. A home is kept at the distance 10 from its area and left at 11. A cell gets a
+/// ghost at the distance 400 and none at 401. A cell that has a ghost keeps it at 420 and loses it at 421.
 pub fn places_have_hystereses()
     ensures home_kept { (settled_at in_first_cell 5009).home ≡ 0 }
     ensures home_left { (settled_at in_first_cell 5010).home ≡ 1 }

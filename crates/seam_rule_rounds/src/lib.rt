@@ -1,19 +1,20 @@
 // SPDX-License-Identifier: MIT
 
-//! The whole legal round: definitions and laws of it, and nothing else.
+//! The whole legal round, the transcript that rounds make, and the summary of a run: definitions, and laws of them.
 //!
-//! It stands over `seam_rule_lines`, whose `Language`, `Book` and `Judging` say what lines mean and what becomes of them. A reader goes on
-//! with `FlatTable`, `Places` and `Clients` (what is true of entities, where they are held, what clients are shown), finds all of it in
-//! `Round`, whose fields are the points of a legal round, and then reads `Transcript`. (Cells, ghosts, witnesses and clients after the
-//! BigWorld Server Overview.)
+//! It is built on `seam_rule_lines`, whose `Language`, `Book` and `Judging` say what lines mean and what becomes of them. A reader goes on
+//! with `FlatTable`, `RoundPlaces` and `Clients` of `specs/` (what is true of entities, where they are held, what clients are shown) and
+//! finds all of it in `Round`, whose fields are the points of a legal round, over `Lines` and `Standing`.
 //!
-//! Of `proofs/`, `Public` (the public version, the one table), `Shown` (the versions shown in a round), `WithoutTick` (what a round
-//! without a tick tells clients) and `TwoChestsLegal` are for callers.
+//! Then come `Transcript`, which says what is printed, and `Summary`, one line in place of all that. `Texts` has the text of each line.
+//! `TwoChests` is a worked round. (Cells, ghosts, witnesses and clients after the BigWorld Server Overview.) `specs/Prelude` re-exports
+//! what crates above cite of this one and of those below it, so that one import names it.
 //!
-//! The summary of a run: one line in place of all that is printed; and the laws that it is one, for the generated input too. It stands over
-//! `seam_rule_rounds`, whose `Transcript` says what is printed.
+//! `laws` has the laws of a round, and `summaries` those of a summary, for the generated input too, each on a function that does nothing.
+//! `totals` sums up what rounds print.
 //!
-//! Of `proofs/`, `Played` (what is printed, however rounds are played) and `Pieces` (what is summed up of pieces) are for callers.
+//! For callers, of `proofs/`: `Public` (the last of some numbers that pass a test), `Pieces` (what is summed up of pieces) and `Beginning`
+//! (how the generated input begins).
 #![tactic(auto)]
 
 mod laws;

@@ -30,7 +30,7 @@ pub struct Totals {
     pub hp: i64,
 }
 
-/// The sum of two counts. One that does not fit 64 bits is answered like a failed allocation: no memory holds so many lines.
+/// The sum of two counts. If it does not fit 64 bits, the answer is that of a failed allocation: no memory holds so many lines.
 pub fn plus(count: u64, more: u64) -> Result<u64, AllocError>
     ensures sum { IfOk result (λ n. n ≡ count + more) }
     ensures over { OnErr result (2 ^ 64 ≤ count + more) }
@@ -63,7 +63,7 @@ impl Totals {
         })
     }
 
-    /// Appends the summary of so many lines.
+    /// Appends the summary of a generated input of `lines` lines.
     pub fn write(&self, lines: u32, out: &mut Vec<u8>) -> Result<(), AllocError>
         ensures { OnOk result (out.new.items ≡ out.old.items ++ totals_text lines self.now) }
     {

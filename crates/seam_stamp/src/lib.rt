@@ -1,21 +1,17 @@
 // SPDX-License-Identifier: MIT
 
-//! Stamped logs, and their merge into one list.
+//! Stamped logs: their merge into one list, and the law that the merge is a run of the net.
 //!
-//! Each node of a net has a log of its events with stamps that rise strictly, by the clocks of Lamport, "Time, Clocks, and the
-//! Ordering of Events in a Distributed System" (1978). A letter carries the stamp of the event that sent it. All logs together
-//! are ordered by stamp and, where stamps are equal, by node.
+//! Each node of a net has a log of its events with stamps that rise strictly, by the clocks of Lamport, "Time, Clocks, and the Ordering of
+//! Events in a Distributed System" (1978). A letter carries the stamp of the event that sent it. All logs together are ordered by stamp
+//! and, where stamps are equal, by node.
 //!
-//! Of `proofs/`, `Orders` is for callers.
+//! This file has the merge, and `merged_runs` the law. `specs/Logs` says what logs and their merge are, and `specs/Heads` what is left of
+//! the logs during it. The law speaks of the steps of one node (`specs/Acts`), of those of all nodes in one list (`specs/Moves`), and of
+//! logs whose links met (`specs/Joined`).
 //!
-//! The law of stamped logs: the logs of all nodes of a net, merged by stamp, are a run of the net.
-//!
-//! Each node did its steps one after the other, with stamps that rise strictly and are above that of the letter that was
-//! received (Lamport, "Time, Clocks, and the Ordering of Events in a Distributed System", 1978). On each link the letters were
-//! received in the order in which they were sent. Then no event of the merge comes before one that it depends on.
-//!
-//! The laws are over definitions alone, each on a function that does nothing. Of `proofs/`, `Moves` and `Whole`
-//! are for callers.
+//! For callers, of `proofs/`: `Orders` (the next entry of a merge), `Moves` (what one move changes in each node's acts) and `Whole` (from
+//! the logs to the run).
 #![tactic(auto)]
 
 mod merged_runs;

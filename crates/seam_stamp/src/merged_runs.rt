@@ -2,12 +2,11 @@
 
 // The law of stamped logs: the logs of all nodes of a net, merged by stamp, are a run of the net.
 //
-// Each node did its steps one after the other, with stamps that rise strictly and are above that of the letter that was
-// received (Lamport, "Time, Clocks, and the Ordering of Events in a Distributed System", 1978). On each link the letters were
-// received in the order in which they were sent. Then no event of the merge comes before one that it depends on.
+// Each node did its steps one after the other, with stamps that rise strictly and are above that of the letter that was received (Lamport,
+// "Time, Clocks, and the Ordering of Events in a Distributed System", 1978). On each link the letters were received in the order in which
+// they were sent. Then no event of the merge comes before one that it depends on.
 //
-// The laws are over definitions alone, each on a function that does nothing. Of `proofs/`, `Moves` and `Whole`
-// are for callers.
+// Each law is a clause of a function that does nothing.
 
 ghost use Rattle.std.specs.Prelude.{ℕ, List, Option, map};
 ghost use Rattle.seam_machine.specs.Views.{NetView};

@@ -1,6 +1,7 @@
 // SPDX-License-Identifier: MIT
 
-//! A table by number: an item for some of the numbers.
+//! A table by number: an item for some of the numbers. Beside it stand a value that many owners share (`shared`), and what a call that was
+//! given an item answers if allocation fails (`memory`).
 //!
 //! Contracts see a table as a finite map, and beside it the numbers for which there is room. A call that is to change several tables, or
 //! all or none of them, makes room first and changes what cannot fail then.
@@ -12,9 +13,10 @@
 //! hash has a fixed seed, so that runs are alike; numbers that a script chooses so that they collide make look-ups long. No contract tells
 //! of places.
 //!
-//! Of `proofs/`, `Found` (what a search of a table's entries finds) and `Changed` (what a table has after `change_each`) are for callers.
+//! `specs/Tables` has what contracts see of a table, `specs/Entries` which table the entries of a hashed map are, and `specs/Changes` what
+//! a closure does to an item that it is lent.
 //!
-//! Memory: a value that many may keep, and what a call that keeps an item answers if allocation fails.
+//! For callers, of `proofs/`: `Found` (what a search of a table's entries finds) and `Changed` (what a table has after `change_each`).
 #![tactic(auto)]
 
 mod memory;

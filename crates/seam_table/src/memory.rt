@@ -1,6 +1,6 @@
 // SPDX-License-Identifier: MIT
 
-// Memory: a value that many may keep, and what a call that keeps an item answers if allocation fails.
+// What a call that was given an item answers if allocation fails.
 
 /// Allocation failed. The item that was given comes back.
 #[derive(Debug, Drop, PartialEq, Eq)]

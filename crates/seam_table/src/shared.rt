@@ -6,7 +6,7 @@ use std::alloc::{AllocError, Global};
 use std::marker::Model;
 use std::sync::Arc;
 
-/// A value that never changes, and that all who share it keep in one place of memory.
+/// A value that never changes. All its owners share one copy of it in memory.
 ///
 /// Contracts see the value.
 #[derive(Debug, Drop)]
@@ -23,7 +23,7 @@ impl<T> Model for Shared<T> {
 }
 
 impl<T> Shared<T> {
-    /// The value, which one keeps.
+    /// Keeps the value, with one owner.
     pub fn new(alloc: Global, value: T) -> Result<Self, AllocError>
     where
         T: Drop,
@@ -35,7 +35,7 @@ impl<T> Shared<T> {
         }
     }
 
-    /// The same value, which one more keeps.
+    /// The same value, for one more owner.
     pub fn share(&self) -> Result<Self, AllocError>
         ensures { IfOk result (λ s. s ≡ self.now) }
     {

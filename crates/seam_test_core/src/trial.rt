@@ -102,7 +102,7 @@ impl Trial {
         self.world.step(alloc, event)
     }
 
-    /// Makes enabled events until none is left, and tells how many: None where there are more than so many.
+    /// Makes enabled events until none is left, and tells how many these were: `None` if they are more than `most`.
     ///
     /// If allocation fails, some events have happened.
     pub fn settle(&mut self, alloc: Global, most: u32) -> Result<Option<u32>, AllocError>

@@ -141,9 +141,10 @@ fn header_of(alloc: Global, document: &Table) -> Result<Option<Header>, AllocErr
     }
 }
 
-/// The header that a text stands for: its settings, and the types of its entities, in the byte order of their names. Refuses with the
-/// first cause: a text of more than 65,536 bytes with `TooLong`, one that is no TOML with `NotToml`, and else with the first kind of
-/// fault that is found anywhere in it, in the order of their numbers.
+/// The header that a text stands for: its settings, and the types of its entities, in the byte order of their names.
+///
+/// A text that is no header is refused with the first cause: `TooLong` if it has more than 65,536 bytes, `NotToml` if it is no TOML, and
+/// else the first kind of fault, in the order of their numbers, that is found anywhere in it.
 pub fn read_header(alloc: Global, text: &[u8]) -> Result<Header, HeaderError>
     ensures reads { IfOk result (Reads text.now) }
     ensures legal { IfOk result (λ h. AreLegal h.settings) }

@@ -2,12 +2,14 @@
 
 //! A space cut into at most sixteen cells by boundaries along its axes, and sets of such cells.
 //!
-//! The tree of boundaries is that of the cells of a BigWorld space (BigWorld Server Overview, load balancing). For callers,
-//! `proofs/Leaves` says that a leaf is a cell; `proofs/Steps`, `Areas`, `Agree`, `Padded`, `Changes`, `Moves` and `Filled`
-//! say what one more cut and another place make of areas.
+//! The tree of boundaries is that of the cells of a BigWorld space (BigWorld Server Overview, load balancing).
 //!
 //! A tree is seen as the list of its cuts, from which areas follow; so a shift changes one number. It keeps the table of its cells' areas
 //! as well, a function of the cuts, since each real that settles asks for areas while the tree stays as it is.
+//!
+//! For callers, of `proofs/`: `Leaves` (a leaf is a cell), `Steps` and `Agree` (what one more cut makes of areas, and what the first cuts
+//! decide), `Areas` (the areas share the space out), `Padded` and `Filled` (the tables of cuts and of areas), `Changes` and `Moves` (what a
+//! cut and a shift change).
 #![tactic(auto)]
 
 mod area_table;

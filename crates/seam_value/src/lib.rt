@@ -1,13 +1,13 @@
 // SPDX-License-Identifier: MIT
 
-//! The values that properties and arguments hold: whole numbers and short texts, their nine types,
-//! and the one way in which each value is spelled.
+//! The values that properties and arguments hold: whole numbers and short texts, their nine types, and the one way in which each value is
+//! spelled.
 //!
 //! A whole number of any length is a number; one that no type holds is out of range. That a value is in range is part of *Fits* and not of
 //! the value, since a variant of a public enum can carry no condition. Numbers are read without memory, and only a text is allocated.
 //!
-//! Of `proofs/`, `Decimals` (digits and their numbers), `NumberWords` (words that are numbers) and `Answers` (a spelling is that of
-//! one value) are for callers.
+//! For callers, of `proofs/`: `Decimals` (digits and their numbers), `NumberWords` (words that are numbers) and `Answers` (from the parts'
+//! answers to the whole's).
 #![tactic(auto)]
 
 mod laws;

@@ -25,8 +25,8 @@ entries_of slots = map (λ s. (s.entity, s.version)) slots
 abbrev pub number_at : List Slot → ℕ → ℕ
 number_at slots i = slice_index (keys_of (entries_of slots)) i
 
--- these are the places of the entities, each of which is there once: the numbers at them rise, and none is missing. A `u32` holds each place,
--- and has one more number
+-- these are the places of the entities, each of which is there once: the numbers at them rise, and none is missing. A `u32` holds each
+-- place, and has one more number
 pub record IsByNumber (entities places : List ℕ) : Type 0 where
   pub once : IsDistinct nat_eq entities
   pub few : length entities < 2 ^ 32

@@ -2,16 +2,17 @@
 
 //! Which entities a witness has in view, and what its client was shown of them.
 //!
-//! An entity enters a view within a radius, and leaves it beyond the radius and a hysteresis. (After the area of interest
-//! of the BigWorld Server Overview.)
+//! An entity enters a view within a radius, and leaves it beyond the radius and a hysteresis. (After the area of interest of the BigWorld
+//! Server Overview.)
 //!
 //! Those in view lie in enter order, with their places in rising number beside them. Those that left and are not back are in a map by hash;
-//! so each version shown stands once. A plan goes through those in view by number beside those known, and notes in enter order what becomes
-//! of each; leaves and sets are read off the notes. Where the next one is looked for first is a guess, of which no clause speaks. A plan
-//! makes no place for a set: so looks have room only where each that they set is in view when its turn comes (*HasRoom*).
+//! so each version shown stands once.
 //!
-//! Of `proofs/`, `Only` (looks at two lists that agree on all that matters) and `Room` (what has room for looks has room for
-//! fewer) are for callers.
+//! A plan goes through those in view by number beside those known, and notes in enter order what becomes of each; leaves and sets are read
+//! off the notes. Where the next one is looked for first is a guess, of which no clause speaks. A plan makes no place for a set: so looks
+//! have room only where each that they set is in view when its turn comes (*HasRoom*).
+//!
+//! For callers, of `proofs/`: `Kept` (what a look leaves of a view is a view) and `Room` (what has room for looks has room for fewer).
 #![tactic(auto)]
 
 ghost use Rattle.std.specs.Prelude.{◌≡◌, ◌≤◌, ◌++◌, ◌∷◌, ℕ, List, [], filter, map, length, slice_get, option_copied, IfOk, OnOk, is_some};

@@ -5,7 +5,7 @@
 //! A journal has a field for each phase of a round, so that no phase is a number. A watch copies what it keeps, since the round that made
 //! the journal still prints it.
 //!
-//! Of `proofs`, `Told` (journals that are given, some after others) is for callers.
+//! For callers, of `proofs/`: `Told` (journals that are given, some after others).
 #![tactic(auto)]
 
 mod journal;

@@ -6,7 +6,7 @@
 //! backslash at the end of a line is a bad escape and no open quote, since its place is left of the line's end. A line is read without
 //! memory: its words stand in a table of the caller's.
 //!
-//! Of `proofs/`, `WordTexts` (a line has one list of words, and none where they are at fault) is for callers.
+//! For callers, of `proofs/`: `WordTexts` (a line has one list of words, and none where they are at fault).
 #![tactic(auto)]
 
 mod laws;

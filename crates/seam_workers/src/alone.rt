@@ -42,7 +42,7 @@ fn has_event_above<M: Machine>(net: &Net<M>, node: u8) -> bool
     false
 }
 
-/// Lets events happen while one node alone has any, at most so many. The gate is called before each.
+/// Lets events happen, at most `turns` of them, while one node alone has any. The gate is called before each.
 pub fn alone<M: Machine, G: Gate, R: Threads + Wait + Sync>(
     rt: &R,
     alloc: Global,

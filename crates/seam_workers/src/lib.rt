@@ -2,13 +2,12 @@
 
 //! Workers that step the nodes of a net in threads, and the net that they leave.
 //!
-//! Each node is under a lock of its own, with its links and a log of its steps; workers visit the nodes again and again. Once
-//! they are done, the ends of the links meet, the logs are merged, and the net is put together again. Whatever the workers did,
-//! the net is the run of the events that are returned (Lamport, "Time, Clocks, and the Ordering of Events in a Distributed
-//! System", 1978).
+//! Each node is under a lock of its own, with its links and a log of its steps; workers visit the nodes again and again. Once they are
+//! done, the ends of the links meet, the logs are merged, and the net is put together again. Whatever the workers did, the net is the run
+//! of the events that are returned (Lamport, "Time, Clocks, and the Ordering of Events in a Distributed System", 1978).
 //!
-//! While one node alone has something to do, nothing can be done side by side, and events happen on the net itself (`alone`), at most as
-//! many as a worker has turns. Then threads start where anything is left, though one node may still be the only one that has it.
+//! While one node alone has something to do, nothing can be done side by side. So events happen on the net itself then (`alone`), at most
+//! as many as a worker has turns. If anything is left after that, threads start, also where one node alone has it.
 //!
 //! No clause of `run_workers` says that two workers run at once, how much they do, or that they end: tests show it.
 //!
@@ -77,7 +76,7 @@ impl Claims for Brand {
     ghost claims = { [] };
 }
 
-/// A logged node, with the one claim of its number. Two claims of one name cannot both be there.
+/// A logged node with the claim of its number. No two claims have one name.
 #[derive(Drop)]
 pub struct Seat<M: Machine, J: Naming<M, M::Msg> + Claims> {
     logged: Logged<M, J>,

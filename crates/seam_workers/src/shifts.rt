@@ -33,7 +33,7 @@ impl Model for Shift {
 }
 
 impl Shift {
-    /// No try was made.
+    /// A shift in which no try was made yet.
     pub fn new() -> Shift
         ensures { result ≡ record { tries = 0; idle = 0; refused = false } }
     {
@@ -44,7 +44,7 @@ impl Shift {
         }
     }
 
-    /// Whether so many last tries found nothing to do, or memory was refused.
+    /// Whether the last tries, as many as there are nodes, found nothing to do; or memory was refused.
     pub fn is_over(&self, nodes: usize) -> bool
         ensures over { result ≡ true → (nodes ≤ self.now.idle) ⊎ (self.now.refused ≡ true) }
         ensures goes_on { result ≡ false → self.now.idle < nodes }

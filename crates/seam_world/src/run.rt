@@ -24,11 +24,15 @@ use std::alloc::Global;
 use std::sync::Wait;
 use std::thread::Threads;
 
-/// Runs a script: reads a header and commands, and writes for each round what happened in it. The words are those of the command line,
-/// without the program's name (`seam_args`). Where they ask for a generated input of so many lines (`seam_storm`), that is run in place of
-/// the script, and nothing but its summary (`seam_rule_rounds`) is written. The rounds are played by as many workers as the words say, who
-/// call the gate before each step; the watch is given the journal of each round as it ends, with space 0. Every end but `Done` and
-/// `WriteFault` writes a fault line last; if that fails, the status stays.
+/// Runs a script: reads a header and commands, and writes for each round what happened in it.
+///
+/// The words are those of the command line, without the program's name (`seam_args`). They may ask for a generated input (`seam_storm`):
+/// then that is run in place of the script, the source is not read, and only the summary is written (`seam_rule_rounds`).
+///
+/// The words say how many workers play the rounds. Each worker calls the gate before each try of a step. The watch is given the journal of
+/// each round as it ends, with space 0.
+///
+/// Every end but `Done` and `WriteFault` writes a fault line last; if that fails, the status stays.
 pub fn run_seamless<S: Source, K: Sink, G: Gate + Sync, W: Watch, R: Threads + Wait + Sync>(
     rt: &R,
     alloc: Global,

@@ -10,7 +10,7 @@ use std::marker::Model;
 /// The most bytes that are gathered before they are written.
 pub const MOST_PENDING: usize = 65_536;
 
-/// Text on its way to a sink. Its pieces are gathered, so that many short ones make one write.
+/// Text on its way to a sink. Short pieces are gathered, so that many of them make one write.
 #[derive(Drop)]
 pub struct Pending {
     text: Vec<u8>,
@@ -28,7 +28,7 @@ impl Model for Pending {
 }
 
 impl Pending {
-    /// No text, and the memory for all that may be gathered.
+    /// No text yet, and room for all that may be gathered.
     pub fn new(alloc: Global) -> Result<Self, AllocError>
         ensures { IfOk result (λ p. p ≡ []) }
     {
@@ -37,8 +37,8 @@ impl Pending {
         })
     }
 
-    /// Adds a piece of text. Where the piece has no room beside what was gathered, that is written first; and a piece that has
-    /// no room by itself is written at once.
+    /// Adds a piece of text. If there is no room for it beside what was gathered, that is written first. A piece for which there is no room
+    /// by itself is written at once.
     #[inline]
     pub fn push<K: Sink>(&mut self, piece: &[u8], out: &mut K) -> Result<(), Failed>
         ensures prints { (sink : SinkState) (text : List ℕ) → Printed sink (K.state out.old) self.old text →

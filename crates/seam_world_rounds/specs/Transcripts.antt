@@ -18,8 +18,9 @@ pub record HasSteps {w v : World} {b : Batch} (round : GoesThroughRound w b v) (
   pub looks : j.looks ≡ round.look_events
 
 -- The world w played the round of the standing s by the steps of the journal j, no more than the table of a round allows, and is v after
--- it: the batch of the round's lines was loaded, and the steps led on, until the calls had ended, the dead were reaped and the witnesses had
--- looked. What it printed, r, and the standing that it left, t, are read off the world where the calls had ended, and off v. At each step
+-- it: the batch of the round's lines was loaded, and the steps led on, until the calls had ended, the dead were reaped and the witnesses
+-- had looked. What it printed, r, and the standing that it left, t, are read off the world where the calls had ended, and off v; but the
+-- boundaries of r and the book of t are what they are here, and what they have to be is a point of a legal round (*IsRound*). At each step
 -- each live entity had one real; and after it each client shows all that is within its radius.
 pub record Plays (h : Header) (s : Standing) (w : World) (r : RoundData) (j : Journal) (t : Standing) (v : World) : Type 0 where
   pub round : GoesThroughRound w (batch_of h s.book) v

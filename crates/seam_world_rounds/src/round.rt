@@ -50,8 +50,8 @@ pub struct Playing<'a, G> {
     pub output: Output,
 }
 
-/// What a round left: the world after it, the steps that led there, the tree of the next round where the boundaries were balanced, and what
-/// is summed up of it where that was asked for.
+/// What a round left: the world after it, the steps that led there, the tree of the next round if the boundaries were balanced, and the
+/// sums of the round if they were asked for.
 #[derive(Drop)]
 pub struct Played {
     pub world: World,
@@ -201,8 +201,7 @@ fn balanced(
     Ok(Some(balance(alloc, tree, &places, shift)?))
 }
 
-/// Plays the round of a batch, and gives of it what the run gives: its text is appended, or it is summed up. Those who die in it are
-/// residents no more.
+/// Plays the round of a batch. As the output asks, its text is appended or it is summed up. Those who die in it are residents no more.
 ///
 /// If allocation fails, the world is gone.
 pub fn play<G: Gate + Sync, R: Threads + Wait + Sync>(

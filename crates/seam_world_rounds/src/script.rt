@@ -26,8 +26,8 @@ use std::alloc::{AllocError, Global};
 use std::sync::Wait;
 use std::thread::Threads;
 
-/// How far a script was read: the book of what was accepted, the world of cells as the last round left it with the entities that live
-/// in it, the counts of lines and rounds, and what is summed up of rounds.
+/// How far a script was read: the book of what was accepted, the world as the last round left it, the entities that live in it, the counts
+/// of lines and rounds, and the sums of the rounds.
 #[derive(Drop)]
 pub struct Script {
     pub alloc: Global,
@@ -44,7 +44,7 @@ pub struct Script {
 }
 
 impl Script {
-    /// A script after a header of so many lines.
+    /// A script of which the header alone was read, which had `lines` lines.
     pub fn new(alloc: Global, header: Header, lines: u64) -> Result<Self, AllocError>
         requires legal { AreLegal header.settings }
         requires sound { AreDefs header.defs }
@@ -73,7 +73,7 @@ impl Script {
         self.totals
     }
 
-    /// Reads the next line, and appends what is printed for it. Answers the steps of a round that it ended.
+    /// Reads the next line, and appends what is printed for it. If the line ended a round, its steps are given.
     pub fn read_line<G: Gate + Sync, R: Threads + Wait + Sync>(
         &mut self,
         rt: &R,
@@ -177,7 +177,7 @@ impl Script {
         Ok(played.journal)
     }
 
-    /// Ends the input, and appends the text of a last round, whose steps it answers, if there is one.
+    /// Ends the input. If a last round is open, its text is appended, and its steps are given.
     pub fn finish<G: Gate + Sync, R: Threads + Wait + Sync>(
         &mut self,
         rt: &R,

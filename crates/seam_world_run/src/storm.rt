@@ -19,7 +19,7 @@ use std::alloc::Global;
 use std::sync::Wait;
 use std::thread::Threads;
 
-/// Runs the generated input of so many lines, and writes its summary. The fault line is the caller's to write.
+/// Runs the generated input of `lines` lines, and writes its summary. The fault line is the caller's to write.
 pub fn run_storm<K: Sink, G: Gate + Sync, W: Watch, R: Threads + Wait + Sync>(
     rt: &R,
     alloc: Global,

@@ -26,8 +26,8 @@ pub fn a_rounds_text_has_two_parts()
         ≡ number_text (codes "round ") r.number ++ steps ++ calls_text defs r ++ ends_text defs r }
 {}
 
-/// Who lived as the open round began stays so when a line is accepted (`entry`); and who lives where a round has ended lives as the next one
-/// begins, with the tree of that round (`next`) or with another one (`balanced`).
+/// Who lived as the open round began stays so when a line is accepted (`entry`); and who lives where a round has ended lives as the next
+/// one begins, with the tree of that round (`next`) or with another one (`balanced`).
 pub fn residents_stay_as_lines_come()
     ensures entry { (b : Book) (x : Entry) (rs : List AnyResident) → AreResidents (as_begun b) rs →
         AreResidents (as_begun (with_entry b x)) rs }
@@ -51,10 +51,10 @@ fn a_round_is_read_at_rest()
     seam_law_book::each_part_executed_what_was_accepted();
 }
 
-/// What is found of those who are there in a played round is what the round prints: where its calls have ended, the calls (`did`, `dob`),
-/// and where it has ended, the homes (`homes`), the base parts (`bases`), the ghosts (`ghosts`) and the lines of clients, with what was kept
-/// of those whose entities died (`shown`), and how many these are (`count`). The lines show one copy of each entity and version
-/// (`versions`). In both worlds each real is where the route of its base node leads (`routes`).
+/// What is found of those who live in a played round is what the round prints. Where its calls have ended, these are the calls (`did`,
+/// `dob`). Where it has ended, these are the homes (`homes`), the base parts (`bases`), the ghosts (`ghosts`) and the lines of clients,
+/// with what was kept of those whose entities died (`shown`), and how many lines there are (`count`). The lines show one copy of each
+/// entity and version (`versions`). In both worlds each real is where the route of its base node leads (`routes`).
 pub fn what_is_found_is_printed()
     ensures did { (h : Header) (s : Standing) (tree : Division) (w v : World) (p : IsPlayed h s tree w v) (bounds : Option Division)
         (rs : List AnyResident) → ArePresent s.book rs →

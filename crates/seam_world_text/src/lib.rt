@@ -1,13 +1,14 @@
 // SPDX-License-Identifier: MIT
 
-//! A round's text, read off the two worlds that it goes through where its calls have ended and where it has ended; and who lives, from
-//! round to round.
+//! A round's text, read off two of the worlds that it goes through: the one where its calls have ended, and the last one. And who lives,
+//! from round to round.
 //!
-//! `specs/Residents` says who is there, `specs/Finding` what is found of an entity by its base node and by the route that this has to the
-//! real, `specs/Texts` what is written of that, `specs/Sums` what is counted, and `specs/Farewells` what is kept of clients whose entities
-//! die. The laws of `laws` say
-//! that this is what a played round prints (*data_of* of `seam_law_transcript`): so the contracts of `write_calls` and `write_ends` speak of that
-//! alone. Who prints a round needs no scan of cells, and nothing that is not printed.
+//! `specs/Residents` says who lives. `specs/Finding` says what is found of an entity: by its base node, and by the route from there to the
+//! real. `specs/Texts` has what is written of that, `specs/Sums` what is counted, and `specs/Farewells` what is kept of clients whose
+//! entities die.
+//!
+//! The module `laws` has that this is what a played round prints (*data_of* of `seam_law_transcript`), so the contracts of `write_calls`
+//! and `write_ends` speak of that alone. Who prints a round needs no scan of cells.
 #![tactic(auto)]
 
 mod calls;
