@@ -232,7 +232,7 @@ module _ (c : CellView) (size : c.tree.size ≡ c.here.settings.size) (are : Are
   looks_there : (es : List ℕ) → AreThere c.here c.tree (look_next c es).state.reals
   looks_there [] = are
   looks_there (e ∷ es) = step_there (record c { looks = es }) size e (looks_around c e (table.get c.reals e) (known_to c e)) are
-      (unless_there c.here c.tree size (Looks.stray_look c.here (table.get c.reals e) (known_to c e))
+      (unless_there c.here c.tree size (CellLooks.stray_look c.here (table.get c.reals e) (known_to c e))
       (look_task c.here (slot_of c e) (table.get c.reals e) (known_to c e))
       (λ right. look_there c.here c.tree size (slot_of c e) (table.get c.reals e) (known_to c e) (are e)))
 

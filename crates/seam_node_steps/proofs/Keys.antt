@@ -115,6 +115,6 @@ module _ (c : CellView) (is : IsCell c) (e : ℕ) where
       (ready_of c.here c.tree e (slot_of c e) (table.get c.reals e) (is.keys e))
 
   pub looks_of : StepIsOf e (Cells.looks_around c e (table.get c.reals e) (known_to c e)).slot
-  looks_of = unless_of c.here c.tree e (Looks.stray_look c.here (table.get c.reals e) (known_to c e))
+  looks_of = unless_of c.here c.tree e (CellLooks.stray_look c.here (table.get c.reals e) (known_to c e))
       (look_task c.here (slot_of c e) (table.get c.reals e) (known_to c e))
       (look_of c.here c.tree e (slot_of c e) (table.get c.reals e) (known_to c e) (is.keys e))
