@@ -1,5 +1,6 @@
 -- What an event keeps of a world; and a world as it is opened.
-use Rattle.std.proofs.Common.{◌≡◌, ℕ, zero, suc, ◌+◌, ◌<◌, ◌≤◌, ◌++◌, ◌∷◌, [], List, length, replicate, true, refl, ap, ◌∙◌, subst, sym, arith}
+use Rattle.std.proofs.Common.{◌≡◌, ℕ, zero, suc, ◌+◌, ◌<◌, ◌≤◌, ◌++◌, ◌∷◌, [], List, length, replicate, true, refl, ap, ◌∙◌, subst, sym}
+use Rattle.std.proofs.Common.{arith}
 use Rattle.seam_node_steps.specs.Prelude.{IsProper, IsTree, area, Settings, TypeDef, AreDefs, AreLegal, enabled, happens, Event, cell_count}
 use Rattle.seam_node_steps.specs.Prelude.{holders, NodeView, World, node_steps, node_has_work, one_cell, opened}
 use Rattle.seam_law_calls.specs.Prelude.{IsFrame}

@@ -1,5 +1,6 @@
 -- What parts executed in a round, by the lines that show it.
-use Rattle.std.proofs.Common.{◌≡◌, ◌≢◌, ℕ, Bool, true, false, List, [], ◌∷◌, ◌++◌, map, Option, None, Some, refl, sym, ap, ◌∙◌, subst, arith}
+use Rattle.std.proofs.Common.{◌≡◌, ◌≢◌, ℕ, Bool, true, false, List, [], ◌∷◌, ◌++◌, map, Option, None, Some, refl, sym, ap, ◌∙◌, subst}
+use Rattle.std.proofs.Common.{arith}
 use Rattle.std.proofs.Common.{append-nil, IsTrue}
 use Rattle.std.specs.Prelude.{filter, ◌==◌, ◌&&◌, is_some, Contains}
 use Rattle.std.specs.List.{flat_map}

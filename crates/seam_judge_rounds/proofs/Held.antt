@@ -1,5 +1,6 @@
 -- Where entities are held after a legal round, by its home lines and ghost lines.
-use Rattle.std.proofs.Common.{◌≡◌, ◌<◌, ◌≤◌, ◌+◌, ℕ, zero, suc, Bool, true, false, cond, List, [], ◌∷◌, map, length, Option, Some, refl, sym, ap, ◌∙◌, subst, arith}
+use Rattle.std.proofs.Common.{◌≡◌, ◌<◌, ◌≤◌, ◌+◌, ℕ, zero, suc, Bool, true, false, cond, List, [], ◌∷◌, map, length, Option, Some, refl}
+use Rattle.std.proofs.Common.{sym, ap, ◌∙◌, subst, arith}
 use Rattle.std.proofs.Common.{IsTrue, nat_lt, nat_le, inl, inr, ◌⊎◌}
 use Rattle.std.specs.Prelude.{filter, find, ◌==◌, ◌&&◌, Contains, unwrap_or}
 use Rattle.std.specs.List.{All, flat_map, range_with_len}

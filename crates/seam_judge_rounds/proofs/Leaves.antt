@@ -1,5 +1,6 @@
 -- A legal round is legal with the standing that its lines show: where entities are held that do not live makes no difference.
-use Rattle.std.proofs.Common.{◌≡◌, ◌≤◌, ◌++◌, ℕ, Bool, true, false, List, [], ◌∷◌, map, get_or, Option, None, Some, refl, sym, ap, ◌∙◌, subst}
+use Rattle.std.proofs.Common.{◌≡◌, ◌≤◌, ◌++◌, ℕ, Bool, true, false, List, [], ◌∷◌, map, get_or, Option, None, Some, refl, sym, ap, ◌∙◌}
+use Rattle.std.proofs.Common.{subst}
 use Rattle.std.specs.Prelude.{MatchBool, Contains, filter}
 use Rattle.std.specs.List.{All, AllByRecursion, flat_map}
 use Rattle.std.proofs.lemmas.List.{get_or_default}

@@ -1,5 +1,6 @@
 -- Whether a place is settled along all of a path, or along all but its start.
-use Rattle.std.proofs.Common.{◌≡◌, ◌⊎◌, ◌<◌, ◌+◌, ◌-◌, ℕ, Bool, List, ◌∷◌, length, map, drop, inl, inr, sym, ◌∙◌, ap, subst, arith, IsTrue, ◌↔◌}
+use Rattle.std.proofs.Common.{◌≡◌, ◌⊎◌, ◌<◌, ◌+◌, ◌-◌, ℕ, Bool, List, ◌∷◌, length, map, drop, inl, inr, sym, ◌∙◌, ap, subst, arith, IsTrue}
+use Rattle.std.proofs.Common.{◌↔◌}
 use Rattle.std.specs.List.{range_with_len}
 use Rattle.seam_rule_rounds.specs.Prelude.{Pos, Division, Distances, Place, settled_all, IsPlaceAfter, Call, Create, Header, position_at}
 use Rattle.seam_rule_rounds.specs.Prelude.{positions_past}

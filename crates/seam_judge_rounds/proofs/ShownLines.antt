@@ -1,5 +1,6 @@
 -- The points about clients, by what the code decides of each part of them.
-use Rattle.std.proofs.Common.{◌≡◌, ◌+◌, ◌++◌, ℕ, Bool, true, false, List, [], length, map, Bor, refl, sym, ap, ◌∙◌, subst, IsTrue, IsFalse, ◌↔◌, ◌||◌}
+use Rattle.std.proofs.Common.{◌≡◌, ◌+◌, ◌++◌, ℕ, Bool, true, false, List, [], length, map, Bor, refl, sym, ap, ◌∙◌, subst, IsTrue, IsFalse}
+use Rattle.std.proofs.Common.{◌↔◌, ◌||◌}
 use Rattle.std.specs.Prelude.{filter, ◌==◌}
 use Rattle.std.specs.List.{All, range_with_len}
 use Rattle.std.specs.List.Sorted.{IsNonDecreasing}

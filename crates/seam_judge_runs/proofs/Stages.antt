@@ -1,5 +1,6 @@
 -- Worlds keep the size of their space; and what lets them load a batch.
-use Rattle.std.proofs.Common.{◌≡◌, ℕ, ◌+◌, ◌-◌, ◌<◌, ◌≤◌, take, drop, get_or, true, false, eqb, List, [], ◌∷◌, length, map, Ok, Err, Result, Option, None, Some, refl, sym, ap, ◌∙◌, subst, arith}
+use Rattle.std.proofs.Common.{◌≡◌, ℕ, ◌+◌, ◌-◌, ◌<◌, ◌≤◌, take, drop, get_or, true, false, eqb, List, [], ◌∷◌, length, map, Ok, Err, Result}
+use Rattle.std.proofs.Common.{Option, None, Some, refl, sym, ap, ◌∙◌, subst, arith}
 use Rattle.std.specs.Prelude.{OnOk, OnErr}
 use Rattle.std.specs.FinMap as table
 use Rattle.std.specs.List.{All, AllByRecursion, IsDistinct}

@@ -1,5 +1,6 @@
 -- What the open round of a book brings to the core, by the book as the round began.
-use Rattle.std.specs.Prelude.{◌≡◌, ◌⊎◌, ℕ, ◌+◌, ◌<◌, ◌≤◌, false, eqb, ◌&&◌, ◌==◌, List, [], ◌∷◌, map, filter, find, length, Option, Some, None}
+use Rattle.std.specs.Prelude.{◌≡◌, ◌⊎◌, ℕ, ◌+◌, ◌<◌, ◌≤◌, false, eqb, ◌&&◌, ◌==◌, List, [], ◌∷◌, map, filter, find, length, Option, Some}
+use Rattle.std.specs.Prelude.{None}
 use Rattle.std.specs.List.{AllByRecursion, IsDistinct, filter_map, list_any}
 use Rattle.seam_node_steps.specs.Prelude.{IsWhole, cells_of, IsTree, Pos, FitsDeed, part_of_deed, type_of, Part, Deed, is_for, rank_of}
 use Rattle.seam_node_steps.specs.Prelude.{Sender, Call, Create}

@@ -18,7 +18,8 @@ use Rattle.seam_entity.specs.declared.message.Msg.TheVariants.{Call}
 use Rattle.seam_node_steps.proofs.Slots.{slot_stepped}
 use Rattle.seam_law_calls.specs.CellMoves as move
 use Rattle.seam_law_calls.specs.CellMoves.{after_step}
-use Rattle.seam_law_calls.proofs.Lists.{AllAbout, mine_own, mine_other, concerning_own, concerning_other, times_own, times_other, times_without}
+use Rattle.seam_law_calls.proofs.Lists.{AllAbout, mine_own, mine_other, concerning_own, concerning_other, times_own, times_other}
+use Rattle.seam_law_calls.proofs.Lists.{times_without}
 use Rattle.seam_law_calls.proofs.Lists.{times_without_other}
 use Rattle.seam_law_calls.proofs.Sent.{slot_about, surveys_about, readies_about, looks_about}
 use Rattle.seam_law_calls.proofs.SlotSteps.{message_moves, survey_moves, ready_moves, look_moves}

@@ -15,7 +15,8 @@ use Rattle.seam_node_steps.proofs.Tables.{computing}
 use Rattle.seam_node_steps.proofs.Early.{row, quiet}
 use Rattle.seam_law_calls.proofs.Counting.{counted_one, one_counts}
 use Rattle.seam_law_calls.proofs.OneReal.{one_leads}
-use Rattle.seam_law_calls.proofs.ExampleMet.{EachFrom, each_node, slots, none_there, one_is, frame_is, all_fit, spared, one_holder, row_leads}
+use Rattle.seam_law_calls.proofs.ExampleMet.{EachFrom, each_node, slots, none_there, one_is, frame_is, all_fit, spared, one_holder}
+use Rattle.seam_law_calls.proofs.ExampleMet.{row_leads}
 
 -- ---- no other entity
 

@@ -1,5 +1,6 @@
 -- What was true of an entity in some world of a round's calls is what the rules say that its client, and others, may be shown.
-use Rattle.std.proofs.Common.{◌≡◌, ℕ, ◌-◌, ◌≤◌, List, [], ◌∷◌, ◌++◌, length, sym, ap, ◌∙◌, subst, arith, length-append, append_assoc, take-append-drop}
+use Rattle.std.proofs.Common.{◌≡◌, ℕ, ◌-◌, ◌≤◌, List, [], ◌∷◌, ◌++◌, length, sym, ap, ◌∙◌, subst, arith, length-append, append_assoc}
+use Rattle.std.proofs.Common.{take-append-drop}
 use Rattle.std.specs.Prelude.{take, drop}
 use Rattle.std.specs.List.{AllByRecursion}
 use Rattle.seam_node_steps.specs.Prelude.{own_of, other_of, ghost_of, projected, type_of, State, Property, TypeDef, Call as CallData}

@@ -12,7 +12,8 @@ ghost use Rattle.seam_law_flow.specs.Newest.{Newest};
 ghost use Rattle.seam_law_flow.specs.Tokens.{HasOne};
 ghost use Rattle.seam_net_example.specs.Views.{CounterView};
 ghost use Rattle.seam_net_example.specs.Counters.{counter_steps, counter_work};
-ghost use Rattle.seam_net_example.specs.Rings.{IsRing, IsSoundNet, to_do, to_go, small, no_counter, SmallMoves, AllSmall, next_entry, brings_none};
+ghost use Rattle.seam_net_example.specs.Rings.{IsRing, IsSoundNet, to_do, to_go, small, no_counter, SmallMoves, AllSmall, next_entry};
+ghost use Rattle.seam_net_example.specs.Rings.{brings_none};
 ghost use Rattle.seam_net_example.specs.Rings.{given, number_count, NumberMoves, alone};
 
 /// A run of a net of counters is no longer than what its counters and numbers have before them.

@@ -7,9 +7,11 @@ use Rattle.seam_node_steps.proofs.Tables.{computing}
 use Rattle.seam_node_steps.proofs.Quiet.{is_quiet, quiet_of}
 use Rattle.seam_node_steps.specs.ViewRounds.{third_steps}
 use Rattle.seam_node_steps.specs.ViewRounds.{third_looks, set_2, leave_2, first_0, first_1, first_2, first_look_0}
-use Rattle.seam_node_steps.specs.ViewRounds.{first_look_1, first_look_2, first_look_3, first_look_4, first_look_5, second_0, second_1, second_2}
+use Rattle.seam_node_steps.specs.ViewRounds.{first_look_1, first_look_2, first_look_3, first_look_4, first_look_5, second_0, second_1}
+use Rattle.seam_node_steps.specs.ViewRounds.{second_2}
 use Rattle.seam_node_steps.specs.ViewRounds.{second_3, second_4, second_look_0, second_look_1, second_look_2, second_look_3, second_look_4}
-use Rattle.seam_node_steps.specs.ViewRounds.{third_0, third_1, third_2, third_3, third_4, third_look_0, third_look_1, third_look_2, third_look_3}
+use Rattle.seam_node_steps.specs.ViewRounds.{third_0, third_1, third_2, third_3, third_4, third_look_0, third_look_1, third_look_2}
+use Rattle.seam_node_steps.specs.ViewRounds.{third_look_3}
 use Rattle.seam_node_steps.specs.ViewRounds.{third_look_4}
 
 pub first_load : loaded empty_world batch_1 ≡ first_0

@@ -5,7 +5,8 @@ use Rattle.seam_entity.specs.Reals.{RealView, WitnessView}
 use Rattle.seam_entity.specs.Numbers.{is_small}
 use Rattle.seam_entity.specs.Here.{Here, base_of}
 use Rattle.seam_node_steps.specs.Slots.{Slot, SlotStep, rests}
-pub use Rattle.seam_entity.specs.WitnessLooks.{other_of_real, other_of_copy, Known, seen_as, is_of, shown_of_known, known_of, shown_for, own_due}
+pub use Rattle.seam_entity.specs.WitnessLooks.{other_of_real, other_of_copy, Known, seen_as, is_of, shown_of_known, known_of, shown_for}
+pub use Rattle.seam_entity.specs.WitnessLooks.{own_due}
 pub use Rattle.seam_entity.specs.WitnessLooks.{all_shown, numbered, after_looking, looks_of, shown_of}
 
 abbrev pub looks_with : Here → Slot → RealView → WitnessView → List Known → List Shown → SlotStep

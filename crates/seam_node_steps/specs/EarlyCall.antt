@@ -16,7 +16,8 @@ use Rattle.seam_entity.specs.Executing.{created}
 use Rattle.seam_node_steps.specs.Nodes.{NodeView, World}
 use Rattle.seam_node_steps.specs.Nodes.NodeView.{Cell, Base}
 use Rattle.seam_node_steps.specs.Loads.{new_part}
-use Rattle.seam_node_steps.specs.Rows.{at, cut, call, hit, avatar_at, no, one, next_place, ghost, orders, real, here, cell, idle, Way, world}
+use Rattle.seam_node_steps.specs.Rows.{at, cut, call, hit, avatar_at, no, one, next_place, ghost, orders, real, here, cell, idle, Way}
+use Rattle.seam_node_steps.specs.Rows.{world}
 use Rattle.seam_node_steps.specs.Rows.{task, mail}
 use Rattle.seam_node_steps.specs.Rows.{order as in_order}
 

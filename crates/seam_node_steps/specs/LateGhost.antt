@@ -20,7 +20,8 @@ use Rattle.seam_node_steps.specs.Bases.{PartView}
 use Rattle.seam_node_steps.specs.Nodes.{NodeView, World}
 use Rattle.seam_node_steps.specs.Nodes.NodeView.{Cell, Base}
 use Rattle.seam_node_steps.specs.Loads.{new_part}
-use Rattle.seam_node_steps.specs.Rows.{at, cut, call, avatar_at, copy_at, no, one, next_place, ghost, real, here, cell, idle, Way, world, task}
+use Rattle.seam_node_steps.specs.Rows.{at, cut, call, avatar_at, copy_at, no, one, next_place, ghost, real, here, cell, idle, Way, world}
+use Rattle.seam_node_steps.specs.Rows.{task}
 use Rattle.seam_node_steps.specs.Rows.{mail}
 use Rattle.seam_node_steps.specs.Rows.{order as in_order}
 

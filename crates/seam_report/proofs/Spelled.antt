@@ -1,5 +1,6 @@
 -- Texts that are kept with their copies.
-use Rattle.std.proofs.Common.{◌≡◌, ℕ, zero, suc, Bool, true, false, cond, subst, sym, ap, ◌∙◌, arith, refl, nat_eq, List, [], ◌∷◌, map, None, Some}
+use Rattle.std.proofs.Common.{◌≡◌, ℕ, zero, suc, Bool, true, false, cond, subst, sym, ap, ◌∙◌, arith, refl, nat_eq, List, [], ◌∷◌, map}
+use Rattle.std.proofs.Common.{None, Some}
 use Rattle.std.proofs.Common.{slice_get, length, ◌≤◌, length-append, ◌++◌, append_assoc, drop}
 use Rattle.std.specs.Prelude.{Result, Ok, Err, is_ok, OnOk, if◌then◌else◌}
 use Rattle.std.specs.List.{AllByRecursion}

@@ -1,5 +1,6 @@
 -- Worlds of the standard settings stay such, and may be loaded; how many events were made.
-use Rattle.std.proofs.Common.{◌≡◌, ℕ, suc, ◌+◌, ◌<◌, ◌≤◌, true, false, eqb, List, [], ◌∷◌, ◌++◌, length, map, take, get_or, Ok, Err, Result, Option, Some, None, refl, sym, ap, ◌∙◌, subst, arith}
+use Rattle.std.proofs.Common.{◌≡◌, ℕ, suc, ◌+◌, ◌<◌, ◌≤◌, true, false, eqb, List, [], ◌∷◌, ◌++◌, length, map, take, get_or, Ok, Err, Result}
+use Rattle.std.proofs.Common.{Option, Some, None, refl, sym, ap, ◌∙◌, subst, arith}
 use Rattle.std.specs.Prelude.{slice_get, OnOk, OnErr}
 use Rattle.std.specs.List.{All, AllByRecursion, IsDistinct}
 use Rattle.std.proofs.lemmas.Bool.{ne_eqb}
@@ -31,7 +32,8 @@ use Rattle.seam_core.specs.Worlds.{IsWorld, Leads}
 use Rattle.seam_core.proofs.Worlds.{still_world, leads_none}
 use Rattle.seam_core.proofs.Nodes.{IsUnseen}
 use Rattle.seam_core.proofs.Loading.{here_is, first_node, knows, world_loaded, known_reaped, world_looks}
-use Rattle.seam_test_core.specs.Trials.{IsStandard, IsSized, MayBegin, MayBeFirst, avatar, avatars_from, client_list, batch_of, first_batch, Makes}
+use Rattle.seam_test_core.specs.Trials.{IsStandard, IsSized, MayBegin, MayBeFirst, avatar, avatars_from, client_list, batch_of, first_batch}
+use Rattle.seam_test_core.specs.Trials.{Makes}
 
 -- ---- sizes
 

@@ -2,7 +2,8 @@ use Rattle.std.proofs.Common.{arith}
 use Rattle.seam_node_steps.specs.Prelude.{empty_world, batch_1, first_2, first_steps}
 use Rattle.seam_law_calls.specs.Prelude.{events_of}
 use Rattle.seam_node_steps.proofs.Views.{first_quiet}
-use Rattle.seam_law_clients.proofs.ExampleLooks.{first, between, opened_fits, run, ends_between, ends_copied, watches_here, client_fits, room}
+use Rattle.seam_law_clients.proofs.ExampleLooks.{first, between, opened_fits, run, ends_between, ends_copied, watches_here, client_fits}
+use Rattle.seam_law_clients.proofs.ExampleLooks.{room}
 use Rattle.seam_law_clients.proofs.looks.a_worked_client_fits_its_witness.Goals as goal
 
 pub returns-clause-between : goal.returns-clause-between
