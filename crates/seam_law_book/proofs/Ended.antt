@@ -60,12 +60,7 @@ of_destroyed : (P : ℕ → Type 0) (e : ℕ) (xs : List Entry) → AllByRecursi
 of_destroyed P e [] all is = absurd (let z = is in cc)
 of_destroyed P e (entry.Destroyed d ∷ xs) all is =
     destroyed_by P e d (d == e) (list_any (destroys e) xs) refl all.0 (of_destroyed P e xs all.1) is
-of_destroyed P e (entry.Created c ∷ xs) all is = of_destroyed P e xs all is
-of_destroyed P e (entry.Called c ∷ xs) all is = of_destroyed P e xs all is
-of_destroyed P e (entry.Joined d ∷ xs) all is = of_destroyed P e xs all is
-of_destroyed P e (entry.Ticked ∷ xs) all is = of_destroyed P e xs all is
-of_destroyed P e (entry.Divided t ∷ xs) all is = of_destroyed P e xs all is
-of_destroyed P e (entry.Balanced ∷ xs) all is = of_destroyed P e xs all is
+of_destroyed P e (_ ∷ xs) all is = of_destroyed P e xs all is
 
 -- ---- the book with its round ended
 

@@ -35,11 +35,7 @@ each_order : (h : Header) (P : Order → Type 0) (Q : CallData → Type 0) → (
 each_order h P Q turn tick [] all = tt
 each_order h P Q turn tick (entry.Called c ∷ xs) all = (turn c.part c refl all.0, each_order h P Q turn tick xs all.1)
 each_order h P Q turn tick (entry.Ticked ∷ xs) all = (tick, each_order h P Q turn tick xs all)
-each_order h P Q turn tick (entry.Created c ∷ xs) all = each_order h P Q turn tick xs all
-each_order h P Q turn tick (entry.Joined d ∷ xs) all = each_order h P Q turn tick xs all
-each_order h P Q turn tick (entry.Divided t ∷ xs) all = each_order h P Q turn tick xs all
-each_order h P Q turn tick (entry.Balanced ∷ xs) all = each_order h P Q turn tick xs all
-each_order h P Q turn tick (entry.Destroyed d ∷ xs) all = each_order h P Q turn tick xs all
+each_order h P Q turn tick (_ ∷ xs) all = each_order h P Q turn tick xs all
 
 few_by : {X : Type 0} (o : Option X) (xs : List X) (n : ℕ) → length xs ≤ n → length (cons_option o xs) ≤ suc n
 few_by None xs n le = omega (arith, le)

@@ -10,8 +10,8 @@ use Rattle.std.proofs.lemmas.Bool.Decides.{nat_tests}
 use Rattle.std.proofs.lemmas.List.Elements.{filter-append}
 use Rattle.std.proofs.lemmas.Option.{slice_get-map}
 use Rattle.seam_node_steps.specs.Prelude.{Division, leaf_at, cells_of, IsSquare, IsQuiet, happens, enabled, LeadsTo, Event, Create, Order}
-use Rattle.seam_node_steps.specs.Prelude.{Batch, cell_count, base_of, RealView, created, real_begins, Msg, BaseCall, Hand, Current}
-use Rattle.seam_node_steps.specs.Prelude.{GhostSet, GhostDrop, Tick, Reap, Update, Map, set_at, has_any, Slot, CellView, slot_of}
+use Rattle.seam_node_steps.specs.Prelude.{Batch, cell_count, base_of, RealView, created, real_begins, Msg, Hand, Current}
+use Rattle.seam_node_steps.specs.Prelude.{GhostSet, GhostDrop, Tick, Update, Map, set_at, has_any, Slot, CellView, slot_of}
 use Rattle.seam_node_steps.specs.Prelude.{ready_entity, BaseView, PartView, tick_to, NodeView, World, node_steps, node_has_work, Cell, Base}
 use Rattle.seam_node_steps.specs.Prelude.{with_nodes, real_if, part_if, with_route, new_part, created_at, with_witness, with_proxy}
 use Rattle.seam_node_steps.specs.Prelude.{attached, cell_round, base_round, part_begins, order_if, ordered_at, reap_ordered_at, loaded}
@@ -44,15 +44,8 @@ abbrev no_slot : Slot
 no_slot = record { real = None; next = None; ghost = None }
 
 abbrev IsTick : Msg → Type 0
-IsTick (Call c) = ⊥
-IsTick (BaseCall c) = ⊥
-IsTick (Hand r) = ⊥
-IsTick (Current e j g) = ⊥
-IsTick (GhostSet e n c) = ⊥
-IsTick (GhostDrop e n) = ⊥
 IsTick Tick = Unit {0}
-IsTick (Reap e) = ⊥
-IsTick (Update u) = ⊥
+IsTick _ = ⊥
 
 abbrev IsTickOrder : Order → Type 0
 IsTickOrder (order.Cell c) = ⊥

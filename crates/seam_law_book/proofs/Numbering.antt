@@ -107,12 +107,7 @@ few_calls : (p : Part) (e s : ℕ) (xs : List Entry) → length (calls_from p e 
 few_calls p e s [] = omega arith
 few_calls p e s (entry.Called c ∷ xs) =
     few_by (is_for p e c && (rank_of c.sender == s)) c (calls_from p e s (calls_of xs)) (length xs) (few_calls p e s xs)
-few_calls p e s (entry.Created c ∷ xs) = let le = few_calls p e s xs in omega (arith, le)
-few_calls p e s (entry.Joined d ∷ xs) = let le = few_calls p e s xs in omega (arith, le)
-few_calls p e s (entry.Ticked ∷ xs) = let le = few_calls p e s xs in omega (arith, le)
-few_calls p e s (entry.Divided t ∷ xs) = let le = few_calls p e s xs in omega (arith, le)
-few_calls p e s (entry.Balanced ∷ xs) = let le = few_calls p e s xs in omega (arith, le)
-few_calls p e s (entry.Destroyed d ∷ xs) = let le = few_calls p e s xs in omega (arith, le)
+few_calls p e s (_ ∷ xs) = let le = few_calls p e s xs in omega (arith, le)
 
 -- ---- the open round
 

@@ -66,11 +66,7 @@ module _ (h : Header) (p : Part) (e s : ℕ) {X : Type 0} (pick : Order → Opti
       one_more c (map order_in (filter_map (ordered h) xs))
       ∙ map_chosen (is_chosen p e s c) c (picked (map order_in (filter_map (ordered h) xs))) (chosen xs) (all_picked xs)
   all_picked (entry.Ticked ∷ xs) = tick_more (map order_in (filter_map (ordered h) xs)) ∙ all_picked xs
-  all_picked (entry.Created c ∷ xs) = all_picked xs
-  all_picked (entry.Joined d ∷ xs) = all_picked xs
-  all_picked (entry.Divided t ∷ xs) = all_picked xs
-  all_picked (entry.Balanced ∷ xs) = all_picked xs
-  all_picked (entry.Destroyed d ∷ xs) = all_picked xs
+  all_picked (_ ∷ xs) = all_picked xs
 
   -- ---- at one node
 
@@ -120,8 +116,4 @@ module _ (h : Header) (p : Part) (e s : ℕ) {X : Type 0} (pick : Order → Opti
     picked_at (entry.Called c ∷ xs) all =
         call_at (is_chosen p e s c) c xs refl all.0 (picked_at xs all.1)
     picked_at (entry.Ticked ∷ xs) all = tick_by (MOST_CELLS == k) (at xs) ∙ picked_at xs all
-    picked_at (entry.Created c ∷ xs) all = picked_at xs all
-    picked_at (entry.Joined d ∷ xs) all = picked_at xs all
-    picked_at (entry.Divided t ∷ xs) all = picked_at xs all
-    picked_at (entry.Balanced ∷ xs) all = picked_at xs all
-    picked_at (entry.Destroyed d ∷ xs) all = picked_at xs all
+    picked_at (_ ∷ xs) all = picked_at xs all

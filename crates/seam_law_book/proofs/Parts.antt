@@ -135,12 +135,7 @@ module _ (f : Frame) (u : World) (between : IsBetweenRounds f u) (v : World) (es
 pub among_joined : (e : ℕ) (xs : List Entry) → is_among e (filter_map joined xs) ≡ list_any (joins e) xs
 among_joined e [] = refl
 among_joined e (entry.Joined d ∷ xs) = ap (λ y. (d == e) || y) (among_joined e xs)
-among_joined e (entry.Created c ∷ xs) = among_joined e xs
-among_joined e (entry.Called c ∷ xs) = among_joined e xs
-among_joined e (entry.Ticked ∷ xs) = among_joined e xs
-among_joined e (entry.Divided t ∷ xs) = among_joined e xs
-among_joined e (entry.Balanced ∷ xs) = among_joined e xs
-among_joined e (entry.Destroyed d ∷ xs) = among_joined e xs
+among_joined e (_ ∷ xs) = among_joined e xs
 
 module _ (f : Frame) (w : World) (b : Batch) (between : IsBetweenRounds f w) (e home : ℕ) (p : PartView) where
   -- a part of the loaded world has a client where the batch gives one

@@ -34,12 +34,7 @@ not_new : (e : ℕ) (xs : List Entry) → AreOthers e (creates_of xs) → list_a
 not_new e [] others = refl
 not_new e (entry.Created c ∷ xs) others =
     ap (λ y. y || list_any (makes e) xs) (differ c.entity e others.0) ∙ not_new e xs others.1
-not_new e (entry.Called c ∷ xs) others = not_new e xs others
-not_new e (entry.Joined d ∷ xs) others = not_new e xs others
-not_new e (entry.Ticked ∷ xs) others = not_new e xs others
-not_new e (entry.Divided t ∷ xs) others = not_new e xs others
-not_new e (entry.Balanced ∷ xs) others = not_new e xs others
-not_new e (entry.Destroyed d ∷ xs) others = not_new e xs others
+not_new e (_ ∷ xs) others = not_new e xs others
 
 new_by : (c x : Create) (y z : Bool) (o : Option Create) → cond y (Some c) o ≡ Some x → (o ≡ Some x → z ≡ true) → (y || z) ≡ true
 new_by c x true z o is rest = refl
@@ -49,12 +44,7 @@ made_is_new : (e : ℕ) (x : Create) (xs : List Entry) → made_among (creates_o
 made_is_new e x [] is = absurd (let z = is in cc)
 made_is_new e x (entry.Created c ∷ xs) is =
     new_by c x (c.entity == e) (list_any (makes e) xs) (made_among (creates_of xs) e) is (made_is_new e x xs)
-made_is_new e x (entry.Called c ∷ xs) is = made_is_new e x xs is
-made_is_new e x (entry.Joined d ∷ xs) is = made_is_new e x xs is
-made_is_new e x (entry.Ticked ∷ xs) is = made_is_new e x xs is
-made_is_new e x (entry.Divided t ∷ xs) is = made_is_new e x xs is
-made_is_new e x (entry.Balanced ∷ xs) is = made_is_new e x xs is
-made_is_new e x (entry.Destroyed d ∷ xs) is = made_is_new e x xs is
+made_is_new e x (_ ∷ xs) is = made_is_new e x xs is
 
 -- ---- positions
 

@@ -134,12 +134,7 @@ unjoined_apart e [] none = tt
 unjoined_apart e (entry.Joined d ∷ xs) none =
     let two = neither (d == e) (list_any (joins e) xs) none in
     (two.0, unjoined_apart e xs two.1)
-unjoined_apart e (entry.Created c ∷ xs) none = unjoined_apart e xs none
-unjoined_apart e (entry.Called c ∷ xs) none = unjoined_apart e xs none
-unjoined_apart e (entry.Ticked ∷ xs) none = unjoined_apart e xs none
-unjoined_apart e (entry.Divided t ∷ xs) none = unjoined_apart e xs none
-unjoined_apart e (entry.Balanced ∷ xs) none = unjoined_apart e xs none
-unjoined_apart e (entry.Destroyed d ∷ xs) none = unjoined_apart e xs none
+unjoined_apart e (_ ∷ xs) none = unjoined_apart e xs none
 
 pub undestroyed_apart : (e : ℕ) (xs : List Entry) → list_any (destroys e) xs ≡ false →
     AllByRecursion (λ n. eqb n e ≡ false) (filter_map destroyed xs)
@@ -147,9 +142,4 @@ undestroyed_apart e [] none = tt
 undestroyed_apart e (entry.Destroyed d ∷ xs) none =
     let two = neither (d == e) (list_any (destroys e) xs) none in
     (two.0, undestroyed_apart e xs two.1)
-undestroyed_apart e (entry.Created c ∷ xs) none = undestroyed_apart e xs none
-undestroyed_apart e (entry.Called c ∷ xs) none = undestroyed_apart e xs none
-undestroyed_apart e (entry.Joined d ∷ xs) none = undestroyed_apart e xs none
-undestroyed_apart e (entry.Ticked ∷ xs) none = undestroyed_apart e xs none
-undestroyed_apart e (entry.Divided t ∷ xs) none = undestroyed_apart e xs none
-undestroyed_apart e (entry.Balanced ∷ xs) none = undestroyed_apart e xs none
+undestroyed_apart e (_ ∷ xs) none = undestroyed_apart e xs none

@@ -111,19 +111,11 @@ module _ (h : Header) (b : Book) (was : IsOrderly h b) where
       record { calls = λ p s. refl; client = differ d e (lives_not e d k.made k.lives none); end = refl }
   spares_by (entry.Destroyed d) k e none =
       record { calls = λ p s. refl; client = refl; end = differ d e (lives_not e d k.0 k.1 none) }
-  spares_by (entry.Created c) k e none = record { calls = λ p s. refl; client = refl; end = refl }
-  spares_by entry.Ticked k e none = record { calls = λ p s. refl; client = refl; end = refl }
-  spares_by (entry.Divided t) k e none = record { calls = λ p s. refl; client = refl; end = refl }
-  spares_by entry.Balanced k e none = record { calls = λ p s. refl; client = refl; end = refl }
+  spares_by _ k e none = record { calls = λ p s. refl; client = refl; end = refl }
 
   from_senders : (x : Entry) → IsProper h b x → AllByRecursion IsFromSender (calls_of (x ∷ []))
   from_senders (entry.Called c) k = (known_is_sender h c.sender k.sender, tt)
-  from_senders (entry.Created c) k = tt
-  from_senders (entry.Joined d) k = tt
-  from_senders entry.Ticked k = tt
-  from_senders (entry.Divided t) k = tt
-  from_senders entry.Balanced k = tt
-  from_senders (entry.Destroyed d) k = tt
+  from_senders _ k = tt
 
   once_by : (x : Entry) → creates_of (x ∷ []) ≡ [] → IsDistinct eqb (map entity_of (creates_of (entries (with_entry b x))))
   once_by x none =

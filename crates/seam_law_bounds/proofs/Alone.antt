@@ -2,7 +2,7 @@
 use Rattle.std.proofs.Common.{◌≡◌, ℕ, Bool, true, false, ◌==◌, ◌&&◌, List, [], ◌∷◌, ◌++◌, Option, None, Some, refl, sym, ap, ◌∙◌, inl, inr}
 use Rattle.std.specs.List.{AllByRecursion}
 use Rattle.std.proofs.lemmas.Bool.{cases_eq}
-use Rattle.seam_node_steps.specs.Prelude.{Call as CallData, Msg, BaseCall, Hand, Current, GhostSet, GhostDrop, Tick, Reap, Update}
+use Rattle.seam_node_steps.specs.Prelude.{Call as CallData, Msg}
 use Rattle.seam_law_flow.specs.Prelude.{Flow, letters_of, more_letter, TokenPlace, In, On, Sole, of_number, Mail, Item, packed, keeps}
 use Rattle.seam_law_flow.specs.Prelude.{bears, held_in, WaitsOnce}
 use Rattle.seam_law_calls.specs.Prelude.{Has, kept_if, is_from, cell_order_from, cell_post, cell_mail, as_sender}
@@ -62,14 +62,7 @@ module _ (s n : ℕ) where
 
   head_other : (m : Msg) (ms : List Msg) → in_mail (m ∷ ms) ≡ [] → is_numbered s n m ≡ false
   head_other (Call c) ms h = by_sender c (letters_of (cell_mail s) ms) (is_from s c) h
-  head_other (BaseCall c) ms h = refl
-  head_other (Hand r) ms h = refl
-  head_other (Current e j g) ms h = refl
-  head_other (GhostSet e b c) ms h = refl
-  head_other (GhostDrop e b) ms h = refl
-  head_other Tick ms h = refl
-  head_other (Reap e) ms h = refl
-  head_other (Update u) ms h = refl
+  head_other _ ms h = refl
 
   others_in : (ms : List Msg) → in_mail ms ≡ [] → AreOthers ms
   others_in [] h = tt

@@ -10,8 +10,8 @@ use Rattle.std.specs.declared.cmp.Ordering.TheVariants.{Less, Equal, Greater}
 use Rattle.std.specs.FinSet as set
 use Rattle.std.proofs.lemmas.Bool.{eqb-true}
 use Rattle.seam_node_steps.specs.Prelude.{Division, Cells, Ghost, copy_in, beat_in, OrderView, next_item, Call as CallData, GhostCopy}
-use Rattle.seam_node_steps.specs.Prelude.{Shown, order_of, RealView, WitnessView, Msg, BaseCall, Hand, Current, GhostSet, GhostDrop, Tick}
-use Rattle.seam_node_steps.specs.Prelude.{Reap, Update, Here, cell_numbers, base_numbers, base_of, ready_order, copy_of_real, executed}
+use Rattle.seam_node_steps.specs.Prelude.{Shown, order_of, RealView, WitnessView, Msg, Hand, GhostSet, GhostDrop}
+use Rattle.seam_node_steps.specs.Prelude.{Reap, Here, cell_numbers, base_numbers, base_of, ready_order, copy_of_real, executed}
 use Rattle.seam_node_steps.specs.Prelude.{executed_ready, shows, settled_to, Slot, NextPlace, SlotStep, rests, unless_stray, slot_after}
 use Rattle.seam_node_steps.specs.Prelude.{heard, told, told_unless, ghost_message, ghost_messages, haunts_at, home_after, stays, goes}
 use Rattle.seam_node_steps.specs.Prelude.{settled_by, settled, about, call_next_place, current_to, hand_over_comes, ghost_set, ghost_drop}
@@ -62,15 +62,9 @@ module _ (us ws : List ℕ) where
     pub copy : (c : GhostCopy) → copy_in s.ghost ≡ Some c → IsNamed e
 
   abbrev pub LetterOk : Msg → Type 0
-  LetterOk (Call c) = Unit {0}
-  LetterOk (BaseCall c) = Unit {0}
   LetterOk (Hand r) = RealOk r.entity r
-  LetterOk (Current e j g) = Unit {0}
   LetterOk (GhostSet e n c) = IsNamed e
-  LetterOk (GhostDrop e n) = Unit {0}
-  LetterOk Tick = Unit {0}
-  LetterOk (Reap e) = Unit {0}
-  LetterOk (Update u) = Unit {0}
+  LetterOk _ = Unit {0}
 
   abbrev pub SentOk : List (ℕ × Msg) → Type 0
   SentOk ps = AllByRecursion (λ p. LetterOk p.1) ps
@@ -219,14 +213,11 @@ module _ (us ws : List ℕ) where
 
       case_ok : (m : Msg) → about m ≡ Some e → LetterOk m → IsOwn s.real → StepOk e s (case_of h t s m)
       case_ok (Call k) is letter own = call_ok k s.real refl own
-      case_ok (BaseCall k) is letter own = rests_ok s ok
       case_ok (Hand r) is letter own = let same : r.entity ≡ e = cc in hand_ok r (subst (λ x. RealOk x r) same letter)
-      case_ok (Current x j g) is letter own = rests_ok s ok
       case_ok (GhostSet x n c) is letter own = let same : x ≡ e = cc in set_ok n c s.real (subst IsNamed same letter)
       case_ok (GhostDrop x n) is letter own = drop_ok n
-      case_ok Tick is letter own = rests_ok s ok
       case_ok (Reap x) is letter own = reap_ok s.real
-      case_ok (Update u) is letter own = rests_ok s ok
+      case_ok _ is letter own = rests_ok s ok
 
       pub message_ok : (m : Msg) → about m ≡ Some e → LetterOk m → IsOwn s.real → StepOk e s (slot_steps h t s m)
       message_ok m is letter own = unless_ok (is_stray h t s m) s (case_of h t s m) ok (case_ok m is letter own)

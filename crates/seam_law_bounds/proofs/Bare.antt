@@ -1,8 +1,8 @@
 -- Without looks, and without calls to an entity's base part, nothing comes to it: a part that holds nothing never holds anything.
 use Rattle.std.proofs.Common.{◌≡◌, ℕ, true, List, [], ◌∷◌, Option, None, Some, refl, sym, ap, ◌∙◌, subst, arith}
 use Rattle.std.specs.List.{AllByRecursion}
-use Rattle.seam_node_steps.specs.Prelude.{happens, enabled, LeadsTo, Event, Order, Msg, BaseCall, Hand, Current, GhostSet, GhostDrop, Tick}
-use Rattle.seam_node_steps.specs.Prelude.{Reap, Update, Here, PartView, World, node_steps, node_has_work}
+use Rattle.seam_node_steps.specs.Prelude.{happens, enabled, LeadsTo, Event, Order, Msg, Tick}
+use Rattle.seam_node_steps.specs.Prelude.{Here, PartView, World, node_steps, node_has_work}
 use Rattle.seam_law_flow.specs.Prelude.{comes, letters_of, IsSilent, carried_in}
 use Rattle.seam_law_calls.specs.Prelude.{Frame, here_at, IsInFrame, Has, AtBase, entity_flow, Moves, at_a_cell, at_a_base, held_in, real_in}
 use Rattle.seam_law_calls.specs.Prelude.{base_call_in, update_in, base_call_of, calls_ordered, called, told, PartMoves, WitnessMoves}
@@ -13,7 +13,6 @@ use Rattle.seam_net_runs.specs.Sums.{weight_or}
 use Rattle.seam_net_runs.proofs.Runs.{leads_by_one, leads_keeps}
 use Rattle.seam_law_flow.proofs.Following.{all_append, slots_kept, letters_kept, came}
 use Rattle.seam_call.specs.declared.order.Order.TheVariants as order
-use Rattle.seam_entity.specs.declared.message.Msg.TheVariants.{Call}
 use Rattle.seam_law_calls.proofs.Classify.{event_moves, frame_happens}
 use Rattle.seam_law_calls.proofs.HeldCounts.{taken_counts}
 use Rattle.seam_law_calls.proofs.Sparing.{items_all}
@@ -176,26 +175,12 @@ only_ticks (order.Tick ∷ os) h = only_ticks os h.1
 only_ticks (order.Reap x ∷ os) h = absurd h.0
 
 no_call_of : (m : Msg) → IsTick m → base_call_in m ≡ None
-no_call_of (Call c) h = absurd h
-no_call_of (BaseCall c) h = absurd h
-no_call_of (Hand r) h = absurd h
-no_call_of (Current x j g) h = absurd h
-no_call_of (GhostSet x n c) h = absurd h
-no_call_of (GhostDrop x n) h = absurd h
 no_call_of Tick h = refl
-no_call_of (Reap x) h = absurd h
-no_call_of (Update u) h = absurd h
+no_call_of _ h = absurd h
 
 no_update_of : (m : Msg) → IsTick m → update_in m ≡ None
-no_update_of (Call c) h = absurd h
-no_update_of (BaseCall c) h = absurd h
-no_update_of (Hand r) h = absurd h
-no_update_of (Current x j g) h = absurd h
-no_update_of (GhostSet x n c) h = absurd h
-no_update_of (GhostDrop x n) h = absurd h
 no_update_of Tick h = refl
-no_update_of (Reap x) h = absurd h
-no_update_of (Update u) h = absurd h
+no_update_of _ h = absurd h
 
 module _ (f : Frame) (e : ℕ) where
   -- nothing but ticks comes, and the part, if there is one, holds nothing

@@ -7,7 +7,7 @@ use Rattle.std.specs.declared.cmp.Ordering.{Ordering}
 use Rattle.std.specs.declared.cmp.Ordering.TheVariants.{Less, Equal, Greater}
 use Rattle.std.specs.FinMap as table
 use Rattle.seam_node_steps.specs.Prelude.{Stepped, total, Input, Task, From, OrderView, next_item, Call as CallData, Order, Shown}
-use Rattle.seam_node_steps.specs.Prelude.{ClientText, rank_of, order_of, Msg, BaseCall, Hand, Current, GhostSet, GhostDrop, Tick, Reap}
+use Rattle.seam_node_steps.specs.Prelude.{ClientText, rank_of, order_of, Msg, BaseCall, Current, Tick, Reap}
 use Rattle.seam_node_steps.specs.Prelude.{Update, Here, cell_count, ready_order, order_is_ready, has_any, BaseView, PartView, ProxyView}
 use Rattle.seam_node_steps.specs.Prelude.{RouteView, with_part, line_if, sends_none, may_show, offered, part_called, on_route, base_order}
 use Rattle.seam_node_steps.specs.Prelude.{is_base_node_of, order_of_node, stray_order, part_is_ready, ready_part, after_ready}
@@ -133,28 +133,16 @@ module _ (z : Sizes) where
   route_weighs b e n (Some r) = route_weighs_by _ b e n
 
   case_weighs : (b : BaseView) (m : Msg) → base_weight z (case_of b m) + 1 ≤ base_weight z b + g b.here.me m
-  case_weighs b (Call k) = omega arith
   case_weighs b (BaseCall k) = let one = called_weighs b k (table.get b.parts k.entity) refl in omega (arith, one)
-  case_weighs b (Hand r) = omega arith
   case_weighs b (Current e j n) =
       let one = route_weighs b e (record { cell = j; generation = n }) (table.get b.routes e) in
       omega (arith, one)
-  case_weighs b (GhostSet e n c) = omega arith
-  case_weighs b (GhostDrop e n) = omega arith
-  case_weighs b Tick = omega arith
-  case_weighs b (Reap e) = omega arith
   case_weighs b (Update u) = let one = client_weighs b u (table.get b.parts u.entity) refl in omega (arith, one)
+  case_weighs b _ = omega arith
 
   letter_weighs_some : (k : ℕ) (m : Msg) → 1 ≤ g k m
   letter_weighs_some k (Call c) = omega arith
-  letter_weighs_some k (BaseCall c) = omega arith
-  letter_weighs_some k (Hand r) = omega arith
-  letter_weighs_some k (Current e j n) = omega arith
-  letter_weighs_some k (GhostSet e n c) = omega arith
-  letter_weighs_some k (GhostDrop e n) = omega arith
-  letter_weighs_some k Tick = omega arith
-  letter_weighs_some k (Reap e) = omega arith
-  letter_weighs_some k (Update u) = omega arith
+  letter_weighs_some k _ = omega arith
 
   abbrev all_of : Stepped BaseView Msg → ℕ
   all_of t = base_weight z t.state + sent_weight g t.sent

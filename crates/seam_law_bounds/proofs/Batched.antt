@@ -3,8 +3,8 @@ use Rattle.std.proofs.Common.{◌≡◌, ℕ, Bool, true, false, cond, List, [],
 use Rattle.std.specs.Prelude.{slice_get}
 use Rattle.std.specs.List.{AllByRecursion, range_with_len}
 use Rattle.std.specs.FinSet as set
-use Rattle.seam_node_steps.specs.Prelude.{link, happens, enabled, LeadsTo, EachNode, Event, Call as CallData, Order, Msg, BaseCall, Hand}
-use Rattle.seam_node_steps.specs.Prelude.{Current, GhostSet, GhostDrop, Tick, Reap, Update, base_numbers, base_of, haunts_at}
+use Rattle.seam_node_steps.specs.Prelude.{link, happens, enabled, LeadsTo, EachNode, Event, Call as CallData, Order, Msg}
+use Rattle.seam_node_steps.specs.Prelude.{base_numbers, base_of, haunts_at}
 use Rattle.seam_node_steps.specs.Prelude.{ghost_messages, current_to, tick_to, NodeView, World, node_steps, node_has_work, Cell, Base}
 use Rattle.seam_law_flow.specs.Prelude.{comes, slot_at, letters_of, IsSilent}
 use Rattle.seam_law_calls.specs.Prelude.{Frame, here_at, IsInFrame, Has, mine, order_concerns, orders_of, has_of, has_none, entity_flow}
@@ -36,25 +36,11 @@ module _ (P : CallData → Type 0) where
 
   abbrev pub MessageIs : Msg → Type 0
   MessageIs (Call c) = P c
-  MessageIs (BaseCall c) = Unit {0}
-  MessageIs (Hand r) = Unit {0}
-  MessageIs (Current e j g) = Unit {0}
-  MessageIs (GhostSet e n c) = Unit {0}
-  MessageIs (GhostDrop e n) = Unit {0}
-  MessageIs Tick = Unit {0}
-  MessageIs (Reap e) = Unit {0}
-  MessageIs (Update u) = Unit {0}
+  MessageIs _ = Unit {0}
 
   silent_one : (m : Msg) → call_in m ≡ None → MessageIs m
   silent_one (Call c) h = cc
-  silent_one (BaseCall c) h = tt
-  silent_one (Hand r) h = tt
-  silent_one (Current e j g) h = tt
-  silent_one (GhostSet e n c) h = tt
-  silent_one (GhostDrop e n) h = tt
-  silent_one Tick h = tt
-  silent_one (Reap e) h = tt
-  silent_one (Update u) h = tt
+  silent_one _ h = tt
 
   silent : (ps : List (ℕ × Msg)) → IsSilent call_in ps → AllByRecursion (λ p. MessageIs p.1) ps
   silent [] h = tt

@@ -2,7 +2,7 @@
 use Rattle.std.proofs.Common.{◌≡◌, ℕ, ◌≤◌, ◌⊎◌, Bool, true, false, ◌||◌, List, [], ◌∷◌, ◌++◌, refl, sym, ◌∙◌, arith, inl, inr}
 use Rattle.std.specs.List.{AllByRecursion}
 use Rattle.std.proofs.lemmas.Bool.Decides.{nat_tests}
-use Rattle.seam_node_steps.specs.Prelude.{Call as CallData, Msg, BaseCall, Hand, Current, GhostSet, GhostDrop, Tick, Reap, Update}
+use Rattle.seam_node_steps.specs.Prelude.{Call as CallData, Msg, Hand}
 use Rattle.seam_law_flow.specs.Prelude.{Flow}
 use Rattle.seam_law_calls.specs.Prelude.{Has}
 use Rattle.seam_law_bounds.specs.Prelude.{is_hand_from, has_hand_from, ComesTo}
@@ -11,15 +11,8 @@ use Rattle.seam_law_bounds.proofs.Ranking.{either}
 
 -- a hand-over of at least so great a generation is one of at least a smaller one
 hand_less : (n m : ℕ) (l : Msg) → n ≤ m → is_hand_from m l ≡ true → is_hand_from n l ≡ true
-hand_less n m (Call c) low h = cc
-hand_less n m (BaseCall c) low h = cc
 hand_less n m (Hand r) low h = grind (arith, nat_tests, low, h)
-hand_less n m (Current e j g) low h = cc
-hand_less n m (GhostSet e b c) low h = cc
-hand_less n m (GhostDrop e b) low h = cc
-hand_less n m Tick low h = cc
-hand_less n m (Reap e) low h = cc
-hand_less n m (Update u) low h = cc
+hand_less n m _ low h = cc
 
 or_left : (a b : Bool) → a ≡ true → (a || b) ≡ true
 or_left true b h = refl

@@ -4,8 +4,8 @@ use Rattle.std.proofs.Common.{◌∙◌, arith}
 use Rattle.std.specs.Prelude.{is_some, is_none}
 use Rattle.std.specs.List.{range_with_len}
 use Rattle.std.specs.FinSet as set
-use Rattle.seam_node_steps.specs.Prelude.{happens, AllEnabled, Occurs, total, Event, rank_of, RealView, Msg, BaseCall, Hand, Current}
-use Rattle.seam_node_steps.specs.Prelude.{GhostSet, GhostDrop, Tick, Reap, Update, base_numbers, base_of, settled_to, SlotStep, slot_after}
+use Rattle.seam_node_steps.specs.Prelude.{happens, AllEnabled, Occurs, total, Event, rank_of, RealView, Msg, Hand}
+use Rattle.seam_node_steps.specs.Prelude.{Reap, base_numbers, base_of, settled_to, SlotStep, slot_after}
 use Rattle.seam_node_steps.specs.Prelude.{haunts_at, ghost_messages, current_to, shown_of, looks_with, tick_to, NodeView, World, node_steps}
 use Rattle.seam_node_steps.specs.Prelude.{node_has_work}
 use Rattle.seam_law_flow.specs.Prelude.{letter_in, slot_at, IsSilent}
@@ -32,36 +32,18 @@ use Rattle.seam_law_calls.proofs.OneReal.{calm_of, spared_happens}
 -- eyes that see what may bring a settling
 abbrev heavy : Msg → Option ℕ
 heavy (Call c) = Some 0
-heavy (BaseCall c) = None
 heavy (Hand r) = Some 0
-heavy (Current e j g) = None
-heavy (GhostSet e n c) = None
-heavy (GhostDrop e n) = None
-heavy Tick = None
-heavy (Reap e) = None
-heavy (Update u) = None
+heavy _ = None
 
 abbrev pub letter_left : Msg → ℕ
 letter_left (Call c) = 1
-letter_left (BaseCall c) = 0
 letter_left (Hand r) = held_in r.orders
-letter_left (Current e j g) = 0
-letter_left (GhostSet e n c) = 0
-letter_left (GhostDrop e n) = 0
-letter_left Tick = 0
-letter_left (Reap e) = 0
-letter_left (Update u) = 0
+letter_left _ = 0
 
 light : (m : Msg) → heavy m ≡ None → letter_left m ≡ 0
 light (Call c) h = cc
-light (BaseCall c) h = refl
 light (Hand r) h = cc
-light (Current e j g) h = refl
-light (GhostSet e n c) h = refl
-light (GhostDrop e n) h = refl
-light Tick h = refl
-light (Reap e) h = refl
-light (Update u) h = refl
+light _ h = refl
 
 -- the calls that a real holds
 abbrev pub real_left : RealView → ℕ

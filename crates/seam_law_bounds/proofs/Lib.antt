@@ -5,7 +5,6 @@ mod Following
 mod Alone
 mod Passing
 pub mod HandedOver
-mod ExampleCounts
 mod Counts
 mod SlotWeights
 mod CellWeights

@@ -2,7 +2,7 @@
 use Rattle.std.proofs.Common.{◌≡◌, ℕ, false, cond, List, [], ◌∷◌, Option, None, Some, refl, ap, arith}
 use Rattle.std.specs.Prelude.{slice_get}
 use Rattle.seam_node_steps.specs.Prelude.{link, input_from, happens, AllEnabled, LeadsTo, Event, Input, Task, From, Call as CallData, Msg}
-use Rattle.seam_node_steps.specs.Prelude.{BaseCall, Hand, Current, GhostSet, GhostDrop, Tick, Reap, Update, CellView, NodeView, World}
+use Rattle.seam_node_steps.specs.Prelude.{CellView, NodeView, World}
 use Rattle.seam_node_steps.specs.Prelude.{node_steps, node_has_work, Cell, Base}
 use Rattle.seam_law_bounds.specs.Prelude.{cell_passes, node_passes, passes_by, is_pass, all_passes}
 use Rattle.seam_net_runs.proofs.Runs.{leads_nowhere, leads_by_one, leads_join}
@@ -11,14 +11,7 @@ use Rattle.seam_law_bounds.proofs.Cans.{fed_by}
 
 message_passes : (c : CellView) (m : Msg) → ((k : CallData) → m ≡ Call k → ⊥) → cell_passes c m ≡ false
 message_passes c (Call k) never = absurd (never k refl)
-message_passes c (BaseCall k) never = refl
-message_passes c (Hand r) never = refl
-message_passes c (Current e j g) never = refl
-message_passes c (GhostSet e n x) never = refl
-message_passes c (GhostDrop e n) never = refl
-message_passes c Tick never = refl
-message_passes c (Reap e) never = refl
-message_passes c (Update u) never = refl
+message_passes c _ never = refl
 
 input_passes : (s : NodeView) (i : Input Msg) → ((a : ℕ) (k : CallData) → i ≡ From a (Call k) → ⊥) → node_passes s i ≡ false
 input_passes (Cell c) Task never = refl

@@ -1,13 +1,12 @@
 -- What the laws ask of where a phase begins is true of an opened world.
-use Rattle.std.proofs.Common.{◌≡◌, ℕ, ◌≤◌, false, List, [], Some, refl, sym, ap, ◌∙◌}
+use Rattle.std.proofs.Common.{◌≡◌, ℕ, ◌≤◌, List, [], Some, sym, ap, ◌∙◌}
 use Rattle.std.specs.Prelude.{slice_get}
-use Rattle.std.specs.List.{AllByRecursion}
 use Rattle.std.specs.FinMap as table
 use Rattle.seam_node_steps.specs.Prelude.{copy_in, Settings, TypeDef, RealView, CellView, BaseView, PartView, NodeView, World, Cell, Base}
 use Rattle.seam_node_steps.specs.Prelude.{opened}
 use Rattle.seam_law_flow.specs.Prelude.{slot_at}
-use Rattle.seam_law_calls.specs.Prelude.{Has, has_of, has_none, real_in, IsFrame, is_tick_order}
-use Rattle.seam_law_rounds.specs.Prelude.{first_frame, first_batch}
+use Rattle.seam_law_calls.specs.Prelude.{Has, has_of, has_none, real_in, IsFrame}
+use Rattle.seam_law_rounds.specs.Prelude.{first_frame}
 use Rattle.seam_law_bounds.specs.Prelude.{LooksAmong, SeesWhatIsThere, HoldsNothing}
 use Rattle.seam_law_rounds.proofs.Opened.{opened_is_new, opened_has_none}
 
@@ -39,8 +38,3 @@ module _ (defs : List TypeDef) (settings : Settings) (frame : IsFrame (first_fra
 
   pub opened_sees : SeesWhatIsThere w
   opened_sees e k r at = absurd (let z = sym (opened_has_none defs settings frame bases e k) ∙ at in cc)
-
--- ---- a first batch
-
-pub first_ticks : AllByRecursion (λ o. is_tick_order o.1 ≡ false) first_batch.orders
-first_ticks = (refl, (refl, (refl, tt)))

@@ -4,7 +4,7 @@ use Rattle.std.specs.Prelude.{not}
 use Rattle.std.specs.List.{AllByRecursion}
 use Rattle.std.specs.FinMap as table
 use Rattle.seam_node_steps.specs.Prelude.{Stepped, LeadsTo, EachNode, Event, Input, Task, From, Call as CallData, Order, Msg, BaseCall}
-use Rattle.seam_node_steps.specs.Prelude.{Hand, Current, GhostSet, GhostDrop, Tick, Reap, Update, BaseView, PartView, ProxyView, RouteView}
+use Rattle.seam_node_steps.specs.Prelude.{Current, Update, BaseView, PartView, ProxyView, RouteView}
 use Rattle.seam_node_steps.specs.Prelude.{part_called, base_order, is_base_node_of, order_of_node, stray_order, ready_part, ready_proxy}
 use Rattle.seam_node_steps.specs.Prelude.{proxy_task, task_without_orders, base_task, newer_route, current, updated_proxy, update, case_of}
 use Rattle.seam_node_steps.specs.Prelude.{base_steps, may_show, NodeView, World, node_steps, node_has_work, Cell, Base}
@@ -13,7 +13,6 @@ use Rattle.seam_net_runs.proofs.Keeping.{each_node}
 use Rattle.seam_net_runs.proofs.Runs.{leads_keeps}
 use Rattle.seam_call.specs.declared.order.Order.TheVariants as order
 use Rattle.seam_call.specs.declared.shown.Update.{Update as UpdateData}
-use Rattle.seam_entity.specs.declared.message.Msg.TheVariants.{Call}
 use Rattle.seam_node_steps.specs.BaseCases.{unless_stray}
 use Rattle.seam_node_steps.specs.BaseCases.{is_stray, may_execute}
 
@@ -40,15 +39,10 @@ orders_current b e n None = refl
 orders_current b e n (Some r) = orders_newer _ b e n
 
 orders_case : (b : BaseView) (m : Msg) → (case_of b m).orders ≡ b.orders
-orders_case b (Call k) = refl
 orders_case b (BaseCall k) = orders_called b k (table.get b.parts k.entity)
-orders_case b (Hand r) = refl
 orders_case b (Current e j g) = orders_current b e _ (table.get b.routes e)
-orders_case b (GhostSet e n c) = refl
-orders_case b (GhostDrop e n) = refl
-orders_case b Tick = refl
-orders_case b (Reap e) = refl
 orders_case b (Update u) = orders_client b u (table.get b.parts u.entity)
+orders_case b _ = refl
 
 module _ (Ok : Order → Type 0) where
   abbrev pub AllOk : List Order → Type 0

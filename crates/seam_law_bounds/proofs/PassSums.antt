@@ -4,8 +4,8 @@ use Rattle.std.proofs.Common.{ap, ◌∙◌, arith, inl, inr}
 use Rattle.std.specs.Prelude.{slice_get}
 use Rattle.std.specs.List.{AllByRecursion}
 use Rattle.std.proofs.lemmas.Bool.{eq-eqb}
-use Rattle.seam_node_steps.specs.Prelude.{link, input_from, happens, AllEnabled, LeadsTo, total, Event, Input, Task, From, Call as CallData}
-use Rattle.seam_node_steps.specs.Prelude.{Order, rank_of, Msg, BaseCall, Hand, Current, GhostSet, GhostDrop, Tick, Reap, Update, CellView}
+use Rattle.seam_node_steps.specs.Prelude.{link, input_from, happens, AllEnabled, LeadsTo, total, Event, Input, From, Call as CallData}
+use Rattle.seam_node_steps.specs.Prelude.{Order, rank_of, Msg, CellView}
 use Rattle.seam_node_steps.specs.Prelude.{slot_of, NodeView, World, node_steps, node_has_work, Cell, Base}
 use Rattle.seam_law_flow.specs.Prelude.{slot_at}
 use Rattle.seam_law_calls.specs.Prelude.{has_of, has_none, entity_flow}
@@ -95,22 +95,13 @@ module _ (v : World) (x : Event) where
     by_message : (n : CellView) (a : ℕ) (m : Msg) → slice_get v.nodes x.node ≡ Some (Cell n) →
         input_from v.rows x.node x.from ≡ Some (From a m) → passes_by (Some (Cell n)) (Some (From a m)) ≡ true → Counts
     by_message n a (Call c) node fed is = call_counts n a c node fed is
-    by_message n a (BaseCall c) node fed is = cc
-    by_message n a (Hand r) node fed is = cc
-    by_message n a (Current e j g) node fed is = cc
-    by_message n a (GhostSet e b c) node fed is = cc
-    by_message n a (GhostDrop e b) node fed is = cc
-    by_message n a Tick node fed is = cc
-    by_message n a (Reap e) node fed is = cc
-    by_message n a (Update u) node fed is = cc
+    by_message n a _ node fed is = cc
 
     by_input : (o : Option NodeView) (i : Option (Input Msg)) → slice_get v.nodes x.node ≡ o → input_from v.rows x.node x.from ≡ i →
         passes_by o i ≡ true → Counts
-    by_input None i node fed is = cc
-    by_input (Some s) None node fed is = cc
-    by_input (Some (Base b)) (Some i) node fed is = cc
-    by_input (Some (Cell n)) (Some Task) node fed is = cc
     by_input (Some (Cell n)) (Some (From a m)) node fed is = by_message n a m node fed is
+    by_input (Some (Base b)) (Some i) node fed is = cc
+    by_input _ _ node fed is = cc
 
     counts_by : (b : Bool) → is_pass v x ≡ b → cond {A = ℕ} b 1 0 ≤ total (λ o. passed_now v x o.1) os
     counts_by false is = omega arith
@@ -124,9 +115,7 @@ module _ (v : World) (x : Event) where
 one_more : (w : World) (x : Event) (es : List Event) (o : Order) →
     passed_now w x o + passed_in (happens node_steps w x) es o ≤ passed_in w (x ∷ es) o
 one_more w x es (order.Cell c) = omega arith
-one_more w x es (order.Base c) = omega arith
-one_more w x es order.Tick = omega arith
-one_more w x es (order.Reap e) = omega arith
+one_more w x es _ = omega arith
 
 pub passes_are_ordered : (os : List (ℕ × Order)) (w : World) →
     ((v : World) (ds : List Event) → LeadsTo node_has_work node_steps w ds v → (a k : ℕ) (c : CallData) (ms : List Msg) →

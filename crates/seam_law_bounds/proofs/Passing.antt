@@ -36,14 +36,7 @@ use Rattle.seam_law_bounds.proofs.Alone.{stored, AreOthers, stored_first, IsAlon
 module _ (s n : ℕ) where
   no_call : (m : Msg) → call_in m ≡ None → is_numbered s n m ≡ false
   no_call (Call c) h = cc
-  no_call (BaseCall c) h = refl
-  no_call (Hand r) h = refl
-  no_call (Current e j g) h = refl
-  no_call (GhostSet e b c) h = refl
-  no_call (GhostDrop e b) h = refl
-  no_call Tick h = refl
-  no_call (Reap e) h = refl
-  no_call (Update u) h = refl
+  no_call _ h = refl
 
   no_calls : (ps : List (ℕ × Msg)) → IsSilent call_in ps → AllByRecursion (λ p. is_numbered s n p.1 ≡ false) ps
   no_calls [] h = tt

@@ -5,8 +5,8 @@ use Rattle.std.proofs.Common.{refl, sym, ap, ◌∙◌, subst, arith, inl, inr}
 use Rattle.std.specs.Prelude.{option_map}
 use Rattle.std.proofs.lemmas.Bool.{cases_eq}
 use Rattle.std.proofs.lemmas.Bool.Decides.{nat_tests}
-use Rattle.seam_node_steps.specs.Prelude.{happens, enabled, LeadsTo, items_to, Event, RealView, Msg, BaseCall, Hand, Current, GhostSet}
-use Rattle.seam_node_steps.specs.Prelude.{GhostDrop, Tick, Reap, Update, NextPlace, World, node_steps, node_has_work}
+use Rattle.seam_node_steps.specs.Prelude.{happens, enabled, LeadsTo, items_to, Event, RealView, Msg, Hand}
+use Rattle.seam_node_steps.specs.Prelude.{NextPlace, World, node_steps, node_has_work}
 use Rattle.seam_law_flow.specs.Prelude.{Flow, Goes, comes, carried_in, TokenPlace, In, On}
 use Rattle.seam_law_calls.specs.Prelude.{Frame, Has, entity_flow, MovesTo, real_in, real_of, IsSpared, IsFrame, HasOne}
 use Rattle.seam_law_bounds.specs.Prelude.{rank_of, is_hand_from, has_hand_from, ComesTo, AreRanked, is_handed_over, Climbs}
@@ -16,7 +16,6 @@ use Rattle.seam_net_runs.proofs.Runs.{leads_keeps}
 use Rattle.seam_law_flow.proofs.Following.{Rest, whole, tail, More, own, none, change}
 use Rattle.seam_law_flow.proofs.SendLists.{one_here}
 use Rattle.seam_law_flow.proofs.TokenLemmas.{sole_here, sole_came}
-use Rattle.seam_entity.specs.declared.message.Msg.TheVariants.{Call}
 use Rattle.seam_law_calls.proofs.Handling.{FindsRoom}
 use Rattle.seam_law_calls.proofs.OneReal.{goes, room, one_happens, calm_of, spared_happens}
 use Rattle.seam_law_rounds.proofs.RoadMoves.{generation_of, generation_in, Roads, plain, arrives, departs}
@@ -45,15 +44,8 @@ above_is : (a b : ℕ) → a ≤ b → nat_le a b ≡ true
 above_is a b h = grind (arith, nat_tests)
 
 pub hand_from : (n : ℕ) (m : Msg) → is_hand_from n m ≡ true → (r : RealView) × (m ≡ Hand r) × (n ≤ r.generation)
-hand_from n (Call c) h = cc
-hand_from n (BaseCall c) h = cc
 hand_from n (Hand r) h = (r, refl, grind (arith, nat_tests, h))
-hand_from n (Current e j g) h = cc
-hand_from n (GhostSet e b c) h = cc
-hand_from n (GhostDrop e b) h = cc
-hand_from n Tick h = cc
-hand_from n (Reap e) h = cc
-hand_from n (Update u) h = cc
+hand_from n _ h = cc
 
 pub either : (a b : Bool) → (a || b) ≡ true → (a ≡ true) ⊎ (b ≡ true)
 either true b h = inl refl

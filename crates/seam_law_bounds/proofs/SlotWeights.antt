@@ -11,7 +11,7 @@ use Rattle.seam_net_runs.specs.Sums.{weight_or}
 use Rattle.seam_net_runs.specs.Weights.{sent_weight}
 use Rattle.seam_net_runs.proofs.MapSums.{sent_of_chosen, sent_of_range_bounds}
 use Rattle.seam_node_steps.specs.Prelude.{Division, Cells, OrderView, next_item, Call as CallData, GhostCopy, Shown, rank_of, order_of}
-use Rattle.seam_node_steps.specs.Prelude.{RealView, WitnessView, Msg, BaseCall, Hand, Current, GhostSet, GhostDrop, Tick, Reap, Update}
+use Rattle.seam_node_steps.specs.Prelude.{RealView, WitnessView, Msg, Hand, Current, GhostSet, GhostDrop, Reap}
 use Rattle.seam_node_steps.specs.Prelude.{Here, cell_count, base_of, has_ready, ready_order, order_is_ready, copy_of_real, may_settle}
 use Rattle.seam_node_steps.specs.Prelude.{may_execute, may_call, with_offer, executed, executed_ready, shows, settled_to, Slot, NextPlace}
 use Rattle.seam_node_steps.specs.Prelude.{SlotStep, unless_stray, slot_after, told, told_unless, ghost_message, ghost_messages, gone_to}
@@ -167,29 +167,19 @@ module _ (z : Sizes) where
   -- 1 where the message is a call that is passed on
   abbrev pub passed : Slot → Msg → Bool
   passed s (Call k) = is_left s
-  passed s (BaseCall k) = false
-  passed s (Hand r) = false
-  passed s (Current e j n) = false
-  passed s (GhostSet e n c) = false
-  passed s (GhostDrop e n) = false
-  passed s Tick = false
-  passed s (Reap e) = false
-  passed s (Update u) = false
+  passed s _ = false
 
   -- a message to a cell lowers the weight, but for a call that is passed on
   pub message_weighs : (j : ℕ) (h : Here) (t : Division) (s : Slot) (m : Msg) → h.settings.bases ≤ z.bases →
       step_weight s (slot_steps h t s m) + 1 ≤ slot_weight s + g j m + one_if (passed s m)
   message_weighs j h t s (Call k) few = let e = call_weighs h t s k s.real s.next refl refl in omega (arith, e)
-  message_weighs j h t s (BaseCall k) few = omega arith
   message_weighs j h t s (Hand r) few = let e = hand_weighs h t s r s.real few refl in omega (arith, e)
-  message_weighs j h t s (Current e k n) few = omega arith
   message_weighs j h t s (GhostSet x n c) few = let e = set_weighs h s x n c s.real refl in omega (arith, e)
   message_weighs j h t s (GhostDrop x n) few =
       let e = rests_by (is_stray h t s (GhostDrop x n)) s (ghost_drop s n) (slot_weight s) (omega arith) (omega arith) in
       omega (arith, e)
-  message_weighs j h t s Tick few = omega arith
   message_weighs j h t s (Reap x) few = let e = reap_weighs s s.real refl in omega (arith, e)
-  message_weighs j h t s (Update u) few = omega arith
+  message_weighs j h t s _ few = omega arith
 
   -- ---- tasks
 

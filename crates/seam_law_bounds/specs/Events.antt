@@ -2,7 +2,7 @@
 use Rattle.std.specs.Prelude.{◌≡◌, ℕ, ◌≤◌, Bool, true, false, ◌&&◌, is_none, is_some, List, ◌∷◌, length, Option, None, Some, slice_get}
 use Rattle.std.specs.FinMap as table
 use Rattle.seam_node_steps.specs.Prelude.{input_from, LeadsTo, Occurs, Input, Task, From, Event, Order, RealView, WitnessView, has_ready}
-use Rattle.seam_node_steps.specs.Prelude.{may_execute, Msg, BaseCall, Hand, Current, GhostSet, GhostDrop, Tick, Reap, Update, Slot}
+use Rattle.seam_node_steps.specs.Prelude.{may_execute, Msg, Tick, Slot}
 use Rattle.seam_node_steps.specs.Prelude.{looks_of, CellView, slot_of, known_to, witnesses, BaseView, PartView, stray_order, proxy_is_ready}
 use Rattle.seam_node_steps.specs.Prelude.{may_show, NodeView, World, node_steps, node_has_work, Cell, Base}
 use Rattle.seam_net_runs.specs.Weights.{counted}
@@ -19,14 +19,7 @@ is_left s = is_none s.real && is_some s.next
 -- the message is a call that the cell passes on
 abbrev pub cell_passes : CellView → Msg → Bool
 cell_passes c (Call k) = is_left (slot_of c k.entity)
-cell_passes c (BaseCall k) = false
-cell_passes c (Hand r) = false
-cell_passes c (Current e j g) = false
-cell_passes c (GhostSet e n x) = false
-cell_passes c (GhostDrop e n) = false
-cell_passes c Tick = false
-cell_passes c (Reap e) = false
-cell_passes c (Update u) = false
+cell_passes c _ = false
 
 abbrev pub node_passes : NodeView → Input Msg → Bool
 node_passes (Cell c) Task = false

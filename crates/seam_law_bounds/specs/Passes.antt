@@ -1,7 +1,7 @@
 -- How often a call is passed on, and how often its entity is handed over.
 use Rattle.std.specs.Prelude.{ℕ, ◌==◌, Bool, false, ◌&&◌, is_some, is_none, List, Option, None, Some}
-use Rattle.seam_node_steps.specs.Prelude.{input_from, happens, Input, Task, From, Event, Call as CallData, Msg, BaseCall, Hand, Current}
-use Rattle.seam_node_steps.specs.Prelude.{GhostSet, GhostDrop, Tick, Reap, Update, World, node_steps}
+use Rattle.seam_node_steps.specs.Prelude.{input_from, happens, Input, Task, From, Event, Call as CallData, Msg}
+use Rattle.seam_node_steps.specs.Prelude.{World, node_steps}
 use Rattle.seam_law_calls.specs.Prelude.{Has, entity_flow, real_in, is_from}
 use Rattle.seam_net_runs.specs.Weights.{counted}
 use Rattle.seam_entity.specs.declared.message.Msg.TheVariants.{Call}
@@ -14,25 +14,11 @@ has_number s n c = is_from s c && (c.number == n)
 -- the message is a call to a cell part, of that sender and with that number
 abbrev pub is_numbered : ℕ → ℕ → Msg → Bool
 is_numbered s n (Call c) = has_number s n c
-is_numbered s n (BaseCall c) = false
-is_numbered s n (Hand r) = false
-is_numbered s n (Current e j g) = false
-is_numbered s n (GhostSet e b c) = false
-is_numbered s n (GhostDrop e b) = false
-is_numbered s n Tick = false
-is_numbered s n (Reap e) = false
-is_numbered s n (Update u) = false
+is_numbered s n _ = false
 
 abbrev pub is_to : ℕ → Msg → Bool
 is_to e (Call c) = c.entity == e
-is_to e (BaseCall c) = false
-is_to e (Hand r) = false
-is_to e (Current x j g) = false
-is_to e (GhostSet x b c) = false
-is_to e (GhostDrop x b) = false
-is_to e Tick = false
-is_to e (Reap x) = false
-is_to e (Update u) = false
+is_to e _ = false
 
 -- the input is the call of sender s to entity e that has number n
 abbrev pub brings_call : ℕ → ℕ → ℕ → Option (Input Msg) → Bool

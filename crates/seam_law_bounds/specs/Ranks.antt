@@ -1,9 +1,8 @@
 -- Ranks of nodes, which say how often an entity's real was handed over before it was there.
 use Rattle.std.specs.Prelude.{◌≡◌, ℕ, ◌+◌, ◌-◌, ◌≤◌, ◌⊎◌, Bool, true, false, ◌||◌, nat_le, if◌then◌else◌, List, [], ◌∷◌, Option, None, Some}
-use Rattle.seam_node_steps.specs.Prelude.{RealView, Msg, BaseCall, Hand, Current, GhostSet, GhostDrop, Tick, Reap, Update, NextPlace, World}
+use Rattle.seam_node_steps.specs.Prelude.{RealView, Msg, Hand, NextPlace, World}
 use Rattle.seam_law_flow.specs.Prelude.{Flow, TokenPlace, In, On}
 use Rattle.seam_law_calls.specs.Prelude.{Has, entity_flow, IsOne}
-use Rattle.seam_entity.specs.declared.message.Msg.TheVariants.{Call}
 
 abbrev pub rank_by : Option RealView → Option NextPlace → ℕ
 rank_by (Some r) n = r.generation
@@ -16,15 +15,8 @@ rank_of h = rank_by h.cell.slot.real h.cell.slot.next
 
 -- a hand-over of at least that generation
 abbrev pub is_hand_from : ℕ → Msg → Bool
-is_hand_from n (Call c) = false
-is_hand_from n (BaseCall c) = false
 is_hand_from n (Hand r) = nat_le n r.generation
-is_hand_from n (Current e j g) = false
-is_hand_from n (GhostSet e b c) = false
-is_hand_from n (GhostDrop e b) = false
-is_hand_from n Tick = false
-is_hand_from n (Reap e) = false
-is_hand_from n (Update u) = false
+is_hand_from n _ = false
 
 abbrev pub has_hand_from : ℕ → List Msg → Bool
 has_hand_from n [] = false

@@ -35,6 +35,6 @@ pub use phases::{
 };
 pub use ranks::{
     a_call_is_passed_on_at_most_as_often_as_its_real_is_handed_over,
-    a_call_that_is_passed_on_climbs, a_generation_counts_hand_overs, a_worked_row_counts_both,
+    a_call_that_is_passed_on_climbs, a_generation_counts_hand_overs,
     ranks_rise_with_hand_overs_alone,
 };

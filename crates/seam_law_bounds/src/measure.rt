@@ -15,7 +15,7 @@ ghost use Rattle.std.specs.List.{AllByRecursion, range_with_len};
 ghost use Rattle.seam_node_steps.specs.Prelude.{link, enabled, IsQuiet, LeadsTo, total, Occurs, Event, Batch, World, node_steps};
 ghost use Rattle.seam_node_steps.specs.Prelude.{node_has_work, opened, loaded, reaps_loaded, look_loaded, cell_count, Settings, TypeDef};
 ghost use Rattle.seam_law_calls.specs.Prelude.{Frame, IsInFrame, IsFrame, is_tick_order};
-ghost use Rattle.seam_law_rounds.specs.Prelude.{IsBetweenRounds, first_frame, AreReapable, first_batch, MayBeLoaded, HasPartsBetweenRounds};
+ghost use Rattle.seam_law_rounds.specs.Prelude.{IsBetweenRounds, first_frame, AreReapable, MayBeLoaded, HasPartsBetweenRounds};
 ghost use Rattle.seam_law_rounds.specs.Prelude.{HasSmallNumbers};
 ghost use Rattle.seam_law_ghosts.specs.Prelude.{AreCopiesBetweenRounds};
 ghost use Rattle.seam_law_bounds.specs.Prelude.{Sizes, world_weight, is_pass, NodeCan, AllCan, all_passes, LooksFit, ClientsKeepRoom};
@@ -118,10 +118,8 @@ pub fn a_longest_run_is_quiet()
         LeadsTo node_has_work node_steps w es v → n ≤ length es → IsQuiet node_has_work v }
 {}
 
-/// What these laws ask is true of an opened world (`among`), and of it with a batch that creates an entity and has
-/// calls to its base part (`first`; `MayBeLoaded` of it is a law of `seam_law_rounds`).
+/// In an opened world there is nothing to look at, as the laws of looks ask.
 pub fn an_opened_world_has_what_the_laws_ask()
-    ensures among { (defs : List TypeDef) (settings : Settings) → IsFrame (first_frame defs settings) → 1 ≤ settings.bases →
+    ensures { (defs : List TypeDef) (settings : Settings) → IsFrame (first_frame defs settings) → 1 ≤ settings.bases →
         LooksAmong [] (λ k. []) (opened defs settings) }
-    ensures first { AllByRecursion (λ o. is_tick_order o.1 ≡ false) first_batch.orders }
 {}

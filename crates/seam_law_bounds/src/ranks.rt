@@ -10,10 +10,9 @@ ghost use Rattle.std.specs.Prelude.{◌≡◌, ℕ, ◌+◌, ◌≤◌, true, Li
 ghost use Rattle.seam_node_steps.specs.Prelude.{happens, enabled, LeadsTo, Event, Batch, RealView, Msg, NextPlace, World, node_steps};
 ghost use Rattle.seam_node_steps.specs.Prelude.{node_has_work, loaded};
 ghost use Rattle.seam_law_flow.specs.Prelude.{Flow};
-ghost use Rattle.seam_law_calls.specs.Prelude.{Frame, Has, entity_flow, events_of, real_in};
+ghost use Rattle.seam_law_calls.specs.Prelude.{Frame, Has, entity_flow, real_in};
 ghost use Rattle.seam_law_rounds.specs.Prelude.{IsBetweenRounds, IsFitting};
 ghost use Rattle.seam_law_bounds.specs.Prelude.{rank_of, ComesTo, AreRanked, Climbs, passes, hand_overs};
-ghost use Rattle.seam_node_steps.specs.EarlyCall as early;
 
 /// What a node that has the next place alone passes on comes to a node of higher rank.
 pub fn a_call_that_is_passed_on_climbs()
@@ -45,13 +44,3 @@ pub fn a_generation_counts_hand_overs()
         LeadsTo node_has_work node_steps (loaded w b) es v → (j : ℕ) (q : RealView) → real_in ((entity_flow e v).slot j) ≡ Some q →
         q.generation ≡ r.generation + hand_overs e (loaded w b) es }
 {}
-
-/// In the worked row of an early call, the first call of the second sender comes after the hand-over to where the real was, and is passed
-/// on once; the second one comes to the real, and is not.
-pub fn a_worked_row_counts_both()
-    ensures handed { hand_overs 1 early.world_0 (events_of early.steps) ≡ 1 }
-    ensures passed { passes 1 2 1 early.world_0 (events_of early.steps) ≡ 1 }
-    ensures direct { passes 1 2 2 early.world_0 (events_of early.steps) ≡ 0 }
-{
-    seam_node_steps::rows::an_early_call_is_held();
-}

@@ -5,16 +5,16 @@ use Rattle.std.specs.Cmp.{nat_cmp_total, unsigned_tied}
 use Rattle.std.specs.FinMap as table
 use Rattle.std.proofs.lemmas.Bool.{cases_eq, eq-eqb, ne_eqb}
 use Rattle.seam_node_steps.specs.Prelude.{From, Call as CallData, Order, Msg, BaseCall, Hand, Current, GhostSet, GhostDrop, Tick, Reap}
-use Rattle.seam_node_steps.specs.Prelude.{Update, Map, about, BaseView, RouteView, PartView, ProxyView, with_part, may_show, offered}
-use Rattle.seam_node_steps.specs.Prelude.{after_ready, after_showing, is_base_node_of, tick_to, on_route, stray_base_call, stray_current}
-use Rattle.seam_node_steps.specs.Prelude.{stray_update, stray_order, order_of_node, base_order, base_task, task_without_orders, proxy_task}
-use Rattle.seam_node_steps.specs.Prelude.{ready_part, ready_proxy, part_is_ready, sends_none, case_of, base_steps}
-use Rattle.seam_law_calls.specs.Prelude.{mine, concerning, orders_of, AtBase, at_base, strays_at, is_stuck, newer, part_offered, updated}
+use Rattle.seam_node_steps.specs.Prelude.{Update, Map, about, BaseView, RouteView, PartView, ProxyView, with_part}
+use Rattle.seam_node_steps.specs.Prelude.{stray_base_call, stray_current}
+use Rattle.seam_node_steps.specs.Prelude.{stray_update}
+use Rattle.seam_node_steps.specs.Prelude.{sends_none, case_of, base_steps}
+use Rattle.seam_law_calls.specs.Prelude.{mine, concerning, orders_of, AtBase, at_base, newer, part_offered, updated}
 use Rattle.seam_law_calls.specs.Prelude.{BaseMoves}
 use Rattle.seam_call.specs.declared.shown.Update.{Update as UpdateData}
 use Rattle.seam_entity.specs.declared.message.Msg.TheVariants.{Call}
 use Rattle.seam_node_steps.specs.BaseCases
-use Rattle.seam_node_steps.specs.BaseCases.{may_call, may_execute, executes_ready}
+use Rattle.seam_node_steps.specs.BaseCases.{may_call}
 use Rattle.seam_node_steps.specs.BaseCases.{unless_stray, is_stray}
 use Rattle.seam_law_calls.specs.BaseMoves as move
 use Rattle.seam_law_calls.proofs.Lists.{mine_own, mine_other}
@@ -173,16 +173,11 @@ module _ (e : ℕ) (b : BaseView) where
   update_other u (Some p) n = proxy_other u p p.proxy n
 
   case_other : (m : Msg) (x : ℕ) → about m ≡ Some x → (x ≡ e → ⊥) → at_base e (case_of b m) ≡ s
-  case_other (Call c) x a n = refl
   case_other (BaseCall c) x a n = called_other c (table.get b.parts c.entity) (λ q. n (sym (some_is c.entity x a) ∙ q))
-  case_other (Hand r) x a n = refl
   case_other (Current y j g) x a n =
       current_other y (record { cell = j; generation = g }) (table.get b.routes y) (λ q. n (sym (some_is y x a) ∙ q))
-  case_other (GhostSet y k c) x a n = refl
-  case_other (GhostDrop y k) x a n = refl
-  case_other Tick x a n = refl
-  case_other (Reap y) x a n = refl
   case_other (Update u) x a n = update_other u (table.get b.parts u.entity) (λ q. n (sym (some_is u.entity x a) ∙ q))
+  case_other _ x a n = refl
 
   abbrev Hears : Msg → Option Msg → Type 0
   Hears m i = Goal i (base_steps b (From 0 m)).state []

@@ -3,7 +3,7 @@ use Rattle.std.proofs.Common.{◌≡◌, ℕ, ◌+◌, ◌*◌, ◌≤◌, Bool,
 use Rattle.std.proofs.Common.{refl, ap, ◌∙◌, arith}
 use Rattle.std.specs.List.{range_with_len}
 use Rattle.std.specs.FinSet as set
-use Rattle.seam_node_steps.specs.Prelude.{rank_of, total, RealView, Msg, BaseCall, Hand, Current, GhostSet, GhostDrop, Tick, Reap, Update}
+use Rattle.seam_node_steps.specs.Prelude.{rank_of, total, RealView, Msg, Hand, Reap}
 use Rattle.seam_node_steps.specs.Prelude.{base_numbers, base_of, SlotStep, slot_after, haunts_at, ghost_messages, beat_after, settled_to}
 use Rattle.seam_node_steps.specs.Prelude.{current_to, shown_of, looks_with, tick_to}
 use Rattle.seam_law_flow.specs.Prelude.{IsSilent}
@@ -22,25 +22,15 @@ use Rattle.seam_law_calls.proofs.HeldCounts.{turn_counts, early_counts, taken_co
 -- eyes that see what weighs something
 abbrev heavy : Msg → Option ℕ
 heavy (Call c) = Some 0
-heavy (BaseCall c) = None
 heavy (Hand r) = Some 0
-heavy (Current e j g) = None
-heavy (GhostSet e n c) = None
-heavy (GhostDrop e n) = None
-heavy Tick = None
 heavy (Reap e) = Some 0
-heavy (Update u) = None
+heavy _ = None
 
 light : (m : Msg) → heavy m ≡ None → letter_burden m ≡ 0
 light (Call c) h = cc
-light (BaseCall c) h = refl
 light (Hand r) h = cc
-light (Current e j g) h = refl
-light (GhostSet e n c) h = refl
-light (GhostDrop e n) h = refl
-light Tick h = refl
 light (Reap e) h = cc
-light (Update u) h = refl
+light _ h = refl
 
 abbrev pub sent_burden : List (ℕ × Msg) → ℕ
 sent_burden ps = total (λ p. letter_burden p.1) ps

@@ -10,8 +10,8 @@ use Rattle.std.specs.declared.cmp.Ordering.TheVariants.{Less, Equal, Greater}
 use Rattle.std.proofs.lemmas.Bool.{eq-eqb, ne_eqb}
 use Rattle.std.proofs.lemmas.Bool.Decides.{nat_tests}
 use Rattle.std.proofs.lemmas.List.{append-nil}
-use Rattle.seam_node_steps.specs.Prelude.{items_to, with_item, after_offer, after_taking, next_item, Order, Shown, RealView, Msg, BaseCall}
-use Rattle.seam_node_steps.specs.Prelude.{Hand, Current, GhostSet, GhostDrop, Tick, Reap, Update, Here, cell_count, PartView, ProxyView}
+use Rattle.seam_node_steps.specs.Prelude.{items_to, with_item, after_offer, after_taking, next_item, Order, Shown, RealView, Msg}
+use Rattle.seam_node_steps.specs.Prelude.{Hand, Update, Here, cell_count, PartView, ProxyView}
 use Rattle.seam_node_steps.specs.Prelude.{line_if, base_text, offered_update, shows_next, numbered}
 use Rattle.seam_law_flow.specs.Prelude.{letters_of, IsSilent, carried_in, SendsNone, at_once, more_issued, number_from}
 use Rattle.seam_law_calls.specs.Prelude.{Frame, here_at, Has, Moves, at_a_cell, at_a_base, real_in, real_of, update_in, told, Missed}
@@ -24,7 +24,6 @@ use Rattle.seam_law_flow.specs.Deliveries.{Passes}
 use Rattle.seam_law_flow.specs.Deliveries as pass
 use Rattle.seam_call.specs.declared.order.Order.TheVariants as order
 use Rattle.seam_call.specs.declared.shown.Update.{Update as UpdateData}
-use Rattle.seam_entity.specs.declared.message.Msg.TheVariants.{Call}
 use Rattle.seam_law_calls.proofs.Sparing.{items_all}
 use Rattle.seam_law_calls.specs.WitnessMoves as witness
 use Rattle.seam_law_calls.proofs.PartSteps.{equal_of, part_moves}
@@ -42,14 +41,7 @@ tells_by (Some m) = refl
 
 pub update_is : (m : Msg) (o : Option UpdateData) → update_in m ≡ o → (o ≡ None) ⊎ ((u : UpdateData) × (m ≡ Update u))
 update_is (Update u) o is = inr (u, refl)
-update_is (Call c) o is = inl (sym is)
-update_is (BaseCall c) o is = inl (sym is)
-update_is (Hand r) o is = inl (sym is)
-update_is (Current e j g) o is = inl (sym is)
-update_is (GhostSet e n c) o is = inl (sym is)
-update_is (GhostDrop e n) o is = inl (sym is)
-update_is Tick o is = inl (sym is)
-update_is (Reap e) o is = inl (sym is)
+update_is _ o is = inl (sym is)
 
 told_cases : (i : Option Msg) → (told i ≡ None) ⊎ ((u : UpdateData) × (i ≡ Some (Update u)))
 told_cases None = inl refl

@@ -3,8 +3,8 @@ use Rattle.std.proofs.Common.{◌≡◌, ℕ, Bool, true, false, not, ◌&&◌, 
 use Rattle.std.proofs.Common.{refl, sym, ap, ◌∙◌, subst, inl, inr}
 use Rattle.std.specs.List.{AllByRecursion}
 use Rattle.std.proofs.lemmas.Bool.{cases_eq}
-use Rattle.seam_node_steps.specs.Prelude.{items_to, Call as CallData, RealView, Msg, BaseCall, Hand, Current, GhostSet, GhostDrop, Tick}
-use Rattle.seam_node_steps.specs.Prelude.{Reap, Update, NextPlace, RouteView}
+use Rattle.seam_node_steps.specs.Prelude.{items_to, Call as CallData, RealView, Msg, Hand, Current}
+use Rattle.seam_node_steps.specs.Prelude.{NextPlace, RouteView}
 use Rattle.seam_law_flow.specs.Prelude.{Flow, Goes, comes, IsSilent}
 use Rattle.seam_law_calls.specs.Prelude.{Has, is_visited, is_call, is_hand, has_hand, follow, NamesVisited, AllLead}
 use Rattle.seam_machine.proofs.SendLemmas.{items_to-append}
@@ -17,15 +17,8 @@ use Rattle.seam_law_calls.proofs.Following.{follow_more, follow_append, has_appe
 use Rattle.seam_law_calls.proofs.WayMoves.{kept, call_in, route_in, Way, by_next, by_route, Sends, plain, tells, one_call, Leads}
 
 hand_of : (m : Msg) → is_hand m ≡ true → (r : RealView) × (m ≡ Hand r)
-hand_of (Call c) h = cc
-hand_of (BaseCall c) h = cc
 hand_of (Hand r) h = (r, refl)
-hand_of (Current e j g) h = cc
-hand_of (GhostSet e n c) h = cc
-hand_of (GhostDrop e n) h = cc
-hand_of Tick h = cc
-hand_of (Reap e) h = cc
-hand_of (Update u) h = cc
+hand_of _ h = cc
 
 either : (a b : Bool) → (a || b) ≡ true → (a ≡ true) ⊎ (b ≡ true)
 either true b h = inl refl

@@ -24,12 +24,10 @@ pub mod Following
 pub mod WayMoves
 pub mod Leading
 pub mod Finding
-pub mod ExampleWays
 pub mod DeskLemmas
 pub mod CellSeen
 pub mod CellRuns
 pub mod Quieting
-pub mod ExampleTurns
 pub mod PartSteps
 pub mod PartEasing
 pub mod PartSeen
@@ -49,8 +47,6 @@ pub mod RoutesKept
 pub mod NoStray
 pub mod StrayRuns
 pub mod Reaped
-pub mod ExampleBase
-pub mod ExampleClient
 pub mod NoLooks
 pub mod NodeStray
 pub mod Below

@@ -60,14 +60,9 @@ module _ (s : Slot) where
 
   case_takes : (h : Here) (t : Division) (m : Msg) → TakesReal (case_of h t s m)
   case_takes h t (Call k) is = call_takes h t k s.real is
-  case_takes h t (BaseCall k) is = cc
-  case_takes h t (Hand r) is = cc
-  case_takes h t (Current e j g) is = cc
   case_takes h t (GhostSet e beat c) is = set_takes beat c s.real is
-  case_takes h t (GhostDrop e beat) is = cc
-  case_takes h t Tick is = cc
   case_takes h t (Reap e) is = reap_takes s.real is
-  case_takes h t (Update u) is = cc
+  case_takes h t _ is = cc
 
   unless_takes : (b : Bool) (x : SlotStep) → TakesReal x → TakesReal (unless_stray b x)
   unless_takes true x h is = cc

@@ -5,17 +5,16 @@ use Rattle.std.specs.List.{range_with_len}
 use Rattle.std.specs.FinSet as set
 use Rattle.std.proofs.lemmas.List.FromFn.{length-range_with_len}
 use Rattle.seam_law_flow.proofs.Following.{all_append}
-use Rattle.seam_node_steps.specs.Prelude.{cells_of, happens, total, Occurs, Event, Shown, RealView, Msg, BaseCall, Hand, Current, GhostSet}
-use Rattle.seam_node_steps.specs.Prelude.{GhostDrop, Tick, Reap, Update, Here, base_numbers, cell_count, SlotStep, haunts_at}
+use Rattle.seam_node_steps.specs.Prelude.{cells_of, happens, total, Occurs, Event, Shown, RealView, Msg}
+use Rattle.seam_node_steps.specs.Prelude.{Tick, Here, base_numbers, cell_count, SlotStep, haunts_at}
 use Rattle.seam_node_steps.specs.Prelude.{ghost_messages, current_to, tick_to, Known, numbered, World, node_steps}
 use Rattle.seam_law_flow.specs.Prelude.{letter_in, IsSilent}
 use Rattle.seam_law_calls.specs.Prelude.{Frame, here_at, IsInFrame, Has, AtCell, AtBase, mine, concerning, has_of, unlisted_if, Does, Acts}
-use Rattle.seam_law_calls.specs.Prelude.{surveys, calls, readies, CellMoves, looks_after_tick, has_witness, BaseMoves, Moves, at_a_cell}
+use Rattle.seam_law_calls.specs.Prelude.{surveys, calls, readies, CellMoves, has_witness, BaseMoves, Moves, at_a_cell}
 use Rattle.seam_law_calls.specs.Prelude.{at_a_base, tick_in, order_looks, node_looks, mine_looks, looks_left}
 use Rattle.seam_net_runs.specs.Sums.{weight_or}
 use Rattle.seam_net_runs.proofs.Soundness.{sound_sends}
 use Rattle.seam_net_runs.proofs.Weighing.{weight_moves}
-use Rattle.seam_entity.specs.declared.message.Msg.TheVariants.{Call}
 use Rattle.seam_law_calls.specs.CellMoves as move
 use Rattle.seam_law_calls.proofs.Classify.{node_laws, node_moves}
 use Rattle.seam_law_calls.proofs.Easing.{sent_is, event_eases}
@@ -31,15 +30,8 @@ abbrev sent_looks : List (ℕ × Msg) → ℕ
 sent_looks ps = total (λ p. letter_looks p.1) ps
 
 light_by : (m : Msg) → tick_in m ≡ None → letter_looks m ≡ 0
-light_by (Call c) h = refl
-light_by (BaseCall c) h = refl
-light_by (Hand r) h = refl
-light_by (Current e j g) h = refl
-light_by (GhostSet e n c) h = refl
-light_by (GhostDrop e n) h = refl
 light_by Tick h = cc
-light_by (Reap e) h = refl
-light_by (Update u) h = refl
+light_by _ h = refl
 
 light : (ps : List (ℕ × Msg)) → IsSilent tick_in ps → sent_looks ps ≡ 0
 light [] h = refl

@@ -2,13 +2,12 @@
 use Rattle.std.proofs.Common.{◌≡◌, ℕ, ◌&&◌, is_none, Some, refl, sym, ap, ◌∙◌}
 use Rattle.std.specs.Prelude.{slice_get}
 use Rattle.std.specs.FinMap as table
-use Rattle.seam_node_steps.specs.Prelude.{Order, Msg, BaseCall, Hand, Current, GhostSet, GhostDrop, Tick, Reap, Update, about, BaseView}
+use Rattle.seam_node_steps.specs.Prelude.{Order, Msg, BaseCall, Current, Update, about, BaseView}
 use Rattle.seam_node_steps.specs.Prelude.{stray_order, stray_base_call, stray_current, stray_update, is_base_node_of, World, Base}
 use Rattle.seam_law_flow.specs.Prelude.{letters_of, more_letter, slot_at}
 use Rattle.seam_law_calls.specs.Prelude.{Frame, here_at, IsInFrame, mine, order_about, orders_of, at_base, has_of, has_none, entity_flow}
 use Rattle.seam_law_calls.specs.Prelude.{strays_at, is_stuck, NothingIsStray, NoneIsStray}
 use Rattle.seam_call.specs.declared.order.Order.TheVariants as order
-use Rattle.seam_entity.specs.declared.message.Msg.TheVariants.{Call}
 use Rattle.seam_node_steps.specs.BaseCases.{is_stray}
 use Rattle.seam_law_calls.proofs.Lists.{concerned_own, mine_own, orders_own}
 
@@ -16,16 +15,11 @@ entity_is : (x e : ℕ) → Some x ≡ Some e → e ≡ x
 entity_is x e is = cc
 
 message_is : (b : BaseView) (e : ℕ) (m : Msg) → about m ≡ Some e → strays_at b.here (at_base e b) m ≡ is_stray b m
-message_is b e (Call c) is = refl
 message_is b e (BaseCall c) is = ap (λ x. stray_base_call b.here c (table.get b.parts x)) (entity_is c.entity e is)
-message_is b e (Hand r) is = refl
 message_is b e (Current x j g) is =
     ap (λ y. stray_current (record { cell = j; generation = g }) (table.get b.routes y)) (entity_is x e is)
-message_is b e (GhostSet x n c) is = refl
-message_is b e (GhostDrop x n) is = refl
-message_is b e Tick is = refl
-message_is b e (Reap x) is = refl
 message_is b e (Update u) is = ap (λ x. stray_update u (table.get b.parts x)) (entity_is u.entity e is)
+message_is b e _ is = refl
 
 order_is : (b : BaseView) (e : ℕ) (o : Order) → order_about o ≡ Some e → is_stuck b.here (at_base e b) o ≡ stray_order b o
 order_is b e (order.Cell c) is = ap (λ x. is_none (table.get b.routes x)) (entity_is c.entity e is)

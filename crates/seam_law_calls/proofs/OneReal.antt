@@ -5,7 +5,7 @@ use Rattle.std.specs.List.{AllByRecursion, list_all}
 use Rattle.std.specs.FinSet as set
 use Rattle.std.proofs.lemmas.Bool.{cases_eq}
 use Rattle.seam_node_steps.specs.Prelude.{cells_of, AreDefs, happens, enabled, run, AllEnabled, LeadsTo, Occurs, items_to, Input, Task}
-use Rattle.seam_node_steps.specs.Prelude.{From, Event, RealView, Msg, BaseCall, Hand, Current, GhostSet, GhostDrop, Tick, Reap, Update}
+use Rattle.seam_node_steps.specs.Prelude.{From, Event, RealView, Msg, Hand, Reap}
 use Rattle.seam_node_steps.specs.Prelude.{limit, cell_numbers, properties, is_cell_if, may_come, World, node_steps, node_has_work}
 use Rattle.seam_law_flow.specs.Prelude.{Goes, comes, letter_in, letters_of, carried_in, TokenPlace, On, Sole, Handles, still, turns, lands}
 use Rattle.seam_law_flow.specs.Prelude.{leaves, relays, place_after, token_after}
@@ -58,14 +58,7 @@ module _ (f : Frame) (e ty k : ℕ) where
 
 hand_is : (m : Msg) (r : RealView) → real_of m ≡ Some r → m ≡ Hand r
 hand_is (Call c) r h = cc
-hand_is (BaseCall c) r h = cc
-hand_is (Hand q) r h = cc
-hand_is (Current e j g) r h = cc
-hand_is (GhostSet e n c) r h = cc
-hand_is (GhostDrop e n) r h = cc
-hand_is Tick r h = cc
-hand_is (Reap e) r h = cc
-hand_is (Update u) r h = cc
+hand_is _ r h = cc
 
 pub came_hand : (i : Option Msg) (r : RealView) → carried_in real_of i ≡ Some r → i ≡ Some (Hand r)
 came_hand None r h = cc
@@ -78,15 +71,8 @@ module _ (P : RealView → Type 0) where
   -- what is true of each real that the letters carry
   hands_by : (m : Msg) (ms : List Msg) → AllByRecursion P (letters_of real_of (m ∷ ms)) →
       (AllByRecursion P (letters_of real_of ms) → AllByRecursion OfHand ms) → AllByRecursion OfHand (m ∷ ms)
-  hands_by (Call c) ms h more = ((λ r is. cc), more h)
-  hands_by (BaseCall c) ms h more = ((λ r is. cc), more h)
   hands_by (Hand q) ms h more = ((λ r is. let same : q ≡ r = cc in subst P same h.0), more h.1)
-  hands_by (Current e j g) ms h more = ((λ r is. cc), more h)
-  hands_by (GhostSet e n c) ms h more = ((λ r is. cc), more h)
-  hands_by (GhostDrop e n) ms h more = ((λ r is. cc), more h)
-  hands_by Tick ms h more = ((λ r is. cc), more h)
-  hands_by (Reap e) ms h more = ((λ r is. cc), more h)
-  hands_by (Update u) ms h more = ((λ r is. cc), more h)
+  hands_by _ ms h more = ((λ r is. cc), more h)
 
   pub hands_all : (ms : List Msg) → AllByRecursion P (letters_of real_of ms) → AllByRecursion OfHand ms
   hands_all [] h = tt

@@ -7,7 +7,7 @@ use Rattle.std.specs.declared.cmp.Ordering.{Ordering}
 use Rattle.std.specs.declared.cmp.Ordering.TheVariants.{Less, Equal, Greater}
 use Rattle.std.specs.FinSet as set
 use Rattle.seam_node_steps.specs.Prelude.{Division, Cells, OrderView, next_item, Call as CallData, GhostCopy, Shown, order_of, RealView}
-use Rattle.seam_node_steps.specs.Prelude.{WitnessView, Msg, BaseCall, Hand, Current, GhostSet, GhostDrop, Tick, Reap, Update, Here}
+use Rattle.seam_node_steps.specs.Prelude.{WitnessView, Msg, Hand, GhostSet, GhostDrop, Reap, Here}
 use Rattle.seam_node_steps.specs.Prelude.{cell_numbers, base_numbers, base_of, ready_order, executed, executed_ready, shows, copy_of_real}
 use Rattle.seam_node_steps.specs.Prelude.{settled_to, Slot, NextPlace, SlotStep, unless_stray, home_after, haunts_at, told, told_unless}
 use Rattle.seam_node_steps.specs.Prelude.{ghost_message, ghost_messages, settled_by, settled, stays, goes, about, slot_steps, is_stray}
@@ -114,14 +114,10 @@ module _ (e : ℕ) where
 
     case_about : (m : Msg) → about m ≡ Some e → ((r : RealView) → s.real ≡ Some r → r.entity ≡ e) → AllAbout e (case_of h t s m).sent
     case_about (Call c) is keys = call_about c s.real (inside c.entity e is) keys
-    case_about (BaseCall c) is keys = tt
     case_about (Hand r) is keys = currents_about r (base_numbers h) (inside r.entity e is)
-    case_about (Current x j g) is keys = tt
     case_about (GhostSet x beat c) is keys = set_about beat c s.real
-    case_about (GhostDrop x beat) is keys = tt
-    case_about Tick is keys = tt
     case_about (Reap x) is keys = reap_about s.real keys
-    case_about (Update u) is keys = tt
+    case_about _ is keys = tt
 
     -- what a message about an entity makes its slot send
     pub slot_about : (m : Msg) → about m ≡ Some e → ((r : RealView) → s.real ≡ Some r → r.entity ≡ e) →

@@ -6,7 +6,7 @@ use Rattle.std.specs.declared.cmp.Ordering.TheVariants.{Less, Equal, Greater}
 use Rattle.std.proofs.lemmas.Bool.{eqb-true, eqb-false}
 use Rattle.std.proofs.lemmas.Bool.Decides.{nat_tests}
 use Rattle.seam_node_steps.specs.Prelude.{Division, OrderView, next_item, Call as CallData, GhostCopy, order_of, RealView, WitnessView, Msg}
-use Rattle.seam_node_steps.specs.Prelude.{BaseCall, Hand, Current, GhostSet, GhostDrop, Tick, Reap, Update, is_small, may_rise, Here}
+use Rattle.seam_node_steps.specs.Prelude.{Hand, GhostSet, GhostDrop, Reap, is_small, may_rise, Here}
 use Rattle.seam_node_steps.specs.Prelude.{has_ready, ready_order, may_settle, may_execute, may_call, executed, executed_ready, shows, Slot}
 use Rattle.seam_node_steps.specs.Prelude.{NextPlace, unless_stray, home_after, settled_by, settled, about, slot_steps, is_stray, may_come}
 use Rattle.seam_node_steps.specs.Prelude.{stray_survey, stray_ready_call, survey_task, ready_call_task, Known, shown_of, look_by, look_task}
@@ -91,14 +91,11 @@ module _ (h : Here) (t : Division) (e : ℕ) (s : AtCell) (key : IsKey e s.slot)
 
   case_moves : (m : Msg) → about m ≡ Some e → is_stray h t s.slot m ≡ false → Does s (case_of h t s.slot m) v sent → Goal (Some m)
   case_moves (Call c) is sound d = call_moves c s.slot.real (inside c.entity e is) refl sound d
-  case_moves (BaseCall c) is sound d = cc
   case_moves (Hand r) is sound d = hand_moves r s.slot.real (inside r.entity e is) refl sound d
-  case_moves (Current x j g) is sound d = cc
   case_moves (GhostSet x beat c) is sound d = set_moves x beat c s.slot.real (inside x e is) refl d
   case_moves (GhostDrop x beat) is sound d = move.hears_drop beat (ap (λ y. Some (GhostDrop y beat)) (inside x e is)) d
-  case_moves Tick is sound d = cc
   case_moves (Reap x) is sound d = reap_moves x s.slot.real (inside x e is) refl sound d
-  case_moves (Update u) is sound d = cc
+  case_moves _ is sound d = cc
 
   stray_moves : (m : Msg) (b : Bool) → about m ≡ Some e → is_stray h t s.slot m ≡ b →
       Does s (unless_stray b (case_of h t s.slot m)) v sent → Goal (Some m)

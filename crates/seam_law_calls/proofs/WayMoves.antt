@@ -3,7 +3,7 @@ use Rattle.std.proofs.Common.{◌≡◌, ℕ, ◌+◌, ◌≤◌, ◌⊎◌, Boo
 use Rattle.std.proofs.Common.{Option, None, Some, refl, sym, ap, ◌∙◌, subst, arith, inl, inr}
 use Rattle.std.specs.List.{range_with_len}
 use Rattle.std.specs.FinSet as set
-use Rattle.seam_node_steps.specs.Prelude.{Call as CallData, RealView, Msg, BaseCall, Hand, Current, GhostSet, GhostDrop, Tick, Reap, Update}
+use Rattle.seam_node_steps.specs.Prelude.{Call as CallData, RealView, Msg, BaseCall, Hand, Current, Reap}
 use Rattle.seam_node_steps.specs.Prelude.{cell_count, base_numbers, base_of, Slot, NextPlace, SlotStep, slot_after, haunts_at}
 use Rattle.seam_node_steps.specs.Prelude.{ghost_messages, settled_to, is_stray, may_come, RouteView, tick_to}
 use Rattle.seam_law_flow.specs.Prelude.{IsSilent}
@@ -26,15 +26,8 @@ abbrev pub call_in : Msg → Option ℕ
 call_in m = kept (is_call m)
 
 abbrev pub route_in : Msg → Option ℕ
-route_in (Call c) = None
-route_in (BaseCall c) = None
-route_in (Hand r) = None
 route_in (Current e j g) = Some j
-route_in (GhostSet e n c) = None
-route_in (GhostDrop e n) = None
-route_in Tick = None
-route_in (Reap e) = None
-route_in (Update u) = None
+route_in _ = None
 
 no_calls : SeesNoGhost call_in
 no_calls = record { sets = λ e n c. refl; drops = λ e n. refl }

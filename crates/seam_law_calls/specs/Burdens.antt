@@ -1,7 +1,7 @@
 -- What an entity has yet to do, in numbers that no step raises; versions, beats and generations count in it, so they stay small.
 use Rattle.std.specs.Prelude.{ℕ, ◌+◌, ◌*◌, length}
-use Rattle.seam_node_steps.specs.Prelude.{OrderView, total, Call as CallData, Order, Orders, RealView, Msg, BaseCall, Hand, Current}
-use Rattle.seam_node_steps.specs.Prelude.{GhostSet, GhostDrop, Tick, Reap, Update, NodeView, World}
+use Rattle.seam_node_steps.specs.Prelude.{OrderView, total, Call as CallData, Order, Orders, RealView, Msg, Hand}
+use Rattle.seam_node_steps.specs.Prelude.{Reap, NodeView, World}
 use Rattle.seam_net_runs.specs.Sums.{map_total, weight_or}
 use Rattle.seam_net_runs.specs.Weights.{weight}
 use Rattle.seam_call.specs.declared.order.Order.TheVariants as order
@@ -27,14 +27,9 @@ order_burden (order.Reap e) = 1
 
 abbrev pub letter_burden : Msg → ℕ
 letter_burden (Call c) = 3
-letter_burden (BaseCall c) = 0
 letter_burden (Hand r) = real_burden r
-letter_burden (Current e j g) = 0
-letter_burden (GhostSet e n c) = 0
-letter_burden (GhostDrop e n) = 0
-letter_burden Tick = 0
 letter_burden (Reap e) = 1
-letter_burden (Update u) = 0
+letter_burden _ = 0
 
 abbrev pub has_burden : Has → ℕ
 has_burden s = weight_or real_burden s.cell.slot.real + (2 * s.cell.survey + total order_burden s.base.orders)

@@ -2,8 +2,8 @@
 use Rattle.std.specs.Prelude.{◌≡◌, ℕ, ◌<◌, ◌≤◌, ◌==◌, Bool, true, List, Option, None, Some}
 use Rattle.std.specs.List.{AllByRecursion}
 use Rattle.std.specs.FinMap as table
-use Rattle.seam_node_steps.specs.Prelude.{Call as CallData, Order, rank_of, Orders, order_or, order_of, RealView, Msg, BaseCall, Hand}
-use Rattle.seam_node_steps.specs.Prelude.{Current, GhostSet, GhostDrop, Tick, Reap, Update, cell_count, fits_cell_part, may_call, World}
+use Rattle.seam_node_steps.specs.Prelude.{Call as CallData, Order, rank_of, Orders, order_or, order_of, RealView, Msg, Hand}
+use Rattle.seam_node_steps.specs.Prelude.{cell_count, fits_cell_part, may_call, World}
 use Rattle.seam_law_flow.specs.Prelude.{Flow, letters_of, narrow, Desk, Post, Mail, Item, Parcel, AreInTurn}
 use Rattle.seam_call.specs.declared.order.Order.TheVariants as order
 use Rattle.seam_entity.specs.declared.message.Msg.TheVariants.{Call}
@@ -48,14 +48,8 @@ cell_post s h = record { stored = letters_of (cell_order_from s) h.base.orders; 
 -- what a message is to the sender: one of its calls, or its desk with the real
 abbrev pub cell_mail : ℕ → Msg → Option (Mail CallData)
 cell_mail s (Call c) = kept_if (is_from s c) (Item c.number c)
-cell_mail s (BaseCall c) = None
 cell_mail s (Hand r) = Some (Parcel (desk_for s r.orders r.done))
-cell_mail s (Current e j g) = None
-cell_mail s (GhostSet e n c) = None
-cell_mail s (GhostDrop e n) = None
-cell_mail s Tick = None
-cell_mail s (Reap e) = None
-cell_mail s (Update u) = None
+cell_mail s _ = None
 
 -- an entity's flow as the sender sees it
 abbrev pub as_sender : ℕ → Flow Has Msg → Flow (Post CallData) (Mail CallData)

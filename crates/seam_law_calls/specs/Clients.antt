@@ -1,13 +1,12 @@
 -- An entity's client: what its witness told, which the proxy at the base node shows it in order.
 use Rattle.std.specs.Prelude.{◌≡◌, ℕ, ◌+◌, ◌<◌, ◌≤◌, Bool, true, false, List, [], length, Option, None, Some, option_map}
 use Rattle.std.specs.List.{AllByRecursion}
-use Rattle.seam_node_steps.specs.Prelude.{OrderView, Order, Shown, Line, ClientText, new_order, RealView, Msg, BaseCall, Hand, Current}
-use Rattle.seam_node_steps.specs.Prelude.{GhostSet, GhostDrop, Tick, Reap, Update, limit, PartView, ProxyView, stray_update, World}
+use Rattle.seam_node_steps.specs.Prelude.{OrderView, Order, Shown, Line, ClientText, new_order, RealView, Msg}
+use Rattle.seam_node_steps.specs.Prelude.{Tick, limit, PartView, ProxyView, stray_update, World}
 use Rattle.seam_law_flow.specs.Prelude.{letters_of, Delivery}
 use Rattle.seam_call.specs.declared.order.Order.TheVariants as order
 use Rattle.seam_call.specs.declared.shown.ClientText.TheVariants as text
 use Rattle.seam_call.specs.declared.shown.Update.{Update as UpdateData}
-use Rattle.seam_entity.specs.declared.message.Msg.TheVariants.{Call}
 use Rattle.seam_law_calls.specs.Frames.{Frame}
 use Rattle.seam_law_calls.specs.Sights.{Has, AtBase, entity_flow}
 use Rattle.seam_law_calls.specs.Ones.{real_in, real_of, IsFrame, HasOne}
@@ -72,15 +71,8 @@ is_tick_order (order.Reap e) = false
 
 -- the tick that a message is
 abbrev pub tick_in : Msg → Option Msg
-tick_in (Call c) = None
-tick_in (BaseCall c) = None
-tick_in (Hand r) = None
-tick_in (Current e j g) = None
-tick_in (GhostSet e n c) = None
-tick_in (GhostDrop e n) = None
 tick_in Tick = Some Tick
-tick_in (Reap e) = None
-tick_in (Update u) = None
+tick_in _ = None
 
 -- the entity is in no look list, and no tick is ordered or on its way, as in a round before its looks
 pub record HasNoLooks (e : ℕ) (w : World) : Type 0 where

@@ -10,13 +10,11 @@ pub mod Ones
 pub mod HandOverExample
 pub mod Ways
 pub mod CellTurns
-pub mod TurnsExample
 pub mod PartMoves
 pub mod WitnessMoves
 pub mod BaseTurns
 pub mod Clients
 pub mod Strays
 pub mod Reaps
-pub mod BaseCallsExample
 pub mod Telling
 pub mod Prelude

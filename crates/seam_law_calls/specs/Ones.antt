@@ -1,11 +1,10 @@
 -- Exactly one real: where it is, and what it is.
 use Rattle.std.specs.Prelude.{◌≡◌, ℕ, ◌<◌, Bool, false, ◌&&◌, is_some, List, [], ◌∷◌, Option, None, Some}
 use Rattle.std.specs.List.{AllByRecursion}
-use Rattle.seam_node_steps.specs.Prelude.{IsTree, AreDefs, Order, RealView, Msg, BaseCall, Hand, Current, GhostSet, GhostDrop, Tick, Reap}
-use Rattle.seam_node_steps.specs.Prelude.{Update, limit, input_from, happens, Input, Task, From, Event, World, node_steps}
+use Rattle.seam_node_steps.specs.Prelude.{IsTree, AreDefs, Order, RealView, Msg, Hand, Reap}
+use Rattle.seam_node_steps.specs.Prelude.{limit, input_from, happens, Input, Task, From, Event, World, node_steps}
 use Rattle.seam_law_flow.specs.Prelude.{TokenPlace, Sole}
 use Rattle.seam_call.specs.declared.order.Order.TheVariants as order
-use Rattle.seam_entity.specs.declared.message.Msg.TheVariants.{Call}
 use Rattle.seam_law_calls.specs.Frames.{Frame, IsInFrame}
 use Rattle.seam_law_calls.specs.Sights.{Has, concerns, entity_flow}
 use Rattle.seam_law_calls.specs.Fits.{IsFitReal, IsFitHand}
@@ -17,15 +16,8 @@ real_in s = s.cell.slot.real
 
 -- the real that a letter carries
 abbrev pub real_of : Msg → Option RealView
-real_of (Call c) = None
-real_of (BaseCall c) = None
 real_of (Hand r) = Some r
-real_of (Current e j g) = None
-real_of (GhostSet e n c) = None
-real_of (GhostDrop e n) = None
-real_of Tick = None
-real_of (Reap e) = None
-real_of (Update u) = None
+real_of _ = None
 
 -- the entity's one real is r, and it is at that place
 abbrev pub IsOne : ℕ → World → TokenPlace → RealView → Type 0
@@ -35,15 +27,8 @@ IsOne e w p r = Sole real_in real_of (entity_flow e w) p r
 
 -- the entity that a message reaps
 abbrev pub reaped_by : Msg → Option ℕ
-reaped_by (Call c) = None
-reaped_by (BaseCall c) = None
-reaped_by (Hand r) = None
-reaped_by (Current e j g) = None
-reaped_by (GhostSet e n c) = None
-reaped_by (GhostDrop e n) = None
-reaped_by Tick = None
 reaped_by (Reap e) = Some e
-reaped_by (Update u) = None
+reaped_by _ = None
 
 abbrev pub reaped_by_order : Order → Option ℕ
 reaped_by_order (order.Cell c) = None

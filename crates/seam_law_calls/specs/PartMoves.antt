@@ -1,40 +1,25 @@
 -- What a step does with an entity's base part and the calls to it: the moves of a node with all else left out.
 use Rattle.std.specs.Prelude.{◌≡◌, ℕ, ◌<◌, true, List, [], ◌∷◌, ◌⊎◌, Option, None, Some}
 use Rattle.std.specs.Ordering.{nat_cmp}
-use Rattle.seam_node_steps.specs.Prelude.{OrderView, next_item, after_taking, Call as CallData, Order, order_of, Msg, BaseCall, Hand}
-use Rattle.seam_node_steps.specs.Prelude.{Current, GhostSet, GhostDrop, Tick, Reap, Update, Here, cell_count, base_of, is_ready}
+use Rattle.seam_node_steps.specs.Prelude.{OrderView, next_item, after_taking, Call as CallData, Order, order_of, Msg, BaseCall}
+use Rattle.seam_node_steps.specs.Prelude.{Update, Here, cell_count, base_of, is_ready}
 use Rattle.seam_node_steps.specs.Prelude.{ready_order, PartView, ProxyView, with_order, offered_update, shows_next, is_base_node_of}
 use Rattle.seam_node_steps.specs.Prelude.{stray_base_call, stray_update}
 use Rattle.seam_law_flow.specs.Prelude.{letters_of, IsSilent, carried_in}
 use Rattle.seam_call.specs.declared.order.Order.TheVariants as order
 use Rattle.seam_call.specs.declared.shown.Update.{Update as UpdateData}
-use Rattle.seam_entity.specs.declared.message.Msg.TheVariants.{Call}
 use Rattle.seam_node_steps.specs.BaseCases.{may_call, with_offer, executed}
 use Rattle.seam_law_calls.specs.Sights.{AtBase}
 
 -- the call that a message brings to a base part
 abbrev pub base_call_in : Msg → Option CallData
-base_call_in (Call c) = None
 base_call_in (BaseCall c) = Some c
-base_call_in (Hand r) = None
-base_call_in (Current e j g) = None
-base_call_in (GhostSet e n c) = None
-base_call_in (GhostDrop e n) = None
-base_call_in Tick = None
-base_call_in (Reap e) = None
-base_call_in (Update u) = None
+base_call_in _ = None
 
 -- the update that a message brings to a client
 abbrev pub update_in : Msg → Option UpdateData
-update_in (Call c) = None
-update_in (BaseCall c) = None
-update_in (Hand r) = None
-update_in (Current e j g) = None
-update_in (GhostSet e n c) = None
-update_in (GhostDrop e n) = None
-update_in Tick = None
-update_in (Reap e) = None
 update_in (Update u) = Some u
+update_in _ = None
 
 -- the call of a base part that is ordered
 abbrev pub base_call_of : Order → Option CallData

@@ -1,5 +1,4 @@
 -- What the crates above cite of this one and of those below it, gathered, so that one import names it.
-pub use Rattle.seam_law_calls.specs.BaseCallsExample.{base_with, batch_with, calls_of, part_alone, pay, promote_1, real_told, world_shown}
 pub use Rattle.seam_law_calls.specs.BaseMoves.{BaseMoves, is_stuck, newer, part_offered, strays_at, updated}
 pub use Rattle.seam_law_calls.specs.BaseTurns.{AreBaseCallsOf, BaseCallsInTurn, FindsPart, HasBaseCalls, HasNoClient, HasPart, IsBaseCallOf}
 pub use Rattle.seam_law_calls.specs.BaseTurns.{IsHomeward, as_base_sender, base_burden, base_mail, base_post, home_of, mine_base_burden}
@@ -29,6 +28,5 @@ pub use Rattle.seam_law_calls.specs.Strays.{HasRoutes, IsBaseNumber, IsForNode, 
 pub use Rattle.seam_law_calls.specs.Strays.{is_for_cells, no_client}
 pub use Rattle.seam_law_calls.specs.Telling.{BringsNone, HasFewEntities, IsAbsent, IsBlank, IsFewView, IsToldNothing, SeesFew, looks_left}
 pub use Rattle.seam_law_calls.specs.Telling.{mine_looks, most_entities, most_shown, node_looks, order_looks}
-pub use Rattle.seam_law_calls.specs.TurnsExample.{from_one}
 pub use Rattle.seam_law_calls.specs.Ways.{AllLead, NamesVisited, follow, has_hand, is_call, is_hand, is_visited}
 pub use Rattle.seam_law_calls.specs.WitnessMoves.{WitnessMoves, sent_by, sent_of}

@@ -1,13 +1,12 @@
 -- What bounds the updates that a witness tells: how many entities there may be, and how often it is to look.
 use Rattle.std.specs.Prelude.{◌≡◌, ℕ, ◌+◌, ◌*◌, ◌^◌, ◌<◌, ◌≤◌, None, Some}
 use Rattle.std.specs.List.{AllByRecursion}
-use Rattle.seam_node_steps.specs.Prelude.{total, copy_in, Order, RealView, WitnessView, Msg, BaseCall, Hand, Current, GhostSet, GhostDrop}
-use Rattle.seam_node_steps.specs.Prelude.{Tick, Reap, Update, cell_count, NodeView, World}
+use Rattle.seam_node_steps.specs.Prelude.{total, copy_in, Order, RealView, WitnessView, Msg, Hand, GhostSet}
+use Rattle.seam_node_steps.specs.Prelude.{Tick, cell_count, NodeView, World}
 use Rattle.seam_net_runs.specs.Sums.{weight_or}
 use Rattle.seam_net_runs.specs.Weights.{weight}
 use Rattle.seam_view.specs.Replica.{Replica, IsView}
 use Rattle.seam_call.specs.declared.order.Order.TheVariants as order
-use Rattle.seam_entity.specs.declared.message.Msg.TheVariants.{Call}
 use Rattle.seam_law_calls.specs.Sights.{Has, mine, has_of, entity_flow}
 use Rattle.seam_law_calls.specs.Ones.{real_in}
 use Rattle.seam_law_calls.specs.PartMoves.{update_in}
@@ -25,15 +24,9 @@ pub record IsBlank (h : Has) : Type 0 where
 
 -- a message that brings neither
 abbrev pub BringsNone : Msg → Type 0
-BringsNone (Call c) = Unit {0}
-BringsNone (BaseCall c) = Unit {0}
 BringsNone (Hand r) = ⊥
-BringsNone (Current e j g) = Unit {0}
 BringsNone (GhostSet e n c) = ⊥
-BringsNone (GhostDrop e n) = Unit {0}
-BringsNone Tick = Unit {0}
-BringsNone (Reap e) = Unit {0}
-BringsNone (Update u) = Unit {0}
+BringsNone _ = Unit {0}
 
 -- the entity is nowhere, and nothing brings it
 pub record IsAbsent (e : ℕ) (w : World) : Type 0 where
@@ -63,15 +56,8 @@ order_looks order.Tick = cell_count
 order_looks (order.Reap e) = 0
 
 abbrev pub letter_looks : Msg → ℕ
-letter_looks (Call c) = 0
-letter_looks (BaseCall c) = 0
-letter_looks (Hand r) = 0
-letter_looks (Current e j g) = 0
-letter_looks (GhostSet e n c) = 0
-letter_looks (GhostDrop e n) = 0
 letter_looks Tick = 1
-letter_looks (Reap e) = 0
-letter_looks (Update u) = 0
+letter_looks _ = 0
 
 abbrev pub has_looks : Has → ℕ
 has_looks h = h.cell.looks + total order_looks h.base.orders

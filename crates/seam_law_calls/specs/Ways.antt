@@ -1,7 +1,7 @@
 -- Calls find their way: where a call is sent, the entity's real is, was, or comes before it.
 use Rattle.std.specs.Prelude.{◌≡◌, ℕ, Bool, true, false, not, ◌&&◌, ◌||◌, is_some, List, [], ◌∷◌, Some}
 use Rattle.std.specs.List.{AllByRecursion}
-use Rattle.seam_node_steps.specs.Prelude.{Msg, BaseCall, Hand, Current, GhostSet, GhostDrop, Tick, Reap, Update, NextPlace, RouteView}
+use Rattle.seam_node_steps.specs.Prelude.{Msg, Current, NextPlace, RouteView}
 use Rattle.seam_law_flow.specs.Prelude.{Flow}
 use Rattle.seam_entity.specs.declared.message.Msg.TheVariants.{Call}
 use Rattle.seam_law_calls.specs.Sights.{Has}
@@ -13,14 +13,7 @@ is_visited s = is_some s.cell.slot.real || is_some s.cell.slot.next
 
 abbrev pub is_call : Msg → Bool
 is_call (Call c) = true
-is_call (BaseCall c) = false
-is_call (Hand r) = false
-is_call (Current e j g) = false
-is_call (GhostSet e n c) = false
-is_call (GhostDrop e n) = false
-is_call Tick = false
-is_call (Reap e) = false
-is_call (Update u) = false
+is_call _ = false
 
 abbrev pub is_hand : Msg → Bool
 is_hand m = is_some (real_of m)

@@ -17,22 +17,20 @@
 //! of events, without and with a client), `ClientRuns` (what an update finds), `BaseQuiet` (what a quiet world has left), `PartEasing`
 //! (what a part has yet to do), `RoutesKept` (a route stays one), `StrayRuns` (routes, and that nothing is stray), `NodeStray` (the node's
 //! own tests of that), `Reaped` (after a reap), `ClientTold` (what a step does with a client's updates), `WitnessSteps` and `WitnessKept`
-//! (what a step does with a witness, and what stays true of it), `NoLooks` (no ticks), `BaseSilent` (what base nodes do not send) and
-//! `ExampleClient` (the examples, and that loads make them).
+//! (what a step does with a witness, and what stays true of it), `NoLooks` (no ticks) and `BaseSilent` (what base nodes do not send).
 
-ghost use Rattle.std.specs.Prelude.{◌≡◌, ℕ, ◌<◌, ◌≤◌, List, [], ◌∷◌, length, true, None, Some, is_some, slice_get};
+ghost use Rattle.std.specs.Prelude.{◌≡◌, ℕ, ◌<◌, ◌≤◌, List, ◌∷◌, length, true, None, Some, is_some, slice_get};
 ghost use Rattle.std.specs.FinMap as table;
 ghost use Rattle.seam_node_steps.specs.Prelude.{IsQuiet, LeadsTo, Event, Task, Call as CallData, Order, Msg, BaseCall, Update, BaseView};
-ghost use Rattle.seam_node_steps.specs.Prelude.{PartView, base_steps, loaded, reaps_loaded, empty_world, World, node_steps, node_has_work};
+ghost use Rattle.seam_node_steps.specs.Prelude.{PartView, base_steps, reaps_loaded, World, node_steps, node_has_work};
 ghost use Rattle.seam_node_steps.specs.Prelude.{Base};
 ghost use Rattle.seam_law_flow.specs.Prelude.{letters_of};
-ghost use Rattle.seam_law_calls.specs.Prelude.{Frame, here_at, IsInFrame, strays_at, entity_flow, frame, IsFrame, IsSpared, HasOne};
-ghost use Rattle.seam_law_calls.specs.Prelude.{from_sender, from_one, base_burden, home_of, FindsPart, HasBaseCalls, HasNoClient, shown_at};
+ghost use Rattle.seam_law_calls.specs.Prelude.{Frame, here_at, IsInFrame, strays_at, entity_flow, IsFrame, IsSpared, HasOne};
+ghost use Rattle.seam_law_calls.specs.Prelude.{from_sender, base_burden, home_of, FindsPart, HasBaseCalls, HasNoClient, shown_at};
 ghost use Rattle.seam_law_calls.specs.Prelude.{HasClient, HasNoLooks, HasToldAtMost, HasRoomFor, FindsClient, HasNoBaseCalls, HasNoPart};
 ghost use Rattle.seam_law_calls.specs.Prelude.{HasRoutes, LinesHaveRoom, NoneIsStray, NothingIsStray};
 ghost use Rattle.seam_call.specs.declared.order.Order.TheVariants as order;
 ghost use Rattle.seam_call.specs.declared.shown.Update.{Update as UpdateData};
-ghost use Rattle.seam_law_calls.specs.BaseCallsExample as example;
 
 /// If a world has an entity's base part with its calls in turn, and no one reaps it, it has so after every list of events. `alone` says it
 /// where the entity has no client, `client` where it has one and in the end its witness has told at most n updates, for which there is
@@ -122,18 +120,4 @@ pub fn a_reap_ends_the_base_part()
         strays_at (here_at f k) ((entity_flow e w).slot k).base (BaseCall c) ≡ true }
     ensures silent { (f : Frame) (e : ℕ) (xs : List ℕ) (w v : World) (es : List Event) → IsInFrame f w → IsQuiet node_has_work w →
         IsInFrame f (reaps_loaded w xs) → LeadsTo node_has_work node_steps (reaps_loaded w xs) es v → HasNoBaseCalls e v }
-{}
-
-/// What these laws ask of a world is true of loaded ones: of two cells and an entity with calls to its base part of two senders, one at
-/// its own base node and one at another, without a client (`alone`) and with one (`client`). Where the part is not there, the call that its
-/// base node is to execute is stray (`stray`).
-pub fn a_loaded_world_has_its_base_calls_in_turn()
-    ensures alone_load { loaded empty_world (example.batch_with []) ≡ example.world_alone }
-    ensures alone { HasBaseCalls frame 1 0 from_one example.calls_of example.world_alone × HasNoClient 1 example.world_alone }
-    ensures alone_routes { HasOne frame 1 0 example.world_alone × HasRoutes frame 1 example.world_alone }
-    ensures client_load { loaded empty_world (example.batch_with (1 ∷ [])) ≡ example.world_shown }
-    ensures client { HasBaseCalls frame 1 0 from_one example.calls_of example.world_shown × HasClient frame 1 0 1 example.world_shown }
-    ensures client_room { HasToldAtMost 1 0 example.world_shown × HasRoomFor 1 0 example.world_shown × HasNoLooks 1 example.world_shown }
-    ensures client_routes { HasRoutes frame 1 example.world_shown }
-    ensures stray { NothingIsStray frame 1 example.world_bare → ⊥ }
 {}

@@ -31,15 +31,13 @@ mod told;
 mod ways;
 
 pub use base_calls::{
-    a_base_call_is_never_stray, a_clients_updates_come_in_order,
-    a_loaded_world_has_its_base_calls_in_turn, a_reap_ends_the_base_part,
+    a_base_call_is_never_stray, a_clients_updates_come_in_order, a_reap_ends_the_base_part,
     a_witness_tells_only_in_looks, all_base_calls_are_executed, base_numbers_stay_small,
     each_base_call_waits_once, nothing_is_stray_at_a_base_node, routes_are_kept,
 };
 pub use moves::{a_step_is_a_move, an_event_is_a_move};
 pub use once::{
-    a_cell_call_is_never_stray, a_loaded_world_has_its_calls_in_turn, all_cell_calls_are_executed,
-    each_cell_call_waits_once,
+    a_cell_call_is_never_stray, all_cell_calls_are_executed, each_cell_call_waits_once,
 };
 pub use ones::{
     a_loaded_world_has_what_the_laws_ask, a_reap_ends_the_one_real, exactly_one_real,

@@ -15,11 +15,9 @@ ghost use Rattle.std.specs.Prelude.{◌≡◌, ℕ, ◌+◌, ◌<◌, List, ◌�
 ghost use Rattle.seam_node_steps.specs.Prelude.{IsQuiet, LeadsTo, Event, Call as CallData, RealView, Msg, limit, World, node_steps};
 ghost use Rattle.seam_node_steps.specs.Prelude.{node_has_work};
 ghost use Rattle.seam_law_flow.specs.Prelude.{letters_of};
-ghost use Rattle.seam_law_calls.specs.Prelude.{Frame, entity_flow, burden, frame, real_in, HasOne, IsSpared, IsFrame, AllLead, from_sender};
-ghost use Rattle.seam_law_calls.specs.Prelude.{AreCallsOf, CellCallsInTurn, FindsTurn, from_one};
+ghost use Rattle.seam_law_calls.specs.Prelude.{Frame, entity_flow, burden, real_in, HasOne, IsSpared, IsFrame, AllLead, from_sender};
+ghost use Rattle.seam_law_calls.specs.Prelude.{AreCallsOf, CellCallsInTurn, FindsTurn};
 ghost use Rattle.seam_entity.specs.declared.message.Msg.TheVariants.{Call};
-ghost use Rattle.seam_node_steps.specs.EarlyCall as early;
-ghost use Rattle.seam_law_calls.specs.TurnsExample.{calls_of};
 
 /// Let a world have an entity that fits, has one real and is not reaped, and let calls find their way. If each sender's calls to the cell
 /// part are in turn, and the numbers have room for one more, the calls are in turn after every list of events.
@@ -45,11 +43,4 @@ pub fn all_cell_calls_are_executed()
         IsSpared e w → AllLead (entity_flow e w) → (first : ℕ → ℕ) (batch : ℕ → List CallData) → AreCallsOf f e ty batch →
         CellCallsInTurn e first batch w → burden e w + 1 < limit → LeadsTo node_has_work node_steps w es v → IsQuiet node_has_work v →
         (k : ℕ) (r : RealView) → real_in ((entity_flow e v).slot k) ≡ Some r → (s : ℕ) → letters_of (from_sender s) r.done ≡ batch s }
-{}
-
-/// What these laws ask of the calls is true of those of the world of two cells of `ones`, which a load made.
-pub fn a_loaded_world_has_its_calls_in_turn()
-    ensures ours { AreCallsOf frame 1 0 calls_of }
-    ensures room { burden 1 early.world_0 + 1 < limit }
-    ensures turns { CellCallsInTurn 1 from_one calls_of early.world_0 }
 {}

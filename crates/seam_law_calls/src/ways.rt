@@ -12,7 +12,6 @@ ghost use Rattle.seam_node_steps.specs.Prelude.{node_has_work};
 ghost use Rattle.seam_law_flow.specs.Prelude.{Flow, TokenPlace};
 ghost use Rattle.seam_law_calls.specs.Prelude.{Frame, Has, entity_flow, IsOne, IsSpared, AllFits, IsFrame, is_visited, AllLead};
 ghost use Rattle.seam_entity.specs.declared.message.Msg.TheVariants.{Call};
-ghost use Rattle.seam_node_steps.specs.EarlyCall as early;
 
 /// In a world of an entity that fits and is not reaped, where all that leads to a cell leads to where the real is, was or comes, it does so
 /// after every list of events.
@@ -28,10 +27,8 @@ pub fn a_call_that_comes_finds_a_place()
         is_visited (w.slot k) ≡ true }
 {}
 
-/// So it is at the start of a round, with nothing on its way, no next place, and each route to the cell of the real; and so it is in a
-/// loaded world.
+/// So it is at the start of a round, with nothing on its way, no next place, and each route to the cell of the real.
 pub fn a_round_begins_with_all_ways()
-    ensures starts { (w : Flow Has Msg) → ((a k : ℕ) → w.mail a k ≡ []) → ((k : ℕ) → (w.slot k).cell.slot.next ≡ None) →
+    ensures { (w : Flow Has Msg) → ((a k : ℕ) → w.mail a k ≡ []) → ((k : ℕ) → (w.slot k).cell.slot.next ≡ None) →
         ((k : ℕ) (r : RouteView) → (w.slot k).base.route ≡ Some r → is_some (w.slot r.cell).cell.slot.real ≡ true) → AllLead w }
-    ensures example { AllLead (entity_flow 1 early.world_0) }
 {}

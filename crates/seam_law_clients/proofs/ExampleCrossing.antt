@@ -17,7 +17,7 @@ use Rattle.seam_net_runs.proofs.Runs.{leads_nowhere}
 use Rattle.seam_call.specs.declared.order.Order.TheVariants as order
 use Rattle.seam_law_calls.proofs.ExampleMet.{EachFrom, each_node, slots, none_there, row_leads, frame_is}
 use Rattle.seam_law_rounds.proofs.Loading.{set_keeps}
-use Rattle.seam_law_rounds.proofs.FirstBatchFits.{between, is_new, no_real, parts_between}
+use Rattle.seam_law_rounds.proofs.ExampleOpening.{between, is_new, no_real, parts_between}
 use Rattle.seam_law_rounds.proofs.ExampleRound.{next_is_one}
 use Rattle.seam_law_rounds.proofs.BaseCallsEnd.{calls_end_small}
 use Rattle.seam_law_ghosts.proofs.Ending.{opened_copied}

@@ -2,7 +2,6 @@ pub mod Near
 pub mod Rows
 pub mod OneLook
 pub mod After
-pub mod ExampleLooks
 pub mod LookCells
 pub mod LookBases
 pub mod LookRuns
@@ -21,8 +20,6 @@ pub mod ShownOnce
 pub mod RoundTruth
 pub mod Ending
 pub mod Joined
-pub mod ExampleShown
-pub mod ExampleRound
 pub mod Further
 pub mod FurtherLooks
 pub mod Loading

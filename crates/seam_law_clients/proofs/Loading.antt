@@ -2,7 +2,7 @@
 use Rattle.std.proofs.Common.{◌≡◌, ℕ, ◌≤◌, Bool, true, false, cond, eqb, ◌||◌, is_some, List, [], ◌∷◌, ◌++◌, Option, None, Some, refl, sym}
 use Rattle.std.proofs.Common.{ap, ◌∙◌, subst, arith}
 use Rattle.std.specs.Prelude.{option_map, slice_get}
-use Rattle.std.specs.List.{AllByRecursion, list_any}
+use Rattle.std.specs.List.{AllByRecursion, list_any, IsDistinct}
 use Rattle.std.specs.Ordering.{nat_cmp, eq_by_cmp}
 use Rattle.std.specs.FinMap as table
 use Rattle.seam_node_steps.specs.Prelude.{Division, leaf_at, cells_of, Create, Order, Batch, real_begins, Here, cell_count, base_of}
@@ -21,7 +21,22 @@ use Rattle.seam_law_rounds.proofs.Joining.{is_among, real_peopled, unseen_people
 use Rattle.seam_law_rounds.proofs.Attaching.{real_if, RealFrom, real_there}
 use Rattle.seam_rule_clients.specs.Clients.{ClientReplica, new_client}
 use Rattle.seam_law_clients.proofs.Ending.{some_route}
-use Rattle.seam_law_clients.proofs.ExampleRound.{new_fits}
+
+-- ---- a new client fits a new witness
+
+new_fits : (f : Frame) (w : World) (r : RealView) → FitsWitness f w r (new_witness f.settings) (new_client f.settings)
+unfolding IsDistinct
+new_fits f w r = record {
+  others = refl;
+  view = record { once = tt; shown = tt };
+  radius = refl;
+  hysteresis = refl;
+  told = refl;
+  not_ahead = λ version at. absurd (let z = at in cc);
+  own = λ shown at. absurd (let z = at in cc);
+  others_not_ahead = λ x j version q at here. absurd (let z = sym (table.get-empty nat_cmp x) ∙ at in cc);
+  others_known = λ x version at. absurd (let z = sym (table.get-empty nat_cmp x) ∙ at in cc);
+}
 
 -- ---- a base node keeps a route
 

@@ -4,14 +4,13 @@ use Rattle.std.proofs.Common.{refl, ap, ◌∙◌, arith, inl, inr}
 use Rattle.std.specs.List.{range_with_len}
 use Rattle.std.specs.FinMap as table
 use Rattle.std.proofs.lemmas.Bool.{cases_eq, cases_lt, ne_eqb, eq-eqb}
-use Rattle.seam_node_steps.specs.Prelude.{Stepped, items_to, Task, From, Call as CallData, Shown, Msg, BaseCall, Hand, Current, GhostSet}
-use Rattle.seam_node_steps.specs.Prelude.{GhostDrop, Tick, Reap, Update, Here, cell_count, base_of, numbered, BaseView, PartView, ProxyView}
+use Rattle.seam_node_steps.specs.Prelude.{Stepped, items_to, Task, From, Call as CallData, Shown, Msg, BaseCall, Current}
+use Rattle.seam_node_steps.specs.Prelude.{Tick, Update, Here, cell_count, base_of, numbered, BaseView, PartView, ProxyView}
 use Rattle.seam_node_steps.specs.Prelude.{RouteView, with_part, sends_none, part_called, newer_route, current, updated_proxy, update}
 use Rattle.seam_node_steps.specs.Prelude.{case_of, ready_part, ready_proxy, proxy_task, task_without_orders, base_task, base_steps, tick_to}
 use Rattle.seam_node_steps.specs.Prelude.{may_show, after_ready, after_showing, ready_order}
 use Rattle.seam_call.specs.declared.order.Order.TheVariants as order
 use Rattle.seam_call.specs.declared.shown.Update.{Update as UpdateData}
-use Rattle.seam_entity.specs.declared.message.Msg.TheVariants.{Call}
 use Rattle.seam_node_steps.specs.BaseCases.{unless_stray}
 use Rattle.seam_node_steps.specs.BaseCases.{is_stray}
 use Rattle.seam_node_steps.specs.BaseCases.{may_execute}
@@ -45,15 +44,10 @@ update_by b u None = refl
 update_by b u (Some p) = proxy_by b u p p.proxy
 
 case_orders : (b : BaseView) (m : Msg) → (case_of b m).orders ≡ b.orders
-case_orders b (Call k) = refl
 case_orders b (BaseCall k) = called_by b k (table.get b.parts k.entity)
-case_orders b (Hand r) = refl
 case_orders b (Current e j g) = current_by b e (record { cell = j; generation = g }) (table.get b.routes e)
-case_orders b (GhostSet e n c) = refl
-case_orders b (GhostDrop e n) = refl
-case_orders b Tick = refl
-case_orders b (Reap e) = refl
 case_orders b (Update u) = update_by b u (table.get b.parts u.entity)
+case_orders b _ = refl
 
 pub hears_still : (b : BaseView) (a : ℕ) (m : Msg) → IsStill b (base_steps b (From a m))
 hears_still b a m = stray_by (is_stray b m) b (case_of b m) (case_orders b m)

@@ -31,13 +31,11 @@ pub use clients::{
     the_base_part_is_shown_at_each_change,
 };
 pub use looks::{
-    a_client_fits_after_a_look, a_look_is_one_look_at_the_table, a_worked_client_fits_its_witness,
-    clients_fit_after_the_looks, clients_of_an_opened_world_fit, each_witness_looks_once,
-    the_table_has_each_real,
+    a_client_fits_after_a_look, a_look_is_one_look_at_the_table, clients_fit_after_the_looks,
+    clients_of_an_opened_world_fit, each_witness_looks_once, the_table_has_each_real,
 };
 pub use shown::{
     a_client_fits_where_calls_end, a_client_is_shown_rightly, a_further_look_shows_nothing,
-    a_look_is_shown_rightly, a_witness_tells_rightly, a_worked_round_of_clients_is_such,
-    a_worked_witness_tells_rightly, clients_of_a_round_are_shown_rightly,
+    a_look_is_shown_rightly, a_witness_tells_rightly, clients_of_a_round_are_shown_rightly,
     each_client_is_shown_one_look,
 };

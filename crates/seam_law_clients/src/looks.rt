@@ -10,15 +10,14 @@
 //! look) and `LookEnds` (the phase of looks).
 
 ghost use Rattle.std.specs.Prelude.{◌≡◌, ℕ, ◌≤◌, List, None, Some, slice_get};
-ghost use Rattle.seam_node_steps.specs.Prelude.{IsQuiet, LeadsTo, Event, Settings, TypeDef, builtin, GhostsReach, standard, RealView};
+ghost use Rattle.seam_node_steps.specs.Prelude.{IsQuiet, LeadsTo, Event, Settings, TypeDef, GhostsReach, RealView};
 ghost use Rattle.seam_node_steps.specs.Prelude.{WitnessView, holders, looks_of, shown_of, after_looking, CellView, known_to, World};
 ghost use Rattle.seam_node_steps.specs.Prelude.{node_steps, node_has_work, opened, look_loaded, Cell};
 ghost use Rattle.seam_law_calls.specs.Prelude.{Frame, here_at, entity_flow, real_in, IsFrame};
 ghost use Rattle.seam_law_rounds.specs.Prelude.{IsBetweenRounds, first_frame};
 ghost use Rattle.seam_law_ghosts.specs.Prelude.{ArePlaced, AreCopiesBetweenRounds};
 ghost use Rattle.seam_law_clients.specs.Prelude.{row_of_real, rows_of, FitsWitness, ClientsFit, having_looked, HaveRoomToLook};
-ghost use Rattle.seam_node_steps.specs.ViewRounds as view;
-ghost use Rattle.seam_rule_clients.specs.Clients.{ClientReplica, new_client, after_all_shown};
+ghost use Rattle.seam_rule_clients.specs.Clients.{ClientReplica, after_all_shown};
 ghost use Rattle.seam_rule_clients.specs.Looks.{row_of, one_look};
 
 /// The flat table of a world between rounds has the row of each real, and no row of an entity that has none.
@@ -81,17 +80,3 @@ pub fn clients_of_an_opened_world_fit()
     ensures { (defs : List TypeDef) (settings : Settings) → IsFrame (first_frame defs settings) → 1 ≤ settings.bases →
         (clients : ℕ → ClientReplica) → ClientsFit (first_frame defs settings) clients (opened defs settings) }
 {}
-
-/// What these laws ask is true of a worked world (`seam_node_steps`: "view hysteresis"), in which a batch created an entity with a client,
-/// which was shown nothing yet, and another one near it, and which is quiet.
-pub fn a_worked_client_fits_its_witness()
-    ensures between { IsBetweenRounds (first_frame builtin standard) view.first_2 }
-    ensures copies { AreCopiesBetweenRounds (first_frame builtin standard) view.first_2 }
-    ensures placed { ArePlaced (first_frame builtin standard) view.first_2 }
-    ensures reach { GhostsReach standard }
-    ensures real { real_in ((entity_flow 1 view.first_2).slot 0) ≡ Some (view.watcher view.blind) }
-    ensures fits { FitsWitness (first_frame builtin standard) view.first_2 (view.watcher view.blind) view.blind (new_client standard) }
-    ensures room { HaveRoomToLook view.first_2 }
-{
-    seam_law_ghosts::a_round_keeps_the_record_of_places();
-}

@@ -9,21 +9,19 @@
 //!
 //! For callers, of `proofs/`: `InTurn` (lines in parts) and `ShownOnce` (the phase of looks).
 
-ghost use Rattle.std.specs.Prelude.{◌≡◌, ◌+◌, ℕ, List, [], ◌∷◌, ◌++◌, None, Some};
+ghost use Rattle.std.specs.Prelude.{◌≡◌, ◌+◌, ℕ, List, [], ◌++◌, None, Some};
 ghost use Rattle.seam_view.specs.Replica.{IsView};
-ghost use Rattle.seam_node_steps.specs.Prelude.{GhostsReach, standard, IsQuiet, LeadsTo, Event, Batch, Shown, RealView, WitnessView};
+ghost use Rattle.seam_node_steps.specs.Prelude.{GhostsReach, IsQuiet, LeadsTo, Event, Batch, Shown, RealView, WitnessView};
 ghost use Rattle.seam_node_steps.specs.Prelude.{looks_of, shown_of, after_looking, CellView, known_to, loaded, look_loaded, World};
-ghost use Rattle.seam_node_steps.specs.Prelude.{node_steps, node_has_work, empty_world};
-ghost use Rattle.seam_law_calls.specs.Prelude.{Frame, here_at, entity_flow, real_in, IsSpared, frame, events_of, home_of, shown_at};
+ghost use Rattle.seam_node_steps.specs.Prelude.{node_steps, node_has_work};
+ghost use Rattle.seam_law_calls.specs.Prelude.{Frame, here_at, entity_flow, real_in, IsSpared, home_of, shown_at};
 ghost use Rattle.seam_law_calls.specs.Prelude.{HasClient, HasToldAtMost, HasRoomFor};
-ghost use Rattle.seam_law_rounds.specs.Prelude.{IsBetweenRounds, IsFitting, framed, opening, MayBeLoaded, HasPartsBetweenRounds};
+ghost use Rattle.seam_law_rounds.specs.Prelude.{IsBetweenRounds, IsFitting, framed, MayBeLoaded, HasPartsBetweenRounds};
 ghost use Rattle.seam_law_rounds.specs.Prelude.{HasSmallNumbers};
 ghost use Rattle.seam_law_ghosts.specs.Prelude.{AreCopiesBetweenRounds, ArePlaced};
 ghost use Rattle.seam_law_clients.specs.Prelude.{FitsWitness, ClientsFit, HaveRoomToLook, rows_of, FitsWithin, truth_of_look};
 ghost use Rattle.seam_law_clients.specs.Prelude.{known_between, true_between, ComesBetween, TellsRightly};
-ghost use Rattle.seam_node_steps.specs.ViewRounds as view;
-ghost use Rattle.seam_law_calls.specs.BaseCallsExample as example;
-ghost use Rattle.seam_rule_clients.specs.Clients.{ClientReplica, new_client, after_all_shown};
+ghost use Rattle.seam_rule_clients.specs.Clients.{ClientReplica, after_all_shown};
 ghost use Rattle.seam_rule_clients.specs.Lines.{ShowsRightly};
 ghost use Rattle.seam_rule_clients.specs.Looks.{one_look};
 
@@ -129,15 +127,6 @@ pub fn a_further_look_shows_nothing()
     seam_law_ghosts::the_last_phases_leave_places();
 }
 
-/// What these laws ask is true of a loaded world with an entity that has a client, which was shown nothing of it yet (`starts`), and so
-/// they speak of every list of events from there (`runs`).
-pub fn a_worked_witness_tells_rightly()
-    ensures loads { loaded empty_world (example.batch_with (1 ∷ [])) ≡ example.world_shown }
-    ensures starts { (v : World) →
-        TellsRightly frame 1 0 1 (true_between frame 1 example.world_shown v) (new_client standard) example.world_shown }
-    ensures runs { (v : World) (es : List Event) → LeadsTo node_has_work node_steps example.world_shown es v →
-        TellsRightly frame 1 0 1 (known_between frame 1 example.world_shown v) (new_client standard) v }
-{}
 
 /// The clients of a whole round. Let a world keep the records between rounds, a batch fit them, and each client fit its witness as the
 /// batch is loaded. Then each client is shown rightly, over every list of events, what its proxy showed since (`shown`), and an entity
@@ -163,14 +152,3 @@ pub fn clients_of_a_round_are_shown_rightly()
     seam_defs::laws::others_see_the_ghost();
     a_client_fits_where_calls_end();
 }
-
-/// What that law asks is true of a worked round (`seam_node_steps`: "view hysteresis"), of an opened world: the batch creates two entities,
-/// the first of them with a client that was shown nothing yet; and its calls end in a quiet world.
-pub fn a_worked_round_of_clients_is_such()
-    ensures may { MayBeLoaded opening empty_world view.batch_1 }
-    ensures copies { AreCopiesBetweenRounds opening empty_world }
-    ensures fits { ClientsFit (framed opening view.batch_1) (λ e. new_client standard) (loaded empty_world view.batch_1) }
-    ensures real { real_in ((entity_flow 1 (loaded empty_world view.batch_1)).slot 0) ≡ Some (view.watcher view.blind) }
-    ensures calls { LeadsTo node_has_work node_steps (loaded empty_world view.batch_1) (events_of view.first_steps) view.first_2 }
-    ensures quiet { IsQuiet node_has_work view.first_2 }
-{}

@@ -48,26 +48,17 @@ pub data Passes {U : Type 0} (k : ℕ) (s : Post U) (i : Option (Mail U)) (t : P
 -- where the part is after a move
 abbrev pub place_then : {U : Type 0} {k : ℕ} {s t : Post U} {i : Option (Mail U)} {out : ℕ → List (Mail U)} → Passes k s i t out → TokenPlace
     → TokenPlace
-place_then (rests a b c) p = p
-place_then (sends n u more to a b c d) p = p
-place_then (relays n u to a b c) p = p
-place_then (offers n u d a b c e) p = p
-place_then (serves n u more d a b c e f) p = p
-place_then (takes u d a b c e f) p = p
 place_then {k = k} (lands d a b c) p = In k
 place_then {k = k} (leaves d to a b c e) p = On k to
+place_then _ p = p
 
 -- what its desk is then
 abbrev pub desk_then : {U : Type 0} {k : ℕ} {s t : Post U} {i : Option (Mail U)} {out : ℕ → List (Mail U)} → Passes k s i t out → Desk U
     → Desk U
-desk_then (rests a b c) x = x
-desk_then (sends n u more to a b c d) x = x
-desk_then (relays n u to a b c) x = x
 desk_then (offers n u d a b c e) x = offered x n u
 desk_then (serves n u more d a b c e f) x = offered x n u
 desk_then (takes u d a b c e f) x = taken x u
-desk_then (lands d a b c) x = x
-desk_then (leaves d to a b c e) x = x
+desk_then _ x = x
 
 -- a move, or two in a row of which the first sends nothing and the second is fed nothing
 pub data Twice {S L : Type 0} (Moves : ℕ → S → Option L → S → (ℕ → List L) → Type 0) (k : ℕ) (s : S) (i : Option L) (t : S)

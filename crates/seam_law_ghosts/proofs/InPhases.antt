@@ -4,10 +4,9 @@ use Rattle.std.proofs.Common.{arith}
 use Rattle.std.specs.Prelude.{slice_get}
 use Rattle.std.specs.List.{AllByRecursion}
 use Rattle.std.proofs.lemmas.Bool.Decides.{nat_tests}
-use Rattle.seam_node_steps.specs.Prelude.{link, RealView, Msg, BaseCall, Hand, Current, GhostSet, GhostDrop, Tick, Reap, Update, limit}
+use Rattle.seam_node_steps.specs.Prelude.{link, RealView, Msg, GhostDrop, Tick, Reap, Update, limit}
 use Rattle.seam_node_steps.specs.Prelude.{is_small, may_rise, cell_count, about, is_stray, stray_reap, NodeView, World, RouteView, order_or}
 use Rattle.seam_law_calls.specs.Prelude.{Frame, here_at, entity_flow, real_in}
-use Rattle.seam_entity.specs.declared.message.Msg.TheVariants.{Call}
 use Rattle.seam_law_rounds.proofs.Calm.{IsCalmTo, IsCalm}
 use Rattle.seam_law_rounds.proofs.CalmRuns.{found_home}
 use Rattle.std.specs.FinMap as table
@@ -35,11 +34,6 @@ module _ (f : Frame) (e home : ℕ) (r : RealView) (cell : home < cell_count) (n
 
   kind_by : (m : Msg) (ms : List Msg) → link v.rows a k ≡ m ∷ ms → about m ≡ Some e → IsCalmTo told home r k m →
       is_stray (here_at f k) f.tree ((entity_flow e v).slot k).cell.slot m ≡ false
-  kind_by (Call c) ms at is h = absurd h
-  kind_by (BaseCall c) ms at is h = absurd h
-  kind_by (Hand q) ms at is h = absurd h
-  kind_by (Current x j g) ms at is h = absurd h
-  kind_by (GhostSet x n c) ms at is h = absurd h
   kind_by (GhostDrop x n) ms at is h = not_true (is_small n) (small_to n r.beat h.1 (small h.0))
   kind_by Tick ms at is h = refl
   kind_by (Reap x) ms at is h =
@@ -48,6 +42,7 @@ module _ (f : Frame) (e home : ℕ) (r : RealView) (cell : home < cell_count) (n
       calm x (mine_is e (Reap x) is) in
       reap_by ((entity_flow e v).slot k).cell.slot.real q.0 (ap (λ j. real_in ((entity_flow e v).slot j)) h ∙ q.1) q.2
   kind_by (Update u) ms at is h = absurd (omega (arith, h, low))
+  kind_by _ ms at is h = absurd h
 
   pub calm_free : (m : Msg) (ms : List Msg) → link v.rows a k ≡ m ∷ ms → about m ≡ Some e →
       is_stray (here_at f k) f.tree ((entity_flow e v).slot k).cell.slot m ≡ false

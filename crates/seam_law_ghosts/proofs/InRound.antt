@@ -3,15 +3,14 @@ use Rattle.std.proofs.Common.{◌≡◌, ℕ, ◌<◌, ◌≤◌, ◌⊎◌, fal
 use Rattle.std.proofs.Common.{ap, ◌∙◌, subst, inl, inr}
 use Rattle.std.specs.Prelude.{slice_get}
 use Rattle.std.specs.List.{AllByRecursion}
-use Rattle.seam_node_steps.specs.Prelude.{link, LeadsTo, Event, Batch, RealView, Msg, BaseCall, Hand, Current, GhostSet, GhostDrop, Tick}
-use Rattle.seam_node_steps.specs.Prelude.{Reap, Update, limit, cell_count, about, is_stray, CellView, slot_of, holders, NodeView, World}
+use Rattle.seam_node_steps.specs.Prelude.{link, LeadsTo, Event, Batch, RealView, Msg, Hand, Tick}
+use Rattle.seam_node_steps.specs.Prelude.{limit, cell_count, about, is_stray, CellView, slot_of, holders, NodeView, World}
 use Rattle.seam_node_steps.specs.Prelude.{node_steps, node_has_work, Cell, loaded}
 use Rattle.seam_law_flow.specs.Prelude.{letters_of, slot_at, TokenPlace, In, On}
 use Rattle.seam_law_calls.specs.Prelude.{Frame, here_at, mine, has_of, has_none, entity_flow, RealFits, IsFitHand, real_burden, real_in}
 use Rattle.seam_law_calls.specs.Prelude.{real_of, IsOne, reaped_by}
 use Rattle.seam_law_rounds.specs.Prelude.{IsSettled, IsBetweenRounds, IsFitting, framed, calls_of, next_from}
 use Rattle.seam_law_flow.proofs.TokenLemmas.{sole_here}
-use Rattle.seam_entity.specs.declared.message.Msg.TheVariants.{Call}
 use Rattle.seam_law_calls.proofs.Counting.{none_counts}
 use Rattle.seam_law_calls.proofs.Easing.{came_small}
 use Rattle.seam_law_calls.proofs.Replaying.{replays_none}
@@ -36,15 +35,8 @@ free_by e w (In x) r q a k ms one at j =
 
 -- nothing but ticks comes
 no_tick : (e : ℕ) (m : Msg) → about m ≡ Some e → IsTick m → ⊥
-no_tick e (Call c) h t = t
-no_tick e (BaseCall c) h t = t
-no_tick e (Hand r) h t = t
-no_tick e (Current x j g) h t = t
-no_tick e (GhostSet x n c) h t = t
-no_tick e (GhostDrop x n) h t = t
 no_tick e Tick h t = cc
-no_tick e (Reap x) h t = t
-no_tick e (Update u) h t = t
+no_tick e _ h t = t
 
 pub unknown_gets_none : (f : Frame) (e : ℕ) (w : World) → IsUnknown f e w → (a k : ℕ) (m : Msg) (ms : List Msg) →
     link w.rows a k ≡ m ∷ ms → about m ≡ Some e → ⊥

@@ -14,7 +14,6 @@ pub mod Present
 pub mod Telling
 pub mod Books
 pub mod Hushing
-pub mod ExampleTable
 pub mod Ways
 pub mod Paths
 pub mod Placing
@@ -23,7 +22,6 @@ pub mod Begun
 pub mod Ends
 pub mod NearKnown
 pub mod PlacesKept
-pub mod ExamplePlaced
 pub mod NewestTelling
 pub mod Moving
 pub mod Still

@@ -6,18 +6,17 @@ use Rattle.std.specs.Prelude.{filter_map}
 use Rattle.std.specs.List.{AllByRecursion}
 use Rattle.std.specs.FinSet as set
 use Rattle.std.proofs.lemmas.Bool.{eqb-true, eqb-false}
-use Rattle.seam_node_steps.specs.Prelude.{Cells, items_to, part_of_deed, type_of, Call as CallData, GhostCopy, RealView, Msg, BaseCall}
-use Rattle.seam_node_steps.specs.Prelude.{Hand, Current, GhostSet, GhostDrop, Tick, Reap, Update, cell_numbers, copy_of_real, settled_to}
+use Rattle.seam_node_steps.specs.Prelude.{Cells, items_to, part_of_deed, type_of, Call as CallData, GhostCopy, RealView, Msg}
+use Rattle.seam_node_steps.specs.Prelude.{Hand, GhostSet, GhostDrop, Reap, cell_numbers, copy_of_real, settled_to}
 use Rattle.seam_node_steps.specs.Prelude.{told, told_unless, ghost_message, ghost_messages, beat_after, copy_if}
 use Rattle.seam_law_flow.specs.Prelude.{letters_of, OfEntry, AllBring, entry_in, greater_entry, IsSilent, carried_in, SendsNone, Handles}
 use Rattle.seam_law_flow.specs.Prelude.{still, turns, lands, leaves, relays}
 use Rattle.seam_law_calls.specs.Prelude.{Frame, here_at, Has, account_of, after_call, real_in, real_of}
 use Rattle.seam_law_ghosts.specs.Prelude.{Entry, brings, book_entry, Executes, nothing, executes, haunts_staying, haunts_going}
-use Rattle.seam_law_ghosts.specs.Prelude.{told_staying, told_going, staying, going, left_entry, GhostMoves, shown_at}
+use Rattle.seam_law_ghosts.specs.Prelude.{told_staying, told_going, going, left_entry, GhostMoves, shown_at}
 use Rattle.seam_defs.specs.declared.flags.Part.TheVariants as part
 use Rattle.seam_law_flow.proofs.Following.{all_append}
 use Rattle.seam_law_flow.proofs.SendLists.{sees_none, sees_after_silent, sees_one_here, sees_one_there}
-use Rattle.seam_entity.specs.declared.message.Msg.TheVariants.{Call}
 use Rattle.seam_law_calls.proofs.Handling.{reals_unseen}
 use Rattle.seam_law_calls.proofs.Plain.{ghosts_silent}
 use Rattle.seam_law_calls.proofs.Sparing.{items_all}
@@ -76,15 +75,8 @@ greater_either : (e p : Entry) → (greater_entry e (Some p) ≡ e) ⊎ (greater
 greater_either e p = greater_by e p (ltb e.0 p.0)
 
 pub unseen_by : (m : Msg) → brings m ≡ None → real_of m ≡ None
-unseen_by (Call c) h = refl
-unseen_by (BaseCall c) h = refl
 unseen_by (Hand r) h = cc
-unseen_by (Current e j g) h = refl
-unseen_by (GhostSet e n c) h = refl
-unseen_by (GhostDrop e n) h = refl
-unseen_by Tick h = refl
-unseen_by (Reap e) h = refl
-unseen_by (Update u) h = refl
+unseen_by _ h = refl
 
 pub none_carried : (i : Option Msg) → entry_in brings i ≡ None → carried_in real_of i ≡ None
 none_carried None h = refl

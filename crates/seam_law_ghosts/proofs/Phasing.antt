@@ -1,7 +1,7 @@
 -- Where entities are reaped, and where witnesses look, copies stay what they are, but for those of an entity whose Reap comes.
 use Rattle.std.proofs.Common.{◌≡◌, ℕ, ◌<◌, ◌⊎◌, Bool, true, List, [], ◌∷◌, Option, None, Some, refl, sym, ap, ◌∙◌}
 use Rattle.std.proofs.Common.{subst, arith, inl, inr}
-use Rattle.seam_node_steps.specs.Prelude.{happens, enabled, IsQuiet, LeadsTo, Event, RealView, WitnessView, Msg, BaseCall, Hand, Current}
+use Rattle.seam_node_steps.specs.Prelude.{happens, enabled, IsQuiet, LeadsTo, Event, RealView, WitnessView, Msg, Hand}
 use Rattle.seam_node_steps.specs.Prelude.{GhostSet, GhostDrop, Tick, Reap, Update, is_small, may_rise, cell_count, is_stray, holders, World}
 use Rattle.seam_node_steps.specs.Prelude.{node_steps, node_has_work}
 use Rattle.seam_law_flow.specs.Prelude.{Goes, comes, TokenPlace, In, On}
@@ -13,7 +13,6 @@ use Rattle.seam_machine.proofs.Occurring.{occurs}
 use Rattle.seam_net_runs.proofs.Runs.{leads_keeps}
 use Rattle.seam_law_flow.proofs.Following.{came}
 use Rattle.seam_law_flow.proofs.TokenLemmas.{sole_here}
-use Rattle.seam_entity.specs.declared.message.Msg.TheVariants.{Call}
 use Rattle.seam_law_calls.proofs.Classify.{event_moves}
 use Rattle.seam_law_calls.proofs.Counting.{one_counts, none_counts}
 use Rattle.seam_law_calls.proofs.Holds.{not_both}
@@ -57,15 +56,11 @@ module _ (f : Frame) (frame : IsFrame f) (u : World) (between : IsBetweenRounds 
 
   fresh_by : (k : ℕ) (s : Has) (m : Msg) (x : Entry) → IsCalmTo is_told home r k m → brings m ≡ Some x →
       is_stray (here_at f k) f.tree s.cell.slot m ≡ true → ⊥
-  fresh_by k s (Call c) x h is stray = h
-  fresh_by k s (BaseCall c) x h is stray = h
-  fresh_by k s (Hand q) x h is stray = h
-  fresh_by k s (Current y j g) x h is stray = h
-  fresh_by k s (GhostSet y n c) x h is stray = h
   fresh_by k s (GhostDrop y n) x h is stray = not_both (is_small n) (small_to n r.beat h.1 (small h.0)) stray
   fresh_by k s Tick x h is stray = cc
   fresh_by k s (Reap y) x h is stray = cc
   fresh_by k s (Update m) x h is stray = cc
+  fresh_by k s _ x h is stray = h
 
   fits_by : (k : ℕ) (q : RealView) → (k ≡ home) × IsSame r q → RealFits f e r.ty k q
   fits_by k q same =

@@ -1,8 +1,8 @@
 -- A loaded world, and a round's calls: each cell is told what the real wants, and has it where the world is quiet again.
 use Rattle.std.proofs.Common.{◌≡◌, ℕ, ◌<◌, ◌≤◌, ◌⊎◌, true, List, [], ◌∷◌, None, Some, refl, sym, ap, ◌∙◌}
 use Rattle.std.proofs.Common.{subst, arith, inl, inr}
-use Rattle.seam_node_steps.specs.Prelude.{happens, enabled, IsQuiet, LeadsTo, Event, Batch, GhostCopy, RealView, Msg, BaseCall, Hand}
-use Rattle.seam_node_steps.specs.Prelude.{Current, GhostSet, GhostDrop, Tick, Reap, Update, cell_count, holders, World, node_steps}
+use Rattle.seam_node_steps.specs.Prelude.{happens, enabled, IsQuiet, LeadsTo, Event, Batch, GhostCopy, RealView, Msg, Hand}
+use Rattle.seam_node_steps.specs.Prelude.{Tick, cell_count, holders, World, node_steps}
 use Rattle.seam_node_steps.specs.Prelude.{node_has_work, loaded}
 use Rattle.seam_law_flow.specs.Prelude.{comes, letters_of, TokenPlace, In}
 use Rattle.seam_law_calls.specs.Prelude.{Frame, entity_flow, real_in, real_of, IsOne, HasOne}
@@ -13,7 +13,6 @@ use Rattle.seam_machine.proofs.Occurring.{occurs}
 use Rattle.seam_net_runs.proofs.Runs.{leads_keeps}
 use Rattle.seam_law_flow.proofs.Following.{came}
 use Rattle.seam_law_flow.proofs.TokenLemmas.{sole_here}
-use Rattle.seam_entity.specs.declared.message.Msg.TheVariants.{Call}
 use Rattle.seam_law_calls.proofs.Classify.{event_moves}
 use Rattle.seam_law_calls.proofs.Gone.{gone_leads}
 use Rattle.seam_law_rounds.proofs.Framing.{in_frame}
@@ -33,15 +32,8 @@ use Rattle.seam_law_ghosts.proofs.Loading.{books_loaded, copies_loaded, home_loa
 -- ---- an entity that is nowhere: nothing comes to its books
 
 tick_brings : (m : Msg) (x : Entry) → IsTick m → brings m ≡ Some x → ⊥
-tick_brings (Call c) x t is = t
-tick_brings (BaseCall c) x t is = t
-tick_brings (Hand r) x t is = t
-tick_brings (Current e j g) x t is = t
-tick_brings (GhostSet e n c) x t is = t
-tick_brings (GhostDrop e n) x t is = t
 tick_brings Tick x t is = cc
-tick_brings (Reap e) x t is = t
-tick_brings (Update u) x t is = t
+tick_brings _ x t is = t
 
 module _ (f : Frame) (e : ℕ) where
   record IsLost (w : World) : Type 0 where

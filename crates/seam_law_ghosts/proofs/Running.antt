@@ -3,8 +3,8 @@ use Rattle.std.proofs.Common.{◌≡◌, ℕ, ◌<◌, ◌≤◌, true, ◌&&◌
 use Rattle.std.proofs.Common.{◌∙◌, subst}
 use Rattle.std.proofs.Common.{arith}
 use Rattle.std.specs.List.{AllByRecursion}
-use Rattle.seam_node_steps.specs.Prelude.{happens, enabled, LeadsTo, Event, Occurs, GhostCopy, RealView, Msg, BaseCall, Hand, Current}
-use Rattle.seam_node_steps.specs.Prelude.{GhostSet, GhostDrop, Tick, Reap, Update, is_small, fits_copy, is_stray, World, node_steps}
+use Rattle.seam_node_steps.specs.Prelude.{happens, enabled, LeadsTo, Event, Occurs, GhostCopy, RealView, Msg, Hand}
+use Rattle.seam_node_steps.specs.Prelude.{GhostSet, GhostDrop, Reap, is_small, fits_copy, is_stray, World, node_steps}
 use Rattle.seam_node_steps.specs.Prelude.{node_has_work, limit}
 use Rattle.seam_law_flow.specs.Prelude.{Goes, comes, letter_in, AllBring, TokenPlace, In}
 use Rattle.seam_law_calls.specs.Prelude.{Frame, here_at, Has, mine, entity_flow, MovesTo, real_in, real_of, IsOne, IsSpared, IsFrame}
@@ -14,7 +14,6 @@ use Rattle.seam_machine.proofs.Occurring.{occurs}
 use Rattle.seam_net_runs.proofs.Runs.{leads_keeps}
 use Rattle.seam_law_flow.proofs.TokenLemmas.{sole_here}
 use Rattle.seam_law_flow.proofs.Following.{came}
-use Rattle.seam_entity.specs.declared.message.Msg.TheVariants.{Call}
 use Rattle.seam_law_calls.proofs.Holds.{not_both, all_two}
 use Rattle.seam_law_calls.proofs.OneReal.{goes, room, calm_of}
 use Rattle.seam_law_calls.proofs.Replaying.{replays_none}
@@ -31,16 +30,10 @@ use Rattle.seam_law_ghosts.proofs.Still.{same_one, came_with, told_still, table_
 -- what fits is not stray
 pub news_fit : (f : Frame) (k : ℕ) (s : Has) (m : Msg) (x : Entry) → FitsNode f k m → brings m ≡ Some x → real_of m ≡ None →
     is_stray (here_at f k) f.tree s.cell.slot m ≡ true → ⊥
-news_fit f k s (Call c) x fits is none stray = cc
-news_fit f k s (BaseCall c) x fits is none stray = cc
-news_fit f k s (Hand r) x fits is none stray = cc
-news_fit f k s (Current y j g) x fits is none stray = cc
 news_fit f k s (GhostSet y n c) x fits is none stray =
     not_both (is_small n && (is_small c.version && fits_copy (here_at f k) c)) (all_two _ _ fits.0 (all_two _ _ fits.1 fits.2)) stray
 news_fit f k s (GhostDrop y n) x fits is none stray = not_both (is_small n) fits stray
-news_fit f k s Tick x fits is none stray = cc
-news_fit f k s (Reap y) x fits is none stray = cc
-news_fit f k s (Update u) x fits is none stray = cc
+news_fit f k s _ x fits is none stray = cc
 
 module _ (f : Frame) (frame : IsFrame f) (e ty : ℕ) (known : ty < length f.defs) (start : RealView) (low : start.public ≤ start.version)
     (first : ℕ → GhostCopy) where

@@ -5,12 +5,12 @@ use Rattle.std.proofs.Common.{refl, sym, subst, arith}
 use Rattle.std.specs.List.{AllByRecursion, filter_map, range_with_len}
 use Rattle.std.specs.FinSet as set
 use Rattle.std.proofs.lemmas.Bool.Decides.{nat_tests}
-use Rattle.seam_node_steps.specs.Prelude.{Cells, AreDefs, GhostCopy, Shown, RealView, Msg, BaseCall, Hand, Current, GhostSet, GhostDrop}
-use Rattle.seam_node_steps.specs.Prelude.{Tick, Reap, Update, limit, is_small, may_rise, Here, cell_count, cell_numbers, base_of}
+use Rattle.seam_node_steps.specs.Prelude.{Cells, AreDefs, GhostCopy, Shown, RealView, Msg, BaseCall, Current, GhostSet, GhostDrop}
+use Rattle.seam_node_steps.specs.Prelude.{Update, limit, is_small, may_rise, Here, cell_count, cell_numbers, base_of}
 use Rattle.seam_node_steps.specs.Prelude.{properties, fits_copy, copy_of_real, may_settle, may_execute, fits_cell_part, shows, public_after}
 use Rattle.seam_node_steps.specs.Prelude.{may_offer, order_of, haunts_at, told, told_unless, ghost_message, ghost_messages, drop_if}
 use Rattle.seam_node_steps.specs.Prelude.{drop_at, drops, current_to, tick_to, numbered, shown_of}
-use Rattle.seam_law_calls.specs.Prelude.{Frame, here_at, Has, AtCell, Does, Acts, surveys, calls, readies, CellMoves, BaseMoves, Moves}
+use Rattle.seam_law_calls.specs.Prelude.{Frame, here_at, Has, AtCell, Acts, surveys, calls, readies, CellMoves, BaseMoves, Moves}
 use Rattle.seam_law_calls.specs.Prelude.{at_a_cell, at_a_base, RealFits, real_in}
 use Rattle.seam_defs.specs.declared.flags.Part.TheVariants as part
 use Rattle.seam_defs.specs.declared.flags.Group.TheVariants as group
@@ -18,7 +18,6 @@ use Rattle.seam_defs.proofs.GroupsOfGroups.{projected_of_group}
 use Rattle.seam_defs.proofs.Running.{shown-within}
 use Rattle.seam_defs.proofs.TestLemmas.{of_group-Decides}
 use Rattle.seam_law_flow.proofs.Following.{all_append}
-use Rattle.seam_entity.specs.declared.message.Msg.TheVariants.{Call}
 use Rattle.seam_law_calls.specs.CellMoves as move
 use Rattle.seam_law_calls.specs.BaseMoves as base_move
 use Rattle.seam_law_calls.proofs.Holds.{both, all_two}
@@ -27,15 +26,12 @@ use Rattle.seam_law_calls.proofs.RealsKept.{executed_fits, ready_fits}
 -- what a message to node k brings fits: a copy fits the definitions, a beat and a version are small, and only base nodes are told what
 -- is for them
 abbrev pub FitsNode : Frame → ℕ → Msg → Type 0
-FitsNode f k (Call c) = Unit {0}
 FitsNode f k (BaseCall c) = cell_count ≤ k
-FitsNode f k (Hand r) = Unit {0}
 FitsNode f k (Current e j g) = cell_count ≤ k
 FitsNode f k (GhostSet e n c) = (is_small n ≡ true) × (is_small c.version ≡ true) × (fits_copy (here_at f 0) c ≡ true)
 FitsNode f k (GhostDrop e n) = is_small n ≡ true
-FitsNode f k Tick = Unit {0}
-FitsNode f k (Reap e) = Unit {0}
 FitsNode f k (Update u) = cell_count ≤ k
+FitsNode f k _ = Unit {0}
 
 small_is : (n : ℕ) → n < limit → is_small n ≡ true
 small_is n lt = grind (arith, nat_tests)

@@ -1,10 +1,10 @@
 -- Of an entity that is nowhere, and that no order is about, nothing is on its way but ticks.
 use Rattle.std.proofs.Common.{◌≡◌, ℕ, true, List, [], ◌∷◌, map, Option, None, Some, refl, sym, ap, ◌∙◌, subst}
 use Rattle.std.specs.List.{AllByRecursion, range_with_len}
-use Rattle.seam_node_steps.specs.Prelude.{happens, enabled, LeadsTo, Event, Order, RealView, Msg, BaseCall, Hand, Current, GhostSet}
-use Rattle.seam_node_steps.specs.Prelude.{GhostDrop, Tick, Reap, Update, tick_to, World, node_steps, node_has_work}
+use Rattle.seam_node_steps.specs.Prelude.{happens, enabled, LeadsTo, Event, Order, RealView, Msg, BaseCall, Hand, GhostSet}
+use Rattle.seam_node_steps.specs.Prelude.{GhostDrop, Tick, Update, tick_to, World, node_steps, node_has_work}
 use Rattle.seam_law_flow.specs.Prelude.{comes}
-use Rattle.seam_law_calls.specs.Prelude.{Frame, here_at, IsInFrame, Has, AtBase, AtCell, entity_flow, Does, CellMoves, BaseMoves, Moves}
+use Rattle.seam_law_calls.specs.Prelude.{Frame, here_at, IsInFrame, Has, AtBase, AtCell, entity_flow, CellMoves, BaseMoves, Moves}
 use Rattle.seam_law_calls.specs.Prelude.{at_a_cell, at_a_base, real_in}
 use Rattle.seam_machine.proofs.Occurring.{occurs}
 use Rattle.seam_net_runs.proofs.Runs.{leads_keeps}
@@ -23,15 +23,8 @@ IsTickOrder order.Tick = Unit {0}
 IsTickOrder (order.Reap e) = ⊥
 
 abbrev pub IsTick : Msg → Type 0
-IsTick (Call c) = ⊥
-IsTick (BaseCall c) = ⊥
-IsTick (Hand r) = ⊥
-IsTick (Current e j g) = ⊥
-IsTick (GhostSet e n c) = ⊥
-IsTick (GhostDrop e n) = ⊥
 IsTick Tick = Unit {0}
-IsTick (Reap e) = ⊥
-IsTick (Update u) = ⊥
+IsTick _ = ⊥
 
 pub record OnlyTicks (h : Has) : Type 0 where
   pub real : real_in h ≡ None

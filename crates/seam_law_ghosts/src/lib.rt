@@ -33,11 +33,8 @@ pub use newest::{
 };
 pub use places::{
     a_load_begins_at_former_places, a_round_keeps_the_record_of_places,
-    a_round_leaves_right_places, a_worked_world_places_its_entity, places_are_near,
-    places_are_on_their_way, places_are_right, the_last_phases_leave_places,
-    who_may_be_seen_is_known,
+    a_round_leaves_right_places, places_are_near, places_are_on_their_way, places_are_right,
+    the_last_phases_leave_places, who_may_be_seen_is_known,
 };
 pub use stray_messages::{no_message_to_a_cell_is_stray, no_task_of_a_cell_is_stray};
-pub use truths::{
-    a_loaded_world_has_a_table, copies_never_grow_older, ghosts_are_true, no_news_comes_to_the_real,
-};
+pub use truths::{copies_never_grow_older, ghosts_are_true, no_news_comes_to_the_real};

@@ -14,11 +14,10 @@ ghost use Rattle.seam_node_steps.specs.Prelude.{distance, distance_to_cell, Ghos
 ghost use Rattle.seam_node_steps.specs.Prelude.{LeadsTo, Event, Batch, RealView, World, node_steps, node_has_work, opened, loaded};
 ghost use Rattle.seam_node_steps.specs.Prelude.{reaps_loaded, look_loaded};
 ghost use Rattle.seam_law_flow.specs.Prelude.{In};
-ghost use Rattle.seam_law_calls.specs.Prelude.{Frame, entity_flow, frame, real_in, IsOne, IsSpared, AllFits, IsFrame};
+ghost use Rattle.seam_law_calls.specs.Prelude.{Frame, entity_flow, real_in, IsOne, IsSpared, AllFits, IsFrame};
 ghost use Rattle.seam_law_rounds.specs.Prelude.{IsBetweenRounds, IsFitting, framed, first_frame, AreReapable};
 ghost use Rattle.seam_law_ghosts.specs.Prelude.{place_of, first_place, made_real, BeginsAt, IsDue, IsPlaced, IsRightPlace, WasThere};
 ghost use Rattle.seam_law_ghosts.specs.Prelude.{GoesThroughRound, ArePlaced};
-ghost use Rattle.seam_node_steps.specs.EarlyCall as early;
 
 /// Where a batch is loaded, each real that was there is in the same cell with the same haunts, and each that is created is in its leaf; and
 /// the survey list of each real's cell has its entity.
@@ -115,16 +114,3 @@ pub fn who_may_be_seen_is_known()
 {
     seam_geo::triangle_inequality();
 }
-
-/// What these laws ask of a world is true of one that a load made, of two cells. At the end of its run, which hands the entity over, its
-/// place is right, and would not be in its former cell; the world keeps the record of places. What the laws ask of settings is true as
-/// well.
-pub fn a_worked_world_places_its_entity()
-    ensures one { IsOne 1 early.world_0 (In 0) early.made }
-    ensures due { IsDue 1 early.world_0 (In 0) }
-    ensures there { real_in ((entity_flow 1 early.world_12).slot 1) ≡ Some early.hit_twice }
-    ensures right { IsRightPlace frame early.two_cells (place_of 0 early.made) early.made 1 early.hit_twice }
-    ensures wrong { IsRightPlace frame early.two_cells (place_of 0 early.made) early.made 0 early.hit_twice → ⊥ }
-    ensures placed { ArePlaced frame early.world_12 }
-    ensures reach { GhostsReach frame.settings }
-{}

@@ -13,7 +13,6 @@ ghost use Rattle.seam_node_steps.specs.Prelude.{LeadsTo, Event, GhostCopy, RealV
 ghost use Rattle.seam_law_flow.specs.Prelude.{In};
 ghost use Rattle.seam_law_calls.specs.Prelude.{Frame, entity_flow, real_in, IsFrame, IsSpared, HasOne};
 ghost use Rattle.seam_law_ghosts.specs.Prelude.{book_entry, IsTable, IsTrue, IsHushed};
-ghost use Rattle.seam_node_steps.specs.EarlyCall as early;
 
 /// Where the copies of an entity are those of a table at the start, they are those of one after every list of events. It is the same for
 /// the beats of the start; for each later one it has what others may see of the state that the real had at the copy's version.
@@ -43,12 +42,4 @@ pub fn no_news_comes_to_the_real()
         IsSpared e w → h.real.public ≤ h.real.version → (first : ℕ → GhostCopy) → IsTable e w h.real first → IsHushed e w h.place →
         LeadsTo node_has_work node_steps w es v → (k : ℕ) (r : RealView) → real_in ((entity_flow e v).slot k) ≡ Some r →
         IsHushed e v (In k) }
-{}
-
-/// What these laws ask is true of the loaded world of two cells of `seam_law_calls`, whose entity is handed over: no cell has a copy, and
-/// nothing is on its way. Each table whose first copy has version 0 is one of it.
-pub fn a_loaded_world_has_a_table()
-    ensures table { (table : ℕ → GhostCopy) → (table 0).version ≤ 0 → IsTable 1 early.world_0 early.made table }
-    ensures public { early.made.public ≤ early.made.version }
-    ensures hushed { IsHushed 1 early.world_0 (In 0) }
 {}

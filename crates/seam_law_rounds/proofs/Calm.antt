@@ -1,13 +1,12 @@
 -- A calm entity: its real stays where it is until its Reap comes, and no one calls it.
 use Rattle.std.proofs.Common.{◌≡◌, ℕ, ◌+◌, ◌≤◌, Bool, cond, Option, None, Some, true}
 use Rattle.std.specs.List.{AllByRecursion}
-use Rattle.seam_node_steps.specs.Prelude.{total, Order, RealView, WitnessView, Msg, BaseCall, Hand, Current, GhostSet, GhostDrop, Tick}
+use Rattle.seam_node_steps.specs.Prelude.{total, Order, RealView, WitnessView, Msg, GhostDrop, Tick}
 use Rattle.seam_node_steps.specs.Prelude.{Reap, Update, cell_count, NodeView, World}
 use Rattle.seam_law_calls.specs.Prelude.{Frame, IsInFrame, Has, mine, has_of, entity_flow, real_in}
 use Rattle.seam_net_runs.specs.Sums.{weight_or}
 use Rattle.seam_net_runs.specs.Weights.{weight}
 use Rattle.seam_call.specs.declared.order.Order.TheVariants as order
-use Rattle.seam_entity.specs.declared.message.Msg.TheVariants.{Call}
 
 -- the real q is r but for its witness
 abbrev pub IsSame : RealView → RealView → Type 0
@@ -28,15 +27,11 @@ pub record IsCalmAt (e home : ℕ) (r : RealView) (u : World) (k : ℕ) (h : Has
 
 -- what is on its way to node k
 abbrev pub IsCalmTo : Bool → ℕ → RealView → ℕ → Msg → Type 0
-IsCalmTo told home r k (Call c) = ⊥
-IsCalmTo told home r k (BaseCall c) = ⊥
-IsCalmTo told home r k (Hand q) = ⊥
-IsCalmTo told home r k (Current e j g) = ⊥
-IsCalmTo told home r k (GhostSet e n c) = ⊥
 IsCalmTo told home r k (GhostDrop e n) = (told ≡ true) × (n ≤ r.beat + 1)
 IsCalmTo told home r k Tick = Unit {0}
 IsCalmTo told home r k (Reap e) = k ≡ home
 IsCalmTo told home r k (Update u) = cell_count ≤ k
+IsCalmTo told home r k _ = ⊥
 
 -- ---- how many reaps of it wait
 
@@ -47,15 +42,8 @@ order_reaps order.Tick = 0
 order_reaps (order.Reap e) = 1
 
 abbrev pub letter_reaps : Msg → ℕ
-letter_reaps (Call c) = 0
-letter_reaps (BaseCall c) = 0
-letter_reaps (Hand r) = 0
-letter_reaps (Current e j g) = 0
-letter_reaps (GhostSet e n c) = 0
-letter_reaps (GhostDrop e n) = 0
-letter_reaps Tick = 0
 letter_reaps (Reap e) = 1
-letter_reaps (Update u) = 0
+letter_reaps _ = 0
 
 abbrev pub has_reaps : Has → ℕ
 has_reaps h = total order_reaps h.base.orders

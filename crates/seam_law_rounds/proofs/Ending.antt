@@ -3,13 +3,12 @@ use Rattle.std.proofs.Common.{◌≡◌, ℕ, Bool, List, [], ◌∷◌, ◌++�
 use Rattle.std.specs.List.{AllByRecursion}
 use Rattle.std.specs.FinMap as table
 use Rattle.std.proofs.lemmas.Bool.{cases_eq}
-use Rattle.seam_node_steps.specs.Prelude.{item_at, Order, order_or, RealView, WitnessView, Msg, BaseCall, Hand, Current, GhostSet}
+use Rattle.seam_node_steps.specs.Prelude.{item_at, Order, order_or, RealView, WitnessView, Msg}
 use Rattle.seam_node_steps.specs.Prelude.{GhostDrop, Tick, Reap, Update, World}
 use Rattle.seam_law_flow.specs.Prelude.{letters_of, more_letter, In, Nobody, held_in, packed, bears, of_number}
 use Rattle.seam_law_calls.specs.Prelude.{Frame, entity_flow, real_in, real_of, IsOne, cell_order_from, real_desk, cell_mail}
 use Rattle.seam_law_rounds.specs.Prelude.{IsSettled, HasNoCalls}
 use Rattle.seam_call.specs.declared.order.Order.TheVariants as order
-use Rattle.seam_entity.specs.declared.message.Msg.TheVariants.{Call}
 use Rattle.seam_law_rounds.proofs.Calm.{IsSame, IsCalmOrder, IsCalmTo, IsCalm}
 
 module _ (f : Frame) (e home : ℕ) (r : RealView) (u : World) (settled : IsSettled f e home r u) (told : Bool) (v : World)
@@ -18,15 +17,11 @@ module _ (f : Frame) (e home : ℕ) (r : RealView) (u : World) (settled : IsSett
 
   no_hands : (k : ℕ) (ms : List Msg) → AllByRecursion (IsCalmTo told home r k) ms → letters_of real_of ms ≡ []
   no_hands k [] h = refl
-  no_hands k (Call c ∷ ms) h = absurd h.0
-  no_hands k (BaseCall c ∷ ms) h = absurd h.0
-  no_hands k (Hand q ∷ ms) h = absurd h.0
-  no_hands k (Current x j g ∷ ms) h = absurd h.0
-  no_hands k (GhostSet x n c ∷ ms) h = absurd h.0
   no_hands k (GhostDrop x n ∷ ms) h = no_hands k ms h.1
   no_hands k (Tick ∷ ms) h = no_hands k ms h.1
   no_hands k (Reap x ∷ ms) h = no_hands k ms h.1
   no_hands k (Update m ∷ ms) h = no_hands k ms h.1
+  no_hands k (_ ∷ ms) h = absurd h.0
 
   elsewhere_by : (j : ℕ) (o : Option RealView) → real_in ((entity_flow e v).slot j) ≡ o → (j ≡ home → ⊥) → o ≡ None
   elsewhere_by j None at n = refl
@@ -88,15 +83,11 @@ module _ (f : Frame) (e home : ℕ) (r : RealView) (u : World) (settled : IsSett
 
   no_letters : (s k : ℕ) (ms : List Msg) → AllByRecursion (IsCalmTo told home r k) ms → letters_of (cell_mail s) ms ≡ []
   no_letters s k [] h = refl
-  no_letters s k (Call c ∷ ms) h = absurd h.0
-  no_letters s k (BaseCall c ∷ ms) h = absurd h.0
-  no_letters s k (Hand q ∷ ms) h = absurd h.0
-  no_letters s k (Current x j g ∷ ms) h = absurd h.0
-  no_letters s k (GhostSet x n c ∷ ms) h = absurd h.0
   no_letters s k (GhostDrop x n ∷ ms) h = no_letters s k ms h.1
   no_letters s k (Tick ∷ ms) h = no_letters s k ms h.1
   no_letters s k (Reap x ∷ ms) h = no_letters s k ms h.1
   no_letters s k (Update m ∷ ms) h = no_letters s k ms h.1
+  no_letters s k (_ ∷ ms) h = absurd h.0
 
   held_by : (s n : ℕ) (o : Option RealView) → ((q : RealView) → o ≡ Some q → IsSame r q) → held_in n (real_desk s o) ≡ []
   held_by s n None same = refl

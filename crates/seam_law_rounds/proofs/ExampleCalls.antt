@@ -25,7 +25,7 @@ use Rattle.seam_law_rounds.proofs.Loaded.{slot_is, real_was}
 use Rattle.seam_law_rounds.proofs.CallsEnd.{calls_end_between}
 use Rattle.seam_law_rounds.proofs.Looking.{look_ends_between}
 use Rattle.seam_law_rounds.proofs.PartLoads.{SamePart, part_at, part_stays}
-use Rattle.seam_law_rounds.proofs.FirstBatchFits.{one_is_tree}
+use Rattle.seam_law_rounds.proofs.ExampleOpening.{one_is_tree}
 use Rattle.seam_law_rounds.proofs.ExampleRound.{after_looks, next_is_one}
 use Rattle.seam_law_rounds.proofs.BaseCallsEnd.{calls_end_with_parts, calls_end_small}
 use Rattle.seam_law_rounds.proofs.Calms.{look_ends_with_parts}

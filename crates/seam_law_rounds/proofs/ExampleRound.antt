@@ -21,7 +21,7 @@ use Rattle.seam_law_rounds.proofs.Looking.{look_ends_between}
 use Rattle.seam_law_rounds.proofs.PartLoads.{part_at}
 use Rattle.seam_law_rounds.proofs.Joining.{is_among, peopled, real_at, real_joined, part_joined, made_peopled, new_peopled}
 use Rattle.seam_law_rounds.proofs.Attaching.{real_if, real_from, part_if, part_from}
-use Rattle.seam_law_rounds.proofs.FirstBatchFits.{between, one_is_tree, is_new, no_real, parts_between}
+use Rattle.seam_law_rounds.proofs.ExampleOpening.{between, one_is_tree, is_new, no_real, parts_between}
 use Rattle.seam_law_rounds.proofs.BaseCallsEnd.{calls_end_with_parts, calls_end_small}
 use Rattle.seam_law_rounds.proofs.Calms.{look_ends_with_parts}
 

@@ -7,8 +7,6 @@ pub mod Loaded
 pub mod Turns
 pub mod Room
 pub mod Going
-pub mod ExampleBetween
-pub mod ExampleFits
 pub mod Shape
 pub mod Publics
 pub mod Calm
@@ -24,7 +22,6 @@ pub mod RoadMoves
 pub mod RoadRuns
 pub mod CallsEnd
 pub mod Opened
-pub mod ExampleReaped
 pub mod PartLoads
 pub mod Joining
 pub mod PartsLoaded
@@ -38,6 +35,6 @@ pub mod BaseCallsEnd
 pub mod Still
 pub mod Idling
 pub mod Calms
-pub mod FirstBatchFits
+pub mod ExampleOpening
 pub mod ExampleRound
 pub mod ExampleCalls

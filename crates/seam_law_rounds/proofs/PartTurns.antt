@@ -44,11 +44,9 @@ module _ (f : Frame) (e ty s : ℕ) where
 
   ours_by : (o : Order) (rs : List Order) (b : Bool) → order_concerns e o ≡ b → IsFitBaseOrder f e ty o → Ours (calls_in rs) →
       Ours (calls_in (cond b (o ∷ rs) rs))
-  ours_by (order.Cell c) rs true is h all = all
-  ours_by (order.Base c) rs true is h all = from_by c (calls_in rs) (is_from s c) refl (h (eqb-true c.entity e is)) all
-  ours_by order.Tick rs true is h all = all
-  ours_by (order.Reap x) rs true is h all = all
   ours_by o rs false is h all = all
+  ours_by (order.Base c) rs true is h all = from_by c (calls_in rs) (is_from s c) refl (h (eqb-true c.entity e is)) all
+  ours_by _ rs true is h all = all
 
   pub ours : (os : List (ℕ × Order)) → AllByRecursion (λ o. IsFitBaseOrder f e ty o.1) os →
       Ours (calls_in (orders_of e (map order_in os)))
@@ -59,11 +57,9 @@ module _ (f : Frame) (e ty s : ℕ) where
 
 few_by : (e : ℕ) (o : Order) (rs : List Order) (n : ℕ) (b : Bool) → length (letters_of base_call_of rs) ≤ 3 * n →
     length (letters_of base_call_of (cond b (o ∷ rs) rs)) ≤ 3 * (n + 1)
-few_by e (order.Cell c) rs n true h = omega (arith, h)
-few_by e (order.Base c) rs n true h = omega (arith, h)
-few_by e order.Tick rs n true h = omega (arith, h)
-few_by e (order.Reap x) rs n true h = omega (arith, h)
 few_by e o rs n false h = omega (arith, h)
+few_by e (order.Cell c) rs n true h = omega (arith, h)
+few_by e _ rs n true h = omega (arith, h)
 
 few_calls : (e : ℕ) (os : List Order) → length (letters_of base_call_of (orders_of e os)) ≤ 3 * length os
 few_calls e [] = omega arith

@@ -3,7 +3,7 @@ use Rattle.std.proofs.Common.{◌≡◌, ℕ, ◌<◌, ◌⊎◌, Bool, true, fa
 use Rattle.std.proofs.Common.{None, Some, refl, sym, ap, ◌∙◌, arith, inl, inr}
 use Rattle.std.proofs.lemmas.Bool.{eqb-true}
 use Rattle.seam_node_steps.specs.Prelude.{input_from, happens, enabled, run, AllEnabled, IsQuiet, LeadsTo, Occurs, total, Input, Task, From}
-use Rattle.seam_node_steps.specs.Prelude.{Event, RealView, Msg, BaseCall, Hand, Current, GhostSet, GhostDrop, Tick, Reap, Update, may_rise}
+use Rattle.seam_node_steps.specs.Prelude.{Event, RealView, Msg, Reap, may_rise}
 use Rattle.seam_node_steps.specs.Prelude.{cell_count, RouteView, holders, World, node_steps, node_has_work}
 use Rattle.seam_law_flow.specs.Prelude.{letter_in, letters_of, In, Nobody}
 use Rattle.seam_law_calls.specs.Prelude.{Frame, IsInFrame, concerns, kept_if, mine, entity_flow, real_in, real_of, reaped_by, reaps}
@@ -12,7 +12,6 @@ use Rattle.seam_law_rounds.specs.Prelude.{IsSettled, IsBetweenRounds, reap_comes
 use Rattle.seam_machine.proofs.Occurring.{occurs}
 use Rattle.seam_machine.proofs.Quiet.{quiet_links, quiet_tasks}
 use Rattle.seam_net_runs.proofs.Runs.{leads_keeps}
-use Rattle.seam_entity.specs.declared.message.Msg.TheVariants.{Call}
 use Rattle.seam_law_calls.proofs.Counting.{one_counts, none_counts}
 use Rattle.seam_law_calls.proofs.Gone.{gone_leads}
 use Rattle.seam_law_rounds.proofs.Room.{rows_none}
@@ -30,16 +29,8 @@ reaps_by e x true n is = absurd (n (ap (λ y. Some (Reap y)) (eqb-true x e is)))
 reaps_by e x false n is = refl
 
 no_reap_fed : (e : ℕ) (i : Input Msg) → (letter_in (mine e) i ≡ Some (Reap e) → ⊥) → reaps e (Some i) ≡ false
-no_reap_fed e Task n = refl
-no_reap_fed e (From a (Call c)) n = refl
-no_reap_fed e (From a (BaseCall c)) n = refl
-no_reap_fed e (From a (Hand r)) n = refl
-no_reap_fed e (From a (Current x j g)) n = refl
-no_reap_fed e (From a (GhostSet x b c)) n = refl
-no_reap_fed e (From a (GhostDrop x b)) n = refl
-no_reap_fed e (From a Tick) n = refl
 no_reap_fed e (From a (Reap x)) n = reaps_by e x (eqb x e) n refl
-no_reap_fed e (From a (Update u)) n = refl
+no_reap_fed e _ n = refl
 
 kept_is : (m x : Msg) (b : Bool) → kept_if b m ≡ Some x → (b ≡ true) × (m ≡ x)
 kept_is m x true h = (refl, (let z = h in cc))

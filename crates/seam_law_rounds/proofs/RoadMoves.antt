@@ -6,14 +6,13 @@ use Rattle.std.specs.Prelude.{option_map}
 use Rattle.std.specs.List.{range_with_len}
 use Rattle.std.specs.FinSet as set
 use Rattle.std.proofs.lemmas.Bool.Decides.{nat_tests}
-use Rattle.seam_node_steps.specs.Prelude.{RealView, Msg, BaseCall, Hand, Current, GhostSet, GhostDrop, Tick, Reap, Update, limit, is_small}
+use Rattle.seam_node_steps.specs.Prelude.{RealView, Msg, Hand, Current, Reap, limit, is_small}
 use Rattle.seam_node_steps.specs.Prelude.{cell_count, base_of, SlotStep, slot_after, haunts_at, ghost_messages, settled_to, currents}
 use Rattle.seam_node_steps.specs.Prelude.{is_stray, may_come, shown_of, looks_with, RouteView, tick_to, stray_current}
 use Rattle.seam_law_flow.specs.Prelude.{IsSilent, entry_in, greater_entry}
 use Rattle.seam_law_calls.specs.Prelude.{Frame, here_at, Has, AtCell, AtBase, Does, Acts, surveys, calls, readies, CellMoves, BaseMoves}
-use Rattle.seam_law_calls.specs.Prelude.{newer, strays_at, Moves, at_a_cell, at_a_base, real_in}
+use Rattle.seam_law_calls.specs.Prelude.{strays_at, Moves, at_a_cell, at_a_base, real_in}
 use Rattle.seam_law_rounds.specs.Prelude.{as_entry, route_entry, brings_route}
-use Rattle.seam_entity.specs.declared.message.Msg.TheVariants.{Call}
 use Rattle.seam_law_calls.specs.CellMoves as move
 use Rattle.seam_law_calls.specs.BaseMoves as base_move
 use Rattle.seam_law_calls.proofs.Plain.{SeesNoGhost, ghosts_silent, mapped_silent, numbered_silent}
@@ -21,15 +20,9 @@ use Rattle.seam_law_calls.proofs.Handling.{FindsRoom}
 
 -- eyes that see hand-overs and routes
 abbrev pub road_of : Msg → Option Msg
-road_of (Call c) = None
-road_of (BaseCall c) = None
 road_of (Hand r) = Some (Hand r)
 road_of (Current e j g) = Some (Current e j g)
-road_of (GhostSet e n c) = None
-road_of (GhostDrop e n) = None
-road_of Tick = None
-road_of (Reap e) = None
-road_of (Update u) = None
+road_of _ = None
 
 no_ghosts : SeesNoGhost road_of
 no_ghosts = record { sets = λ e n c. refl; drops = λ e n. refl }
@@ -218,15 +211,8 @@ module _ (f : Frame) (e k : ℕ) (s : Has) (i : Option Msg) (t : Has) (sent : Li
       both_are false b x y = cc
 
   strays_kept : (m : Msg) → i ≡ Some m → strays_at (here_at f k) s.base m ≡ true → t.base ≡ s.base → Reroutes
-  strays_kept (Call c) n b a = kept s.base a refl (by_other _ n refl)
-  strays_kept (BaseCall c) n b a = kept s.base a refl (by_other _ n refl)
-  strays_kept (Hand r) n b a = kept s.base a refl (by_other _ n refl)
   strays_kept (Current x j g) n b a = absurd (stray_by s.base.route routed j g (good (Current x j g) n x j g refl) b)
-  strays_kept (GhostSet x c g) n b a = kept s.base a refl (by_other _ n refl)
-  strays_kept (GhostDrop x c) n b a = kept s.base a refl (by_other _ n refl)
-  strays_kept Tick n b a = kept s.base a refl (by_other _ n refl)
-  strays_kept (Reap x) n b a = kept s.base a refl (by_other _ n refl)
-  strays_kept (Update u) n b a = kept s.base a refl (by_other _ n refl)
+  strays_kept _ n b a = kept s.base a refl (by_other _ n refl)
 
   base_reroutes : (cells : ℕ) → BaseMoves (here_at f k) cells e s.base i t.base sent → Reroutes
   base_reroutes cells (base_move.rests n a z) = kept s.base a refl (by_none n)

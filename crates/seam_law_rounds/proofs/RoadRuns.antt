@@ -4,8 +4,8 @@ use Rattle.std.proofs.Common.{None, Some, refl, sym, ap, ◌∙◌, subst, arith
 use Rattle.std.specs.Prelude.{option_map}
 use Rattle.std.specs.List.{AllByRecursion, range_with_len}
 use Rattle.std.proofs.lemmas.Bool.{cases_eq, eq-eqb, ne_eqb}
-use Rattle.seam_node_steps.specs.Prelude.{happens, enabled, LeadsTo, items_to, Event, RealView, Msg, BaseCall, Hand, Current, GhostSet}
-use Rattle.seam_node_steps.specs.Prelude.{GhostDrop, Tick, Reap, Update, limit, cell_count, base_numbers, current_to, currents, RouteView}
+use Rattle.seam_node_steps.specs.Prelude.{happens, enabled, LeadsTo, items_to, Event, RealView, Msg, Hand, Current}
+use Rattle.seam_node_steps.specs.Prelude.{Reap, limit, cell_count, base_numbers, current_to, currents, RouteView}
 use Rattle.seam_node_steps.specs.Prelude.{World, node_steps, node_has_work}
 use Rattle.seam_law_flow.specs.Prelude.{Flow, Goes, comes, letters_of, NotAbove, OfEntry, AllBring, Has, entry_in, greater_entry, Newest}
 use Rattle.seam_law_flow.specs.Prelude.{IsSilent, carried_in, TokenPlace, In, On, SendsNone, SendsOne, Handles, still, turns, lands, leaves}
@@ -18,7 +18,6 @@ use Rattle.seam_law_flow.proofs.Following.{all_append, letters_kept, came}
 use Rattle.seam_law_flow.proofs.NewestLemmas.{newest_stays, newest_rises, newest_rests}
 use Rattle.seam_law_flow.proofs.SendLists.{sees_none, sees_after_silent, sees_one_here, sees_one_there}
 use Rattle.seam_law_flow.proofs.TokenLemmas.{sole_here, sole_came, sole_goes}
-use Rattle.seam_entity.specs.declared.message.Msg.TheVariants.{Call}
 use Rattle.seam_law_calls.proofs.Plain.{mapped_silent}
 use Rattle.seam_law_calls.proofs.Sparing.{items_all}
 use Rattle.seam_law_calls.proofs.OneReal.{goes, room, one_happens, calm_of, spared_happens}
@@ -29,16 +28,8 @@ use Rattle.seam_law_rounds.proofs.RoadMoves.{roads, Reroutes, reroutes}
 -- ---- letters that bring no route and carry no real
 
 no_carried : (i : Option Msg) → ((r : RealView) → i ≡ Some (Hand r) → ⊥) → carried_in real_of i ≡ None
-no_carried None n = refl
-no_carried (Some (Call c)) n = refl
-no_carried (Some (BaseCall c)) n = refl
 no_carried (Some (Hand r)) n = absurd (n r refl)
-no_carried (Some (Current e j g)) n = refl
-no_carried (Some (GhostSet e b c)) n = refl
-no_carried (Some (GhostDrop e b)) n = refl
-no_carried (Some Tick) n = refl
-no_carried (Some (Reap e)) n = refl
-no_carried (Some (Update u)) n = refl
+no_carried _ n = refl
 
 record Neither (m : Msg) : Type 0 where
   real : real_of m ≡ None
@@ -46,15 +37,9 @@ record Neither (m : Msg) : Type 0 where
   good : IsGoodRoute m
 
 neither : (m : Msg) → road_of m ≡ None → Neither m
-neither (Call c) h = record { real = refl; route = refl; good = λ x j g is. absurd (let z = is in cc) }
-neither (BaseCall c) h = record { real = refl; route = refl; good = λ x j g is. absurd (let z = is in cc) }
 neither (Hand r) h = cc
 neither (Current e j g) h = cc
-neither (GhostSet e b c) h = record { real = refl; route = refl; good = λ x j g is. absurd (let z = is in cc) }
-neither (GhostDrop e b) h = record { real = refl; route = refl; good = λ x j g is. absurd (let z = is in cc) }
-neither Tick h = record { real = refl; route = refl; good = λ x j g is. absurd (let z = is in cc) }
-neither (Reap e) h = record { real = refl; route = refl; good = λ x j g is. absurd (let z = is in cc) }
-neither (Update u) h = record { real = refl; route = refl; good = λ x j g is. absurd (let z = is in cc) }
+neither _ h = record { real = refl; route = refl; good = λ x j g is. absurd (let z = is in cc) }
 
 no_reals : (ps : List (ℕ × Msg)) → IsSilent road_of ps → IsSilent real_of ps
 no_reals [] h = tt

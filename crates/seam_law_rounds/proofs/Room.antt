@@ -126,9 +126,7 @@ no_held os none =
 
 at_most_three : (o : Order) → order_burden o ≤ 3
 at_most_three (order.Cell c) = omega arith
-at_most_three (order.Base c) = omega arith
-at_most_three order.Tick = omega arith
-at_most_three (order.Reap e) = omega arith
+at_most_three _ = omega arith
 
 orders_by : (e : ℕ) (o : Order) (os : List Order) (b : Bool) → total order_burden (orders_of e os) ≤ 3 * length os →
     total order_burden (cond b (o ∷ orders_of e os) (orders_of e os)) ≤ 3 * length (o ∷ os)

@@ -107,9 +107,7 @@ ticks_of os = total order_ticks os
 
 one_order : (o : Order) → (order_looks o ≡ 16 * order_ticks o) × (order_ticks o ≤ 1)
 one_order (order.Cell c) = (refl, omega arith)
-one_order (order.Base c) = (refl, omega arith)
-one_order order.Tick = (refl, omega arith)
-one_order (order.Reap e) = (refl, omega arith)
+one_order _ = (refl, omega arith)
 
 looks_are : (os : List Order) → total order_looks os ≡ 16 * ticks_of os
 looks_are [] = refl

@@ -40,12 +40,10 @@ module _ (f : Frame) (e ty s : ℕ) where
   ours_by : (o : Order) (rs : List Order) (b : Bool) → order_concerns e o ≡ b → IsFitOrder f e ty o →
       Ours (letters_of (cell_call_from s) rs) →
       Ours (letters_of (cell_call_from s) (cond b (o ∷ rs) rs))
+  ours_by o rs false is h all = all
   ours_by (order.Cell c) rs true is h all =
       from_by c (letters_of (cell_call_from s) rs) (is_from s c) refl (h (eqb-true c.entity e is)) all
-  ours_by (order.Base c) rs true is h all = all
-  ours_by order.Tick rs true is h all = all
-  ours_by (order.Reap x) rs true is h all = all
-  ours_by o rs false is h all = all
+  ours_by _ rs true is h all = all
 
   pub ours : (os : List (ℕ × Order)) → AllByRecursion (λ o. IsFitOrder f e ty o.1) os →
       Ours (letters_of (cell_call_from s) (orders_of e (map order_in os)))

@@ -1,8 +1,7 @@
 pub mod Between
 pub mod Loaded
-pub mod NextBatchExample
 pub mod LastPhases
 pub mod Routes
 pub mod Parts
-pub mod FirstBatchExample
+pub mod OpeningExample
 pub mod Prelude

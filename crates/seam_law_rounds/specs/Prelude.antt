@@ -2,10 +2,9 @@
 pub use Rattle.seam_law_rounds.specs.Between.{AreNumbered, HasNoWitness, IsBetweenRounds, IsFitOrder, IsFitting, IsForReal, IsNew}
 pub use Rattle.seam_law_rounds.specs.Between.{IsSettled, MayBeMade, calls_at, calls_of, cell_call_from, created_entity, framed, next_from}
 pub use Rattle.seam_law_rounds.specs.Between.{numbers_of, order_in}
-pub use Rattle.seam_law_rounds.specs.FirstBatchExample.{first_batch, opening}
+pub use Rattle.seam_law_rounds.specs.OpeningExample.{opening}
 pub use Rattle.seam_law_rounds.specs.LastPhases.{AreReapable, HasNoCalls, first_frame, reap_comes}
 pub use Rattle.seam_law_rounds.specs.Loaded.{each, made, node_loaded}
-pub use Rattle.seam_law_rounds.specs.NextBatchExample.{next_batch, skipping_batch}
 pub use Rattle.seam_law_rounds.specs.Parts.{AreBaseNumbered, AreFor, AreInStep, FitsParts, HasPartsBetweenRounds, HasSettledPart}
 pub use Rattle.seam_law_rounds.specs.Parts.{HasSmallNumbers, IsAlone, IsFitBaseOrder, IsForPart, IsServed, MayBeLoaded, bare, base_calls_at}
 pub use Rattle.seam_law_rounds.specs.Parts.{base_calls_of, lines_of, next_to, served}

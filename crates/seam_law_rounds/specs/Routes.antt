@@ -1,9 +1,8 @@
 -- Routes: what a base node has, and what is on its way to it, of where an entity's real is.
 use Rattle.std.specs.Prelude.{ℕ, ◌<◌, Option, None, Some}
-use Rattle.seam_node_steps.specs.Prelude.{RealView, Msg, BaseCall, Hand, Current, GhostSet, GhostDrop, Tick, Reap, Update, RouteView}
+use Rattle.seam_node_steps.specs.Prelude.{RealView, Msg, Current, RouteView}
 use Rattle.seam_law_flow.specs.Prelude.{Flow, Newest, TokenPlace, In, On}
 use Rattle.seam_law_calls.specs.Prelude.{Has}
-use Rattle.seam_entity.specs.declared.message.Msg.TheVariants.{Call}
 
 -- the generation and the cell of a route, both 0 where there is none
 abbrev pub as_entry : Option RouteView → ℕ × ℕ
@@ -16,15 +15,8 @@ route_entry h = as_entry h.base.route
 
 -- those that a message brings
 abbrev pub brings_route : Msg → Option (ℕ × ℕ)
-brings_route (Call c) = None
-brings_route (BaseCall c) = None
-brings_route (Hand r) = None
 brings_route (Current e j g) = Some (g, j)
-brings_route (GhostSet e n c) = None
-brings_route (GhostDrop e n) = None
-brings_route Tick = None
-brings_route (Reap e) = None
-brings_route (Update u) = None
+brings_route _ = None
 
 -- Of the route that base node b has and those on their way there, the newest has the generation of the real and the cell where it is;
 -- while the real is on its way, each is of a smaller generation than the real that is handed over.

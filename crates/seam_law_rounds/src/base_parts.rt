@@ -20,14 +20,13 @@
 
 ghost use Rattle.std.specs.Prelude.{◌≡◌, ℕ, ◌≤◌, List, [], ◌∷◌, ◌++◌, Some};
 ghost use Rattle.seam_node_steps.specs.Prelude.{IsQuiet, LeadsTo, Event, Settings, TypeDef, Batch, RealView, Msg, Update, PartView};
-ghost use Rattle.seam_node_steps.specs.Prelude.{holders, empty_world, lines_of_client, World, node_steps, node_has_work, opened, loaded};
+ghost use Rattle.seam_node_steps.specs.Prelude.{empty_world, lines_of_client, World, node_steps, node_has_work, opened, loaded};
 ghost use Rattle.seam_node_steps.specs.Prelude.{reaps_loaded, look_loaded};
 ghost use Rattle.seam_law_flow.specs.Prelude.{letters_of};
 ghost use Rattle.seam_law_calls.specs.Prelude.{Frame, entity_flow, events_of, real_in, IsFrame, from_sender, home_of, HasBaseCalls};
 ghost use Rattle.seam_law_calls.specs.Prelude.{HasNoClient, shown_at, HasClient, FindsClient, IsToldNothing, HasRoutes, NothingIsStray};
 ghost use Rattle.seam_law_rounds.specs.Prelude.{framed, IsBetweenRounds, first_frame, AreReapable, next_to, base_calls_of, HasSettledPart};
 ghost use Rattle.seam_law_rounds.specs.Prelude.{HasPartsBetweenRounds, MayBeLoaded, IsAlone, HasSmallNumbers, IsServed, opening};
-ghost use Rattle.seam_law_rounds.specs.Prelude.{first_batch};
 ghost use Rattle.seam_call.specs.declared.shown.Update.{Update as UpdateData};
 ghost use Rattle.seam_node_steps.specs.ViewRounds as view;
 
@@ -114,14 +113,6 @@ pub fn base_parts_go_from_record_to_record()
     ensures looks { (f : Frame) (u : World) → IsBetweenRounds f u → HasPartsBetweenRounds f u → HasSmallNumbers f u →
         (vs : List Event) (v : World) → LeadsTo node_has_work node_steps (look_loaded u) vs v → IsQuiet node_has_work v →
         HasPartsBetweenRounds f v }
-{}
-
-/// What these laws ask is true of a world as it is opened, with the built-in definitions, and a batch that creates an entity whose base
-/// part two senders call, one from its own base node and one from another.
-pub fn a_batch_for_an_opened_world_fits()
-    ensures fits { MayBeLoaded opening empty_world first_batch }
-    ensures alone { IsAlone 1 empty_world first_batch }
-    ensures one { holders (loaded empty_world first_batch) 1 ≡ 1 }
 {}
 
 /// A whole round: an opened world, a batch that creates two entities, one of them with a client, the events of its calls, and those of the

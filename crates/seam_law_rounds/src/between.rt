@@ -6,7 +6,7 @@
 //!
 //! For callers, of `proofs/`: `Loading` (a load node by node), `Framing` (the frame), `Staying` (what a load leaves of an entity at a
 //! node), `Making` (what it makes of one that the batch creates), `Loaded` (and in the world), `Ready` (what the laws ask of a settled
-//! entity), `Turns` (its calls), `Room` (room in its numbers), `Going` (every list of events) and `ExampleBetween` (the worked world).
+//! entity), `Turns` (its calls), `Room` (room in its numbers) and `Going` (every list of events).
 
 ghost use Rattle.std.specs.Prelude.{◌≡◌, ℕ, ◌+◌, ◌<◌, List, Some};
 ghost use Rattle.std.specs.List.{AllByRecursion};
@@ -15,9 +15,8 @@ ghost use Rattle.seam_node_steps.specs.Prelude.{loaded, limit};
 ghost use Rattle.seam_law_flow.specs.Prelude.{letters_of};
 ghost use Rattle.seam_law_calls.specs.Prelude.{Frame, IsInFrame, entity_flow, burden, real_in, IsFrame, IsSpared, HasOne, frame, AllLead};
 ghost use Rattle.seam_law_calls.specs.Prelude.{from_sender, AreCallsOf, CellCallsInTurn};
-ghost use Rattle.seam_law_rounds.specs.Prelude.{next_batch, skipping_batch, IsSettled, IsBetweenRounds, IsFitting, framed, calls_of};
+ghost use Rattle.seam_law_rounds.specs.Prelude.{IsSettled, IsBetweenRounds, IsFitting, framed, calls_of};
 ghost use Rattle.seam_law_rounds.specs.Prelude.{next_from};
-ghost use Rattle.seam_node_steps.specs.EarlyCall as early;
 
 /// A world between rounds that was given a fitting batch goes by the batch's tree.
 pub fn a_loaded_world_goes_by_its_tree()
@@ -77,13 +76,4 @@ pub fn calls_of_a_batch_are_executed_once()
         real_in ((entity_flow e (loaded w b)).slot k) ≡ Some r → (v : World) (es : List Event) →
         LeadsTo node_has_work node_steps (loaded w b) es v → IsQuiet node_has_work v → (j : ℕ) (q : RealView) →
         real_in ((entity_flow e v).slot j) ≡ Some q → (s : ℕ) → letters_of (from_sender s) q.done ≡ calls_of b e s }
-{}
-
-/// A world keeps the record at the end of a run: that of two cells of `seam_law_calls`, whose entity was handed over and executed three
-/// calls of two senders. A batch with one more call fits it, and one whose call leaves a number out does not.
-pub fn a_run_ends_between_rounds()
-    ensures between { IsBetweenRounds frame early.world_12 }
-    ensures fits { IsFitting frame early.world_12 next_batch }
-    ensures skipping { IsFitting frame early.world_12 skipping_batch → ⊥ }
-    ensures one { holders early.world_12 1 ≡ 1 }
 {}

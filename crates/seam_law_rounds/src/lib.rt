@@ -19,19 +19,18 @@ mod between;
 mod rounds;
 
 pub use base_parts::{
-    a_base_part_of_a_loaded_world_is_ready, a_batch_for_an_opened_world_fits,
-    a_round_of_a_client_ends_between_rounds, an_update_finds_its_client,
-    base_calls_of_a_batch_are_executed_once, base_parts_go_from_record_to_record,
-    each_client_is_shown_its_updates_in_order,
+    a_base_part_of_a_loaded_world_is_ready, a_round_of_a_client_ends_between_rounds,
+    an_update_finds_its_client, base_calls_of_a_batch_are_executed_once,
+    base_parts_go_from_record_to_record, each_client_is_shown_its_updates_in_order,
     nothing_about_a_loaded_entity_is_stray_at_a_base_node,
     the_next_round_of_a_client_ends_between_rounds,
 };
 pub use between::{
     a_load_keeps_reals_and_makes_new_ones, a_loaded_world_goes_by_its_tree,
-    a_run_ends_between_rounds, an_entity_keeps_one_real, an_entity_of_a_loaded_world_is_ready,
+    an_entity_keeps_one_real, an_entity_of_a_loaded_world_is_ready,
     calls_of_a_batch_are_executed_once, calls_of_a_batch_are_in_turn,
 };
 pub use rounds::{
     a_round_goes_from_record_to_record, looks_keep_reals, no_call_waits_for_the_reaped,
-    reaps_end_reals, the_worked_entity_may_be_reaped,
+    reaps_end_reals,
 };

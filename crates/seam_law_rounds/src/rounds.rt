@@ -9,13 +9,12 @@
 //! and at its end), `Reaping` and `Looking` (one real in these phases), `RoadMoves` and `RoadRuns` (generations and routes), `CallsEnd`
 //! (where a round's calls end) and `Opened` (an opened world).
 
-ghost use Rattle.std.specs.Prelude.{◌≡◌, ℕ, ◌≤◌, List, [], ◌∷◌, if◌then◌else◌};
+ghost use Rattle.std.specs.Prelude.{◌≡◌, ℕ, ◌≤◌, List, if◌then◌else◌};
 ghost use Rattle.std.specs.List.{AllByRecursion};
 ghost use Rattle.seam_node_steps.specs.Prelude.{IsQuiet, LeadsTo, Event, Settings, TypeDef, Batch, holders, World, node_steps};
 ghost use Rattle.seam_node_steps.specs.Prelude.{node_has_work, opened, loaded, reaps_loaded, look_loaded};
 ghost use Rattle.seam_law_calls.specs.Prelude.{Frame, IsFrame};
 ghost use Rattle.seam_law_rounds.specs.Prelude.{IsBetweenRounds, IsFitting, framed, first_frame, AreReapable, reap_comes, HasNoCalls};
-ghost use Rattle.seam_node_steps.specs.EarlyCall as early;
 
 /// Where a world between rounds is told to reap entities, each entity that was there has one holder until its Reap comes and none from then
 /// on. Those that are not to be reaped keep theirs, and no other gets one. Where the world is quiet again, all are reaped.
@@ -60,9 +59,4 @@ pub fn a_round_goes_from_record_to_record()
         LeadsTo node_has_work node_steps (reaps_loaded u es) vs v → IsQuiet node_has_work v → IsBetweenRounds f v }
     ensures looks { (f : Frame) (u : World) → IsBetweenRounds f u → (vs : List Event) (v : World) →
         LeadsTo node_has_work node_steps (look_loaded u) vs v → IsQuiet node_has_work v → IsBetweenRounds f v }
-{}
-
-/// What the laws of reaps ask is true of the world at the end of the worked run of `between` and its entity.
-pub fn the_worked_entity_may_be_reaped()
-    ensures { AreReapable early.world_12 (1 ∷ []) }
 {}

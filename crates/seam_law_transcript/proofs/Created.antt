@@ -40,12 +40,7 @@ module _ (h : Header) (b : Book) where
   one_more : (x : Entry) → IsAccepted h b x → many ≤ MOST_ENTITIES → many + length (creates_of (x ∷ [])) ≤ MOST_ENTITIES
   one_more (entry.Created c) (line, (some, none, k, spells, adds)) few =
       let below = line_not_full line k c spells adds none in omega (arith, below)
-  one_more (entry.Called c) accepted few = omega (arith, few)
-  one_more (entry.Joined e) accepted few = omega (arith, few)
-  one_more entry.Ticked accepted few = omega (arith, few)
-  one_more (entry.Divided u) accepted few = omega (arith, few)
-  one_more entry.Balanced accepted few = omega (arith, few)
-  one_more (entry.Destroyed e) accepted few = omega (arith, few)
+  one_more _ accepted few = omega (arith, few)
 
 pub few_created : (h : Header) (b : Book) → IsOfLines h b → length (creates_of (entries b)) ≤ MOST_ENTITIES
 few_created h b empty = omega arith

@@ -26,11 +26,7 @@ pub no_ticks : (h : Header) (xs : List Entry) → list_any is_tick xs ≡ false 
 no_ticks h [] none = tt
 no_ticks h (entry.Called c ∷ xs) none = (no_tick c.part c, no_ticks h xs none)
 no_ticks h (entry.Ticked ∷ xs) none = absurd (let z = none in cc)
-no_ticks h (entry.Created c ∷ xs) none = no_ticks h xs none
-no_ticks h (entry.Joined d ∷ xs) none = no_ticks h xs none
-no_ticks h (entry.Divided t ∷ xs) none = no_ticks h xs none
-no_ticks h (entry.Balanced ∷ xs) none = no_ticks h xs none
-no_ticks h (entry.Destroyed d ∷ xs) none = no_ticks h xs none
+no_ticks h (_ ∷ xs) none = no_ticks h xs none
 
 -- ---- lines
 

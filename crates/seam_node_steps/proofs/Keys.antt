@@ -5,9 +5,9 @@ use Rattle.std.specs.Ordering.{nat_cmp}
 use Rattle.std.specs.declared.cmp.Ordering.{Ordering}
 use Rattle.std.specs.declared.cmp.Ordering.TheVariants.{Less, Equal, Greater}
 use Rattle.seam_node_steps.specs.Prelude.{Division, OrderView, next_item, Call as CallData, GhostCopy, order_of, RealView, WitnessView, Msg}
-use Rattle.seam_node_steps.specs.Prelude.{BaseCall, Hand, Current, GhostSet, GhostDrop, Tick, Reap, Update, Here, ready_order, executed}
+use Rattle.seam_node_steps.specs.Prelude.{Hand, GhostSet, GhostDrop, Reap, Here, ready_order, executed}
 use Rattle.seam_node_steps.specs.Prelude.{executed_ready, shows, Slot, NextPlace, SlotStep, unless_stray, home_after, settled_by, settled}
-use Rattle.seam_node_steps.specs.Prelude.{about, slot_steps, Known, look_by, look_task, CellView, slot_of, known_to, IsCell}
+use Rattle.seam_node_steps.specs.Prelude.{about, slot_steps, look_by, look_task, CellView, slot_of, known_to, IsCell}
 use Rattle.seam_entity.specs.declared.message.Msg.TheVariants.{Call}
 use Rattle.seam_node_steps.specs.CellCases
 use Rattle.seam_node_steps.specs.CellLooks
@@ -65,14 +65,11 @@ module _ (h : Here) (t : Division) (e : ℕ) where
 
   case_of_entity : (s : Slot) (m : Msg) → about m ≡ Some e → IsOf e s.real → StepIsOf e (CellCases.case_of h t s m).slot
   case_of_entity s (Call k) a is = call_of s k s.real is
-  case_of_entity s (BaseCall k) a is = tt
   case_of_entity s (Hand r) a is = some_of e r (hand_is r a)
-  case_of_entity s (Current x j g) a is = tt
   case_of_entity s (GhostSet x b c) a is = set_of s b c s.real is
   case_of_entity s (GhostDrop x b) a is = is
-  case_of_entity s Tick a is = tt
   case_of_entity s (Reap x) a is = reap_of s s.real
-  case_of_entity s (Update u) a is = tt
+  case_of_entity s _ a is = tt
 
   pub slot_is_of : (s : Slot) (m : Msg) → about m ≡ Some e → IsOf e s.real → StepIsOf e (slot_steps h t s m).slot
   slot_is_of s m a is = unless_of (CellCases.is_stray h t s m) (CellCases.case_of h t s m) (case_of_entity s m a is)

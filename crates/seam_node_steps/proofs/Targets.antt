@@ -11,8 +11,8 @@ use Rattle.std.specs.declared.cmp.Ordering.TheVariants.{Less, Equal, Greater}
 use Rattle.std.proofs.lemmas.List.Elements.{All-nil, All-cons}
 use Rattle.std.proofs.lemmas.Nat.{mod_below}
 use Rattle.seam_node_steps.specs.Prelude.{Division, IsTree, leaf_at, Cells, Stepped, AllBelow, Input, Task, From, OrderView, next_item}
-use Rattle.seam_node_steps.specs.Prelude.{Call as CallData, Order, GhostCopy, Shown, order_of, RealView, WitnessView, Msg, BaseCall, Hand}
-use Rattle.seam_node_steps.specs.Prelude.{Current, GhostSet, GhostDrop, Tick, Reap, Update, Here, cell_count, base_of, peers_of}
+use Rattle.seam_node_steps.specs.Prelude.{Call as CallData, Order, GhostCopy, Shown, order_of, RealView, WitnessView, Msg, Hand}
+use Rattle.seam_node_steps.specs.Prelude.{Current, GhostSet, GhostDrop, Tick, Reap, Here, cell_count, base_of, peers_of}
 use Rattle.seam_node_steps.specs.Prelude.{ready_order, copy_of_real, executed, executed_ready, with_offer, shows, Slot, NextPlace, SlotStep}
 use Rattle.seam_node_steps.specs.Prelude.{rests, unless_stray, becomes, told, told_unless, ghost_message, ghost_messages, home_after, stays}
 use Rattle.seam_node_steps.specs.Prelude.{goes, gone_to, settled_by, settled, about, slot_steps, survey_task, ready_call_task, Known}
@@ -165,14 +165,11 @@ module _ (h : Here) (me_in : h.me < cell_count) (some : 1 ≤ h.settings.bases) 
 
   good_case : (s : Slot) (m : Msg) → NextIn s.next → IsGood (CellCases.case_of h t s m)
   good_case s (Call k) n = good_call s k s.real n
-  good_case s (BaseCall k) n = good_rests
   good_case s (Hand r) n = good_hand s r
-  good_case s (Current e j g) n = good_rests
   good_case s (GhostSet e b c) n = good_set s b c s.real n
   good_case s (GhostDrop e b) n = record { sends = tt; next = n }
-  good_case s Tick n = good_rests
   good_case s (Reap e) n = good_reap s s.real n
-  good_case s (Update u) n = good_rests
+  good_case s _ n = good_rests
 
   pub good_slot : (s : Slot) (m : Msg) → NextIn s.next → IsGood (slot_steps h t s m)
   good_slot s m n = good_unless _ _ (good_case s m n)

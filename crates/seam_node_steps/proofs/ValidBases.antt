@@ -6,12 +6,11 @@ use Rattle.std.specs.Ordering.{nat_cmp, eq_by_cmp}
 use Rattle.std.specs.Cmp.{nat_cmp_total}
 use Rattle.std.specs.FinMap as table
 use Rattle.std.proofs.lemmas.Bool.Decides.{nat_tests}
-use Rattle.seam_node_steps.specs.Prelude.{Stepped, Input, Task, From, Call as CallData, Order, Msg, BaseCall, Hand, Current, GhostSet}
-use Rattle.seam_node_steps.specs.Prelude.{GhostDrop, Tick, Reap, Update, is_small, cell_count, BaseView, PartView, RouteView, ProxyView}
+use Rattle.seam_node_steps.specs.Prelude.{Stepped, Input, Task, From, Call as CallData, Order, Msg, BaseCall, Current}
+use Rattle.seam_node_steps.specs.Prelude.{Update, is_small, cell_count, BaseView, PartView, RouteView, ProxyView}
 use Rattle.seam_node_steps.specs.Prelude.{IsBase}
 use Rattle.seam_call.specs.declared.order.Order.TheVariants as order
 use Rattle.seam_call.specs.declared.shown.Update.{Update as UpdateData}
-use Rattle.seam_entity.specs.declared.message.Msg.TheVariants.{Call}
 use Rattle.seam_node_steps.specs.BaseCases
 
 -- what no step but that of a Current changes
@@ -108,15 +107,10 @@ heard_same b c d s = unless_same d b (BaseCases.sends_none c) s
 
 pub base_stays_valid : (b : BaseView) (i : Input Msg) → IsBase b → IsBase (BaseCases.base_steps b i).state
 base_stays_valid b Task is = valid_of b _ (task_same b b.orders) is
-base_stays_valid b (From a (Call k)) is = is
 base_stays_valid b (From a (BaseCall k)) is = valid_of b _ (heard_same b _ _ (call_same b k (table.get b.parts k.entity))) is
-base_stays_valid b (From a (Hand r)) is = is
 base_stays_valid b (From a (Current e j g)) is = current_valid b e (record { cell = j; generation = g }) (table.get b.routes e) _ refl is
-base_stays_valid b (From a (GhostSet e n c)) is = is
-base_stays_valid b (From a (GhostDrop e n)) is = is
-base_stays_valid b (From a Tick) is = is
-base_stays_valid b (From a (Reap e)) is = is
 base_stays_valid b (From a (Update u)) is = valid_of b _ (heard_same b _ _ (update_same b u (table.get b.parts u.entity))) is
+base_stays_valid b (From a _) is = is
 
 -- ---- what the node knows
 
@@ -144,13 +138,8 @@ unless_frame false b c s = s
 -- a base node's step keeps what the node knows, and the number of cells
 pub base_frame : (b : BaseView) (i : Input Msg) → SameFrame b (BaseCases.base_steps b i).state
 base_frame b Task = of_routes b _ (task_same b b.orders)
-base_frame b (From a (Call k)) = record { here = refl; cells = refl }
 base_frame b (From a (BaseCall k)) = of_routes b _ (heard_same b _ _ (call_same b k (table.get b.parts k.entity)))
-base_frame b (From a (Hand r)) = record { here = refl; cells = refl }
 base_frame b (From a (Current e j g)) =
     unless_frame _ b _ (current_frame b e (record { cell = j; generation = g }) (table.get b.routes e))
-base_frame b (From a (GhostSet e n c)) = record { here = refl; cells = refl }
-base_frame b (From a (GhostDrop e n)) = record { here = refl; cells = refl }
-base_frame b (From a Tick) = record { here = refl; cells = refl }
-base_frame b (From a (Reap e)) = record { here = refl; cells = refl }
 base_frame b (From a (Update u)) = of_routes b _ (heard_same b _ _ (update_same b u (table.get b.parts u.entity)))
+base_frame b (From a _) = record { here = refl; cells = refl }

@@ -57,15 +57,7 @@ command_of (w ∷ ws) = read w ws
 spell : (c : Command) → command_of (words_of c) ≡ Some c
 unfolding command_of read four_more three_more two_more one_more no_more call_of
 spell (Create e t x z) = refl
-spell (Call s e m arguments) = refl
-spell (Move s e x z) = refl
-spell Sync = refl
-spell (Client e) = refl
-spell Tick = refl
-spell (Cut c a at) = refl
-spell (Shift b at) = refl
-spell Balance = refl
-spell (Destroy e) = refl
+spell _ = refl
 
 pub command_is_one : (c d : Command) → words_of c ≡ words_of d → c ≡ d
 command_is_one c d same = same_Some c d (sym (spell c) ∙ ap command_of same ∙ spell d)

@@ -34,20 +34,7 @@ module _ (h : Header) (b : Book) where
     where
       first : (d : Cause) → Holds h b (Content line) d → 1 ≤ rank d
       first cause.TooLong holds = absurd (content_is_not_long line holds)
-      first (cause.BadWords f) holds = omega arith
-      first cause.NoCommand holds = omega arith
-      first cause.WrongCount holds = omega arith
-      first cause.BadNumber holds = omega arith
-      first cause.Exists holds = omega arith
-      first cause.NoType holds = omega arith
-      first cause.Outside holds = omega arith
-      first cause.Full holds = omega arith
-      first cause.NoSender holds = omega arith
-      first cause.Dead holds = omega arith
-      first cause.UnknownMethod holds = omega arith
-      first cause.IllTyped holds = omega arith
-      first (cause.CutRefused f) holds = omega arith
-      first (cause.ShiftRefused f) holds = omega arith
+      first _ holds = omega arith
 
   module _ (line : List ℕ) (words : List (List ℕ)) (not : ¬ (language.IsSkipped line)) (has : HasWords line words) where
     -- words of which the first is that of no command are refused for that
@@ -57,19 +44,7 @@ module _ (h : Header) (b : Book) where
         first : (d : Cause) → Holds h b (Content line) d → 2 ≤ rank d
         first cause.TooLong holds = absurd (content_is_not_long line holds)
         first (cause.BadWords f) (content, same, bad) = absurd (no_fault_of line content words f same has bad)
-        first cause.NoCommand holds = omega arith
-        first cause.WrongCount holds = omega arith
-        first cause.BadNumber holds = omega arith
-        first cause.Exists holds = omega arith
-        first cause.NoType holds = omega arith
-        first cause.Outside holds = omega arith
-        first cause.Full holds = omega arith
-        first cause.NoSender holds = omega arith
-        first cause.Dead holds = omega arith
-        first cause.UnknownMethod holds = omega arith
-        first cause.IllTyped holds = omega arith
-        first (cause.CutRefused f) holds = omega arith
-        first (cause.ShiftRefused f) holds = omega arith
+        first _ holds = omega arith
 
     -- and have no other verdict
     pub no_command_only : (v : Verdict) → ¬ (language.NamesCommand words) → Judges h b (Content line) v →
@@ -91,15 +66,4 @@ module _ (h : Header) (b : Book) where
         first (cause.BadWords f) (content, same, bad) = absurd (no_fault_of line content words f same has bad)
         first cause.NoCommand (content, others, same, has', nothing) =
             absurd (nothing (subst language.NamesCommand (same_words line content words others same has has') named))
-        first cause.WrongCount holds = omega arith
-        first cause.BadNumber holds = omega arith
-        first cause.Exists holds = omega arith
-        first cause.NoType holds = omega arith
-        first cause.Outside holds = omega arith
-        first cause.Full holds = omega arith
-        first cause.NoSender holds = omega arith
-        first cause.Dead holds = omega arith
-        first cause.UnknownMethod holds = omega arith
-        first cause.IllTyped holds = omega arith
-        first (cause.CutRefused f) holds = omega arith
-        first (cause.ShiftRefused f) holds = omega arith
+        first _ holds = omega arith

@@ -404,51 +404,19 @@ spells_one (Content line) c d one other = line_spells_one line c d one other
 
 not_too_long : (h : Header) (b : Book) (c : language.Command) → ¬ (HoldsAgainst h b c cause.TooLong)
 not_too_long h b (language.Create e n x z) against = against
-not_too_long h b (language.Call s e n a) against = against
-not_too_long h b (language.Move s e x z) against = against
-not_too_long h b language.Sync against = against
-not_too_long h b (language.Client e) against = against
-not_too_long h b language.Tick against = against
-not_too_long h b (language.Cut n a at) against = against
-not_too_long h b (language.Shift n at) against = against
-not_too_long h b language.Balance against = against
-not_too_long h b (language.Destroy e) against = against
+not_too_long h b _ against = against
 
 not_bad_words : (h : Header) (b : Book) (c : language.Command) (f : WordsError) → ¬ (HoldsAgainst h b c (cause.BadWords f))
 not_bad_words h b (language.Create e n x z) f against = against
-not_bad_words h b (language.Call s e n a) f against = against
-not_bad_words h b (language.Move s e x z) f against = against
-not_bad_words h b language.Sync f against = against
-not_bad_words h b (language.Client e) f against = against
-not_bad_words h b language.Tick f against = against
-not_bad_words h b (language.Cut n a at) f against = against
-not_bad_words h b (language.Shift n at) f against = against
-not_bad_words h b language.Balance f against = against
-not_bad_words h b (language.Destroy e) f against = against
+not_bad_words h b _ f against = against
 
 not_no_command : (h : Header) (b : Book) (c : language.Command) → ¬ (HoldsAgainst h b c cause.NoCommand)
 not_no_command h b (language.Create e n x z) against = against
-not_no_command h b (language.Call s e n a) against = against
-not_no_command h b (language.Move s e x z) against = against
-not_no_command h b language.Sync against = against
-not_no_command h b (language.Client e) against = against
-not_no_command h b language.Tick against = against
-not_no_command h b (language.Cut n a at) against = against
-not_no_command h b (language.Shift n at) against = against
-not_no_command h b language.Balance against = against
-not_no_command h b (language.Destroy e) against = against
+not_no_command h b _ against = against
 
 not_wrong_count : (h : Header) (b : Book) (c : language.Command) → ¬ (HoldsAgainst h b c cause.WrongCount)
 not_wrong_count h b (language.Create e n x z) against = against
-not_wrong_count h b (language.Call s e n a) against = against
-not_wrong_count h b (language.Move s e x z) against = against
-not_wrong_count h b language.Sync against = against
-not_wrong_count h b (language.Client e) against = against
-not_wrong_count h b language.Tick against = against
-not_wrong_count h b (language.Cut n a at) against = against
-not_wrong_count h b (language.Shift n at) against = against
-not_wrong_count h b language.Balance against = against
-not_wrong_count h b (language.Destroy e) against = against
+not_wrong_count h b _ against = against
 
 module _ (h : Header) (b : Book) (line : List ℕ) (c : language.Command) (spells : language.SpellsCommand line c) where
   only : (k : Cause) (content : List ℕ) (words : List (List ℕ)) → Content line ≡ Content content → HasWords content words →
@@ -484,17 +452,7 @@ module _ (h : Header) (b : Book) (line : List ℕ) (c : language.Command) (spell
   against_line (cause.BadWords f) against = absurd (not_bad_words h b c f against)
   against_line cause.NoCommand against = absurd (not_no_command h b c against)
   against_line cause.WrongCount against = absurd (not_wrong_count h b c against)
-  against_line cause.BadNumber against = (line, language.words_of c, refl, spells, (c, refl, against))
-  against_line cause.Exists against = (line, language.words_of c, refl, spells, (c, refl, against))
-  against_line cause.NoType against = (line, language.words_of c, refl, spells, (c, refl, against))
-  against_line cause.Outside against = (line, language.words_of c, refl, spells, (c, refl, against))
-  against_line cause.Full against = (line, language.words_of c, refl, spells, (c, refl, against))
-  against_line cause.NoSender against = (line, language.words_of c, refl, spells, (c, refl, against))
-  against_line cause.Dead against = (line, language.words_of c, refl, spells, (c, refl, against))
-  against_line cause.UnknownMethod against = (line, language.words_of c, refl, spells, (c, refl, against))
-  against_line cause.IllTyped against = (line, language.words_of c, refl, spells, (c, refl, against))
-  against_line (cause.CutRefused f) against = (line, language.words_of c, refl, spells, (c, refl, against))
-  against_line (cause.ShiftRefused f) against = (line, language.words_of c, refl, spells, (c, refl, against))
+  against_line _ against = (line, language.words_of c, refl, spells, (c, refl, against))
 
   -- a line that spells a command is refused for the first cause against the command
   pub command_is_refused : (k : Cause) → ¬ (language.IsSkipped line) → IsFirst (HoldsAgainst h b c) k →
