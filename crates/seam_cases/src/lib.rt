@@ -1,27 +1,18 @@
 // SPDX-License-Identifier: MIT
 
-//! The worked rows: what the program prints for small scripts, with sources and sinks over memory.
+//! What the files of rows cannot show of the top call: streams that fail at a given read or write, what a person sees while typing,
+//! journals that a watch is given, and workers that a gate holds or counts. Scripts with what they print stand in `rows/`.
 #![tactic(auto)]
 
 #[cfg(test)]
-mod cells;
-#[cfg(test)]
-mod faults;
-#[cfg(test)]
-mod forty;
-#[cfg(test)]
-mod four_cells;
-#[cfg(test)]
-mod headers;
+mod journals;
 #[cfg(test)]
 mod progress;
-#[cfg(test)]
-mod rows;
 #[cfg(test)]
 mod runs;
 #[cfg(test)]
 mod seen;
 #[cfg(test)]
-mod storm;
+mod streams;
 #[cfg(test)]
 mod workers;

@@ -5,14 +5,11 @@
 // are fewer than the turns of one worker, each worker ended with a visit of all nodes at which it found nothing; the last of them to make a
 // step did so too, and after it there was nothing left. Then the steps of a node that did not happen before workers were called are no more
 // than the tries at it.
-use crate::cells::{SIXTEEN, joined};
-use crate::runs::words_of;
-use seam_io::{MemSink, MemSource};
+use crate::runs::{GOOD, Run, play};
 use seam_watch::{Journal, JournalLog};
 use seam_workers::Gate;
-use seam_world::{Status, run_seamless};
+use seam_world::Status;
 use std::alloc::{AllocError, Global};
-use std::process::Abort;
 use std::sync::Wait;
 use std::sync::atomic::{AtomicU64, Ordering};
 use std::test::Fail;
@@ -33,6 +30,11 @@ const ALONE: usize = 8192;
 const HEADER: &str =
     "[settings]\nview_radius = 0\nview_hysteresis = 0\noffload_hysteresis = 0\nghost_distance = 0\n\
     ghost_hysteresis = 0\n%%\n";
+
+// Fifteen cuts.
+const SIXTEEN: &str =
+    "cut 0 x 9000\ncut 0 x 8500\ncut 0 x 8000\ncut 0 x 7500\ncut 0 x 7000\ncut 0 x 6500\ncut 0 x 6000\n\
+    cut 0 x 5500\ncut 0 x 5000\ncut 0 x 4500\ncut 0 x 4000\ncut 0 x 3500\ncut 0 x 3000\ncut 0 x 2500\ncut 0 x 2000\n";
 
 // How often workers tried each node.
 #[derive(Drop)]
@@ -75,7 +77,8 @@ impl Gate for Tries {
 
 // An avatar in each of sixteen cells, and a round in which both base nodes call all of them in turn.
 fn script(alloc: Global) -> Result<String, AllocError> {
-    let mut script = joined(alloc, &[HEADER, SIXTEEN])?;
+    let mut script = String::from_str(alloc, HEADER)?;
+    script.push_str(SIXTEEN)?;
     let mut calls = String::new(alloc);
     for avatar in 1..=u32::from(CELLS) {
         let x = 1_250 + 500 * avatar;
@@ -87,24 +90,6 @@ fn script(alloc: Global) -> Result<String, AllocError> {
         script.push_str(&calls)?;
     }
     Ok(script)
-}
-
-// The steps of the only round, and the tries that workers made.
-fn run<R: Abort + Threads + Wait + Sync>(
-    rt: &R,
-    alloc: Global,
-    words: &[&str],
-) -> Result<(JournalLog, Tries), Fail> {
-    let script = script(alloc)?;
-    let bytes = script.as_bytes().to_vec(alloc)?;
-    let mut input = MemSource::new(bytes, Vec::new(alloc), Vec::new(alloc));
-    let mut out = MemSink::new(alloc, 1 << 20, Vec::new(alloc))?;
-    let words = words_of(alloc, words)?;
-    let tries = Tries::none(alloc)?;
-    let mut log = JournalLog::new(alloc);
-    let status = run_seamless(rt, alloc, &words, &mut input, &mut out, &tries, &mut log);
-    assert_eq!(rt; status, Status::Done);
-    Ok((log, tries))
 }
 
 // How many of the calls' steps are of a node, after so many of all.
@@ -122,37 +107,103 @@ fn all_steps(node: u8) -> usize {
     }
 }
 
-#[test]
-fn workers_step_all_nodes_until_nothing_is_left(rt: HostRuntime) -> Result<(), Fail> {
-    for workers in &["--workers=2", "--workers=4"] {
-        let (log, tries) = run(&rt, rt.alloc(), &[workers, "--turns=1000000"])?;
-        let Some((_, journal)) = log.at(0) else {
-            return Err("no journal")?;
-        };
-        assert!(rt; tries.of_all() < 1_000_000);
-        for node in 0..NODES {
-            assert_eq!(rt; steps(journal, node, 0), all_steps(node));
-            let theirs = steps(journal, node, ALONE) as u64;
-            assert!(rt; 0 < theirs && theirs <= tries.at(node), "node {node}");
+// The words of a run, the most tries that its workers make, and whether each node makes steps that are theirs.
+struct Row {
+    words: &'static [&'static str],
+    tries: u64,
+    theirs: bool,
+}
+
+static BY_WORKERS: [Row; 2] = [
+    Row {
+        words: &["--workers=2", "--turns=1000000"],
+        tries: 999_999,
+        theirs: true,
+    },
+    Row {
+        words: &["--workers=4", "--turns=1000000"],
+        tries: 999_999,
+        theirs: true,
+    },
+];
+
+static BY_THE_CALLER: [Row; 2] = [
+    Row {
+        words: &["--workers=2", "--turns=1"],
+        tries: 2,
+        theirs: false,
+    },
+    Row {
+        words: &["--workers=1", "--turns=1000000"],
+        tries: 2,
+        theirs: false,
+    },
+];
+
+// Whether the node makes all its steps, and some of them and no more than were tried after workers were called, if that is asked.
+fn is_stepped(journal: &Journal, node: u8, tries: u64, theirs: bool) -> bool {
+    let after = steps(journal, node, ALONE) as u64;
+    let is_tried = !theirs || (0 < after && after <= tries);
+    is_tried && steps(journal, node, 0) == all_steps(node)
+}
+
+// Whether the only round and the tries in it are as the row says.
+fn is_as_said(log: &JournalLog, tries: &Tries, row: &Row) -> bool {
+    let Some((_, journal)) = log.at(0) else {
+        return false;
+    };
+    for node in 0..NODES {
+        if !is_stepped(journal, node, tries.at(node), row.theirs) {
+            return false;
         }
     }
+    tries.of_all() <= row.tries
+}
+
+// How the script ends, and whether its round is as the row says.
+fn tried<R: Threads + Wait + Sync>(
+    rt: &R,
+    alloc: Global,
+    script: &str,
+    row: &Row,
+) -> Result<(Status, bool), AllocError> {
+    let tries = Tries::none(alloc)?;
+    let mut log = JournalLog::new(alloc);
+    let run = Run {
+        words: row.words,
+        script,
+        streams: GOOD,
+    };
+    let (status, _) = play(rt, alloc, &run, &tries, &mut log)?;
+    Ok((status, is_as_said(&log, &tries, row)))
+}
+
+// How many rows are kept to before the first one that is not.
+fn wrong_in<R: Threads + Wait + Sync>(
+    rt: &R,
+    alloc: Global,
+    rows: &[Row],
+) -> Result<Option<usize>, AllocError> {
+    let script = script(alloc)?;
+    let mut kept = 0usize;
+    for row in rows {
+        let (status, well) = tried(rt, alloc, &script, row)?;
+        if status != Status::Done || !well {
+            return Ok(Some(kept));
+        }
+        kept = kept.saturating_add(1);
+    }
+    Ok(None)
+}
+
+#[test]
+fn workers_step_all_nodes_until_nothing_is_left(rt: HostRuntime) -> Result<(), Fail> {
+    assert_eq!(rt; wrong_in(&rt, rt.alloc(), &BY_WORKERS)?, None);
     Ok(())
 }
 
 #[test]
 fn what_workers_leave_is_for_the_caller(rt: HostRuntime) -> Result<(), Fail> {
-    for words in &[
-        ["--workers=2", "--turns=1"],
-        ["--workers=1", "--turns=1000000"],
-    ] {
-        let (log, tries) = run(&rt, rt.alloc(), words)?;
-        let Some((_, journal)) = log.at(0) else {
-            return Err("no journal")?;
-        };
-        assert!(rt; tries.of_all() <= 2);
-        for node in 0..NODES {
-            assert_eq!(rt; steps(journal, node, 0), all_steps(node));
-        }
-    }
+    assert_eq!(rt; wrong_in(&rt, rt.alloc(), &BY_THE_CALLER)?, None);
     Ok(())
 }

@@ -1,7 +1,7 @@
 // Runs over memory.
 use seam_io::{MemSink, MemSource};
-use seam_watch::{NoWatch, Watch};
-use seam_workers::OpenGate;
+use seam_watch::Watch;
+use seam_workers::Gate;
 use seam_world::{Status, run_seamless};
 use std::alloc::{AllocError, Global};
 use std::sync::Wait;
@@ -9,60 +9,68 @@ use std::thread::Threads;
 
 /// What a source and a sink do to a run, beside giving and taking bytes.
 #[derive(Clone, Copy)]
-pub struct Streams<'a> {
+pub struct Streams {
     /// How many bytes the first reads give at most.
-    pub cuts: &'a [u32],
+    pub cuts: &'static [u32],
     /// The numbers of the reads that fail.
-    pub bad_reads: &'a [u64],
+    pub bad_reads: &'static [u64],
     /// How many bytes the sink takes.
     pub limit: u32,
     /// The numbers of the writes that fail.
-    pub bad_writes: &'a [u64],
+    pub bad_writes: &'static [u64],
 }
 
+/// Ample room of a sink.
+pub const ROOM: u32 = 1 << 20;
+
 /// Streams that never fail, with ample room.
-pub const GOOD: Streams<'static> = Streams {
+pub const GOOD: Streams = Streams {
     cuts: &[],
     bad_reads: &[],
-    limit: 1 << 16,
+    limit: ROOM,
     bad_writes: &[],
 };
 
-/// Runs a script, and gives its status and what was written.
-pub fn run_with<R: Threads + Wait + Sync>(
-    rt: &R,
-    alloc: Global,
-    script: &str,
-    streams: Streams,
-) -> Result<(Status, MemSink), AllocError> {
-    run_watched(rt, alloc, &[], script, streams, &mut NoWatch)
+/// The words of the command line, the script, and its streams.
+#[derive(Clone, Copy)]
+pub struct Run<'a> {
+    pub words: &'static [&'static str],
+    pub script: &'a str,
+    pub streams: Streams,
 }
 
-/// Runs a script for these words, beside a watch.
-pub fn run_watched<R: Threads + Wait + Sync, W: Watch>(
-    rt: &R,
-    alloc: Global,
-    words: &[&str],
-    script: &str,
-    streams: Streams,
-    watch: &mut W,
-) -> Result<(Status, MemSink), AllocError> {
-    let mut input = MemSource::new(
-        script.as_bytes().to_vec(alloc)?,
-        streams.cuts.to_vec(alloc)?,
-        streams.bad_reads.to_vec(alloc)?,
-    );
-    let mut out = MemSink::new(alloc, streams.limit, streams.bad_writes.to_vec(alloc)?)?;
-    let words = words_of(alloc, words)?;
-    let status = run_seamless(rt, alloc, &words, &mut input, &mut out, &OpenGate, watch);
-    Ok((status, out))
+fn input_of(alloc: Global, run: &Run) -> Result<MemSource, AllocError> {
+    let bytes = run.script.as_bytes().to_vec(alloc)?;
+    let cuts = run.streams.cuts.to_vec(alloc)?;
+    let fails = run.streams.bad_reads.to_vec(alloc)?;
+    Ok(MemSource::new(bytes, cuts, fails))
 }
 
-/// The words as text of their own.
-pub fn words_of(alloc: Global, texts: &[&str]) -> Result<Vec<String>, AllocError> {
+fn sink_of(alloc: Global, run: &Run) -> Result<MemSink, AllocError> {
+    let fails = run.streams.bad_writes.to_vec(alloc)?;
+    MemSink::new(alloc, run.streams.limit, fails)
+}
+
+// The words as text of their own.
+fn words_of(alloc: Global, run: &Run) -> Result<Vec<String>, AllocError> {
     let mut words = Vec::new(alloc);
-    for text in texts.iter() {
+    for text in run.words.iter() {
         words.push(String::from_str(alloc, text)?)?;
     }
     Ok(words)
+}
+
+/// Runs a script through a gate and beside a watch, and gives its status and what was written.
+pub fn play<R: Threads + Wait + Sync, G: Gate + Sync, W: Watch>(
+    rt: &R,
+    alloc: Global,
+    run: &Run,
+    gate: &G,
+    watch: &mut W,
+) -> Result<(Status, MemSink), AllocError> {
+    let words = words_of(alloc, run)?;
+    let mut input = input_of(alloc, run)?;
+    let mut out = sink_of(alloc, run)?;
+    let status = run_seamless(rt, alloc, &words, &mut input, &mut out, gate, watch);
+    Ok((status, out))
 }

@@ -1,9 +1,10 @@
 // When the answers to lines are written.
-use crate::runs::{GOOD, Streams, run_with};
+use crate::runs::{GOOD, Run, Streams, play};
 use seam_io::{RealSink, RealSource};
 use seam_watch::NoWatch;
 use seam_workers::OpenGate;
 use seam_world::{Status, run_seamless};
+use std::alloc::{AllocError, Global};
 use std::cell::Cell;
 use std::io;
 use std::io::{ErrorKind, Read, Write};
@@ -71,25 +72,36 @@ fn an_answer_is_written_before_the_next_read(rt: HostRuntime) -> Result<(), Fail
         &OpenGate,
         &mut NoWatch,
     );
-    assert_eq!(rt; status, Status::Done);
-    assert_eq!(rt; shown.get(), 3);
+    assert_eq!(rt; (status, shown.get()), (Status::Done, 3));
     Ok(())
+}
+
+// Lines that are no commands.
+fn tocks(alloc: Global, count: u32) -> Result<String, AllocError> {
+    let mut script = String::from_str(alloc, "%%\n")?;
+    for _ in 0..count {
+        script.push_str("tock\n")?;
+    }
+    Ok(script)
 }
 
 // The second write would fail.
 #[test]
 fn the_answers_to_the_lines_of_one_read_are_one_write(rt: HostRuntime) -> Result<(), Fail> {
-    let mut script = String::from_str(rt.alloc(), "%%\n")?;
-    for _ in 0..200 {
-        script.push_str("tock\n")?;
-    }
-    let streams = Streams {
-        bad_writes: &[2],
-        ..GOOD
+    let script = tocks(rt.alloc(), 200)?;
+    let run = Run {
+        words: &[],
+        script: &script,
+        streams: Streams {
+            bad_writes: &[2],
+            ..GOOD
+        },
     };
-    let (status, out) = run_with(&rt, rt.alloc(), &script, streams)?;
-    assert_eq!(rt; status, Status::Done);
-    assert!(rt; out.bytes().starts_with(b"line 2 command\nline 3 command\n"));
-    assert_eq!(rt; out.bytes().len(), 8 * 15 + 90 * 16 + 102 * 17);
+    let (status, out) = play(&rt, rt.alloc(), &run, &OpenGate, &mut NoWatch)?;
+    let begins = out.bytes().starts_with(b"line 2 command\nline 3 command\n");
+    assert_eq!(rt;
+        (status, begins, out.bytes().len()),
+        (Status::Done, true, 8 * 15 + 90 * 16 + 102 * 17)
+    );
     Ok(())
 }

@@ -4,7 +4,6 @@ ghost use Rattle.seam_machine.specs.Nets.{ArePeers};
 use crate::{Counter, sent};
 use seam_machine::{Event, Machine, Net, NetParts};
 use std::alloc::{AllocError, Global};
-use std::process::Abort;
 use std::test::Fail;
 
 // Lets the first enabled event happen again and again, until the net is quiet or so many happened. Gives how many did.
@@ -51,55 +50,53 @@ const AT_NODE_2: Event = Event {
     from: None,
 };
 
-fn look_at_start(rt: &impl Abort, net: &Net<Counter>) {
-    assert_eq!(rt; net.node_count(), 3);
-    assert_eq!(rt; net.next_event(), Some(AT_NODE_0));
-}
-
-fn look_at_way(rt: &impl Abort, net: &Net<Counter>) {
-    assert_eq!(rt; net.waiting(1, 2), 1);
-    assert_eq!(rt; net.message(1, 2, 0), Some(&1));
-    assert_eq!(rt; net.message(1, 2, 1), None);
-    assert!(rt; !net.is_quiet());
+// What waits from node 1 to node 2, once two events happened.
+fn is_on_its_way(net: &Net<Counter>) -> bool {
+    let first = net.message(1, 2, 0) == Some(&1);
+    let second = net.message(1, 2, 1).is_none();
+    (net.waiting(1, 2), first, second, net.is_quiet()) == (1, true, true, false)
 }
 
 #[test]
 fn a_number_goes_round_until_it_is_gone(rt: HostRuntime) -> Result<(), Fail> {
     let mut net = sent(ring(rt.alloc())?);
-    look_at_start(&rt, &net);
-    assert_eq!(rt; run(rt.alloc(), &mut net, 2)?, 2);
-    look_at_way(&rt, &net);
-    assert_eq!(rt; run(rt.alloc(), &mut net, 10)?, 2);
-    assert!(rt; net.is_quiet());
+    let start = (net.node_count(), net.next_event());
+    let two = run(rt.alloc(), &mut net, 2)?;
+    let on_its_way = is_on_its_way(&net);
+    let more = run(rt.alloc(), &mut net, 10)?;
+    assert_eq!(rt; start, (3, Some(AT_NODE_0)));
+    assert_eq!(rt; (two, on_its_way, more, net.is_quiet()), (2, true, 2, true));
     Ok(())
 }
 
-fn look_at_parts(rt: &impl Abort, parts: &NetParts<Counter>) {
-    assert_eq!(rt; (parts.nodes.len(), parts.links.len()), (3, 9));
+fn is_just(numbers: &[u64], number: u64) -> bool {
+    numbers.len() == 1 && numbers.first().copied() == Some(number)
+}
+
+fn are_parts(parts: &NetParts<Counter>) -> bool {
+    let counts = (parts.nodes.len(), parts.links.len());
     match parts.links.get(1) {
-        Some(link) => assert_eq!(rt; link.as_slice(), [2].as_slice()),
-        None => panic!(rt; "no link"),
+        Some(link) => counts == (3, 9) && is_just(link.as_slice(), 2),
+        None => false,
     }
 }
 
-fn look_at_links(rt: &impl Abort, net: &Net<Counter>) {
-    assert_eq!(rt;
-        (net.waiting(0, 1), net.waiting(0, 2), net.waiting(3, 0)),
-        (1, 0, 0)
-    );
-    assert_eq!(rt; net.message(0, 1, 0), Some(&2));
-    assert!(rt; net.enabled(FROM_0_TO_1) && !net.enabled(AT_NODE_0));
-    assert!(rt; net.node(3).is_none());
+fn are_links(net: &Net<Counter>) -> bool {
+    let waiting = (net.waiting(0, 1), net.waiting(0, 2), net.waiting(3, 0));
+    let enabled = (net.enabled(FROM_0_TO_1), net.enabled(AT_NODE_0));
+    let message = net.message(0, 1, 0) == Some(&2);
+    let counts = (waiting, enabled) == ((1, 0, 0), (true, false));
+    counts && message && net.node(3).is_none()
 }
 
 #[test]
 fn parts_make_the_same_net(rt: HostRuntime) -> Result<(), Fail> {
     let mut net = ring(rt.alloc())?;
-    assert_eq!(rt; run(rt.alloc(), &mut net, 1)?, 1);
+    let one = run(rt.alloc(), &mut net, 1)?;
     let parts = net.apart(rt.alloc())?;
-    look_at_parts(&rt, &parts);
+    let were_parts = are_parts(&parts);
     let again = Net::of_parts(rt.alloc(), parts)?;
-    look_at_links(&rt, &again);
+    assert_eq!(rt; (one, were_parts, are_links(&again)), (1, true, true));
     Ok(())
 }
 
@@ -108,7 +105,6 @@ fn another_node_takes_the_place(rt: HostRuntime) -> Result<(), Fail> {
     let mut net = ring(rt.alloc())?;
     let node = net.node_mut(2).ok_or("node 2")?;
     *node = Counter::new(0, 3, Some(0));
-    assert!(rt; net.enabled(AT_NODE_2));
-    assert!(rt; net.node_mut(3).is_none());
+    assert!(rt; net.enabled(AT_NODE_2) && net.node_mut(3).is_none());
     Ok(())
 }

@@ -100,26 +100,31 @@ fn left_quiet<R: Threads + Wait + Sync>(
 
 #[test]
 fn workers_leave_the_ring_quiet(rt: HostRuntime) -> Result<(), Fail> {
-    assert_eq!(rt; left_quiet(&rt, rt.alloc(), 1)?, (true, 29));
-    assert_eq!(rt; left_quiet(&rt, rt.alloc(), 2)?, (true, 29));
-    assert_eq!(rt; left_quiet(&rt, rt.alloc(), 4)?, (true, 29));
+    let one = left_quiet(&rt, rt.alloc(), 1)?;
+    let two = left_quiet(&rt, rt.alloc(), 2)?;
+    let four = left_quiet(&rt, rt.alloc(), 4)?;
+    assert_eq!(rt; (one, two, four), ((true, 29), (true, 29), (true, 29)));
     Ok(())
+}
+
+// Whether four workers with so many turns leave the ring with one number quiet, and how many events they make.
+fn lone_left_quiet<R: Threads + Wait + Sync>(
+    rt: &R,
+    alloc: Global,
+    turns: u32,
+) -> Result<(bool, usize), AllocError>
+    requires { 1 ≤ turns }
+{
+    let crew = Crew { workers: 4, turns };
+    let (net, events) = run_workers(rt, alloc, lone(alloc)?, crew, &OpenGate)?;
+    Ok((net.is_quiet(), events.len()))
 }
 
 #[test]
 fn workers_leave_a_ring_with_one_number_quiet(rt: HostRuntime) -> Result<(), Fail> {
-    let crew = Crew {
-        workers: 4,
-        turns: 1000,
-    };
-    let (net, events) = run_workers(&rt, rt.alloc(), lone(rt.alloc())?, crew, &OpenGate)?;
-    assert_eq!(rt; (net.is_quiet(), events.len()), (true, 22));
-    let few = Crew {
-        workers: 4,
-        turns: 5,
-    };
-    let (net, events) = run_workers(&rt, rt.alloc(), lone(rt.alloc())?, few, &OpenGate)?;
-    assert!(rt; !net.is_quiet() && events.len() >= 5);
+    let many = lone_left_quiet(&rt, rt.alloc(), 1000)?;
+    let (quiet, events) = lone_left_quiet(&rt, rt.alloc(), 5)?;
+    assert_eq!(rt; (many, quiet, events >= 5), ((true, 22), false, true));
     Ok(())
 }
 
@@ -134,9 +139,9 @@ fn two_workers_are_inside_at_once(rt: HostRuntime) -> Result<(), Fail> {
         turns: 2,
     };
     let (_net, events) = run_workers(&rt, rt.alloc(), pair(rt.alloc())?, crew, &gate)?;
-    assert!(rt; events.len() >= 2);
-    assert_eq!(rt; gate.inside.load(Ordering::SeqCst), 3);
-    assert_eq!(rt; gate.given_up.load(Ordering::SeqCst), 0);
+    let inside = gate.inside.load(Ordering::SeqCst);
+    let given_up = gate.given_up.load(Ordering::SeqCst);
+    assert_eq!(rt; (events.len() >= 2, inside, given_up), (true, 3, 0));
     Ok(())
 }
 
@@ -193,8 +198,9 @@ fn replay_agrees<R: Threads + Wait + Sync>(
 
 #[test]
 fn the_events_replayed_leave_the_same_net(rt: HostRuntime) -> Result<(), Fail> {
-    assert_eq!(rt; replay_agrees(&rt, rt.alloc(), 1000)?, (true, true));
-    assert_eq!(rt; replay_agrees(&rt, rt.alloc(), 2)?, (true, false));
+    let many = replay_agrees(&rt, rt.alloc(), 1000)?;
+    let few = replay_agrees(&rt, rt.alloc(), 2)?;
+    assert_eq!(rt; (many, few), ((true, true), (true, false)));
     Ok(())
 }
 
@@ -230,7 +236,8 @@ fn tried_alone(alloc: Global, given: Option<u64>) -> Result<(Try, usize), AllocE
 
 #[test]
 fn a_try_without_a_task_is_idle(rt: HostRuntime) -> Result<(), Fail> {
-    assert_eq!(rt; tried_alone(rt.alloc(), None)?, (Try::Idle, 0));
-    assert_eq!(rt; tried_alone(rt.alloc(), Some(5))?, (Try::Stepped, 1));
+    let without = tried_alone(rt.alloc(), None)?;
+    let with = tried_alone(rt.alloc(), Some(5))?;
+    assert_eq!(rt; (without, with), ((Try::Idle, 0), (Try::Stepped, 1)));
     Ok(())
 }

@@ -13,8 +13,6 @@
 
 mod laws;
 mod round;
-#[cfg(test)]
-mod tests;
 mod workers;
 
 pub use laws::a_worked_round_may_run;

@@ -2,8 +2,9 @@
 ghost use Rattle.std.specs.Prelude.{IfOk};
 ghost use Rattle.seam_defs.specs.Settings.{AreInRange};
 
-use seam_accept::Book;
+use seam_accept::{Accepted, Book};
 use seam_defs::{Defs, Settings};
+use seam_io::LONGEST_LINE;
 use seam_rule_lines::Header;
 use std::alloc::{AllocError, Global};
 
@@ -21,4 +22,12 @@ fn standard_header(alloc: Global) -> Result<Header, AllocError>
 pub(crate) fn opened(alloc: Global) -> Result<Book, AllocError> {
     let header = standard_header(alloc)?;
     Book::new(alloc, &header)
+}
+
+// Whether the line is kept.
+pub(crate) fn keep(book: &mut Book, line: &[u8]) -> bool {
+    if line.len() > LONGEST_LINE {
+        return false;
+    }
+    matches!(book.accept(line), Ok(Accepted::Kept))
 }

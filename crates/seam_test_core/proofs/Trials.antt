@@ -19,7 +19,7 @@ use Rattle.seam_base.specs.Nodes.{has_client}
 use Rattle.seam_base.specs.Marks.{passes}
 use Rattle.seam_law_flow.specs.Flows.{slot_at}
 use Rattle.seam_node_steps.specs.Nodes.{NodeView, World, node_steps, node_has_work}
-use Rattle.seam_node_steps.specs.Loads.{opened, loaded, reaps_loaded, look_loaded}
+use Rattle.seam_node_steps.specs.Loads.{opened, loaded, reaps_loaded}
 use Rattle.seam_law_calls.specs.Sights.{Has, has_of, has_none}
 use Rattle.seam_law_calls.specs.Ones.{real_in}
 use Rattle.seam_law_rounds.specs.Between.{created_entity}
@@ -29,9 +29,9 @@ use Rattle.seam_law_rounds.proofs.Opened.{opened_is_new}
 use Rattle.seam_law_all.specs.Records.{KeepsRecords}
 use Rattle.seam_core.specs.Loads.{HasSize, MayLoad}
 use Rattle.seam_core.specs.Worlds.{IsWorld, Leads}
-use Rattle.seam_core.proofs.Worlds.{still_world, leads_none}
+use Rattle.seam_core.proofs.Worlds.{still_world}
 use Rattle.seam_core.proofs.Nodes.{IsUnseen}
-use Rattle.seam_core.proofs.Loading.{here_is, first_node, knows, world_loaded, known_reaped, world_looks}
+use Rattle.seam_core.proofs.Loading.{here_is, first_node, knows, world_loaded, known_reaped}
 use Rattle.seam_test_core.specs.Trials.{IsStandard, IsSized, MayBegin, MayBeFirst, avatar, avatars_from, client_list, batch_of, first_batch}
 use Rattle.seam_test_core.specs.Trials.{Makes}
 
@@ -59,9 +59,6 @@ standard_loaded w v b same is may sized all =
 
 pub standard_reaps : (w v : World) (es : List ℕ) → v ≡ reaps_loaded w es → IsStandard w → IsStandard v
 standard_reaps w v es same all = subst IsStandard (sym same) (known_reaped (λ k h. h.settings.size ≡ 10000) w es all)
-
-pub standard_looks : (w v : World) → v ≡ look_loaded w → IsWorld w → IsStandard w → IsStandard v
-standard_looks w v same is all = subst IsStandard (sym same) (standard_by (look_loaded w) (world_looks w is) (standard_frame w is all))
 
 -- ---- first batches
 
@@ -115,22 +112,6 @@ module _ (w : World) (defs : List TypeDef) (settings : Settings) (same : setting
 
   pub may_first_of : (b : Batch) → MayBeFirst b → MayLoad w b
   may_first_of b first = subst (λ v. MayLoad v b) (sym is_standard) (may_first defs new_clients keeps_standard b first)
-
--- ---- orders alone
-
-none_twice : IsDistinct eqb []
-unfolding IsDistinct
-none_twice = tt
-
-pub may_go_on : (w : World) (b : Batch) → IsStandard w → IsSized b.tree → b.creates ≡ [] → b.clients ≡ [] → MayLoad w b
-may_go_on w b all sized creates clients k s at = record {
-  space = all k s at ∙ sym sized.size;
-  inside = subst (AllByRecursion (λ x. IsInSpace b.tree x.pos)) (sym creates) tt;
-  new = subst (AllByRecursion (λ x. real_in (has_of x.entity s) ≡ None)) (sym creates) tt;
-  once = subst (λ xs. IsDistinct eqb (map created_entity xs)) (sym creates) none_twice;
-  unseen = subst (AllByRecursion (IsUnseen s)) (sym clients) tt;
-  one_each = subst (IsDistinct eqb) (sym clients) none_twice;
-}
 
 -- ---- entities 1, 2 and so on
 
@@ -202,9 +183,6 @@ may_begin_first t ps client os may = record {
 }
 
 -- ---- events
-
-pub makes_none : (w : World) → Makes 0 w w
-makes_none w = record { events = []; many = refl; leads = leads_none w w refl }
 
 makes_one : (n : ℕ) (w u v : World) (e : Event) →
     ((start : World) (es : List Event) → Leads start es u → Leads start (es ++ e ∷ []) v) → Makes n w u → Makes (n + 1) w v

@@ -5,11 +5,10 @@ use Rattle.seam_geo.specs.declared.pos.Pos.{Pos}
 use Rattle.seam_tree.specs.Division.{Division, IsInSpace, IsTree}
 use Rattle.seam_machine.specs.declared.machines.Event.{Event}
 use Rattle.seam_machine.specs.Events.{EachNode}
-use Rattle.seam_machine.specs.Nets.{IsQuiet}
 use Rattle.seam_call.specs.declared.create.Create.{Create}
 use Rattle.seam_call.specs.declared.order.Order.{Order}
 use Rattle.seam_call.specs.declared.order.Batch.{Batch}
-use Rattle.seam_node_steps.specs.Nodes.{World, node_has_work}
+use Rattle.seam_node_steps.specs.Nodes.{World}
 use Rattle.seam_law_rounds.specs.Between.{created_entity}
 use Rattle.seam_core.specs.Loads.{HasSize}
 use Rattle.seam_core.specs.Worlds.{Leads}
@@ -67,8 +66,3 @@ pub record Makes (n : ℕ) (w v : World) : Type 0 where
   pub events : List Event
   pub many : length events ≡ n
   pub leads : Leads w events v
-
--- after n events no further one is enabled; where no number is told, so many happened as there may be at most
-abbrev pub Settles : ℕ → World → World → Option ℕ → Type 0
-Settles most w v (Some n) = Makes n w v × IsQuiet node_has_work v
-Settles most w v None = Makes most w v

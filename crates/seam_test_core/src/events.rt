@@ -1,12 +1,12 @@
 // Rows that go event by event: after each the entity is in so many places.
+use crate::orders::{hit, pass_on};
 use crate::seen::{begin, copy_version, has_real, route, step, walk};
-use crate::{Trial, hit, pass_on};
+use crate::trial::Trial;
 use seam_call::BaseNode;
 use seam_geo::Pos;
 use seam_machine::Event;
 use seam_tree::{Axis, Tree};
 use std::alloc::Global;
-use std::process::Abort;
 use std::test::Fail;
 
 // A node, the node whose message it is fed, or none for its task, and in how many places entity 1 is then.
@@ -49,15 +49,18 @@ const LATE_GHOST: [Turn; 14] = [
 // It is reaped at its base node, in its cell, and where its copy is.
 const REAP: [Turn; 3] = [(17, None, 1), (1, Some(17), 0), (0, Some(1), 0)];
 
-fn play(rt: &impl Abort, alloc: Global, trial: &mut Trial, turns: &[Turn]) -> Result<(), Fail> {
+// The events happen. How many of them left the entity in so many places as was said, and whether the world is quiet then.
+fn play(alloc: Global, trial: &mut Trial, turns: &[Turn]) -> Result<(usize, bool), Fail> {
+    let mut well = 0usize;
     for (node, from, places) in turns {
         let node = *node;
         let from = *from;
         step(trial, alloc, Event { node, from })?;
-        assert_eq!(rt; trial.world.holders(1), *places, "after {node}");
+        if trial.world.holders(1) == *places {
+            well = well.saturating_add(1);
+        }
     }
-    assert!(rt; trial.world.net().is_quiet());
-    Ok(())
+    Ok((well, trial.world.net().is_quiet()))
 }
 
 // The avatar is moved to cell 1 while calls of another base node are on their way to it.
@@ -86,29 +89,40 @@ fn late_ghost(alloc: Global) -> Result<Trial, Fail> {
 #[test]
 fn an_early_call_is_held(rt: HostRuntime) -> Result<(), Fail> {
     let mut trial = early_call(rt.alloc())?;
-    play(&rt, rt.alloc(), &mut trial, &EARLY_CALL)?;
-    assert!(rt; has_real(&trial, 1, 1));
-    assert_eq!(rt; route(&trial, 0, 1), Some((1, 1)));
-    assert_eq!(rt; route(&trial, 1, 1), Some((1, 1)));
+    let played = play(rt.alloc(), &mut trial, &EARLY_CALL)?;
+    let routes = (route(&trial, 0, 1), route(&trial, 1, 1));
+    assert_eq!(rt;
+        (played, has_real(&trial, 1, 1), routes),
+        ((12, true), true, (Some((1, 1)), Some((1, 1))))
+    );
     Ok(())
 }
 
-#[test]
-fn a_late_ghost_message_is_ignored(rt: HostRuntime) -> Result<(), Fail> {
-    let mut trial = late_ghost(rt.alloc())?;
-    play(&rt, rt.alloc(), &mut trial, &LATE_GHOST)?;
-    assert!(rt; has_real(&trial, 1, 1));
-    assert_eq!(rt; copy_version(&trial, 0, 1), Some(2));
-    assert_eq!(rt; copy_version(&trial, 2, 1), None);
-    Ok(())
+// The events of the late message, and what cell 1 has of the entity then, and cells 0 and 2.
+fn be_late(alloc: Global, trial: &mut Trial) -> Result<bool, Fail> {
+    let played = play(alloc, trial, &LATE_GHOST)?;
+    let copies = (copy_version(trial, 0, 1), copy_version(trial, 2, 1));
+    Ok(played == (14, true) && has_real(trial, 1, 1) && copies == (Some(2), None))
 }
 
-#[test]
-fn a_reaped_entity_is_gone(rt: HostRuntime) -> Result<(), Fail> {
-    let mut trial = late_ghost(rt.alloc())?;
-    play(&rt, rt.alloc(), &mut trial, &LATE_GHOST)?;
+fn be_reaped(alloc: Global, trial: &mut Trial) -> Result<bool, Fail> {
+    let played = play(alloc, trial, &REAP)?;
+    Ok(played == (3, true) && copy_version(trial, 0, 1).is_none())
+}
+
+// Whether the late message was ignored, and whether the entity is gone when it was reaped after that.
+fn late_and_reaped(alloc: Global) -> Result<(bool, bool), Fail> {
+    let mut trial = late_ghost(alloc)?;
+    let late = be_late(alloc, &mut trial)?;
     let mut trial = trial.reap(&[1])?;
-    play(&rt, rt.alloc(), &mut trial, &REAP)?;
-    assert_eq!(rt; copy_version(&trial, 0, 1), None);
+    let reaped = be_reaped(alloc, &mut trial)?;
+    Ok((late, reaped))
+}
+
+#[test]
+fn a_late_ghost_message_is_ignored_and_a_reaped_entity_is_gone(
+    rt: HostRuntime,
+) -> Result<(), Fail> {
+    assert_eq!(rt; late_and_reaped(rt.alloc())?, (true, true));
     Ok(())
 }

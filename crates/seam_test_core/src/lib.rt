@@ -1,23 +1,21 @@
 // SPDX-License-Identifier: MIT
 
-//! Worlds of the standard settings, on which worked rows are tried and loads are measured: entities 1, 2 and so on at given places,
-//! orders of base nodes, and events one at a time.
+//! Tests of worlds: worked rows event by event, the steps of workers, and a round. A world of the standard settings has entities 1, 2 and
+//! so on at given places, gets orders of base nodes, and makes events one at a time. Where entities and their copies end, and what clients
+//! are shown, is in `rows/`.
 #![tactic(auto)]
 
 #[cfg(test)]
 mod events;
+#[cfg(test)]
 mod first;
 #[cfg(test)]
-mod ghosts;
-#[cfg(test)]
-mod looks;
 mod orders;
 #[cfg(test)]
+mod rounds;
+#[cfg(test)]
 mod seen;
+#[cfg(test)]
 mod trial;
 #[cfg(test)]
 mod workers;
-
-pub use first::may_begin;
-pub use orders::{hit, pass_on};
-pub use trial::Trial;

@@ -1,7 +1,9 @@
 // How tests begin trials and take them on, and what they see of them.
-use crate::{Trial, may_begin, pass_on};
+use crate::first::may_begin;
+use crate::orders::pass_on;
+use crate::trial::Trial;
 use seam_base::Base;
-use seam_call::{BaseNode, Line, Order};
+use seam_call::{BaseNode, Order};
 use seam_cell::Cell;
 use seam_defs::Deed;
 use seam_geo::Pos;
@@ -37,14 +39,6 @@ pub fn step(trial: &mut Trial, alloc: Global, event: Event) -> Result<(), Fail> 
     Ok(trial.step(alloc, event)?)
 }
 
-// Makes all events, which are few.
-pub fn settle(trial: &mut Trial, alloc: Global) -> Result<(), Fail> {
-    match trial.settle(alloc, 100)? {
-        Some(_) => Ok(()),
-        None => Err("many events")?,
-    }
-}
-
 fn cell(trial: &Trial, k: u8) -> Option<&Cell> {
     trial.world.net().node(k)?.as_cell()
 }
@@ -70,15 +64,4 @@ pub fn copy_version(trial: &Trial, k: u8, e: u32) -> Option<u64> {
 // The cell to which a base node's route of the entity leads, and how often it changed.
 pub fn route(trial: &Trial, k: u8, e: u32) -> Option<(u8, u64)> {
     base(trial, k)?.route(e)
-}
-
-// What the entity's client was shown in this round.
-pub fn lines(trial: &Trial, e: u32) -> &[Line] {
-    match base(trial, (e % 2) as u8) {
-        Some(base) => match base.part(e) {
-            Some(part) => part.lines(),
-            None => &[],
-        },
-        None => &[],
-    }
 }

@@ -1,15 +1,15 @@
 //! A world that is tried.
 
-ghost use Rattle.std.specs.Prelude.{◌≡◌, ℕ, ◌+◌, [], true, IfOk, OnOk, OnErr};
+ghost use Rattle.std.specs.Prelude.{◌≡◌, ℕ, ◌+◌, true, IfOk, OnOk, OnErr};
 ghost use Rattle.seam_machine.specs.Nets.{enabled};
 ghost use Rattle.seam_node_steps.specs.Nodes.{World as AnyWorld, node_has_work};
-ghost use Rattle.seam_node_steps.specs.Loads.{loaded, reaps_loaded, look_loaded};
+ghost use Rattle.seam_node_steps.specs.Loads.{loaded, reaps_loaded};
 ghost use Rattle.seam_node_steps.specs.Rows.{empty_world};
 ghost use Rattle.seam_core.specs.Loads.{MayLoad};
-ghost use Rattle.seam_test_core.specs.Trials.{IsStandard, IsSized, MayBegin, Makes, Settles};
-ghost use Rattle.seam_test_core.specs.Trials.{batch_of as the_batch, first_batch as the_first};
+ghost use Rattle.seam_test_core.specs.Trials.{IsStandard, IsSized, MayBegin, Makes};
+ghost use Rattle.seam_test_core.specs.Trials.{first_batch as the_first};
 
-use crate::first::{batch_of, first_batch, open_world};
+use crate::first::{first_batch, open_world};
 use seam_call::{Batch, Order};
 use seam_core::World;
 use seam_geo::Pos;
@@ -59,17 +59,6 @@ impl Trial {
         Ok(trial)
     }
 
-    /// Loads orders alone.
-    pub fn give(self, alloc: Global, orders: Vec<(u8, Order)>) -> Result<Trial, AllocError>
-        ensures after { IfOk result (λ t. t.world ≡ loaded self.world (the_batch self.tree [] [] orders.items)) }
-        ensures tree { IfOk result (λ t. t.tree ≡ self.tree) }
-    {
-        let Trial { world, tree } = self;
-        let batch = batch_of(alloc, tree, Vec::new(alloc), Vec::new(alloc), orders);
-        let trial = Trial::load(alloc, world, batch)?;
-        Ok(trial)
-    }
-
     /// Gives the base nodes of these entities the orders to reap them.
     pub fn reap(self, destroys: &[u32]) -> Result<Trial, AllocError>
         ensures after { IfOk result (λ t. t.world ≡ reaps_loaded self.world destroys.now) }
@@ -77,17 +66,6 @@ impl Trial {
     {
         let Trial { world, tree } = self;
         let world = world.load_reaps(destroys)?;
-        Ok(Trial { world, tree })
-    }
-
-    /// Lets the witnesses look.
-    pub fn look(self) -> Result<Trial, AllocError>
-        ensures after { IfOk result (λ t. t.world ≡ look_loaded self.world) }
-        ensures tree { IfOk result (λ t. t.tree ≡ self.tree) }
-    {
-        let Trial { world, tree } = self;
-        world.known();
-        let world = world.load_look()?;
         Ok(Trial { world, tree })
     }
 
@@ -100,22 +78,5 @@ impl Trial {
     {
         self.world.known();
         self.world.step(alloc, event)
-    }
-
-    /// Makes enabled events until none is left, and tells how many these were: `None` if they are more than `most`.
-    ///
-    /// If allocation fails, some events have happened.
-    pub fn settle(&mut self, alloc: Global, most: u32) -> Result<Option<u32>, AllocError>
-        ensures settles { IfOk result (Settles most self.old.world self.new.world) }
-        ensures err { OnErr result ((n : ℕ) × Makes n self.old.world self.new.world) }
-        ensures tree { self.new.tree ≡ self.old.tree }
-    {
-        for made in 0..most {
-            let Some(event) = self.world.net().next_event() else {
-                return Ok(Some(made));
-            };
-            self.step(alloc, event)?;
-        }
-        Ok(None)
     }
 }

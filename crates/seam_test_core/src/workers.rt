@@ -1,15 +1,12 @@
 // The world of a call that comes early, stepped by workers in threads until nothing is left to do; and their steps, made again one by one.
 
-ghost use Rattle.std.specs.Prelude.{◌≤◌};
-
-use crate::Trial;
 use crate::events::early_call;
 use crate::seen::step;
+use crate::trial::Trial;
 use seam_core::Node;
-use seam_machine::Net;
+use seam_machine::{Event, Net};
 use seam_workers::{Crew, OpenGate, run_workers};
 use std::alloc::Global;
-use std::process::Abort;
 use std::sync::Wait;
 use std::test::Fail;
 use std::thread::Threads;
@@ -26,30 +23,48 @@ fn has_real(net: &Net<Node>, cell: u8, e: u32) -> bool {
     }
 }
 
-// So many workers leave the world quiet, and the avatar in the cell that it was moved to.
-fn check<R: Abort + Threads + Wait + Sync>(rt: &R, alloc: Global, workers: u32) -> Result<(), Fail>
-    requires { (1 ≤ workers) × (workers ≤ 16) }
-{
-    let Trial { world, .. } = early_call(alloc)?;
+// What workers make of the world: whether it is quiet, whether cell 1 has the avatar, and the steps.
+fn run<R: Threads + Wait + Sync>(
+    rt: &R,
+    alloc: Global,
+    workers: u32,
+) -> Result<(bool, bool, Vec<Event>), Fail> {
+    if workers < 1 || workers > 16 {
+        return Err("so many workers")?;
+    }
     let crew = Crew {
         workers,
         turns: TURNS,
     };
+    let Trial { world, .. } = early_call(alloc)?;
     let (net, steps) = run_workers(rt, alloc, world.apart(), crew, &OpenGate)?;
-    assert!(rt; net.is_quiet(), "{workers} workers");
-    assert!(rt; has_real(&net, 1, 1), "{workers} workers");
-    assert!(rt; steps.len() < MOST_STEPS, "{workers} workers");
-    let mut again = early_call(alloc)?;
-    for event in steps.iter() {
-        step(&mut again, alloc, *event)?;
+    Ok((net.is_quiet(), has_real(&net, 1, 1), steps))
+}
+
+fn play(trial: &mut Trial, alloc: Global, steps: &[Event]) -> Result<bool, Fail> {
+    for event in steps {
+        step(trial, alloc, *event)?;
     }
-    assert!(rt; again.world.net().is_quiet(), "{workers} workers");
-    Ok(())
+    Ok(trial.world.net().is_quiet())
+}
+
+// Whether the steps, which are few, leave the world quiet when they are made again.
+fn replayed(alloc: Global, steps: &[Event]) -> Result<bool, Fail> {
+    let mut again = early_call(alloc)?;
+    let quiet = play(&mut again, alloc, steps)?;
+    Ok(quiet && steps.len() < MOST_STEPS)
 }
 
 #[test]
 fn workers_leave_the_world_quiet(rt: HostRuntime) -> Result<(), Fail> {
-    check(&rt, rt.alloc(), 1)?;
-    check(&rt, rt.alloc(), 2)?;
-    check(&rt, rt.alloc(), 4)
+    for workers in [1, 2, 4] {
+        let (quiet, real, steps) = run(&rt, rt.alloc(), workers)?;
+        let again = replayed(rt.alloc(), &steps)?;
+        assert_eq!(rt;
+            (quiet, real, again),
+            (true, true, true),
+            "{workers} workers"
+        );
+    }
+    Ok(())
 }

@@ -87,55 +87,82 @@ static ROWS: [Row; 5] = [
     },
 ];
 
+fn source_of(alloc: Global, row: &Row) -> Result<MemSource, AllocError> {
+    let bytes = row.input.to_vec(alloc)?;
+    let cuts = row.cuts.to_vec(alloc)?;
+    Ok(MemSource::new(bytes, cuts, row.fails.to_vec(alloc)?))
+}
+
+fn told_of(alloc: Global, row: &Row) -> Result<Vec<u8>, AllocError> {
+    let mut source = source_of(alloc, row)?;
+    told(alloc, row.limit, &mut source)
+}
+
 #[test]
 fn lines_of_a_source(rt: HostRuntime) -> Result<(), Fail> {
     for row in &ROWS {
-        let bytes = row.input.to_vec(rt.alloc())?;
-        let mut source = MemSource::new(
-            bytes,
-            row.cuts.to_vec(rt.alloc())?,
-            row.fails.to_vec(rt.alloc())?,
-        );
-        let told = told(rt.alloc(), row.limit, &mut source)?;
+        let told = told_of(rt.alloc(), row)?;
         assert_eq!(rt; told.as_slice(), row.told);
     }
     Ok(())
 }
 
+fn is_text(bytes: &[u8], wanted: &[u8]) -> bool {
+    bytes == wanted
+}
+
+// So many bytes and then the others.
+fn long_source(alloc: Global, len: usize, tail: &[u8]) -> Result<MemSource, AllocError> {
+    let mut bytes = vec![in alloc; b'a'; len]?;
+    bytes.extend_from_slice(tail)?;
+    Ok(MemSource::new(bytes, Vec::new(alloc), Vec::new(alloc)))
+}
+
+// The first two answers, whether the second line is a b, and how many bytes were taken.
+fn two_lines(
+    alloc: Global,
+    len: usize,
+    tail: &[u8],
+) -> Result<(Next, Next, bool, u64), AllocError> {
+    let mut source = long_source(alloc, len, tail)?;
+    let mut lines = Lines::new(alloc, 1 << 40)?;
+    let first = lines.next(&mut source);
+    let second = lines.next(&mut source);
+    let is_b = is_text(lines.line(), b"b");
+    Ok((first, second, is_b, lines.taken()))
+}
+
 #[test]
 fn a_line_has_4096_bytes_at_most(rt: HostRuntime) -> Result<(), Fail> {
-    for (len, tail, first) in [
-        (4096, b"\nb".as_slice(), Next::Line),
-        (4097, b"\nb".as_slice(), Next::Long),
-        (4095, b"\r\nb".as_slice(), Next::Line),
-        (4096, b"\r\nb".as_slice(), Next::Long),
-        (20000, b"\nb".as_slice(), Next::Long),
+    for (len, tail, first, taken) in [
+        (4096, b"\nb".as_slice(), Next::Line, 4098),
+        (4097, b"\nb".as_slice(), Next::Long, 4099),
+        (4095, b"\r\nb".as_slice(), Next::Line, 4098),
+        (4096, b"\r\nb".as_slice(), Next::Long, 4099),
+        (20000, b"\nb".as_slice(), Next::Long, 20002),
     ] {
-        let mut bytes = vec![in rt.alloc(); b'a'; len]?;
-        bytes.extend_from_slice(tail)?;
-        let mut source = MemSource::new(bytes, Vec::new(rt.alloc()), Vec::new(rt.alloc()));
-        let mut lines = Lines::new(rt.alloc(), 1 << 40)?;
-        assert_eq!(rt; lines.next(&mut source), first);
-        assert_eq!(rt; lines.next(&mut source), Next::Line);
-        assert_eq!(rt; lines.line(), b"b".as_slice());
-        assert_eq!(rt; lines.taken(), (len + tail.len()) as u64);
+        let answers = two_lines(rt.alloc(), len, tail)?;
+        assert_eq!(rt; answers, (first, Next::Line, true, taken));
     }
     Ok(())
 }
 
-#[test]
-fn a_sink_that_fills(rt: HostRuntime) -> Result<(), Fail> {
-    let mut sink = MemSink::new(rt.alloc(), 4, Vec::new(rt.alloc()))?;
-    assert_eq!(rt;
-        write_whole(&mut sink, b"abcdef"),
-        Err(WriteFault { wrote: 4 })
-    );
-    assert_eq!(rt; sink.bytes(), b"abcd".as_slice());
-    let mut sink = MemSink::new(rt.alloc(), 4, [1].to_vec(rt.alloc())?)?;
-    assert_eq!(rt; write_whole(&mut sink, b"ab"), Err(WriteFault { wrote: 0 }));
-    assert_eq!(rt; write_whole(&mut sink, b"cd"), Ok(()));
-    assert_eq!(rt; sink.bytes(), b"cd".as_slice());
-    Ok(())
+// A sink that fills has what it had room for.
+fn fills(alloc: Global) -> Result<bool, AllocError> {
+    let mut sink = MemSink::new(alloc, 4, Vec::new(alloc))?;
+    let wrote = write_whole(&mut sink, b"abcdef");
+    let taken = is_text(sink.bytes(), b"abcd");
+    Ok((wrote, taken) == (Err(WriteFault { wrote: 4 }), true))
+}
+
+// A sink whose first write fails takes the second one.
+fn fails_once(alloc: Global) -> Result<bool, AllocError> {
+    let fails = [1].to_vec(alloc)?;
+    let mut sink = MemSink::new(alloc, 4, fails)?;
+    let first = write_whole(&mut sink, b"ab");
+    let second = write_whole(&mut sink, b"cd");
+    let taken = is_text(sink.bytes(), b"cd");
+    Ok((first, second, taken) == (Err(WriteFault { wrote: 0 }), Ok(()), true))
 }
 
 // A stream that cannot be read, and takes nothing.
@@ -158,20 +185,33 @@ impl Write for Broken {
     }
 }
 
-#[test]
-fn streams_of_std(rt: HostRuntime) -> Result<(), Fail> {
+fn reads_slices(alloc: Global) -> Result<bool, AllocError> {
     let mut source = RealSource::new(b"a\nb".as_slice());
-    assert_eq!(rt;
-        told(rt.alloc(), 99, &mut source)?.as_slice(),
-        b"line a|line b|end|end|".as_slice()
+    let told = told(alloc, 99, &mut source)?;
+    Ok(is_text(&told, b"line a|line b|end|end|"))
+}
+
+// Neither is a broken stream read, nor does it take anything.
+fn breaks(alloc: Global) -> Result<bool, AllocError> {
+    let mut lines = Lines::new(alloc, 99)?;
+    let read = lines.next(&mut RealSource::new(Broken));
+    let wrote = write_whole(&mut RealSink::new(Broken), b"ab");
+    Ok((read, wrote) == (Next::ReadFault, Err(WriteFault { wrote: 0 })))
+}
+
+fn writes(alloc: Global) -> bool {
+    let mut sink = RealSink::new(Vec::new(alloc));
+    write_whole(&mut sink, b"ab") == Ok(())
+}
+
+#[test]
+fn sinks_fill_and_streams_of_std_are_read_and_written(rt: HostRuntime) -> Result<(), Fail> {
+    let sinks = (fills(rt.alloc())?, fails_once(rt.alloc())?);
+    let streams = (
+        reads_slices(rt.alloc())?,
+        breaks(rt.alloc())?,
+        writes(rt.alloc()),
     );
-    let mut lines = Lines::new(rt.alloc(), 99)?;
-    assert_eq!(rt; lines.next(&mut RealSource::new(Broken)), Next::ReadFault);
-    let mut sink = RealSink::new(Vec::new(rt.alloc()));
-    assert_eq!(rt; write_whole(&mut sink, b"ab"), Ok(()));
-    assert_eq!(rt;
-        write_whole(&mut RealSink::new(Broken), b"ab"),
-        Err(WriteFault { wrote: 0 })
-    );
+    assert_eq!(rt; (sinks, streams), ((true, true), (true, true, true)));
     Ok(())
 }

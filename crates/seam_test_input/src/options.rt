@@ -19,49 +19,51 @@ fn options(workers: u32, turns: u32, trace: bool, storm: Option<u32>) -> Options
     }
 }
 
-#[test]
-fn words_give_their_options(rt: HostRuntime) -> Result<(), Fail> {
-    let rows = [
-        ([].as_slice(), options(4, 1_000, false, None)),
-        (&["--workers=2", "--trace"], options(2, 1_000, true, None)),
-        (
-            &["--turns", "1000000", "--workers", "16"],
-            options(16, 1_000_000, false, None),
-        ),
-        (&["--storm=1", "--turns=1"], options(4, 1, false, Some(1))),
-        (
-            &["--storm", "1000000"],
-            options(4, 1_000, false, Some(1_000_000)),
-        ),
-    ];
-    for (texts, options) in rows.iter() {
-        let words = words_of(rt.alloc(), texts)?;
-        assert_eq!(rt; read_words(rt.alloc(), &words)?, *options);
-    }
-    Ok(())
+fn read(alloc: Global, texts: &[&str]) -> Result<Result<Options, ArgsError>, Fail> {
+    let words = words_of(alloc, texts)?;
+    Ok(read_words(alloc, &words))
 }
 
+const REFUSED: Result<Options, ArgsError> = Err(ArgsError::Usage);
+
 #[test]
-fn other_words_are_refused(rt: HostRuntime) -> Result<(), Fail> {
+fn words_give_their_options_or_are_refused(rt: HostRuntime) -> Result<(), Fail> {
     let rows = [
-        ["--workers", "17"].as_slice(),
-        &["--workers=0"],
-        &["--turns", "x"],
-        &["--turns=1000001"],
-        &["--storm=0"],
-        &["--storm", "1000001"],
-        &["--workers", "2", "--workers", "2"],
-        &["--trace", "--trace"],
-        &["--trace=true"],
-        &["--workers"],
-        &["--help"],
-        &["-h"],
-        &["--world"],
-        &["world"],
+        ([].as_slice(), Ok(options(4, 1_000, false, None))),
+        (
+            &["--workers=2", "--trace"],
+            Ok(options(2, 1_000, true, None)),
+        ),
+        (
+            &["--turns", "1000000", "--workers", "16"],
+            Ok(options(16, 1_000_000, false, None)),
+        ),
+        (
+            &["--storm=1", "--turns=1"],
+            Ok(options(4, 1, false, Some(1))),
+        ),
+        (
+            &["--storm", "1000000"],
+            Ok(options(4, 1_000, false, Some(1_000_000))),
+        ),
+        (&["--workers", "17"], REFUSED),
+        (&["--workers=0"], REFUSED),
+        (&["--turns", "x"], REFUSED),
+        (&["--turns=1000001"], REFUSED),
+        (&["--storm=0"], REFUSED),
+        (&["--storm", "1000001"], REFUSED),
+        (&["--workers", "2", "--workers", "2"], REFUSED),
+        (&["--trace", "--trace"], REFUSED),
+        (&["--trace=true"], REFUSED),
+        (&["--workers"], REFUSED),
+        (&["--help"], REFUSED),
+        (&["-h"], REFUSED),
+        (&["--world"], REFUSED),
+        (&["world"], REFUSED),
     ];
-    for texts in rows.iter() {
-        let words = words_of(rt.alloc(), texts)?;
-        assert_eq!(rt; read_words(rt.alloc(), &words), Err(ArgsError::Usage));
+    for (texts, wanted) in rows.iter() {
+        let read = read(rt.alloc(), texts)?;
+        assert!(rt; read == *wanted);
     }
     Ok(())
 }

@@ -25,16 +25,16 @@ fn text_by(alloc: Global, most: usize) -> Result<Vec<u8>, AllocError>
     Ok(text)
 }
 
+const FIRST_LINES: &[u8] =
+    b"%%\ncut 0 x 5000\ncut 0 z 5000\ncut 1 z 5000\ncreate 1 Avatar 100 100\ncreate 2 Avatar 1350 100\n";
+
 #[test]
 fn one_line_is_the_stated_one(rt: HostRuntime) -> Result<(), Fail> {
     let text = text_by(rt.alloc(), 4096)?;
-    assert!(rt; text.ends_with(b"client 8\ncall b1 23 heal 35\n"));
-    assert!(rt;
-        text.starts_with(
-            b"%%\ncut 0 x 5000\ncut 0 z 5000\ncut 1 z 5000\ncreate 1 Avatar 100 100\ncreate 2 Avatar 1350 100\n"
-        )
-    );
-    assert_eq!(rt; text_by(rt.alloc(), 1)?, text);
-    assert_eq!(rt; text_by(rt.alloc(), 7)?, text);
+    let by_one = text_by(rt.alloc(), 1)? == text;
+    let by_seven = text_by(rt.alloc(), 7)? == text;
+    let begins = text.starts_with(FIRST_LINES);
+    let ends = text.ends_with(b"client 8\ncall b1 23 heal 35\n");
+    assert_eq!(rt; (begins, ends, by_one, by_seven), (true, true, true, true));
     Ok(())
 }

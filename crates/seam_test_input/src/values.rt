@@ -28,32 +28,26 @@ fn spellings_are_read(rt: HostRuntime) -> Result<(), Fail> {
     Ok(())
 }
 
-#[test]
-fn values_are_copied_and_written(rt: HostRuntime) -> Result<(), Fail> {
-    let alloc = rt.alloc();
-    let rows = [
-        (Value::Number(-128), b"=-128".as_slice()),
-        (text(alloc, b"a\"b\\c\nd")?, br#"="a\"b\\c\nd""#),
-    ];
-    for (value, bytes) in rows {
-        let copy = value.copy(alloc)?;
-        assert_eq!(rt; copy, value);
-        let written = spelling(alloc, &copy)?;
-        assert_eq!(rt; written.as_slice(), bytes);
-    }
-    Ok(())
+fn is_text(bytes: &[u8], wanted: &[u8]) -> bool {
+    bytes == wanted
 }
 
-#[test]
-fn texts_are_short(rt: HostRuntime) -> Result<(), Fail> {
-    let alloc = rt.alloc();
+// Whether a copy is the value, and is written as these bytes.
+fn is_written(alloc: Global, value: &Value, bytes: &[u8]) -> Result<bool, AllocError> {
+    let copy = value.copy(alloc)?;
+    let written = spelling(alloc, &copy)?;
+    Ok(copy == *value && is_text(&written, bytes))
+}
+
+fn text_is_written(alloc: Global) -> Result<bool, Fail> {
+    let value = text(alloc, b"a\"b\\c\nd")?;
+    Ok(is_written(alloc, &value, br#"="a\"b\\c\nd""#)?)
+}
+
+fn texts_are_short(alloc: Global) -> Result<bool, Fail> {
     let short = ShortText::new(alloc, b"ab")?;
-    assert_eq!(rt; short.bytes(), b"ab".as_slice());
-    assert_eq!(rt;
-        ShortText::new(alloc, &[b'a'; 256]),
-        Err(ValueError::TooLong)
-    );
-    Ok(())
+    let long = ShortText::new(alloc, &[b'a'; 256]) == Err(ValueError::TooLong);
+    Ok(long && is_text(short.bytes(), b"ab"))
 }
 
 fn sent<T: Send>(value: T) -> T {
@@ -61,6 +55,11 @@ fn sent<T: Send>(value: T) -> T {
 }
 
 #[test]
-fn values_may_be_sent_between_threads(rt: HostRuntime) {
-    assert_eq!(rt; sent(Value::Number(1)), Value::Number(1));
+fn values_are_copied_and_written_and_sent_between_threads(rt: HostRuntime) -> Result<(), Fail> {
+    let number = is_written(rt.alloc(), &Value::Number(-128), b"=-128")?;
+    let text = text_is_written(rt.alloc())?;
+    let short = texts_are_short(rt.alloc())?;
+    let crosses = sent(Value::Number(1)) == Value::Number(1);
+    assert_eq!(rt; (number, text, short, crosses), (true, true, true, true));
+    Ok(())
 }

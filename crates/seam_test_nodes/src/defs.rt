@@ -4,27 +4,7 @@ use seam_defs::{Args, Deed, Defs, Group, State};
 use seam_geo::Pos;
 use seam_value::Value;
 use std::alloc::{AllocError, Global};
-use std::process::Abort;
 use std::test::Fail;
-
-// Whether this is the text of a group of a new avatar's properties.
-fn is_written(alloc: Global, defs: &Defs, group: Group, wanted: &[u8]) -> Result<bool, AllocError> {
-    let avatar = defs.type_at(AVATAR);
-    let props = avatar.start_props(group)?;
-    let mut text = Vec::new(alloc);
-    avatar.write_props(group, &props, &mut text)?;
-    Ok(text.as_slice() == wanted)
-}
-
-// Whether this is the text of what others are shown of what its real has.
-fn is_projected(alloc: Global, defs: &Defs, wanted: &[u8]) -> Result<bool, AllocError> {
-    let avatar = defs.type_at(AVATAR);
-    let real = avatar.start_props(Group::Real)?;
-    let other = avatar.project_group(Group::Real, &real, Group::Other)?;
-    let mut text = Vec::new(alloc);
-    avatar.write_props(Group::Other, &other, &mut text)?;
-    Ok(text.as_slice() == wanted)
-}
 
 // Whether a copy has the second type.
 fn are_copied(defs: &Defs) -> Result<bool, AllocError> {
@@ -53,19 +33,12 @@ fn heal_stops(alloc: Global, defs: &Defs) -> Result<bool, Fail> {
     Ok(healed && stopped && !avatar.apply(&mut state, &deed)?)
 }
 
-fn look_at_definitions(rt: &impl Abort, alloc: Global, defs: &Defs) -> Result<(), Fail> {
-    assert!(rt; is_written(alloc, defs, Group::Own, b" hp=100 mana=50 xp=0")?);
-    assert!(rt; is_projected(alloc, defs, b" hp=100 mood=0")?);
-    assert!(rt; are_copied(defs)?);
-    assert!(rt; state_crosses(defs)?);
-    assert!(rt; heal_stops(alloc, defs)?);
-    Ok(())
-}
-
-#[test]
-fn definitions_give_states_and_texts(rt: HostRuntime) -> Result<(), Fail> {
-    let defs = sent(builtin(rt.alloc())?);
-    look_at_definitions(&rt, rt.alloc(), &defs)
+// Whether definitions, of built-in types, give copies and states, and a heal stops at the greatest number.
+fn look_at_definitions(alloc: Global, defs: &Defs) -> Result<(bool, bool, bool), Fail> {
+    let copied = are_copied(defs)?;
+    let crosses = state_crosses(defs)?;
+    let stops = heal_stops(alloc, defs)?;
+    Ok((copied, crosses, stops))
 }
 
 // Whether a copy has the one number.
@@ -74,15 +47,22 @@ fn has_five(args: &Args) -> Result<bool, AllocError> {
     Ok(copy.values().len() == 1 && copy.values().get(0) == Some(&Value::Number(5)))
 }
 
-#[test]
-fn arguments_are_copied(rt: HostRuntime) -> Result<(), Fail> {
-    let args = Args::of(vec![in rt.alloc(); Value::Number(5)]?);
-    assert!(rt; has_five(&args)?);
-    Ok(())
+fn args_are_copied(alloc: Global) -> Result<bool, AllocError> {
+    let args = Args::of(vec![in alloc; Value::Number(5)]?);
+    has_five(&args)
+}
+
+// A deed goes from one thread to another.
+fn deed_crosses(alloc: Global) -> bool {
+    let deed = sent(Deed::Method(0, sent(Args::of(Vec::new(alloc)))));
+    matches!(deed, Deed::Method(0, _))
 }
 
 #[test]
-fn a_deed_may_cross_threads(rt: HostRuntime) {
-    let deed = sent(Deed::Method(0, sent(Args::of(Vec::new(rt.alloc())))));
-    assert!(rt; matches!(deed, Deed::Method(0, _)));
+fn definitions_give_states_and_arguments_are_copied(rt: HostRuntime) -> Result<(), Fail> {
+    let defs = sent(builtin(rt.alloc())?);
+    let seen = look_at_definitions(rt.alloc(), &defs)?;
+    let args = (args_are_copied(rt.alloc())?, deed_crosses(rt.alloc()));
+    assert_eq!(rt; (seen, args), ((true, true, true), (true, true)));
+    Ok(())
 }

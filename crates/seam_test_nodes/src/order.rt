@@ -1,6 +1,5 @@
 use crate::builtin::sent;
 use seam_order::{InOrder, Offer};
-use std::process::Abort;
 use std::test::Fail;
 
 // The answer to an offer of a number that is not held, or the item taken, as text.
@@ -16,32 +15,35 @@ fn offered(items: &mut InOrder<char>, number: u64, item: char) -> (char, Option<
     }
 }
 
-fn come_early(rt: &impl Abort, items: &mut InOrder<char>) {
-    assert_eq!(rt; offered(items, 2, 'b'), ('h', None));
-    assert!(rt; items.holds(2) && !items.holds(1));
-    assert_eq!(rt; items.held_at(0), Some((2, &'b')));
-    assert_eq!(rt; items.peek(), None);
+fn come_early(items: &mut InOrder<char>) -> bool {
+    let offered = offered(items, 2, 'b');
+    let held = (items.holds(1), items.holds(2));
+    let first = items.held_at(0) == Some((2, &'b'));
+    let none = items.peek().is_none();
+    (offered, held, first, none) == (('h', None), (false, true), true, true)
 }
 
-fn come_in_turn(rt: &impl Abort, items: &mut InOrder<char>) {
-    assert_eq!(rt; offered(items, 1, 'a'), ('n', Some('a')));
-    assert!(rt; items.is_ready());
-    assert_eq!(rt; items.peek(), Some(&'b'));
-    assert_eq!(rt; items.take_next(), Some('b'));
-    assert_eq!(rt; items.take_next(), None);
+fn come_in_turn(items: &mut InOrder<char>) -> bool {
+    let offered = offered(items, 1, 'a');
+    let peeked = items.peek() == Some(&'b');
+    let ready = (items.is_ready(), peeked);
+    let first = items.take_next();
+    let second = items.take_next();
+    (offered, ready, first, second) == (('n', Some('a')), (true, true), Some('b'), None)
 }
 
-fn come_late(rt: &impl Abort, items: &mut InOrder<char>) {
-    assert_eq!(rt; items.next_number(), 3);
-    assert!(rt; !items.holds(1));
-    assert_eq!(rt; offered(items, 1, 'c'), ('s', Some('c')));
+fn come_late(items: &mut InOrder<char>) -> bool {
+    let next = items.next_number();
+    let held = items.holds(1);
+    (next, held, offered(items, 1, 'c')) == (3, false, ('s', Some('c')))
 }
 
 #[test]
 fn early_then_its_turn_then_over(rt: HostRuntime) -> Result<(), Fail> {
     let mut items = sent(InOrder::new(rt.alloc()));
-    come_early(&rt, &mut items);
-    come_in_turn(&rt, &mut items);
-    come_late(&rt, &mut items);
+    let early = come_early(&mut items);
+    let in_turn = come_in_turn(&mut items);
+    let late = come_late(&mut items);
+    assert_eq!(rt; (early, in_turn, late), (true, true, true));
     Ok(())
 }

@@ -7,7 +7,6 @@ use seam_geo::Pos;
 use seam_value::Value;
 use seam_view::Look;
 use std::alloc::{AllocError, Global};
-use std::process::Abort;
 use std::test::Fail;
 
 // A call of client 2: its number, the method, and the number given to it.
@@ -123,46 +122,51 @@ fn create(alloc: Global, defs: &Defs) -> Result<Real, AllocError> {
     Real::create(alloc, defs, 1, AVATAR, Pos { x: 100, z: 100 })
 }
 
-fn take_calls(rt: &impl Abort, alloc: Global, real: &mut Real, defs: &Defs) -> Result<(), Fail> {
-    assert!(rt; is_held(alloc, real, defs, HEAL)?);
-    assert_eq!(rt; prepared(alloc, real, defs, HIT)?, (true, true));
-    assert!(rt; is_done(alloc, real, defs, HIT)?);
-    assert_eq!(rt; copied(real, defs)?, (1, true));
-    Ok(())
+// Whether the later call is held, the earlier one leaves what it was prepared to, and the copy has that.
+fn take_calls(alloc: Global, real: &mut Real, defs: &Defs) -> Result<bool, Fail> {
+    let held = is_held(alloc, real, defs, HEAL)?;
+    let prepared = prepared(alloc, real, defs, HIT)?;
+    let done = is_done(alloc, real, defs, HIT)?;
+    let copied = copied(real, defs)?;
+    Ok((held, prepared, done, copied) == (true, (true, true), true, (1, true)))
 }
 
-fn go_on(rt: &impl Abort, real: &mut Real, defs: &Defs) -> Result<(), Fail> {
-    assert!(rt; real.fits(defs, &Settings::standard()));
-    assert_eq!(rt; execute_ready(real, defs)?, (true, true));
-    assert!(rt; !real.is_ready());
-    assert_eq!(rt; shown(real, defs)?, (true, true));
-    Ok(())
+// Whether the held call is executed then, and what is shown has that.
+fn go_on(real: &mut Real, defs: &Defs) -> Result<bool, Fail> {
+    let fits = real.fits(defs, &Settings::standard());
+    let executed = execute_ready(real, defs)?;
+    let ready = real.is_ready();
+    let shown = shown(real, defs)?;
+    Ok((fits, executed, ready, shown) == (true, (true, true), false, (true, true)))
 }
 
-fn tell(rt: &impl Abort, alloc: Global, real: &mut Real) -> Result<(), Fail> {
+// Whether its witness tells its state once, and is back in it.
+fn tell(alloc: Global, real: &mut Real) -> Result<bool, Fail> {
     real.put_witness(Witness::new(alloc, &Settings::standard())?);
-    assert_eq!(rt; told_once(real)?, (true, false));
-    assert!(rt; real.has_witness());
-    Ok(())
+    let told = told_once(real)?;
+    Ok(told == (true, false) && real.has_witness())
 }
 
-fn live(rt: &impl Abort, alloc: Global, defs: &Defs) -> Result<(), Fail> {
+fn live(alloc: Global, real: &mut Real, defs: &Defs) -> Result<(bool, bool, bool), Fail> {
+    let called = take_calls(alloc, real, defs)?;
+    let gone_on = go_on(real, defs)?;
+    Ok((called, gone_on, tell(alloc, real)?))
+}
+
+fn lived(alloc: Global, defs: &Defs) -> Result<(bool, bool, bool), Fail> {
     let mut real = sent(create(alloc, defs)?);
-    take_calls(rt, alloc, &mut real, defs)?;
-    go_on(rt, &mut real, defs)?;
-    tell(rt, alloc, &mut real)
+    live(alloc, &mut real, defs)
+}
+
+// A message goes from one thread to another.
+fn message_crosses() -> bool {
+    matches!(sent(Msg::Tick), Msg::Tick)
 }
 
 #[test]
 fn a_real_executes_calls_in_order_and_tells_its_state_once(rt: HostRuntime) -> Result<(), Fail> {
     let defs = builtin(rt.alloc())?;
-    live(&rt, rt.alloc(), &defs)
-}
-
-#[test]
-fn a_message_may_cross_threads(rt: HostRuntime) {
-    match sent(Msg::Tick) {
-        Msg::Tick => {}
-        _ => panic!(rt; "another message"),
-    }
+    let lived = lived(rt.alloc(), &defs)?;
+    assert_eq!(rt; (lived, message_crosses()), ((true, true, true), true));
+    Ok(())
 }

@@ -1,13 +1,9 @@
 // SPDX-License-Identifier: MIT
 
-//! Tests of trees of cells, of the haunts that they give, of their balance, of who is near, and of views. They stand here, since a crate
-//! with tests of its own is proved twice.
+//! Tests of trees of cells, of who is near, and of views. They stand here, since a crate with tests of its own is proved twice. Haunts and
+//! balanced boundaries are in `rows/`.
 #![tactic(auto)]
 
-#[cfg(test)]
-mod balances;
-#[cfg(test)]
-mod haunts;
 #[cfg(test)]
 mod ranges;
 #[cfg(test)]

@@ -2,7 +2,6 @@ use crate::sent;
 use seam_geo::Pos;
 use seam_range::{Location, RangeList};
 use std::alloc::AllocError;
-use std::process::Abort;
 use std::test::Fail;
 
 const CORNER: Pos = Pos { x: 0, z: 0 };
@@ -47,37 +46,39 @@ fn are_near(
     Ok(list.within(p, d, 0)?.as_slice() == wanted)
 }
 
-fn put_three(rt: &impl Abort, list: &mut RangeList) -> Result<(), AllocError> {
+fn put_three(list: &mut RangeList) -> Result<bool, AllocError> {
     list.put(2, TWO)?;
     list.put(1, ONE)?;
     list.put(3, THREE)?;
-    assert!(rt; are_near(list, CORNER, 5, &[(1, ONE), (2, TWO)])?);
-    assert!(rt; are_near(list, CORNER, 5_000, &[(1, ONE), (2, TWO), (3, THREE)])?);
-    Ok(())
+    let two = are_near(list, CORNER, 5, &[(1, ONE), (2, TWO)])?;
+    Ok(two && are_near(list, CORNER, 5_000, &[(1, ONE), (2, TWO), (3, THREE)])?)
 }
 
-fn change_all(rt: &impl Abort, list: &mut RangeList) -> Result<(), AllocError> {
+fn change_all(list: &mut RangeList) -> Result<bool, AllocError> {
     list.put(1, MOVED)?;
     list.put(3, NEWER)?;
-    assert!(rt; list.remove(2));
-    assert!(rt; !list.remove(2));
-    assert!(rt; are_near(list, CORNER, 6, &[(3, NEWER)])?);
-    assert!(rt; are_near(list, CORNER, 9, &[(1, MOVED), (3, NEWER)])?);
-    Ok(())
+    let first = list.remove(2);
+    let again = list.remove(2);
+    let one = are_near(list, CORNER, 6, &[(3, NEWER)])?;
+    let two = are_near(list, CORNER, 9, &[(1, MOVED), (3, NEWER)])?;
+    Ok(first && !again && one && two)
 }
 
-fn move_far(rt: &impl Abort, list: &mut RangeList) -> Result<(), AllocError> {
+fn move_far(list: &mut RangeList) -> Result<bool, AllocError> {
     list.put(1, FAR)?;
-    assert!(rt; are_near(list, CORNER, 9, &[(3, NEWER)])?);
-    assert!(rt; are_near(list, Pos { x: 590, z: 310 }, 10, &[(1, FAR)])?);
-    Ok(())
+    let near = are_near(list, CORNER, 9, &[(3, NEWER)])?;
+    Ok(near && are_near(list, Pos { x: 590, z: 310 }, 10, &[(1, FAR)])?)
+}
+
+fn look(list: &mut RangeList) -> Result<(bool, bool, bool), AllocError> {
+    let put = put_three(list)?;
+    let changed = change_all(list)?;
+    Ok((put, changed, move_far(list)?))
 }
 
 #[test]
 fn near_entities_in_rising_number(rt: HostRuntime) -> Result<(), Fail> {
     let mut list = sent(RangeList::new(rt.alloc()));
-    put_three(&rt, &mut list)?;
-    change_all(&rt, &mut list)?;
-    move_far(&rt, &mut list)?;
+    assert_eq!(rt; look(&mut list)?, (true, true, true));
     Ok(())
 }

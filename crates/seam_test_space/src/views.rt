@@ -6,7 +6,6 @@ use crate::sent;
 use seam_geo::Pos;
 use seam_view::{Look, Seen, View};
 use std::alloc::AllocError;
-use std::process::Abort;
 use std::test::Fail;
 
 const OWN: Pos = Pos { x: 0, z: 0 };
@@ -31,25 +30,27 @@ fn tells(view: &mut View, known: &[Seen], looks: &[Look]) -> Result<bool, AllocE
     Ok(planned.as_slice() == looks)
 }
 
-fn come_and_go(rt: &impl Abort, view: &mut View) -> Result<(), AllocError> {
-    assert!(rt; tells(view, &seen(2, 0, 300), &[Look::Enter(2)])?);
-    assert_eq!(rt; (view.at(0), view.len()), (Some((2, 0)), 1));
-    assert!(rt; tells(view, &seen(2, 1, 311), &[Look::Leave(2)])?);
-    assert_eq!(rt; (view.shown(2), view.len()), (Some(0), 0));
-    Ok(())
+fn come_and_go(view: &mut View) -> Result<bool, AllocError> {
+    let enters = tells(view, &seen(2, 0, 300), &[Look::Enter(2)])?;
+    let one = (view.at(0), view.len()) == (Some((2, 0)), 1);
+    let leaves = tells(view, &seen(2, 1, 311), &[Look::Leave(2)])?;
+    Ok(enters && one && leaves && (view.shown(2), view.len()) == (Some(0), 0))
 }
 
-fn come_back(rt: &impl Abort, view: &mut View) -> Result<(), AllocError> {
-    assert!(rt; tells(view, &seen(2, 3, 299), &[Look::Enter(2)])?);
-    assert_eq!(rt; (view.at(0), view.shown(2)), (Some((2, 3)), Some(3)));
-    Ok(())
+fn come_back(view: &mut View) -> Result<bool, AllocError> {
+    let enters = tells(view, &seen(2, 3, 299), &[Look::Enter(2)])?;
+    Ok(enters && (view.at(0), view.shown(2)) == (Some((2, 3)), Some(3)))
+}
+
+fn look(view: &mut View) -> Result<(bool, bool), AllocError> {
+    let gone = come_and_go(view)?;
+    Ok((gone, come_back(view)?))
 }
 
 #[test]
 fn enters_at_the_radius_and_leaves_past_the_hysteresis(rt: HostRuntime) -> Result<(), Fail> {
     let mut view = sent(View::new(rt.alloc(), 300, 10));
-    come_and_go(&rt, &mut view)?;
-    come_back(&rt, &mut view)?;
+    assert_eq!(rt; look(&mut view)?, (true, true));
     Ok(())
 }
 
@@ -91,10 +92,10 @@ fn leaves_then_sets_then_enters(rt: HostRuntime) -> Result<(), Fail> {
         },
     ];
     let looks = [Look::Leave(5), Look::Leave(9), Look::Set(2), Look::Enter(7)];
-    assert!(rt; tells(&mut view, &known, &looks)?);
+    let told = tells(&mut view, &known, &looks)?;
     assert_eq!(rt;
-        (view.at(0), view.at(1), view.at(2)),
-        (Some((2, 2)), Some((7, 4)), None)
+        (told, view.at(0), view.at(1), view.at(2)),
+        (true, Some((2, 2)), Some((7, 4)), None)
     );
     Ok(())
 }

@@ -6,7 +6,6 @@ use seam_defs::Settings;
 use seam_entity::Msg;
 use seam_machine::{Machine, Out};
 use std::alloc::{AllocError, Global};
-use std::process::Abort;
 use std::test::Fail;
 
 // What comes to a base node: its task or a message, or the order from which the message comes, which it executes at once.
@@ -127,30 +126,35 @@ fn seen_in(base: &Base) -> Seen {
     }
 }
 
-fn play(rt: &impl Abort, alloc: Global, base: &mut Base, rows: &[Row]) -> Result<(), Fail> {
+// What comes is as the rows say: gives the number of the first row that the base node does not keep to.
+fn play(alloc: Global, base: &mut Base, rows: &[Row]) -> Result<Option<u32>, Fail> {
     let mut number = 0u32;
     for row in rows {
         let Row(comes, sent, then) = *row;
         number = number.saturating_add(1);
         let mut out = come(base, alloc, comes)?;
-        assert!(rt; are_sent(&mut out, sent), "sent in row {number}");
-        assert!(rt; seen_in(base) == then, "after row {number}");
+        let well = are_sent(&mut out, sent) && seen_in(base) == then;
+        if !well {
+            return Ok(Some(number));
+        }
     }
-    Ok(())
+    Ok(None)
 }
 
-fn play_all(rt: &impl Abort, alloc: Global, base: &mut Base, parts: &[&[Row]]) -> Result<(), Fail> {
+fn play_all(alloc: Global, base: &mut Base, parts: &[&[Row]]) -> Result<Option<u32>, Fail> {
     load(base, alloc)?;
     for rows in parts {
-        play(rt, alloc, base, rows)?;
+        if let Some(number) = play(alloc, base, rows)? {
+            return Ok(Some(number));
+        }
     }
-    Ok(())
+    Ok(None)
 }
 
-// The base node is owned here alone, and not by each test: a drop of all its parts is long to prove.
-fn play_loaded(rt: &impl Abort, alloc: Global, parts: &[&[Row]]) -> Result<(), Fail> {
+// The base node is owned here alone, where there is one way out: a drop of all its parts is long to prove.
+fn play_loaded(alloc: Global, parts: &[&[Row]]) -> Result<Option<u32>, Fail> {
     let mut base = empty(alloc)?;
-    play_all(rt, alloc, &mut base, parts)
+    play_all(alloc, &mut base, parts)
 }
 
 // Cell order; base orders about an entity of this node, and about one of the other node, to which the call goes; tick order; reap
@@ -175,11 +179,6 @@ const ORDERS: &[Row] = &[
     Row(Comes::Order(Fed::Reap(1)), &[(1, Told::Reap(1))], REAPED),
 ];
 
-#[test]
-fn orders_are_passed_on(rt: HostRuntime) -> Result<(), Fail> {
-    play_loaded(&rt, rt.alloc(), &[ORDERS])
-}
-
 const BUSY: Seen = Seen {
     lines: Some(2),
     route: Some((1, 0)),
@@ -199,22 +198,12 @@ const CALLS: &[Row] = &[
     Row(Comes::Fed(Fed::Task), &[], TWICE),
 ];
 
-#[test]
-fn calls_are_executed_in_order(rt: HostRuntime) -> Result<(), Fail> {
-    play_loaded(&rt, rt.alloc(), &[CALLS])
-}
-
 // The second update waits for the first, and is shown by the task then.
 const UPDATES: &[Row] = &[
     Row(Comes::Fed(Fed::Update(1, 2)), &[], FIRST),
     Row(Comes::Fed(Fed::Update(1, 1)), &[], BUSY),
     Row(Comes::Fed(Fed::Task), &[], TWICE),
 ];
-
-#[test]
-fn updates_are_shown_in_order(rt: HostRuntime) -> Result<(), Fail> {
-    play_loaded(&rt, rt.alloc(), &[UPDATES])
-}
 
 // Current, of a greater generation, the same one, a lesser one and a greater one again; and a stray one, to no cell.
 const CURRENTS: &[Row] = &[
@@ -243,7 +232,36 @@ const OTHERS: &[Row] = &[
     Row(Comes::Order(Fed::Reap(3)), &[], STUCK),
 ];
 
+// The rows of a base node, in parts.
+struct Case {
+    name: &'static str,
+    parts: &'static [&'static [Row<'static>]],
+}
+
+static CASES: [Case; 4] = [
+    Case {
+        name: "orders are passed on",
+        parts: &[ORDERS],
+    },
+    Case {
+        name: "calls are executed in order",
+        parts: &[CALLS],
+    },
+    Case {
+        name: "updates are shown in order",
+        parts: &[UPDATES],
+    },
+    Case {
+        name: "lesser currents and stray input change nothing",
+        parts: &[CURRENTS, STRAYS, OTHERS],
+    },
+];
+
 #[test]
-fn lesser_currents_and_stray_input_change_nothing(rt: HostRuntime) -> Result<(), Fail> {
-    play_loaded(&rt, rt.alloc(), &[CURRENTS, STRAYS, OTHERS])
+fn base_nodes_send_and_have_what_the_rows_say(rt: HostRuntime) -> Result<(), Fail> {
+    for case in &CASES {
+        let wrong = play_loaded(rt.alloc(), case.parts)?;
+        assert_eq!(rt; wrong, None, "{}", case.name);
+    }
+    Ok(())
 }

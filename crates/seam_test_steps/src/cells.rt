@@ -10,7 +10,6 @@ use seam_defs::Settings;
 use seam_machine::Machine;
 use seam_tree::{Axis, Tree};
 use std::alloc::{AllocError, Global};
-use std::process::Abort;
 use std::test::Fail;
 
 // What a cell has then: whether the real of entity 1, the version of a copy of it, and whether a task.
@@ -106,6 +105,13 @@ enum Before {
     Entities,
 }
 
+// What cell 0 has before, and its rows, in parts.
+struct Case {
+    name: &'static str,
+    before: Before,
+    parts: &'static [&'static [Row<'static>]],
+}
+
 fn start(cell: &mut Cell, alloc: Global, before: Before) -> Result<(), AllocError>
     requires tree { cell.old.tree ≡ one_cell 10000 }
     requires size { cell.old.here.settings.size ≡ 10000 }
@@ -131,44 +137,38 @@ fn seen_in(cell: &Cell) -> Seen {
     }
 }
 
-fn play(rt: &impl Abort, alloc: Global, cell: &mut Cell, rows: &[Row]) -> Result<(), Fail> {
+// Feeds the cell as the rows say, and gives the number of the first row that it does not keep to.
+fn play(alloc: Global, cell: &mut Cell, rows: &[Row]) -> Result<Option<u32>, Fail> {
     let mut number = 0u32;
     for row in rows {
         let Row(fed, sent, then) = *row;
         number = number.saturating_add(1);
         let mut out = feed(cell, alloc, fed)?;
-        assert!(rt; are_sent(&mut out, sent), "sent in row {number}");
-        assert!(rt; seen_in(cell) == then, "after row {number}");
+        let well = are_sent(&mut out, sent) && seen_in(cell) == then;
+        if !well {
+            return Ok(Some(number));
+        }
     }
-    Ok(())
+    Ok(None)
 }
 
-fn play_all(
-    rt: &impl Abort,
-    alloc: Global,
-    cell: &mut Cell,
-    before: Before,
-    parts: &[&[Row]],
-) -> Result<(), Fail>
+fn play_all(alloc: Global, cell: &mut Cell, case: &Case) -> Result<Option<u32>, Fail>
     requires tree { cell.old.tree ≡ one_cell 10000 }
     requires size { cell.old.here.settings.size ≡ 10000 }
 {
-    start(cell, alloc, before)?;
-    for rows in parts {
-        play(rt, alloc, cell, rows)?;
+    start(cell, alloc, case.before)?;
+    for rows in case.parts {
+        if let Some(number) = play(alloc, cell, rows)? {
+            return Ok(Some(number));
+        }
     }
-    Ok(())
+    Ok(None)
 }
 
-// The cell is owned here alone, and not by each test: a drop of all its parts is long to prove.
-fn play_after(
-    rt: &impl Abort,
-    alloc: Global,
-    before: Before,
-    parts: &[&[Row]],
-) -> Result<(), Fail> {
+// The cell is owned here alone, where there is one way out: a drop of all its parts is long to prove.
+fn play_case(alloc: Global, case: &Case) -> Result<Option<u32>, Fail> {
     let mut cell = empty(alloc)?;
-    play_all(rt, alloc, &mut cell, before, parts)
+    play_all(alloc, &mut cell, case)
 }
 
 // Survey task, of each real in rising number: cell 1, which is near, gets copies. Then the client is told of itself and of entity 2.
@@ -183,11 +183,6 @@ const SURVEYS: &[Row] = &[
     ),
 ];
 
-#[test]
-fn reals_settle_in_rising_number(rt: HostRuntime) -> Result<(), Fail> {
-    play_after(&rt, rt.alloc(), Before::Entities, &[SURVEYS])
-}
-
 // Reap, of the first entity of the survey list: the other one is still to settle, and then nothing is to be done.
 const DUE_REAPS: &[Row] = &[
     Row(
@@ -201,11 +196,6 @@ const DUE_REAPS: &[Row] = &[
     ),
     Row(Fed::Task, &[(1, Told::Set(1, 2, 0))], NONE),
 ];
-
-#[test]
-fn a_reaped_entity_does_not_settle(rt: HostRuntime) -> Result<(), Fail> {
-    play_after(&rt, rt.alloc(), Before::Entities, &[DUE_REAPS])
-}
 
 // Hand-over comes: the base nodes are told.
 const COMES: Row = Row(
@@ -241,11 +231,6 @@ const REAPS: &[Row] = &[
     Row(Fed::Set(6, 1, 2), &[], COPIED),
 ];
 
-#[test]
-fn calls_are_executed_in_turn_where_the_real_is(rt: HostRuntime) -> Result<(), Fail> {
-    play_after(&rt, rt.alloc(), Before::Nothing, &[CALLS, LEAVES, REAPS])
-}
-
 // Ghost set and ghost drop, each of a greater beat and the same one, and a set of a lesser one.
 const GHOSTS: &[Row] = &[
     Row(Fed::Set(2, 1, 2), &[], COPIED),
@@ -255,11 +240,6 @@ const GHOSTS: &[Row] = &[
     Row(Fed::Set(3, 1, 2), &[], NONE),
 ];
 
-#[test]
-fn the_greatest_beat_tells_of_a_ghost(rt: HostRuntime) -> Result<(), Fail> {
-    play_after(&rt, rt.alloc(), Before::Nothing, &[GHOSTS])
-}
-
 // Ghost set, where the real is: nothing is kept of it, as is seen when the real is gone.
 const IGNORED: &[Row] = &[
     COMES,
@@ -267,11 +247,6 @@ const IGNORED: &[Row] = &[
     Row(Fed::Reap(1), &[], NONE),
     Row(Fed::Set(3, 1, 2), &[], COPIED),
 ];
-
-#[test]
-fn a_ghost_of_a_real_is_ignored(rt: HostRuntime) -> Result<(), Fail> {
-    play_after(&rt, rt.alloc(), Before::Nothing, &[IGNORED])
-}
 
 const WATCHER_COMES: Row = Row(
     Fed::Watcher(1, 1, 1),
@@ -317,16 +292,6 @@ const LAST_LOOKS: &[Row] = &[
     Row(Fed::Reap(1), &[(1, Told::Drop(3, 1))], NONE),
 ];
 
-#[test]
-fn a_witness_looks(rt: HostRuntime) -> Result<(), Fail> {
-    play_after(
-        &rt,
-        rt.alloc(),
-        Before::Nothing,
-        &[LOOKS, CHANGES, LAST_LOOKS],
-    )
-}
-
 // Stray input at a cell: calls of number 0 and to a place outside the space, a real that is here, and a reap of one that is not.
 const STRAYS: &[Row] = &[
     COMES,
@@ -345,7 +310,49 @@ const OTHERS: &[Row] = &[
     Row(Fed::Walk(1, 1, 4_940), &[(1, Told::Set(2, 1, 1))], HERE),
 ];
 
+static CASES: [Case; 7] = [
+    Case {
+        name: "reals settle in rising number",
+        before: Before::Entities,
+        parts: &[SURVEYS],
+    },
+    Case {
+        name: "a reaped entity does not settle",
+        before: Before::Entities,
+        parts: &[DUE_REAPS],
+    },
+    Case {
+        name: "calls are executed in turn where the real is",
+        before: Before::Nothing,
+        parts: &[CALLS, LEAVES, REAPS],
+    },
+    Case {
+        name: "the greatest beat tells of a ghost",
+        before: Before::Nothing,
+        parts: &[GHOSTS],
+    },
+    Case {
+        name: "a ghost of a real is ignored",
+        before: Before::Nothing,
+        parts: &[IGNORED],
+    },
+    Case {
+        name: "a witness looks",
+        before: Before::Nothing,
+        parts: &[LOOKS, CHANGES, LAST_LOOKS],
+    },
+    Case {
+        name: "stray input changes nothing",
+        before: Before::Nothing,
+        parts: &[STRAYS, OTHERS],
+    },
+];
+
 #[test]
-fn stray_input_changes_nothing(rt: HostRuntime) -> Result<(), Fail> {
-    play_after(&rt, rt.alloc(), Before::Nothing, &[STRAYS, OTHERS])
+fn cells_send_and_have_what_the_rows_say(rt: HostRuntime) -> Result<(), Fail> {
+    for case in &CASES {
+        let wrong = play_case(rt.alloc(), case)?;
+        assert_eq!(rt; wrong, None, "{}", case.name);
+    }
+    Ok(())
 }

@@ -11,8 +11,6 @@ mod cells;
 #[cfg(test)]
 mod feeding;
 #[cfg(test)]
-mod hearing;
-#[cfg(test)]
 mod queues;
 #[cfg(test)]
 mod told;

@@ -1,147 +1,31 @@
-// The worked rows of headers.
+// What headers stand for, and how parts of one are judged. Which are refused, and for which cause, is in `rows/`.
 use seam_defs::{Defs, Settings};
 use seam_toml::{
     Fault, Header, HeaderError, Role, first_fault, has_fault, is_at_fault, read_document,
     read_header, read_settings,
 };
-use std::alloc::Global;
-use std::process::Abort;
+use std::alloc::{AllocError, Global};
 use std::test::Fail;
+use toml::{Table, Value};
 
 // A call of its own, without a clause: what a text stands for is not computed again where it is asked.
 fn read(alloc: Global, text: &str) -> Result<Header, HeaderError> {
     read_header(alloc, text.as_bytes())
 }
 
-fn cause(alloc: Global, text: &str) -> Option<HeaderError> {
-    match read(alloc, text) {
-        Ok(_) => None,
-        Err(error) => Some(error),
-    }
+// Whether a header without bytes sets the standard settings and the built-in types.
+fn sets_what_is_built_in(alloc: Global) -> Result<bool, Fail> {
+    let header = read(alloc, "").map_err(|_| "no bytes")?;
+    let avatar = header.defs.find_type(b"Avatar") == Some(0);
+    let chest = header.defs.find_type(b"Chest") == Some(1);
+    let standard = header.settings == Settings::standard();
+    Ok(standard && avatar && chest && !header.defs.has_type(2))
 }
 
-const ROWS: [(&str, Option<HeaderError>); 25] = [
-    ("", None),
-    ("[", Some(HeaderError::NotToml)),
-    ("speed = 1", Some(HeaderError::NoSuchKey)),
-    ("[settings]\nspeed = 1", Some(HeaderError::NoSuchKey)),
-    ("[settings]\nbases = 9", Some(HeaderError::BadType)),
-    (
-        "version = 2\n[settings]\nspeed = 1",
-        Some(HeaderError::NoSuchKey),
-    ),
-    (
-        "[settings]\nghost_distance = 319",
-        Some(HeaderError::GhostTooNear),
-    ),
-    ("[settings]\nghost_distance = 320", None),
-    (
-        "[type.A.methods.move]\npart = 'cell'",
-        Some(HeaderError::NoSuchKey),
-    ),
-    (
-        "[type.A.methods.m]\npart = 'wall'",
-        Some(HeaderError::BadType),
-    ),
-    (
-        "[type.A.methods.m]\nexposed = true",
-        Some(HeaderError::NoSuchKey),
-    ),
-    (
-        "[type.A.properties.p]\ntype = 'INT8'\nflag = 'ALL'\ndefault = 128",
-        Some(HeaderError::BadFlag),
-    ),
-    (
-        "[type.A.properties.p]\ntype = 'INT8'\nflag = 'BASE'\ndefault = 128",
-        Some(HeaderError::BadDefault),
-    ),
-    (
-        "type.A.properties.p = { type = 'INT8', flag = 'BASE', default = 1 }
-         type.A.methods.m = { part = 'cell', body = ['set p 1'] }",
-        Some(HeaderError::BadBody),
-    ),
-    (
-        "type.A.properties.p = { type = 'INT8', flag = 'BASE', default = 1 }
-         type.A.methods.m = { part = 'base', body = ['set p 128'] }",
-        Some(HeaderError::BadBody),
-    ),
-    (
-        "type.A.properties.p = { type = 'INT8', flag = 'BASE', default = 1 }
-         type.A.methods.m = { part = 'base', body = ['set p 127'] }",
-        None,
-    ),
-    (
-        "type.A.properties.p = { type = 'INT8', flag = 'BASE', default = 1 }
-         type.A.methods.m = { part = 'base', body = ['add p 01'] }",
-        Some(HeaderError::BadBody),
-    ),
-    (
-        "type.A.properties.p = { type = 'STRING', flag = 'BASE', default = '' }
-         type.A.methods.m = { part = 'base', body = ['add p \"a\"'] }",
-        Some(HeaderError::BadBody),
-    ),
-    (
-        "type.A.properties.p = { type = 'STRING', flag = 'BASE', default = '' }
-         type.A.methods.m = { part = 'base', body = ['set p \"a b\"'] }",
-        None,
-    ),
-    (
-        "type.A.properties.p = { type = 'INT8', flag = 'BASE', default = 1 }
-         type.A.methods.m = { part = 'base', body = ['set p $1'] }",
-        Some(HeaderError::BadBody),
-    ),
-    (
-        "type.A.properties.p = { type = 'INT8', flag = 'BASE', default = 1 }
-         type.A.methods.m = { part = 'base', args = ['INT16'], body = ['set p $1'] }",
-        Some(HeaderError::BadBody),
-    ),
-    (
-        "type.A.properties.p = { type = 'INT8', flag = 'BASE', default = 1 }
-         type.A.methods.m = { part = 'base', args = ['INT8'], body = ['set p $1 '] }",
-        None,
-    ),
-    (
-        "type.A.properties.p = { type = 'INT8', flag = 'BASE', default = 1 }
-         type.A.methods.m = { part = 'base', args = [
-         'INT8', 'INT8', 'INT8', 'INT8', 'INT8', 'INT8', 'INT8', 'INT8', 'INT8'], body = ['set p $9'] }",
-        Some(HeaderError::TooManyNames),
-    ),
-    (
-        "[type.A.methods.m]\npart = 'cell'\nargs = ['INT8', 'INT8', 'INT8', 'INT8', 'INT8', 'INT8', 'INT8', 'INT8']",
-        None,
-    ),
-    (
-        "[settings]\nghost_distance = 0\n[type.A.methods.m]\npart = 'cell'\nbody = ['']",
-        Some(HeaderError::BadBody),
-    ),
-];
-
-#[test]
-fn headers_have_their_first_causes(rt: HostRuntime) -> Result<(), Fail> {
-    for (text, expected) in ROWS {
-        assert!(rt; cause(rt.alloc(), text) == expected);
-    }
-    let mut long = Vec::new(rt.alloc());
-    for _ in 0..65_537 {
-        long.push(b'[')?;
-    }
-    let refused = read_header(rt.alloc(), &long);
-    assert!(rt; matches!(refused, Err(HeaderError::TooLong)));
-    Ok(())
-}
-
-fn look_at_built_in_types(rt: &impl Abort, header: &Header) {
-    assert!(rt; header.settings == Settings::standard());
-    assert!(rt; header.defs.find_type(b"Avatar") == Some(0));
-    assert!(rt; header.defs.find_type(b"Chest") == Some(1));
-    assert!(rt; !header.defs.has_type(2));
-}
-
-#[test]
-fn no_bytes_set_the_standard_settings_and_the_built_in_types(rt: HostRuntime) -> Result<(), Fail> {
-    let header = read(rt.alloc(), "").map_err(|_| "no bytes")?;
-    look_at_built_in_types(&rt, &header);
-    Ok(())
+// A header of one byte more than it may have.
+fn is_too_long(alloc: Global) -> Result<bool, AllocError> {
+    let long = vec![in alloc; b'['; 65_537]?;
+    Ok(matches!(read_header(alloc, &long), Err(HeaderError::TooLong)))
 }
 
 const GAME: &str = "version = 1
@@ -168,50 +52,71 @@ exposed = true
 body = ['add gold 10']
 ";
 
-fn look_at_types(rt: &impl Abort, header: &Header) {
-    assert!(rt; header.settings.size == 500 && header.settings.bases == 2);
-    assert!(rt; header.defs.find_type(b"Chest") == Some(0));
-    assert!(rt; header.defs.find_type(b"Door") == Some(1));
-    assert!(rt; header.defs.find_type(b"Guard") == Some(2));
+fn has_types(header: &Header) -> bool {
+    let settings = header.settings.size == 500 && header.settings.bases == 2;
+    let chest = header.defs.find_type(b"Chest") == Some(0);
+    let door = header.defs.find_type(b"Door") == Some(1);
+    settings && chest && door && header.defs.find_type(b"Guard") == Some(2)
 }
 
-fn look_at_guard(rt: &impl Abort, defs: &Defs) {
+fn has_guard(defs: &Defs) -> bool {
     let guard = defs.type_at(2);
-    assert!(rt; guard.find_property(b"hp") == Some(0));
-    assert!(rt; guard.find_property(b"name") == Some(1));
-    assert!(rt; guard.find_method(b"wound") == Some(0));
+    let hp = guard.find_property(b"hp") == Some(0);
+    let name = guard.find_property(b"name") == Some(1);
+    hp && name && guard.find_method(b"wound") == Some(0)
 }
 
-fn look_at_chest(rt: &impl Abort, defs: &Defs) {
+fn has_chest(defs: &Defs) -> bool {
     let chest = defs.type_at(0);
-    assert!(rt; chest.find_method(b"fill") == Some(0));
     match chest.method(0) {
-        Some(fill) => assert!(rt; fill.exposed && fill.body.as_slice().len() == 1),
-        None => panic!(rt; "no method"),
+        Some(fill) => {
+            let found = chest.find_method(b"fill") == Some(0);
+            found && fill.exposed && fill.body.as_slice().len() == 1
+        }
+        None => false,
     }
 }
 
+// Whether a game's header defines its own types.
+fn defines_types(alloc: Global) -> Result<(bool, bool, bool), Fail> {
+    let header = read(alloc, GAME).map_err(|_| "the game's header")?;
+    let types = has_types(&header);
+    let guard = has_guard(&header.defs);
+    Ok((types, guard, has_chest(&header.defs)))
+}
+
 #[test]
-fn a_game_defines_its_own_types(rt: HostRuntime) -> Result<(), Fail> {
-    let header = read(rt.alloc(), GAME).map_err(|_| "the game's header")?;
-    look_at_types(&rt, &header);
-    look_at_chest(&rt, &header.defs);
-    look_at_guard(&rt, &header.defs);
+fn headers_stand_for_settings_and_types(rt: HostRuntime) -> Result<(), Fail> {
+    let built_in = sets_what_is_built_in(rt.alloc())?;
+    let types = defines_types(rt.alloc())?;
+    let long = is_too_long(rt.alloc())?;
+    assert_eq!(rt; (built_in, types, long), (true, (true, true, true), true));
     Ok(())
+}
+
+fn is_value_judged(alloc: Global, value: &Value) -> Result<bool, AllocError> {
+    let default = is_at_fault(alloc, Fault::BadDefault, &Role::Default, value)?;
+    Ok(!default && has_fault(alloc, Fault::BadType, &Role::Type, value)?)
+}
+
+fn is_document_judged(alloc: Global, document: &Table) -> Result<bool, AllocError> {
+    let Some(value) = document.get("bases") else {
+        return Ok(false);
+    };
+    let unset = read_settings(document).is_none();
+    let first = first_fault(alloc, document)? == Some(Fault::NoSuchKey);
+    Ok(unset && first && is_value_judged(alloc, value)?)
+}
+
+fn is_judged(alloc: Global) -> Result<bool, Fail> {
+    let document = read_document(alloc, b"bases = 9").map_err(|_| "bases")?;
+    Ok(is_document_judged(alloc, &document)?)
 }
 
 #[test]
 fn parts_of_a_header_are_judged(rt: HostRuntime) -> Result<(), Fail> {
-    let many = read_document(rt.alloc(), b"bases = 9").map_err(|_| "bases")?;
-    assert!(rt; read_settings(&many).is_none());
-    assert!(rt; Role::Settings.under("speed").is_none());
-    assert!(rt; first_fault(rt.alloc(), &many)? == Some(Fault::NoSuchKey));
-    match many.get("bases") {
-        Some(value) => {
-            assert!(rt; !is_at_fault(rt.alloc(), Fault::BadDefault, &Role::Default, value)?);
-            assert!(rt; has_fault(rt.alloc(), Fault::BadType, &Role::Type, value)?);
-        }
-        None => return Err("bases".into()),
-    }
+    let judged = is_judged(rt.alloc())?;
+    let unknown = Role::Settings.under("speed").is_none();
+    assert_eq!(rt; (judged, unknown), (true, true));
     Ok(())
 }

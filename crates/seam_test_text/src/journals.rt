@@ -23,17 +23,18 @@ fn give<W: Watch>(alloc: Global, watch: &mut W) -> Result<(), AllocError> {
     watch.journal(alloc, 3, &round(alloc)?)
 }
 
+// The space of the round, whether it has calls, and how many looks it has.
+fn seen(log: &JournalLog, round: usize) -> Option<(u8, bool, usize)> {
+    let (space, journal) = log.at(round)?;
+    let has_calls = !journal.calls.as_slice().is_empty();
+    Some((space, has_calls, journal.looks.as_slice().len()))
+}
+
 #[test]
 fn a_log_has_what_it_was_given(rt: HostRuntime) -> Result<(), Fail> {
     let mut log = JournalLog::new(rt.alloc());
     give(rt.alloc(), &mut log)?;
     give(rt.alloc(), &mut NoWatch)?;
-    let Some((space, journal)) = log.at(0) else {
-        return Err("no journal")?;
-    };
-    assert!(rt; space == 3);
-    assert!(rt; journal.calls.as_slice().is_empty());
-    assert!(rt; journal.looks.as_slice().len() == 1);
-    assert!(rt; log.at(1).is_none());
+    assert_eq!(rt; (seen(&log, 0), seen(&log, 1)), (Some((3, false, 1)), None));
     Ok(())
 }
