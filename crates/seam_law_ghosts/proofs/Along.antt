@@ -122,7 +122,7 @@ module _ (f : Frame) (home : ℕ) (start : RealView) where
       -- ---- its place
 
       -- the real is where it was, and the list too
-      due_then : (p : token.Place) → Sole real_in real_of flow p has.real → ((r : RealView) → real_in (flow.slot g.k) ≡ Some r →
+      due_then : (p : token.TokenPlace) → Sole real_in real_of flow p has.real → ((r : RealView) → real_in (flow.slot g.k) ≡ Some r →
           1 ≤ (flow.slot g.k).cell.survey → 1 ≤ ((entity_flow e next).slot g.k).cell.survey) → IsDue e w p → IsDue e next p
       due_then (In j) one stays on = elim (cases_eq j g.k) [
         | inl is ↦
@@ -137,7 +137,7 @@ module _ (f : Frame) (home : ℕ) (start : RealView) where
       way_here : has.place ≡ In g.k → OnWay x.one.replays.further (place_of g.k has.real) (IsDue e w (In g.k))
       way_here at = subst (λ p. OnWay x.one.replays.further (place_of (home_of p) has.real) (IsDue e w p)) at x.way
 
-      abbrev Then : token.Place → RealView → List Call → Type 0
+      abbrev Then : token.TokenPlace → RealView → List Call → Type 0
       Then p q calls = OnWay calls (place_of (home_of p) q) (IsDue e next p)
 
       way_by : (m : Its) → PlacesBy f frame.defs e ty g.k (flow.slot g.k) (comes g.input) ((entity_flow e next).slot g.k)

@@ -51,7 +51,7 @@ module _ (f : Frame) (e ty home : ℕ) (start : RealView) (v : World) (x : IsPla
   found : (has.place ≡ In k) × (q ≡ has.real)
   found = sole_here real_in real_of (entity_flow e v) has.place has.real q k has.one at
 
-  never : (p : token.Place) → p ≡ In k → IsDue e v p → ⊥
+  never : (p : token.TokenPlace) → p ≡ In k → IsDue e v p → ⊥
   never p is due =
       let none = none_due e v quiet k in
       let some : 1 ≤ ((entity_flow e v).slot k).cell.survey = subst (IsDue e v) is due in

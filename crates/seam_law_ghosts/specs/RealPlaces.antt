@@ -43,12 +43,12 @@ pub record BeginsAt (w : World) (b : Batch) (e k : ℕ) (r : RealView) : Type 0 
 -- ---- within a round
 
 -- the cell that the real is in, or to which it was handed over
-abbrev pub home_of : token.Place → ℕ
+abbrev pub home_of : token.TokenPlace → ℕ
 home_of (In k) = k
 home_of (On a b) = b
 
 -- the survey list of the real's cell has the entity
-abbrev pub IsDue : ℕ → World → token.Place → Type 0
+abbrev pub IsDue : ℕ → World → token.TokenPlace → Type 0
 IsDue e w (In k) = 1 ≤ ((entity_flow e w).slot k).cell.survey
 IsDue e w (On a b) = ⊥
 
