@@ -1,7 +1,7 @@
 // SPDX-License-Identifier: MIT
 
 //! Reads scripts and what a server prints for them back as data: a script line by line, with the standing that its rounds leave, and the
-//! text of a round as a `Round`, with its steps if these are in the text. It is slow, and for programs that judge or draw what was printed.
+//! text of a round as a `Round`. It is slow, and for programs that judge or draw what was printed.
 #![tactic(auto)]
 
 mod context;
@@ -9,9 +9,8 @@ mod lines;
 mod pieces;
 mod rounds;
 mod script;
-mod steps;
 mod words;
 
 pub use pieces::first_piece;
-pub use rounds::{TracedRound, read_lines, read_round, read_traced_round};
+pub use rounds::{read_lines, read_round};
 pub use script::{BadScript, Read, ScriptReader};

@@ -1,18 +1,16 @@
 // The text of a round as its data.
 ghost use Rattle.std.specs.Prelude.{◌≡◌, IfOk, IfSome};
-ghost use Rattle.seam_rule_rounds.specs.Texts.{round_text, traced_text, journal_text};
+ghost use Rattle.seam_rule_rounds.specs.Texts.{round_text};
 
 use crate::context::LineContext;
 use crate::lines::{base_line, client_line, done_line, ghost_line, home_line};
-use crate::steps::read_steps;
 use crate::words::Words;
 use seam_defs::Part;
 use seam_judge_data::{Round, Standing};
 use seam_judge_expected::{has_balance, tree_in};
-use seam_report::{write_round, write_traced_round};
+use seam_report::write_round;
 use seam_rule_lines::Header;
 use seam_tree::Tree;
-use seam_watch::Journal;
 use std::alloc::{AllocError, Global};
 
 /// The round that has this text, after a standing whose book has all lines of the round. `None` where there is none: the text is not one
@@ -30,33 +28,6 @@ pub fn read_round(
     write_round(&mut written, &header.defs, &round)?;
     if written.as_slice() == text {
         Ok(Some(round))
-    } else {
-        Ok(None)
-    }
-}
-
-/// A round with its steps.
-#[derive(Drop)]
-pub struct TracedRound {
-    pub round: Round,
-    pub steps: Journal,
-}
-
-/// The same of a text in which the steps of the round stand after its number.
-pub fn read_traced_round(
-    alloc: Global,
-    header: &Header,
-    standing: &Standing,
-    text: &[u8],
-) -> Result<Option<TracedRound>, AllocError>
-    ensures { IfOk result (λ read. IfSome read (λ t. traced_text (journal_text t.steps) header.now.defs t.round ≡ text.now)) }
-{
-    let round = read_lines(alloc, header, standing, text)?;
-    let steps = read_steps(alloc, text)?;
-    let mut written = Vec::new(alloc);
-    write_traced_round(&mut written, &header.defs, &round, &steps)?;
-    if text == written.as_slice() {
-        Ok(Some(TracedRound { round, steps }))
     } else {
         Ok(None)
     }
