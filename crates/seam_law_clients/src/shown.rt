@@ -127,7 +127,6 @@ pub fn a_further_look_shows_nothing()
     seam_law_ghosts::the_last_phases_leave_places();
 }
 
-
 /// The clients of a whole round. Let a world keep the records between rounds, a batch fit them, and each client fit its witness as the
 /// batch is loaded. Then each client is shown rightly, over every list of events, what its proxy showed since (`shown`), and an entity
 /// without a witness is shown nothing (`bare`). Where the calls leave the world quiet, the clients, which were shown that, fit their
