@@ -6,7 +6,7 @@ mod Round
 mod Orders
 mod Holding
 mod Origins
-mod Numbering
+pub mod Numbering
 mod Fitting
 mod Given
 mod Started
