@@ -1,11 +1,13 @@
--- Where the calls of a round leave the world quiet, each part executed all that was accepted for it.
+-- What a part executed is what was accepted for it: the first calls of each sender at each moment, and all where the calls leave the world
+-- quiet.
 use Rattle.std.proofs.Common.{◌≡◌, ℕ, zero, suc, ◌+◌, ◌<◌, ◌≤◌, Bool, true, false, cond, List, [], ◌∷◌, ◌++◌}
-use Rattle.std.proofs.Common.{refl, sym, ap, ◌∙◌, subst, arith, inl, inr, append-nil, ◌⊎◌}
+use Rattle.std.proofs.Common.{refl, sym, ap, ◌∙◌, subst, arith, inl, inr, append-nil, append_assoc, ◌⊎◌}
 use Rattle.std.specs.Prelude.{◌==◌, ◌&&◌, filter}
 use Rattle.std.specs.List.{AllByRecursion, flat_map, range_with_len}
 use Rattle.std.proofs.lemmas.Bool.{cases_eq, cases_lt, eq-eqb}
 use Rattle.std.proofs.lemmas.List.Elements.{filter-append, filter_map-append}
 use Rattle.seam_node_steps.specs.Prelude.{Part, MOST_BASE_NODES, is_for, is_from, IsSender, same_sender, rank_of, Sender, Call as CallData}
+use Rattle.seam_rule_lines.specs.Orders.{IsLegal}
 use Rattle.seam_rule_rounds.specs.Prelude.{Book, called, calls_of, accepted, of_sender, IsFull}
 use Rattle.seam_law_flow.specs.Prelude.{letters_of, more_letter}
 use Rattle.seam_law_calls.specs.Prelude.{kept_if, from_sender}
@@ -130,6 +132,54 @@ module _ (b : Book) (p : Part) (e : ℕ) (senders : AllByRecursion IsFromSender 
       ∙ ap (λ l. filter (is_from p e s) (calls_of b.past) ++ l) (done_of s)
       ∙ sym (ap (filter (is_from p e s)) (filter_map-append called b.past b.current)
       ∙ filter-append (is_from p e s) (calls_of b.past) (calls_of b.current))
+
+-- so far it may have executed the first ones of each sender
+module _ (b : Book) (p : Part) (e : ℕ) (senders : AllByRecursion IsFromSender (calls_of b.current)) (done : List CallData)
+    (first : (n : ℕ) → (rest : List CallData) × (calls_from p e n (calls_of b.current) ≡ letters_of (from_sender n) done ++ rest)) where
+  abbrev its : Sender → List CallData
+  its s = filter (is_from p e s) (calls_of b.current)
+
+  front_all : (xs ys : List CallData) → AllByRecursion IsFromSender (xs ++ ys) → AllByRecursion IsFromSender xs
+  front_all [] ys all = tt
+  front_all (x ∷ xs) ys all = (all.0, front_all xs ys all.1)
+
+  first_senders : AllByRecursion IsFromSender done
+  first_senders =
+      all_by_place IsFromSender done
+      (λ n. subst (AllByRecursion IsFromSender) (letters_are_of_place n done)
+      (front_all (letters_of (from_sender n) done) (first n).0
+      (subst (AllByRecursion IsFromSender) (first n).1 (all_kept IsFromSender _ (calls_of b.current) senders))))
+
+  first_by : (s : Sender) → IsSender s → (rest : List CallData) × (its s ≡ of_sender s done ++ rest)
+  first_by s is = (
+    (first (rank_of s)).0,
+    accepted_by_place p e s is (calls_of b.current) senders ∙ (first (rank_of s)).1
+        ∙ ap (λ l. l ++ (first (rank_of s)).0)
+        (letters_are_of_place (rank_of s) done ∙ sym (of_sender_by_place s is done first_senders)),
+  )
+
+  first_of_base : (n : ℕ) → IsSender (sender.Base n) ⊎ (IsSender (sender.Base n) → ⊥) →
+      (rest : List CallData) × (its (sender.Base n) ≡ of_sender (sender.Base n) done ++ rest)
+  first_of_base n (inl is) = first_by (sender.Base n) is
+  first_of_base n (inr not) =
+      ([], none_from n not p e (calls_of b.current) senders ∙ sym (ap (λ l. l ++ []) (none_of n not done first_senders)))
+
+  first_of : (s : Sender) → (rest : List CallData) × (its s ≡ of_sender s done ++ rest)
+  first_of (sender.Base n) = first_of_base n (sender_or_not n)
+  first_of (sender.Client d) = first_by (sender.Client d) tt
+
+  -- what it executed before, and then these, are the first calls of what was accepted
+  pub executes_first : (before : List CallData) → IsFull (accepted (as_begun b) p e) before → IsLegal (accepted b p e) (before ++ done)
+  executes_first before full s =
+      let f = first_of s in (
+        f.0,
+        ap (filter (is_from p e s)) (filter_map-append called b.past b.current)
+            ∙ filter-append (is_from p e s) (calls_of b.past) (calls_of b.current)
+            ∙ ap (λ l. l ++ its s) (sym (full s ∙ ap (λ xs. filter (is_from p e s) (calls_of xs)) (append-nil b.past)))
+            ∙ ap (λ l. of_sender s before ++ l) f.1
+            ∙ sym (append_assoc (of_sender s before) (of_sender s done) f.0)
+            ∙ ap (λ l. l ++ f.0) (sym (filter-append (λ c. same_sender c.sender s) before done)),
+      )
 
 -- ---- the cell where the real is
 

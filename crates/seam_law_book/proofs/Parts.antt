@@ -21,7 +21,7 @@ use Rattle.seam_law_rounds.proofs.Making.{AreOthers}
 use Rattle.seam_law_rounds.proofs.Loaded.{slot_is}
 use Rattle.seam_law_rounds.proofs.Giving.{look_framed, look_given}
 use Rattle.seam_law_calls.proofs.AloneRuns.{bare_leads}
-use Rattle.seam_law_rounds.proofs.PartLoads.{part_at, parts_ordered}
+use Rattle.seam_law_rounds.proofs.PartLoads.{SamePart, part_at, parts_ordered}
 use Rattle.seam_law_rounds.proofs.PartsLoaded.{same_some}
 use Rattle.seam_law_rounds.proofs.Still.{is_still, still_leads}
 use Rattle.seam_law_rounds.proofs.Calms.{reaps_part}
@@ -72,6 +72,13 @@ both_seen (Some w) (Some x) version h = refl
 
 -- ---- looks and reaps
 
+-- a part that is what one was, but for its client, executed no more
+same_done : (o t : Option PartView) → SamePart o t → (q : PartView) → t ≡ Some q → (p : PartView) × (o ≡ Some p) × (q.done ≡ p.done)
+same_done None t same q is = absurd (let z = sym same ∙ is in cc)
+same_done (Some p) t same q is =
+    let now : record p { proxy = same.0 } ≡ q = (let z = sym same.1 ∙ is in cc) in
+    (p, refl, sym (ap (λ (y : PartView). y.done) now))
+
 -- where each node keeps its part, the world does
 module _ (e : ℕ) (u : World) (turn : NodeView → NodeView) (same : (s : NodeView) → part_at e (turn s) ≡ part_at e s) where
   turned_by : (o : Option NodeView) → (slot_at (has_of e) has_none (option_map turn o)).base.part ≡ (slot_at (has_of e) has_none o).base.part
@@ -118,6 +125,16 @@ module _ (f : Frame) (u : World) (between : IsBetweenRounds f u) (v : World) (es
         client = client_stays f e (look_loaded u) v es then_frame starts.spared run (home_of f e) h.part
             (same_parts (home_of f e) ∙ h.here) (λ j n. same_parts j ∙ h.others j n) q there;
       }
+
+  -- at whichever node: the part that was there executed no more
+  pub looks_execute_none : (k : ℕ) (q : PartView) → ((entity_flow e v).slot k).base.part ≡ Some q →
+      (p : PartView) × (had k ≡ Some p) × (q.done ≡ p.done)
+  looks_execute_none k q there =
+      let starts =
+      is_still f u between e ty h (ordered_at tick) then_frame
+      (λ k s at. look_given e f k cell_count s (quiet_tasks node_has_work u between.quiet k s at)) (λ s. parts_ordered e (tick ∷ []) s) in
+      let still = still_leads f e had _ (look_loaded u) v es starts run in
+      same_done (had k) ((entity_flow e v).slot k).base.part (still.parts k) q there
 
   -- what its client was shown meanwhile, of which nothing is about the part
   pub looks_show_part : (x : ProxyView) → h.part.proxy ≡ Some x →

@@ -7,8 +7,9 @@
 // round ended goes with it again.
 //
 // For callers, of `proofs/`: `Accounts` and `PartsTable` (what calls make of a part is what the flat table has), `Rows` (the table of a
-// world is that of the rules), `Parts` (base parts and their clients along the last phases), `Executed` (what one of all cells has),
-// `Ended` (who lives and has a client) and `Further` (a client's witness).
+// world is that of the rules), `Parts` (base parts and their clients along the last phases), `Executed` (what one of all cells has, and
+// which calls a part executed), `Numbering` (the batch's calls of each sender), `Ended` (who lives and has a client) and `Further` (a
+// client's witness).
 
 ghost use Rattle.std.specs.Prelude.{◌≡◌, ℕ, List, [], ◌++◌, Some, IsTrue};
 ghost use Rattle.std.specs.List.{AllByRecursion};

@@ -17,3 +17,4 @@ mod Fewer
 mod Created
 mod Present
 mod Ends
+mod Turns

@@ -4,5 +4,6 @@ pub mod Playing
 pub mod Counts
 pub mod Course
 pub mod OneReal
+pub mod Turns
 pub mod Radius
 pub mod Prelude

@@ -7,3 +7,4 @@ pub use Rattle.seam_law_transcript.specs.Playing.{ContinuesLines, IsPlayed, clie
 pub use Rattle.seam_law_transcript.specs.Radius.{ClientsSeeAll}
 pub use Rattle.seam_law_transcript.specs.Reading.{base_if, bases_read, client_lines, home_if, homes_read, lines_shown, lines_told}
 pub use Rattle.seam_law_transcript.specs.Reading.{place_read, round_read, standing_read}
+pub use Rattle.seam_law_transcript.specs.Turns.{AreFirstCalls, ExecutesInTurn, HasFirstCalls, KeepsFirstCalls}

@@ -14,16 +14,16 @@
 // that this has ended, are fields of what it answers (*StandsFor*), and so they are where a caller runs the phases one by one.
 
 ghost use Rattle.std.specs.Prelude.{◌≡◌, ℕ, ◌+◌, ◌≤◌, IsTrue, IsFalse, List, map, None, Some};
-ghost use Rattle.seam_node_steps.specs.Prelude.{Division, IsTree, AreLegal, AreDefs, Create, opened, World};
+ghost use Rattle.seam_node_steps.specs.Prelude.{Division, IsTree, AreLegal, AreDefs, Create, loaded, opened, World};
 ghost use Rattle.seam_rule_rounds.specs.Prelude.{IsBalanced, HasSameCuts, Header, one_cell, entries, open_lines, created_as, live_as};
 ghost use Rattle.seam_rule_rounds.specs.Prelude.{has_balance, tree_of, with_entry, with_round_ended, with_tree, Lists, MOST_LINES, Entry};
 ghost use Rattle.seam_rule_rounds.specs.Prelude.{RoundData, IsRound, Standing, after_header, with_line, with_book};
 ghost use Rattle.seam_law_ghosts.specs.Prelude.{GoesThroughRound};
 ghost use Rattle.seam_law_all.specs.Prelude.{MayBeGiven};
 ghost use Rattle.seam_law_bounds.specs.Prelude.{IsBounded};
-ghost use Rattle.seam_law_book.specs.Prelude.{IsAccepted, frame_of, HasEnded};
+ghost use Rattle.seam_law_book.specs.Prelude.{IsAccepted, IsPresent, frame_of, HasEnded};
 ghost use Rattle.seam_law_transcript.specs.Prelude.{StandsBeside, round_read, standing_read, HasFewNumbers, MayEnd, most_lines, GoesOn};
-ghost use Rattle.seam_law_transcript.specs.Prelude.{HasOneReal, ClientsSeeAll};
+ghost use Rattle.seam_law_transcript.specs.Prelude.{HasOneReal, KeepsFirstCalls, ExecutesInTurn, ClientsSeeAll};
 ghost use Rattle.seam_accept.specs.Batches.{batch_of};
 
 /// A standing goes on with the world that was opened for its header (`opened`), and still does when a line was read that adds nothing
@@ -106,6 +106,23 @@ pub fn each_entity_has_one_real_through_a_round()
     seam_law_all::looks_obey_the_laws();
     seam_law_book::what_lines_bring_fits();
     a_round_may_be_run();
+}
+
+/// Whatever events happen while such a round is played, each part executes each sender's calls in turn: what it executed so far are the first
+/// ones of those that were accepted for it, in their order and each once. While the calls happen that asks for no end of the round
+/// (`calls`), so it holds where none comes; it holds in the other phases too (`round`).
+pub fn each_part_executes_in_turn()
+    ensures calls { (h : Header) (s : Standing) (tree : Division) (w : World) → GoesOn h s tree w → MayEnd s → (e : ℕ) (made : Create) →
+        IsPresent s.book e made → KeepsFirstCalls s (loaded w (batch_of h s.book)) e }
+    ensures round { (h : Header) (s : Standing) (tree : Division) (w : World) → GoesOn h s tree w → MayEnd s → (v : World)
+        (round : GoesThroughRound w (batch_of h s.book) v) → HasEnded h s.book w v round → ExecutesInTurn h s w v round }
+{
+    seam_law_all::calls_obey_the_laws();
+    seam_law_all::reaps_obey_the_laws();
+    seam_law_book::lines_bring_what_fits();
+    seam_law_book::what_lines_bring_fits();
+    a_round_may_be_run();
+    each_entity_has_one_real_through_a_round();
 }
 
 /// After a legal round each client shows all that is within its radius, and nothing that is not there.

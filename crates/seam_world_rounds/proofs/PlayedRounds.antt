@@ -7,7 +7,7 @@ use Rattle.seam_rule_rounds.specs.Prelude.{Journal, IsBalanced, HasSameCuts, Hea
 use Rattle.seam_rule_rounds.specs.Prelude.{with_round_ended, with_tree, MOST_LINES, RoundData, IsRound, with_bounds, Standing, Ended, Sums}
 use Rattle.seam_rule_rounds.specs.Prelude.{Totals}
 use Rattle.seam_law_book.specs.Prelude.{as_begun}
-use Rattle.seam_law_transcript.specs.Prelude.{IsPlayed, data_of, standing_of, GoesOn, HasOneReal, ClientsSeeAll}
+use Rattle.seam_law_transcript.specs.Prelude.{IsPlayed, data_of, standing_of, GoesOn, HasOneReal, ExecutesInTurn, ClientsSeeAll}
 use Rattle.seam_accept.specs.Refines.{Refines as HoldsBook}
 use Rattle.seam_accept.specs.Batches.{batch_of}
 use Rattle.seam_quiet.specs.RoundRuns.{IsWithinTable}
@@ -53,8 +53,9 @@ module _ (h : Header) (t : Standing) (tree : Division) (w v : World) (p : IsPlay
   right_by false is kept balanced bounds by = subst IsRight (sym by) (kept is)
 
   pub plays_so : (j : Journal) → HasSteps p.round j → IsWithinTable w (batch_of h t.book) j p.round.reaped → HasOneReal h t w v p.round →
-      (bounds : Option Division) → ClientsSeeAll h t (printed bounds) (next bounds) → Plays h t w (printed bounds) j (next bounds) v
-  plays_so j steps within one_real bounds sees_all = record {
+      ExecutesInTurn h t w v p.round → (bounds : Option Division) → ClientsSeeAll h t (printed bounds) (next bounds) →
+      Plays h t w (printed bounds) j (next bounds) v
+  plays_so j steps within one_real in_turn bounds sees_all = record {
     round = p.round;
     ended = p.ended;
     steps = steps;
@@ -66,6 +67,7 @@ module _ (h : Header) (t : Standing) (tree : Division) (w v : World) (p : IsPlay
     prints = refl;
     leaves = refl;
     one_real = one_real;
+    in_turn = in_turn;
     sees_all = sees_all;
   }
 
@@ -92,16 +94,18 @@ module _ (o : Output) (h : Header) (t : Standing) (old new : Script) (ready : Is
       (IsTrue (has_balance t.book) → (u : Division) → IsTree u → HasSameCuts (tree_of t.book) u →
       IsBalanced (places h t ready.has.tree ready.has.world left.world p) h.settings.balance_shift (tree_of t.book) u →
       IsRight h t ready.has.tree ready.has.world left.world p (Some u)) →
-      HasOneReal h t ready.has.world left.world p.round → ((r : RoundData) (u : Standing) → ClientsSeeAll h t r u) →
+      HasOneReal h t ready.has.world left.world p.round → ExecutesInTurn h t ready.has.world left.world p.round →
+      ((r : RoundData) (u : Standing) → ClientsSeeAll h t r u) →
       new.header ≡ old.header → new.world ≡ Some left.world → new.residents ≡ residents → new.line ≡ old.line →
       new.round ≡ old.round + 1 → HoldsBook h after.book new.book → AddsSums old.totals left.sums new.totals →
       RoundEnds o h t (Refines o h old new)
       (round_output o h.defs (printed h t ready.has.tree ready.has.world left.world p left.bounds) left.journal) left.journal
-  round_ended kept balanced one_real sees_all header world live line round book adds =
+  round_ended kept balanced one_real in_turn sees_all header world live line round book adds =
       let right =
       right_by h t ready.has.tree ready.has.world left.world p (has_balance t.book) refl kept balanced left.bounds has.bounds in
       let so =
-      plays_so h t ready.has.tree ready.has.world left.world p left.journal has.steps has.within one_real left.bounds (sees_all _ after) in
+      plays_so h t ready.has.tree ready.has.world left.world p left.journal has.steps has.within one_real in_turn left.bounds
+      (sees_all _ after) in
       record {
         round = printed h t ready.has.tree ready.has.world left.world p left.bounds;
         next = after;

@@ -6,7 +6,7 @@ use Rattle.seam_rule_rounds.specs.Prelude.{Line, Journal, Header, AwaitHeader, c
 use Rattle.seam_rule_rounds.specs.Prelude.{Refusal, Ended, PrintLines, PrintAll, journals_of}
 use Rattle.seam_law_ghosts.specs.Prelude.{GoesThroughRound}
 use Rattle.seam_law_book.specs.Prelude.{HasEnded}
-use Rattle.seam_law_transcript.specs.Prelude.{round_read, standing_read, HasOneReal, ClientsSeeAll}
+use Rattle.seam_law_transcript.specs.Prelude.{round_read, standing_read, HasOneReal, ExecutesInTurn, ClientsSeeAll}
 use Rattle.seam_accept.specs.Batches.{batch_of}
 use Rattle.seam_rule_rounds.specs.Transcript.{text_of}
 use Rattle.seam_quiet.specs.RoundRuns.{IsWithinTable}
@@ -21,7 +21,8 @@ pub record HasSteps {w v : World} {b : Batch} (round : GoesThroughRound w b v) (
 -- it: the batch of the round's lines was loaded, and the steps led on, until the calls had ended, the dead were reaped and the witnesses
 -- had looked. What it printed, r, and the standing that it left, t, are read off the world where the calls had ended, and off v; but the
 -- boundaries of r and the book of t are what they are here, and what they have to be is a point of a legal round (*IsRound*). At each step
--- each live entity had one real; and after it each client shows all that is within its radius.
+-- each live entity had one real, and its parts had executed the first ones of the calls accepted from each sender, in order and once; and
+-- after the round each client shows all that is within its radius.
 pub record Plays (h : Header) (s : Standing) (w : World) (r : RoundData) (j : Journal) (t : Standing) (v : World) : Type 0 where
   pub round : GoesThroughRound w (batch_of h s.book) v
   pub ended : HasEnded h s.book w v round
@@ -34,6 +35,7 @@ pub record Plays (h : Header) (s : Standing) (w : World) (r : RoundData) (j : Jo
   pub prints : r ≡ round_read h s made live round.called v r.bounds
   pub leaves : t ≡ standing_read h s round.called v r t.book
   pub one_real : HasOneReal h s w v round
+  pub in_turn : ExecutesInTurn h s w v round
   pub sees_all : ClientsSeeAll h s r t
 
 -- one world, w, played the rounds of the pieces, each from what the one before it left, and is v after them

@@ -153,6 +153,7 @@ impl Script {
         seam_law_transcript::a_round_may_be_run();
         seam_law_transcript::a_run_round_is_legal();
         seam_law_transcript::each_entity_has_one_real_through_a_round();
+        seam_law_transcript::each_part_executes_in_turn();
         seam_law_transcript::clients_see_all_within_their_radius();
         self.round = next_count(self.round)?;
         let Some(world) = self.world.take() else {

@@ -47,6 +47,8 @@ returns g c = λ h t ready.
           p.ended p.made p.live p.made_listed p.live_listed some u is_tree same balanced)
           (c.each_entity_has_one_real_through_a_round.ensures h t ready.has.tree ready.has.world ready.has.goes_on ready.may left.world
           p.round p.ended)
+          (c.each_part_executes_in_turn.ensures.round h t ready.has.tree ready.has.world ready.has.goes_on ready.may left.world p.round
+          p.ended)
           (λ r u. c.clients_see_all_within_their_radius.ensures h t r u)
           refl refl refl refl c.in_ok-self.ensures.next
           (c.begin_next.ensures h _ (c.take_batch-batch.ensures.ended h t.book ready.book)) c.in_ok-self-2.ensures,

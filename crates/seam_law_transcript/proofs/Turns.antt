@@ -1,0 +1,181 @@
+-- Calls in turn, at every step of a round: what a part executed so far are the first ones of each sender's calls.
+use Rattle.std.proofs.Common.{◌≡◌, ℕ, ◌≤◌, Bool, true, false, List, [], ◌∷◌, ◌++◌, Option, None, Some, refl, sym, ap, ◌∙◌, subst, inl, inr}
+use Rattle.std.specs.List.{AllByRecursion}
+use Rattle.std.proofs.lemmas.Bool.{cases_eq}
+use Rattle.seam_node_steps.specs.Prelude.{Part, Division, Call as CallData, Batch, RealView, Msg, BaseCall, Hand, Current, GhostSet, GhostDrop}
+use Rattle.seam_node_steps.specs.Prelude.{Tick, Reap, Update, PartView, World, loaded}
+use Rattle.seam_rule_rounds.specs.Prelude.{Header, calls_of, accepted, IsFull, ClientReplica, Standing}
+use Rattle.seam_law_flow.specs.Prelude.{Flow, letters_of, more_letter, TokenPlace, In, On, Sole, Desk, Mail, Item, desk_of, parcel_of, AreInTurn}
+use Rattle.seam_law_calls.specs.Prelude.{entity_flow, kept_if, real_in, real_of, from_sender, is_from, desk_for, cell_mail, real_desk, as_sender}
+use Rattle.seam_law_calls.specs.Prelude.{as_base_sender, part_desk, EachReal}
+use Rattle.seam_law_rounds.specs.Prelude.{next_from, next_to, base_calls_of}
+use Rattle.seam_law_ghosts.specs.Prelude.{WasThere}
+use Rattle.seam_law_all.specs.Calls.{GoesRightly}
+use Rattle.seam_law_book.specs.Prelude.{as_begun, IsFitCall, calls_from, Brings, frame_of, base_node, HasRoomForCalls}
+use Rattle.seam_law_transcript.specs.Turns.{AreFirstCalls, HasFirstCalls}
+use Rattle.seam_defs.specs.declared.flags.Part.TheVariants as part
+use Rattle.seam_entity.specs.declared.message.Msg.TheVariants.{Call}
+use Rattle.seam_accept.specs.Batches.{batch_of}
+use Rattle.seam_law_rounds.specs.Between as core
+use Rattle.seam_law_flow.proofs.TokenLemmas.{sole_here}
+use Rattle.seam_law_rounds.proofs.Calm.{IsCalmTo}
+use Rattle.seam_law_book.proofs.Adding.{all_turn}
+use Rattle.seam_law_book.proofs.Untouched.{IsFromSender, known_is_sender}
+use Rattle.seam_law_book.proofs.Numbering.{cell_calls, base_calls}
+use Rattle.seam_law_book.proofs.Executed.{executes_first}
+
+-- ---- the one desk, where a real carries it
+
+-- no link has another token than the one
+module _ {S L R : Type 0} (held : S → Option R) (carried : L → Option R) (w : Flow S L) (r : R) where
+  abbrev IsIt : R → Type 0
+  IsIt x = x ≡ r
+
+  pub only_on_links : (p : TokenPlace) → Sole held carried w p r → (a k : ℕ) → AllByRecursion IsIt (letters_of carried (w.mail a k))
+  only_on_links (In j) one a k = subst (AllByRecursion IsIt) (sym (one.mail a k)) tt
+  only_on_links (On x y) one a k = elim (cases_eq a x) [
+    | inl f ↦ elim (cases_eq k y) [
+      | inl g ↦
+          let at : letters_of carried (w.mail a k) ≡ r ∷ [] = rw (f, g) one.here in
+          subst (AllByRecursion IsIt) (sym at) (refl, tt)
+      | inr n ↦ subst (AllByRecursion IsIt) (sym (one.others a k (λ s t. n t))) tt
+    ]
+    | inr n ↦ subst (AllByRecursion IsIt) (sym (one.others a k (λ s t. n s))) tt
+  ]
+
+module _ (s : ℕ) (d : Desk CallData) where
+  abbrev IsIts : Desk CallData → Type 0
+  IsIts x = x ≡ d
+
+  -- the desk of a real that a message carries is this one
+  abbrev pub Carries : Msg → Type 0
+  Carries m = (q : RealView) → real_of m ≡ Some q → desk_for s q.orders q.done ≡ d
+
+  without_call : (t : Bool) (c : CallData) (rest : List (Mail CallData)) →
+      AllByRecursion IsIts (letters_of parcel_of (more_letter (kept_if t (Item c.number c)) rest)) →
+      AllByRecursion IsIts (letters_of parcel_of rest)
+  without_call true c rest all = all
+  without_call false c rest all = all
+
+  pub carried_desks : (ms : List Msg) → AllByRecursion IsIts (letters_of parcel_of (letters_of (cell_mail s) ms)) → AllByRecursion Carries ms
+  carried_desks [] all = tt
+  carried_desks (Call c ∷ ms) all =
+      ((λ q is. absurd (let z = is in cc)), carried_desks ms (without_call (is_from s c) c (letters_of (cell_mail s) ms) all))
+  carried_desks (BaseCall c ∷ ms) all = ((λ q is. absurd (let z = is in cc)), carried_desks ms all)
+  carried_desks (Hand r ∷ ms) all = (
+    (λ q is.
+        let same : r ≡ q = (let z = is in cc) in
+        ap (λ (x : RealView). desk_for s x.orders x.done) (sym same) ∙ all.0),
+    carried_desks ms all.1,
+  )
+  carried_desks (Current e j g ∷ ms) all = ((λ q is. absurd (let z = is in cc)), carried_desks ms all)
+  carried_desks (GhostSet e n c ∷ ms) all = ((λ q is. absurd (let z = is in cc)), carried_desks ms all)
+  carried_desks (GhostDrop e n ∷ ms) all = ((λ q is. absurd (let z = is in cc)), carried_desks ms all)
+  carried_desks (Tick ∷ ms) all = ((λ q is. absurd (let z = is in cc)), carried_desks ms all)
+  carried_desks (Reap e ∷ ms) all = ((λ q is. absurd (let z = is in cc)), carried_desks ms all)
+  carried_desks (Update u ∷ ms) all = ((λ q is. absurd (let z = is in cc)), carried_desks ms all)
+
+-- what is so of each message for each sender
+for_all : (Q : ℕ → Msg → Type 0) (ms : List Msg) → ((n : ℕ) → AllByRecursion (Q n) ms) → AllByRecursion (λ m. (n : ℕ) → Q n m) ms
+for_all Q [] all = tt
+for_all Q (m ∷ ms) all = ((λ n. (all n).0), for_all Q ms (λ n. (all n).1))
+
+-- ---- as calls happen
+
+-- the entity e of the world u, to which a list of events led from the loaded world
+module _ (h : Header) (s : Standing) (tree : Division) (clients : ℕ → ClientReplica) (w u : World) (some : 1 ≤ h.settings.bases)
+    (R : Brings h s.book) (few : HasRoomForCalls s.book) (full : (p : Part) (e : ℕ) → IsFull (accepted (as_begun s.book) p e) (s.orders p e))
+    (e : ℕ) (r : RealView) (goes : GoesRightly (frame_of h tree) clients w (batch_of h s.book) e r u) where
+  abbrev B : Batch
+  B = batch_of h s.book
+
+  senders : AllByRecursion IsFromSender (calls_of s.book.current)
+  senders =
+      all_turn (IsFitCall h s.book) IsFromSender (λ c fit. known_is_sender h c.sender fit.sender) (calls_of s.book.current) R.calls
+
+  -- the first calls, where the desk of each sender is the one that is in turn
+  first_by : (p : Part) (done : List CallData) (first : ℕ → ℕ) (batch : ℕ → List CallData) →
+      ((n : ℕ) → batch n ≡ calls_from p e n (calls_of s.book.current)) →
+      ((n : ℕ) → (rest : List CallData) × (batch n ≡ letters_of (from_sender n) done ++ rest)) → AreFirstCalls s p e done
+  first_by p done first batch is parts =
+      executes_first s.book p e senders done (λ n. ((parts n).0, sym (is n) ∙ (parts n).1)) (s.orders p e) (full p e)
+
+  -- ---- of the cell part
+
+  abbrev turn : (n : ℕ) → AreInTurn (next_from n r) (core.calls_of B e n) (as_sender n (entity_flow e u))
+  turn n = goes.cell_calls n
+
+  by_desk : (q : RealView) → ((n : ℕ) → desk_for n q.orders q.done ≡ (turn n).desk) → AreFirstCalls s part.Cell e q.done
+  by_desk q is =
+      first_by part.Cell q.done (λ n. next_from n r) (core.calls_of B e) (cell_calls h some s.book R few tree e) (λ n. (
+        (turn n).in_turn.rest,
+        (turn n).in_turn.parts ∙ ap (λ (d : Desk CallData). d.done ++ (turn n).in_turn.rest) (sym (is n)),
+      ))
+
+  in_cell : (k : ℕ) (q : RealView) → real_in ((entity_flow e u).slot k) ≡ Some q → AreFirstCalls s part.Cell e q.done
+  in_cell k q at =
+      by_desk q (λ n. (sole_here desk_of parcel_of (as_sender n (entity_flow e u)) (turn n).place (turn n).desk (desk_for n q.orders q.done) k
+      (turn n).in_turn.sole (ap (real_desk n) at)).1)
+
+  abbrev CarriesTurn : ℕ → Msg → Type 0
+  CarriesTurn n = Carries n (turn n).desk
+
+  handed : (a k : ℕ) → AllByRecursion (λ m. (q : RealView) → real_of m ≡ Some q → AreFirstCalls s part.Cell e q.done) ((entity_flow e u).mail a k)
+  handed a k =
+      let ms = (entity_flow e u).mail a k in
+      all_turn (λ m. (n : ℕ) → CarriesTurn n m) (λ m. (q : RealView) → real_of m ≡ Some q → AreFirstCalls s part.Cell e q.done)
+      (λ m all q is. by_desk q (λ n. all n q is)) ms
+      (for_all CarriesTurn ms (λ n. carried_desks n (turn n).desk ms
+      (only_on_links desk_of parcel_of (as_sender n (entity_flow e u)) (turn n).desk (turn n).place (turn n).in_turn.sole a k)))
+
+  -- ---- of the base part
+
+  module _ (begun : PartView) (here : ((entity_flow e (loaded w B)).slot (base_node h e)).base.part ≡ Some begun) where
+    abbrev base_turn : (n : ℕ) → AreInTurn (next_to n begun) (base_calls_of B e n) (as_base_sender n (entity_flow e u))
+    base_turn n = (goes.base_calls begun here).turns n
+
+    at_base : (k : ℕ) (p : PartView) → ((entity_flow e u).slot k).base.part ≡ Some p → AreFirstCalls s part.Base e p.done
+    at_base k p at =
+        first_by part.Base p.done (λ n. next_to n begun) (base_calls_of B e) (base_calls h some s.book R few tree e) (λ n.
+        let is = (sole_here desk_of parcel_of (as_base_sender n (entity_flow e u)) (base_turn n).place (base_turn n).desk
+        (desk_for n p.orders p.done) k (base_turn n).in_turn.sole (ap (part_desk n) at)).1 in (
+          (base_turn n).in_turn.rest,
+          (base_turn n).in_turn.parts ∙ ap (λ (d : Desk CallData). d.done ++ (base_turn n).in_turn.rest) (sym is),
+        ))
+
+    pub first_calls : HasFirstCalls s e u
+    first_calls = record { cell = record { cells = in_cell; hands = handed }; base = at_base }
+
+-- ---- as the dead are reaped and the witnesses look
+
+-- no real is handed over
+pub none_handed : (told : Bool) (home : ℕ) (r : RealView) (k : ℕ) (m : Msg) → IsCalmTo told home r k m → real_of m ≡ None
+none_handed told home r k (Call c) calm = refl
+none_handed told home r k (BaseCall c) calm = refl
+none_handed told home r k (Hand q) calm = absurd calm
+none_handed told home r k (Current e j g) calm = refl
+none_handed told home r k (GhostSet e n c) calm = refl
+none_handed told home r k (GhostDrop e n) calm = refl
+none_handed told home r k Tick calm = refl
+none_handed told home r k (Reap e) calm = refl
+none_handed told home r k (Update u) calm = refl
+
+-- and each part is what it was before, but for its witness or its client
+pub still_first : (s : Standing) (e : ℕ) (u v : World) → HasFirstCalls s e u →
+    ((k : ℕ) (q : RealView) → real_in ((entity_flow e v).slot k) ≡ Some q → WasThere e k q u) → (told : Bool) (home : ℕ) (r : RealView) →
+    ((a k : ℕ) → AllByRecursion (IsCalmTo told home r k) ((entity_flow e v).mail a k)) →
+    ((k : ℕ) (q : PartView) → ((entity_flow e v).slot k).base.part ≡ Some q →
+    (p : PartView) × (((entity_flow e u).slot k).base.part ≡ Some p) × (q.done ≡ p.done)) → HasFirstCalls s e v
+still_first s e u v had reals told home r mail parts = record {
+  cell = record {
+    cells = λ k q at.
+        let was = reals k q at in
+        subst (AreFirstCalls s part.Cell e) (sym (ap (λ (y : RealView). y.done) was.same)) (had.cell.cells k was.real was.here);
+    hands = λ a k.
+        all_turn (IsCalmTo told home r k) (λ m. (q : RealView) → real_of m ≡ Some q → AreFirstCalls s part.Cell e q.done)
+        (λ m calm q is. absurd (let z = sym (none_handed told home r k m calm) ∙ is in cc)) ((entity_flow e v).mail a k) (mail a k);
+  };
+  base = λ k q at.
+      let was = parts k q at in
+      subst (AreFirstCalls s part.Base e) (sym was.2) (had.base k was.0 was.1);
+}
