@@ -150,8 +150,8 @@ module _ (b : Book) (p : Part) (e : ℕ) (senders : AllByRecursion IsFromSender 
       (front_all (letters_of (from_sender n) done) (first n).0
       (subst (AllByRecursion IsFromSender) (first n).1 (all_kept IsFromSender _ (calls_of b.current) senders))))
 
-  first_by : (s : Sender) → IsSender s → (rest : List CallData) × (its s ≡ of_sender s done ++ rest)
-  first_by s is = (
+  first_from : (s : Sender) → IsSender s → (rest : List CallData) × (its s ≡ of_sender s done ++ rest)
+  first_from s is = (
     (first (rank_of s)).0,
     accepted_by_place p e s is (calls_of b.current) senders ∙ (first (rank_of s)).1
         ∙ ap (λ l. l ++ (first (rank_of s)).0)
@@ -160,13 +160,13 @@ module _ (b : Book) (p : Part) (e : ℕ) (senders : AllByRecursion IsFromSender 
 
   first_of_base : (n : ℕ) → IsSender (sender.Base n) ⊎ (IsSender (sender.Base n) → ⊥) →
       (rest : List CallData) × (its (sender.Base n) ≡ of_sender (sender.Base n) done ++ rest)
-  first_of_base n (inl is) = first_by (sender.Base n) is
+  first_of_base n (inl is) = first_from (sender.Base n) is
   first_of_base n (inr not) =
       ([], none_from n not p e (calls_of b.current) senders ∙ sym (ap (λ l. l ++ []) (none_of n not done first_senders)))
 
   first_of : (s : Sender) → (rest : List CallData) × (its s ≡ of_sender s done ++ rest)
   first_of (sender.Base n) = first_of_base n (sender_or_not n)
-  first_of (sender.Client d) = first_by (sender.Client d) tt
+  first_of (sender.Client d) = first_from (sender.Client d) tt
 
   -- what it executed before, and then these, are the first calls of what was accepted
   pub executes_first : (before : List CallData) → IsFull (accepted (as_begun b) p e) before → IsLegal (accepted b p e) (before ++ done)

@@ -18,3 +18,4 @@ mod Created
 mod Present
 mod Ends
 mod Turns
+mod Truly

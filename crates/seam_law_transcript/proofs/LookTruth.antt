@@ -12,7 +12,7 @@ use Rattle.seam_rule_rounds.specs.Prelude.{one_look}
 use Rattle.seam_rule_lines.proofs.Lists.{contains_first, contains_later}
 use Rattle.seam_judge_expected.proofs.ListedLemmas.{in_filter}
 
-found : {X : Type 0} (p : X → Bool) (xs : List X) (x : X) → find p xs ≡ Some x → Contains xs x × (p x ≡ true)
+pub found : {X : Type 0} (p : X → Bool) (xs : List X) (x : X) → find p xs ≡ Some x → Contains xs x × (p x ≡ true)
 found p [] x is = absurd (none-some x is)
 found {X} p (y ∷ ys) x is = by (p y) refl is (found p ys x)
   where

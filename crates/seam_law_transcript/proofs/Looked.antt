@@ -12,7 +12,7 @@ use Rattle.seam_rule_lines.proofs.BookEntries.{live_is_created}
 use Rattle.seam_rule_lines.proofs.Lists.{contains_first, contains_later, contains_cases}
 use Rattle.seam_law_book.proofs.Present.{any_split, alive, neither}
 
-in_map : {X Y : Type 0} (f : X → Y) (xs : List X) (y : Y) → Contains (map f xs) y → (x : X) × Contains xs x × (y ≡ f x)
+pub in_map : {X Y : Type 0} (f : X → Y) (xs : List X) (y : Y) → Contains (map f xs) y → (x : X) × Contains xs x × (y ≡ f x)
 in_map f [] y (k, within, is) = absurd (omega arith)
 in_map f (x ∷ xs) y has = elim (contains_cases (f x) y (map f xs) has) [
   | inl same ↦ (x, contains_first x xs, sym same)

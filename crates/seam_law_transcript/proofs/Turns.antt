@@ -2,12 +2,13 @@
 use Rattle.std.proofs.Common.{◌≡◌, ℕ, ◌≤◌, Bool, true, false, List, [], ◌∷◌, ◌++◌, Option, None, Some, refl, sym, ap, ◌∙◌, subst, inl, inr}
 use Rattle.std.specs.List.{AllByRecursion}
 use Rattle.std.proofs.lemmas.Bool.{cases_eq}
-use Rattle.seam_node_steps.specs.Prelude.{Part, Division, Call as CallData, Batch, RealView, Msg, BaseCall, Hand, Current, GhostSet, GhostDrop}
-use Rattle.seam_node_steps.specs.Prelude.{Tick, Reap, Update, PartView, World, loaded}
+use Rattle.seam_node_steps.specs.Prelude.{Part, Division, Call as CallData, Batch, RealView, Msg, BaseCall, Hand, Current, GhostSet}
+use Rattle.seam_node_steps.specs.Prelude.{GhostDrop, Tick, Reap, Update, PartView, World, loaded}
 use Rattle.seam_rule_rounds.specs.Prelude.{Header, calls_of, accepted, IsFull, ClientReplica, Standing}
-use Rattle.seam_law_flow.specs.Prelude.{Flow, letters_of, more_letter, TokenPlace, In, On, Sole, Desk, Mail, Item, desk_of, parcel_of, AreInTurn}
-use Rattle.seam_law_calls.specs.Prelude.{entity_flow, kept_if, real_in, real_of, from_sender, is_from, desk_for, cell_mail, real_desk, as_sender}
-use Rattle.seam_law_calls.specs.Prelude.{as_base_sender, part_desk, EachReal}
+use Rattle.seam_law_flow.specs.Prelude.{Flow, letters_of, more_letter, TokenPlace, In, On, Sole, Desk, Mail, Item, desk_of, parcel_of}
+use Rattle.seam_law_flow.specs.Prelude.{AreInTurn}
+use Rattle.seam_law_calls.specs.Prelude.{entity_flow, kept_if, real_in, real_of, from_sender, is_from, desk_for, cell_mail, real_desk}
+use Rattle.seam_law_calls.specs.Prelude.{as_sender, as_base_sender, part_desk, EachReal}
 use Rattle.seam_law_rounds.specs.Prelude.{next_from, next_to, base_calls_of}
 use Rattle.seam_law_ghosts.specs.Prelude.{WasThere}
 use Rattle.seam_law_all.specs.Calls.{GoesRightly}
@@ -94,10 +95,10 @@ module _ (h : Header) (s : Standing) (tree : Division) (clients : ℕ → Client
       all_turn (IsFitCall h s.book) IsFromSender (λ c fit. known_is_sender h c.sender fit.sender) (calls_of s.book.current) R.calls
 
   -- the first calls, where the desk of each sender is the one that is in turn
-  first_by : (p : Part) (done : List CallData) (first : ℕ → ℕ) (batch : ℕ → List CallData) →
+  first_by : (p : Part) (done : List CallData) (batch : ℕ → List CallData) →
       ((n : ℕ) → batch n ≡ calls_from p e n (calls_of s.book.current)) →
       ((n : ℕ) → (rest : List CallData) × (batch n ≡ letters_of (from_sender n) done ++ rest)) → AreFirstCalls s p e done
-  first_by p done first batch is parts =
+  first_by p done batch is parts =
       executes_first s.book p e senders done (λ n. ((parts n).0, sym (is n) ∙ (parts n).1)) (s.orders p e) (full p e)
 
   -- ---- of the cell part
@@ -107,7 +108,7 @@ module _ (h : Header) (s : Standing) (tree : Division) (clients : ℕ → Client
 
   by_desk : (q : RealView) → ((n : ℕ) → desk_for n q.orders q.done ≡ (turn n).desk) → AreFirstCalls s part.Cell e q.done
   by_desk q is =
-      first_by part.Cell q.done (λ n. next_from n r) (core.calls_of B e) (cell_calls h some s.book R few tree e) (λ n. (
+      first_by part.Cell q.done (core.calls_of B e) (cell_calls h some s.book R few tree e) (λ n. (
         (turn n).in_turn.rest,
         (turn n).in_turn.parts ∙ ap (λ (d : Desk CallData). d.done ++ (turn n).in_turn.rest) (sym (is n)),
       ))
@@ -136,7 +137,7 @@ module _ (h : Header) (s : Standing) (tree : Division) (clients : ℕ → Client
 
     at_base : (k : ℕ) (p : PartView) → ((entity_flow e u).slot k).base.part ≡ Some p → AreFirstCalls s part.Base e p.done
     at_base k p at =
-        first_by part.Base p.done (λ n. next_to n begun) (base_calls_of B e) (base_calls h some s.book R few tree e) (λ n.
+        first_by part.Base p.done (base_calls_of B e) (base_calls h some s.book R few tree e) (λ n.
         let is = (sole_here desk_of parcel_of (as_base_sender n (entity_flow e u)) (base_turn n).place (base_turn n).desk
         (desk_for n p.orders p.done) k (base_turn n).in_turn.sole (ap (part_desk n) at)).1 in (
           (base_turn n).in_turn.rest,

@@ -2,6 +2,7 @@ pub mod Reading
 pub mod Beside
 pub mod Playing
 pub mod Counts
+pub mod Truly
 pub mod Course
 pub mod OneReal
 pub mod Turns

@@ -4,7 +4,7 @@ pub use Rattle.seam_law_transcript.specs.Counts.{HasFewNumbers, MayEnd, most_lin
 pub use Rattle.seam_law_transcript.specs.Course.{GoesOn}
 pub use Rattle.seam_law_transcript.specs.OneReal.{HasOneReal}
 pub use Rattle.seam_law_transcript.specs.Playing.{ContinuesLines, IsPlayed, clients_ended_in, data_of, standing_of}
-pub use Rattle.seam_law_transcript.specs.Radius.{ClientsSeeAll}
+pub use Rattle.seam_law_transcript.specs.Radius.{ClientsSeeAll, IsShownPresent, ShowsPresent}
 pub use Rattle.seam_law_transcript.specs.Reading.{base_if, bases_read, client_lines, home_if, homes_read, lines_shown, lines_told}
 pub use Rattle.seam_law_transcript.specs.Reading.{place_read, round_read, standing_read}
 pub use Rattle.seam_law_transcript.specs.Turns.{AreFirstCalls, ExecutesInTurn, HasFirstCalls, KeepsFirstCalls}

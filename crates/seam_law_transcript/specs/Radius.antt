@@ -1,10 +1,27 @@
 -- What clients see after a round, whatever cells there are.
-use Rattle.std.specs.Prelude.{◌≡◌, ℕ, IsTrue, Some}
-use Rattle.seam_rule_rounds.specs.Prelude.{Row, row_of, rows_but, Header, is_shown, rows_of, RoundData, IsRound, Standing, replica_of}
+use Rattle.std.specs.Prelude.{◌≡◌, ℕ, IsTrue, List, Some}
+use Rattle.std.specs.List.{AllByRecursion}
+use Rattle.std.specs.FinMap as table
+use Rattle.seam_rule_rounds.specs.Prelude.{ClientReplica, Row, row_of, rows_but, Header, is_shown, rows_of, RoundData, IsRound, Standing}
+use Rattle.seam_rule_rounds.specs.Prelude.{replica_of}
 use Rattle.seam_rule_clients.specs.Looks.{ShowsTable}
 
--- After the legal round r, which leaves the standing t, each client whose entity lives shows the flat table of that moment: its own entity
--- at its version; in view every other within its radius, and none beyond radius and hysteresis; and each in view at its public version.
+-- an entity in view, last shown at a version, is one of the table, at its public version, and shown as others are to be shown it then
+pub record IsShownPresent (c : ClientReplica) (others : List Row) (e version : ℕ) : Type 0 where
+  pub row : Row
+  pub is : row_of others e ≡ Some row
+  pub newest : version ≡ row.other.version
+  pub copy : table.get c.copies e ≡ Some row.other
+
+-- What a client shows is the table as it is now: its own entity at its version, in its own state; each other within the radius is in view;
+-- each in view is within radius and hysteresis, at its public version, as it is then.
+pub record ShowsPresent (c : ClientReplica) (own : Row) (others : List Row) : Type 0 where
+  pub itself : c.own ≡ Some (own.version, own.own)
+  pub table_ : ShowsTable c own others
+  pub each : AllByRecursion (λ p. IsShownPresent c others p.0 p.1) c.others.entries
+
+-- After the legal round r, which leaves the standing t, each client whose entity lives shows the flat table of that moment, with the states
+-- that are in it.
 abbrev pub ClientsSeeAll : Header → Standing → RoundData → Standing → Type 0
 ClientsSeeAll h s r t = (legal : IsRound h s r t) (e : ℕ) (own : Row) → IsTrue (is_shown s.book e) →
-    row_of (rows_of h t.orders legal.live) e ≡ Some own → ShowsTable (replica_of h t e) own (rows_but e (rows_of h t.orders legal.live))
+    row_of (rows_of h t.orders legal.live) e ≡ Some own → ShowsPresent (replica_of h t e) own (rows_but e (rows_of h t.orders legal.live))

@@ -10,8 +10,8 @@ use Rattle.seam_law_book.specs.Prelude.{IsPresent}
 use Rattle.seam_defs.specs.declared.flags.Part.TheVariants as part
 use Rattle.seam_accept.specs.Batches.{batch_of}
 
--- The part of entity e executed these calls in the open round, after those of the rounds before: of the calls that were accepted for it from
--- each sender these are the first ones, in their order and each once.
+-- The part of entity e executed these calls in the open round, after those of the rounds before: of the calls that were accepted for it
+-- from each sender these are the first ones, in their order and each once.
 abbrev pub AreFirstCalls : Standing → Part → ℕ → List Call → Type 0
 AreFirstCalls s p e done = IsLegal (accepted s.book p e) (s.orders p e ++ done)
 

@@ -5,9 +5,9 @@
 //! `legal_rounds` has that what one round prints is a legal round, and `whole_runs` the course of a run, from the header to the last line.
 //! Each law is a clause of a function that does nothing.
 //!
-//! Of `specs/`, `Beside`, `Playing` and `Reading` are for `legal_rounds`; `Course`, `Counts`, `OneReal`, `Turns` and `Radius` for
-//! `whole_runs`.
-//! `specs/Prelude` re-exports what crates above cite of this one and of those below it, so that one import names it.
+//! Of `specs/`, `Beside`, `Playing` and `Reading` are for `legal_rounds`; `Course`, `Counts`, `Truly`, `OneReal`, `Turns` and
+//! `Radius` for `whole_runs`. `specs/Prelude` re-exports what crates above cite of this one and of those below it, so that one import
+//! names it.
 #![tactic(auto)]
 
 mod legal_rounds;

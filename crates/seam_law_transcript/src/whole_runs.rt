@@ -8,7 +8,8 @@
 // that it leaves. So an input of no more lines than there may be (*most_lines*) never runs out of numbers, however many rounds it has.
 //
 // While such a round is played each live entity has one real, whatever events happen, and one that the round destroys has it until its
-// Reap comes, and none from then on (`specs/OneReal`). After it clients show all that is within their radius (`specs/Radius`).
+// Reap comes, and none from then on (`specs/OneReal`); and its parts execute each sender's calls in turn (`specs/Turns`). What clients show
+// stays true from round to round (`specs/Truly`), and after each they show all that is within their radius, as it is now (`specs/Radius`).
 //
 // With `given`, and the fields `between.keeps` and `bounded`, there is all that `seam_quiet::run_round` asks; the round that it runs, and
 // that this has ended, are fields of what it answers (*StandsFor*), and so they are where a caller runs the phases one by one.
@@ -87,6 +88,7 @@ pub fn a_run_round_is_legal()
         let t = standing_read h s round.called v r (with_tree (with_round_ended s.book) u) in
         IsRound h s r t × GoesOn h t (tree_of s.book) v }
 {
+    seam_rule_clients::lines_follow_lines();
     crate::the_next_round_has_the_tree_of_the_rules();
     crate::a_played_round_is_legal();
     crate::a_standing_goes_with_the_world_after_its_round();
@@ -108,8 +110,8 @@ pub fn each_entity_has_one_real_through_a_round()
     a_round_may_be_run();
 }
 
-/// Whatever events happen while such a round is played, each part executes each sender's calls in turn: what it executed so far are the first
-/// ones of those that were accepted for it, in their order and each once. While the calls happen that asks for no end of the round
+/// Whatever events happen while such a round is played, each part executes each sender's calls in turn: what it executed so far are the
+/// first ones of those that were accepted for it, in their order and each once. While the calls happen that asks for no end of the round
 /// (`calls`), so it holds where none comes; it holds in the other phases too (`round`).
 pub fn each_part_executes_in_turn()
     ensures calls { (h : Header) (s : Standing) (tree : Division) (w : World) → GoesOn h s tree w → MayEnd s → (e : ℕ) (made : Create) →
@@ -125,9 +127,12 @@ pub fn each_part_executes_in_turn()
     each_entity_has_one_real_through_a_round();
 }
 
-/// After a legal round each client shows all that is within its radius, and nothing that is not there.
+/// After a legal round of such a standing each client shows all that is within its radius, and nothing that is not there; and it shows its
+/// own entity and each in view as they are now.
 pub fn clients_see_all_within_their_radius()
-    ensures { (h : Header) (s : Standing) (r : RoundData) (t : Standing) → ClientsSeeAll h s r t }
+    ensures { (h : Header) (s : Standing) (tree : Division) (w : World) → GoesOn h s tree w → (r : RoundData) (t : Standing) →
+        ClientsSeeAll h s r t }
 {
     seam_rule_clients::look_shows_the_table();
+    seam_rule_clients::lines_follow_lines();
 }

@@ -1,12 +1,17 @@
-use Rattle.std.proofs.Common.{◌≡◌, ℕ, [], ◌∷◌, ◌++◌, sym, ap, ◌∙◌, arith, length-append}
+use Rattle.std.proofs.Common.{◌≡◌, ℕ, [], ◌∷◌, ◌++◌, sym, ap, ◌∙◌, arith, length-append, append-nil}
+use Rattle.std.specs.Prelude.{find, ◌==◌}
+use Rattle.std.specs.Option.{option_or}
 use Rattle.std.proofs.lemmas.Option.{none-some}
 use Rattle.seam_node_steps.specs.Prelude.{opened}
-use Rattle.seam_rule_rounds.specs.Prelude.{with_line}
+use Rattle.seam_defs.specs.declared.flags.Part.TheVariants as part
+use Rattle.seam_rule_rounds.specs.Prelude.{with_line, with_entry, creates_of, after_header, replica_of}
+use Rattle.seam_accept.proofs.Books.{created_with}
 use Rattle.seam_law_calls.specs.Prelude.{has_none, entity_flow, real_in, IsFrame}
 use Rattle.seam_law_rounds.specs.Prelude.{first_frame}
 use Rattle.seam_law_book.specs.Prelude.{empty, accepts}
 use Rattle.seam_law_book.proofs.Untouched.{one_cell_tree}
 use Rattle.seam_law_rounds.proofs.Opened.{opened_is_new}
+use Rattle.seam_law_transcript.proofs.Truly.{new_is_true, truly_later}
 use Rattle.seam_law_transcript.proofs.whole_runs.a_course_begins_and_goes_on.Goals as goal
 
 pub returns-clause-opened : goal.returns-clause-opened
@@ -19,6 +24,7 @@ returns-clause-opened c h count legal defs =
       legal = legal;
       of_lines = empty;
       between = c.a_standing_goes_with_a_world_before_its_round.ensures.opened h count legal defs;
+      truly = λ e. new_is_true h (after_header h count).book (after_header h count).orders e h.settings;
       bounded = record { nothing = bounded.0; sees = bounded.1 };
       counted = record { entries_ = omega arith; rounds = omega arith };
       few = record {
@@ -35,6 +41,7 @@ returns-clause-line c h s tree w g =
       legal = g.legal;
       of_lines = g.of_lines;
       between = c.a_standing_goes_with_a_world_before_its_round.ensures.line h s tree w g.between;
+      truly = g.truly;
       bounded = g.bounded;
       counted = record { entries_ = omega (arith, entries_); rounds = omega (arith, rounds) };
       few = record { reals = g.few.reals; told = g.few.told };
@@ -53,6 +60,10 @@ returns-clause-entry c h s tree w x g accepted =
       of_lines = accepts b x g.of_lines accepted;
       between = c.a_standing_goes_with_a_world_before_its_round.ensures.entry h (with_line s) tree w x
           (c.a_standing_goes_with_a_world_before_its_round.ensures.line h s tree w g.between);
+      truly = λ e.
+          truly_later h b (with_entry b x) s.orders s.orders
+          (λ y made is. created_with b x y ∙ ap (λ o. option_or o (find (λ d. d.entity == y) (creates_of (x ∷ [])))) is)
+          (λ y. ([], sym (append-nil (s.orders part.Cell y)))) e (replica_of h s e) (g.truly e);
       bounded = g.bounded;
       counted = record { entries_ = omega (arith, entries_, all, were, more); rounds = omega (arith, rounds, more) };
       few = record { reals = g.few.reals; told = g.few.told };

@@ -1,8 +1,28 @@
-use Rattle.std.proofs.Common.{length, None, Some, refl, ap, arith, append-nil}
-use Rattle.seam_rule_lines.specs.Book.{entries, tree_of, with_round_ended, with_tree}
+use Rattle.std.proofs.Common.{◌≡◌, ℕ, List, [], ◌++◌, length, None, Some, refl, sym, ap, ◌∙◌, arith, append-nil}
+use Rattle.std.specs.Prelude.{find, ◌==◌}
+use Rattle.seam_defs.specs.declared.flags.Part.TheVariants as part
+use Rattle.seam_rule_lines.specs.Book.{Book, entries, creates_of, created_as, tree_of, with_round_ended, with_tree}
+use Rattle.seam_rule_rounds.specs.Prelude.{Create, Header, ClientReplica, after_lines, Standing, replica_of, RoundData, IsRound}
+use Rattle.seam_call.specs.declared.shown.Line.{Line}
 use Rattle.seam_law_book.specs.Books.{ends, balances}
 use Rattle.seam_law_transcript.specs.Playing.{IsPlayed, standing_of}
+use Rattle.seam_law_transcript.specs.Truly.{ShowsTruly}
+use Rattle.seam_law_transcript.proofs.Truly.{truly_later, truly_then}
 use Rattle.seam_law_transcript.proofs.whole_runs.a_run_round_is_legal.Goals as goal
+
+-- who was created stays so as the round ends
+entries_stay : (b : Book) (x : ℕ) → created_as (with_round_ended b) x ≡ created_as b x
+entries_stay b x = ap (λ l. find (λ d. d.entity == x) (creates_of l)) (append-nil (entries b))
+
+-- what clients show is true by the next book
+truly_at_end : (h : Header) (s : Standing) (r : RoundData) (t : Standing)
+    (follow : (k : ClientReplica) (lines more : List Line) → after_lines k (lines ++ more) ≡ after_lines (after_lines k lines) more) →
+    IsRound h s r t → ((e : ℕ) → ShowsTruly h s.book s.orders e (replica_of h s e)) → (b : Book) →
+    ((x : ℕ) (made : Create) → created_as s.book x ≡ Some made → created_as b x ≡ Some made) →
+    (e : ℕ) → ShowsTruly h b t.orders e (replica_of h t e)
+truly_at_end h s r t follow legal truly b known e =
+    truly_later h s.book b t.orders t.orders known (λ x. ([], sym (append-nil (t.orders part.Cell x)))) e (replica_of h t e)
+    (truly_then follow h s r t legal truly e)
 
 pub returns-clause-kept : goal.returns-clause-kept
 returns-clause-kept c h s tree w g end v round ended made live made_listed live_listed none =
@@ -18,12 +38,14 @@ returns-clause-kept c h s tree w g end v round ended made live made_listed live_
     let t = standing_of h s tree w v p None (with_round_ended s.book) in
     let entries_ = g.counted.entries_ in
     let all = ap length (append-nil (entries s.book)) in
+    let legal = c.a_played_round_is_legal.ensures.kept h s tree w v p none in
     let counted = end.counted in (
-      c.a_played_round_is_legal.ensures.kept h s tree w v p none,
+      legal,
       record {
         legal = g.legal;
         of_lines = ends s.book g.of_lines;
         between = c.a_standing_goes_with_the_world_after_its_round.ensures.ended h s tree w v p None;
+        truly = truly_at_end h s _ t c.lines_follow_lines.ensures legal g.truly t.book (λ x made is. entries_stay s.book x ∙ is);
         bounded = c.a_round_leaves_few_numbers.ensures.bounded h s tree w g end v round ended;
         counted = record { entries_ = omega (arith, entries_, all); rounds = omega (arith, counted) };
         few = c.a_round_leaves_few_numbers.ensures.few h s tree w g end v round ended t refl refl;
@@ -45,12 +67,14 @@ returns-clause-balanced c h s tree w g end v round ended made live made_listed l
     let t = standing_of h s tree w v p (Some u) (with_tree (with_round_ended s.book) u) in
     let entries_ = g.counted.entries_ in
     let all = ap length (append-nil (entries s.book)) in
+    let legal = c.a_played_round_is_legal.ensures.balanced h s tree w v p u some balanced in
     let counted = end.counted in (
-      c.a_played_round_is_legal.ensures.balanced h s tree w v p u some balanced,
+      legal,
       record {
         legal = g.legal;
         of_lines = balances s.book u g.of_lines may;
         between = c.a_standing_goes_with_the_world_after_its_round.ensures.balanced h s tree w v p (Some u) u may;
+        truly = truly_at_end h s _ t c.lines_follow_lines.ensures legal g.truly t.book (λ x made is. entries_stay s.book x ∙ is);
         bounded = c.a_round_leaves_few_numbers.ensures.bounded h s tree w g end v round ended;
         counted = record { entries_ = omega (arith, entries_, all); rounds = omega (arith, counted) };
         few = c.a_round_leaves_few_numbers.ensures.few h s tree w g end v round ended t refl refl;

@@ -49,7 +49,7 @@ returns g c = λ h t ready.
           p.round p.ended)
           (c.each_part_executes_in_turn.ensures.round h t ready.has.tree ready.has.world ready.has.goes_on ready.may left.world p.round
           p.ended)
-          (λ r u. c.clients_see_all_within_their_radius.ensures h t r u)
+          (λ r u. c.clients_see_all_within_their_radius.ensures h t ready.has.tree ready.has.world ready.has.goes_on r u)
           refl refl refl refl c.in_ok-self.ensures.next
           (c.begin_next.ensures h _ (c.take_batch-batch.ensures.ended h t.book ready.book)) c.in_ok-self-2.ensures,
       has.whole,
