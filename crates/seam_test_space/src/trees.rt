@@ -13,9 +13,9 @@ fn cut_fifteen_times(tree: &mut Tree) -> bool {
 
 fn are_sixteen(tree: &Tree) -> bool {
     let inside = tree.holds(Pos { x: 9_999, z: 0 }) && !tree.holds(Pos { x: 10_000, z: 0 });
-    let last = tree.areas()[15].low().x;
+    let last = tree.area(15).map(|a| a.low().x);
     let counts = (tree.cells(), tree.size());
-    (inside, last, counts, tree.cut_of(15)) == (true, 2_000, (16, 10_000), Some(0))
+    (inside, last, counts, tree.cut_of(15)) == (true, Some(2_000), (16, 10_000), Some(0))
 }
 
 fn cut_no_more(tree: &mut Tree) -> bool {
