@@ -20,7 +20,7 @@ use seam_call::Batch;
 use seam_core::{Node, World};
 use seam_defs::Listed;
 use seam_machine::{Event, Net};
-use seam_net_runs::{begin, finish};
+use seam_net_runs::begin;
 use seam_watch::Journal;
 use seam_workers::Gate;
 use std::alloc::{AllocError, Global};
@@ -50,6 +50,24 @@ fn take_events<G: Gate + Sync, R: Threads + Wait + Sync>(
     Ok((net, events))
 }
 
+// Lets events of a net happen until it is quiet: `seam_net_runs::finish`, at nodes. From a function that also has threads the prover does
+// not cover a call of the generic one.
+fn come_to_rest(alloc: Global, net: Net<Node>) -> Result<(Net<Node>, Vec<Event>), AllocError>
+    ghost most: { ℕ }
+    requires peers { ArePeers node_peers net }
+    requires ends { EndsWithin node_has_work node_steps net most }
+    ensures run { IfOk result (λ r. LeadsTo node_has_work node_steps net r.1.items r.0) }
+    ensures quiet { IfOk result (λ r. IsQuiet node_has_work r.0) }
+{
+    let mut net = net;
+    let mut events = Vec::new(alloc);
+    while let Some(event) = net.next_event() {
+        net.step(alloc, event)?;
+        events.push(event)?;
+    }
+    Ok((net, events))
+}
+
 // Lets events of a world that is not quiet happen until it is.
 fn bring_to_rest<G: Gate + Sync, R: Threads + Wait + Sync>(
     rt: &R,
@@ -63,7 +81,7 @@ fn bring_to_rest<G: Gate + Sync, R: Threads + Wait + Sync>(
     ensures quiet { IfOk result (λ r. IsQuiet node_has_work r.0) }
 {
     let (net, mut events) = take_events(rt, alloc, world.apart(), workers)?;
-    let (net, mut last) = finish(alloc, net)?;
+    let (net, mut last) = come_to_rest(alloc, net)?;
     events.append(&mut last)?;
     Ok((World::over(net), Listed::of(events)))
 }

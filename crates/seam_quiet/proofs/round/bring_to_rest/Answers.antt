@@ -7,8 +7,8 @@ use Rattle.seam_core.proofs.Worlds.{still_world}
 use Rattle.seam_quiet.proofs.round.bring_to_rest.Goals as goal
 
 -- what is left of events that may be so many are no more
-pub finish-requires : goal.finish-requires
-finish-requires g c = (
+pub come_to_rest-requires : goal.come_to_rest-requires
+come_to_rest-requires g c = (
   c.in_ok-net.ensures.peers,
   (λ es v leads.
       let begun = subst (λ w. Leads w c.in_ok-net.events.items c.in_ok-net.net) c.apart.ensures.net c.in_ok-net.ensures.run in

@@ -1,4 +1,4 @@
 use Rattle.seam_quiet.proofs.round.bring_to_rest.Given as goal
 
-abbrev pub ghost-finish : goal.ghost-finish
-ghost-finish g a = g.most
+abbrev pub ghost-come_to_rest : goal.ghost-come_to_rest
+ghost-come_to_rest g a = g.most
