@@ -1,7 +1,7 @@
 pub mod Counting
 mod Following
 mod PlayedRounds
-mod Playing
+mod TextsPlayed
 mod ScriptLemmas
 pub mod Results
 pub mod Worlds

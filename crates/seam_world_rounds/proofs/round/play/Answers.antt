@@ -7,7 +7,7 @@ use Rattle.seam_world_text.specs.Farewells.{AreFarewells}
 use Rattle.seam_world_rounds.specs.PlayedRound.{IsBalancedBy}
 use Rattle.seam_quiet.specs.RoundRuns.{MayRun}
 use Rattle.seam_quiet.specs.Calls.{HasCalled}
-use Rattle.seam_world_rounds.proofs.Playing.{played_so}
+use Rattle.seam_world_rounds.proofs.TextsPlayed.{played_so}
 use Rattle.seam_world_rounds.proofs.round.play.Goals as goal
 
 pub run_calls-requires-clause-may : goal.run_calls-requires-clause-may

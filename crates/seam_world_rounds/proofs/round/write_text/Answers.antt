@@ -2,7 +2,7 @@ use Rattle.std.proofs.Common.{◌++◌, ap, ◌∙◌}
 use Rattle.seam_law_transcript.specs.Playing.{data_of}
 use Rattle.seam_world_text.specs.Texts.{calls_text, ends_text}
 use Rattle.seam_world_rounds.specs.PlayedRound.{start_text}
-use Rattle.seam_world_rounds.proofs.Playing.{text_in_order}
+use Rattle.seam_world_rounds.proofs.TextsPlayed.{text_in_order}
 use Rattle.seam_world_rounds.proofs.Results.{on_ok}
 use Rattle.seam_world_rounds.proofs.round.write_text.Goals as goal
 
