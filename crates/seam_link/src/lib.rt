@@ -155,6 +155,14 @@ impl<T: Drop> LinkOut<T> {
         Ok(())
     }
 
+    /// Whether something waits for room in the ring.
+    pub fn waits(&self) -> bool
+        ensures none { result ≡ false → self.now.waiting ≡ [] }
+        ensures some { result ≡ true → self.now.waiting ≢ [] }
+    {
+        !self.spill.is_empty()
+    }
+
     // Puts an item to the end of the spill.
     fn spill_over(&mut self, item: T) -> Result<(), NoMemoryFor<T>>
         ensures ok { OnOk result (self.new.put ≡ self.old.put ++ item ∷ []) }

@@ -1,18 +1,19 @@
 -- Links whose ends meet, from the last.
-use Rattle.std.proofs.Common.{◌≡◌, ◌≢◌, ℕ, zero, suc, ◌+◌, ◌*◌, ◌-◌, ◌<◌, ◌≤◌, ◌⊎◌, List, [], ◌∷◌, ◌++◌, length, Option, None, Some, get_or}
+use Rattle.std.proofs.Common.{◌≡◌, ◌≢◌, ℕ, zero, suc, ◌+◌, ◌*◌, ◌-◌, ◌<◌, ◌≤◌, ◌⊎◌, List, [], ◌∷◌, ◌++◌, length, Some, get_or, map}
 use Rattle.std.proofs.Common.{set, drop, refl, sym, ap, ◌∙◌, subst, arith, inl, inr}
 use Rattle.std.specs.Prelude.{slice_get}
 use Rattle.std.proofs.lemmas.Bool.{cases_eq}
 use Rattle.std.proofs.lemmas.Bool.Decides.{leb_tells}
-use Rattle.std.proofs.lemmas.List.{length-append, length-set, get_or-set_same, get_or-set_other}
-use Rattle.std.proofs.lemmas.Option.{slice_get_within, slice_get-get_or}
+use Rattle.std.proofs.lemmas.List.{length-append, length-map, length-set, get_or-map, get_or-set_same, get_or-set_other, map-set}
+use Rattle.std.proofs.lemmas.Option.{slice_get_within, slice_get-get_or, get_or_from_slice_get}
 use Rattle.std.proofs.Math.Seq.{drop-append_seam}
 use Rattle.std.proofs.Math.Nat.{mul-le-mul_right}
 use Rattle.seam_machine.proofs.Writes.{slice_get-append_left, slice_get-append_right}
 use Rattle.seam_machine.proofs.Flats.{one_more_row}
+use Rattle.seam_machine.specs.Sends.{items_to}
 use Rattle.seam_link.specs.Ends.{InView, OutView}
 use Rattle.seam_stamp.specs.declared.Letter.{Letter}
-use Rattle.seam_stamp.specs.Acts.{taken_by, items}
+use Rattle.seam_stamp.specs.Acts.{items}
 use Rattle.seam_logged.specs.Logs.{EndsView}
 use Rattle.seam_logged.specs.Mesh.{IsOut, IsIn, ArePaired, IsCell}
 use Rattle.seam_logged.specs.Parts.{Reached, AreWithin, Below, Remaining, IsRow}
@@ -171,14 +172,14 @@ module _ {T H : Type 0} where
     | inr h ↦ r.ins_low b eb h.1 (omega arith)
   ]
 
-  module _ (n : ℕ) (ends : List (EndsView T H)) (hands : List (Option (ℕ × Letter T))) where
+  module _ (n : ℕ) (ends : List (EndsView T H)) (hands : List (List (ℕ × Letter T))) where
     pub remaining_all : (a b : ℕ) → Reached n a b ends → Remaining n a b ends hands ends hands
     remaining_all a b r =
         record { reached = r; within = record { outs = λ c d o h. h; ins = λ c d i h. h }; many = refl; same = λ c d h. refl }
 
-    module _ (a b : ℕ) (ends' : List (EndsView T H)) (hands' : List (Option (ℕ × Letter T))) (r : Remaining n a b ends hands ends' hands')
+    module _ (a b : ℕ) (ends' : List (EndsView T H)) (hands' : List (List (ℕ × Letter T))) (r : Remaining n a b ends hands ends' hands')
       where
-        pub remaining_less : (c d : ℕ) (ends'' : List (EndsView T H)) (hands'' : List (Option (ℕ × Letter T))) →
+        pub remaining_less : (c d : ℕ) (ends'' : List (EndsView T H)) (hands'' : List (List (ℕ × Letter T))) →
             Remaining n c d ends' hands' ends'' hands'' → ((x y : ℕ) → Below c d x y → Below a b x y) →
             Remaining n c d ends hands ends'' hands''
         remaining_less c d ends'' hands'' s below = record {
@@ -248,13 +249,18 @@ module _ {T H : Type 0} where
         cells (a * n + b) (get_or links (a * n + b) []) (slice_get-get_or links (a * n + b) [] within) a b at lb
 
 -- the letters in hand after one hand changed
-pub hands_less : {T : Type 0} (hands : List (Option (ℕ × Letter T))) (a b : ℕ) (hand : Option (ℕ × Letter T)) → b < length hands →
-    ((c : ℕ) → c ≢ a → taken_by c hand ≡ taken_by c (get_or hands b None)) → (c d : ℕ) → Below a b c d →
-    taken_by c (get_or (set hands b hand) d None) ≡ taken_by c (get_or hands d None)
-hands_less hands a b hand lt others c d below = elim (cases_eq d b) [
-  | inl h ↦ (let differ : c ≢ a = elim below [ inl p ↦ λ e. absurd (omega (arith, p, e)) | inr p ↦ λ e. absurd (omega (arith, p.1, h)) ] in
-      ap (λ (k : ℕ). taken_by c (get_or (set hands b hand) k None)) h
-      ∙ (ap (taken_by c) (get_or-set_same hands b hand None lt)
-      ∙ (others c differ ∙ ap (λ (k : ℕ). taken_by c (get_or hands k None)) (sym h))))
-  | inr h ↦ ap (taken_by c) (get_or-set_other hands b d hand None h)
-]
+pub hands_less : {T D : Type 0} (held : D → List (ℕ × Letter T)) (hands : List D) (a b : ℕ) (hand hand' : D) → b < length hands →
+    slice_get hands b ≡ Some hand → ((c : ℕ) → c ≢ a → items_to c (held hand') ≡ items_to c (held hand)) → (c d : ℕ) → Below a b c d →
+    items_to c (get_or (map held (set hands b hand')) d []) ≡ items_to c (get_or (map held hands) d [])
+hands_less held hands a b hand hand' lt at others c d below =
+    let hs = map held hands in
+    let within : b < length hs = omega (arith, lt, length-map hands held) in
+    let was : get_or hs b [] ≡ held hand = get_or-map held hands b hand [] lt ∙ ap held (get_or_from_slice_get hands b hand hand at) in
+    ap (λ l. items_to c (get_or l d [])) (map-set held hands b hand') ∙ elim (cases_eq d b) [
+      | inl h ↦ (
+          let differ : c ≢ a = elim below [ inl p ↦ λ e. absurd (omega (arith, p, e)) | inr p ↦ λ e. absurd (omega (arith, p.1, h)) ] in
+          ap (λ (k : ℕ). items_to c (get_or (set hs b (held hand')) k [])) h
+          ∙ (ap (items_to c) (get_or-set_same hs b (held hand') [] within)
+          ∙ (others c differ ∙ (ap (items_to c) (sym was) ∙ ap (λ (k : ℕ). items_to c (get_or hs k [])) (sym h)))))
+      | inr h ↦ ap (items_to c) (get_or-set_other hs b d (held hand') [] h)
+    ]

@@ -1,8 +1,9 @@
 -- The ends of the links of all nodes of a net.
-use Rattle.std.specs.Prelude.{◌≡◌, ℕ, ◌+◌, ◌*◌, List, [], ◌∷◌, ◌++◌, length, drop, Option, None, Some, slice_get, slice_index_or}
+use Rattle.std.specs.Prelude.{◌≡◌, ℕ, ◌+◌, ◌*◌, List, [], ◌∷◌, ◌++◌, length, drop, Some, slice_get, slice_index_or}
+use Rattle.seam_machine.specs.Sends.{items_to}
 use Rattle.seam_link.specs.Ends.{InView, OutView}
 use Rattle.seam_stamp.specs.declared.Letter.{Letter}
-use Rattle.seam_stamp.specs.Acts.{taken_by, items}
+use Rattle.seam_stamp.specs.Acts.{items}
 use Rattle.seam_logged.specs.Logs.{EndsView}
 
 -- letters that were there at the start have the stamp 0
@@ -40,13 +41,13 @@ AreLinked {T} {H} n links ends =
     (a b : ℕ) (o : OutView (Letter T) H) (i : InView (Letter T) H) → IsOut ends a b o → IsIn ends a b i →
     IsNew (slice_index_or links (a * n + b) []) o i
 
--- the letters of the link from a to b that no step received: first the letter in the receiver's hand, where it came from a, and then
--- what was put into the link and not taken from it
-pub record IsCell {T H : Type 0} (ends : List (EndsView T H)) (hands : List (Option (ℕ × Letter T))) (a b : ℕ) (link : List T) : Type 0
+-- the letters of the link from a to b that no step received: first those in the receiver's hand that came from a, and then what was put
+-- into the link and not taken from it
+pub record IsCell {T H : Type 0} (ends : List (EndsView T H)) (hands : List (List (ℕ × Letter T))) (a b : ℕ) (link : List T) : Type 0
   where
     pub out : OutView (Letter T) H
     pub end : InView (Letter T) H
     pub is_out : IsOut ends a b out
     pub is_in : IsIn ends a b end
     pub met : end.taken ++ drop (length end.taken) out.put ≡ out.put
-    pub link_is : link ≡ items (taken_by a (slice_index_or hands b None) ++ drop (length end.taken) out.put)
+    pub link_is : link ≡ items (items_to a (slice_index_or hands b []) ++ drop (length end.taken) out.put)

@@ -1,6 +1,6 @@
 -- Some of the links of a net.
-use Rattle.std.specs.Prelude.{◌≡◌, ℕ, ◌+◌, ◌<◌, ◌≤◌, ◌⊎◌, List, length, Option, None, Some, slice_get, slice_index_or}
-use Rattle.seam_stamp.specs.Acts.{taken_by}
+use Rattle.std.specs.Prelude.{◌≡◌, ℕ, ◌+◌, ◌<◌, ◌≤◌, ◌⊎◌, List, [], length, Some, slice_get, slice_index_or}
+use Rattle.seam_machine.specs.Sends.{items_to}
 use Rattle.seam_link.specs.Ends.{InView, OutView}
 use Rattle.seam_stamp.specs.declared.Letter.{Letter}
 use Rattle.seam_logged.specs.Logs.{EndsView}
@@ -25,13 +25,13 @@ abbrev pub Below : ℕ → ℕ → ℕ → ℕ → Type 0
 Below a b c d = (c < a) ⊎ ((c ≡ a) × (d < b))
 
 -- some of the ends and hands remain: all that is there of the links before that from a to b
-pub record Remaining {T H : Type 0} (n a b : ℕ) (ends : List (EndsView T H)) (hands : List (Option (ℕ × Letter T)))
-    (ends' : List (EndsView T H)) (hands' : List (Option (ℕ × Letter T))) : Type 0 where
+pub record Remaining {T H : Type 0} (n a b : ℕ) (ends : List (EndsView T H)) (hands : List (List (ℕ × Letter T)))
+    (ends' : List (EndsView T H)) (hands' : List (List (ℕ × Letter T))) : Type 0 where
   pub reached : Reached n a b ends'
   pub within : AreWithin ends' ends
   pub many : length hands' ≡ length hands
-  pub same : (c d : ℕ) → Below a b c d → taken_by c (slice_index_or hands' d None) ≡ taken_by c (slice_index_or hands d None)
+  pub same : (c d : ℕ) → Below a b c d → items_to c (slice_index_or hands' d []) ≡ items_to c (slice_index_or hands d [])
 
 -- the links from node a, to the nodes from b on
-abbrev pub IsRow : {T H : Type 0} → List (EndsView T H) → List (Option (ℕ × Letter T)) → ℕ → ℕ → List (List T) → Type 0
+abbrev pub IsRow : {T H : Type 0} → List (EndsView T H) → List (List (ℕ × Letter T)) → ℕ → ℕ → List (List T) → Type 0
 IsRow {T} {H} ends hands a b row = (k : ℕ) (link : List T) → slice_get row k ≡ Some link → IsCell ends hands a (b + k) link

@@ -10,9 +10,9 @@
 
 ghost use Rattle.std.specs.Prelude.{◌≡◌, ◌≢◌, ℕ, ◌+◌, ◌*◌, ◌<◌, ◌≤◌, ◌⊎◌, List, [], ◌∷◌, ◌++◌, length, drop, map, OnOk, IfOk};
 ghost use Rattle.std.specs.Prelude.{slice_index_or};
-ghost use Rattle.std.specs.Option.{option_to_list};
+ghost use Rattle.seam_machine.specs.Sends.{items_to};
 ghost use Rattle.seam_stamp.specs.declared.Letter.{Letter};
-ghost use Rattle.seam_stamp.specs.Acts.{taken_by, items};
+ghost use Rattle.seam_stamp.specs.Acts.{items};
 ghost use Rattle.seam_logged.specs.Mesh.{IsOut, IsIn, AreFull, AreLinked, ArePaired, IsCell, at_start};
 ghost use Rattle.seam_logged.specs.Parts.{Reached, Remaining, IsRow};
 
@@ -118,19 +118,20 @@ fn fill<T: Drop>(out: &mut LinkOut<Letter<T>>, letters: Vec<T>) -> Result<(), Al
     Ok(())
 }
 
-/// What no step received of the letters of each link: the one in the receiver's hand, and then what was put and not taken.
-/// Hand k is that of node k, with the number of the letter's sender.
+/// What no step received of the letters of each link: those in the receiver's hand, and then what was put and not taken.
+/// Hand k is that of node k, and each letter in it has the number of its sender.
 pub fn left<T: Drop>(
     alloc: Global,
     mut ends: Vec<Ends<T>>,
-    mut hands: Vec<Option<(u8, Letter<T>)>>,
+    mut hands: Vec<VecDeque<(u8, Letter<T>)>>,
 ) -> Result<Vec<Vec<T>>, AllocError>
     requires full { AreFull (length ends.items) ends.items }
     requires paired { ArePaired ends.items }
     requires hands { length hands.items ≡ length ends.items }
     ensures many { IfOk result (λ v. length v.items ≡ length ends.items * length ends.items) }
     ensures cells { IfOk result (λ v. (a b : ℕ) → a < length ends.items → b < length ends.items →
-        IsCell ends.items hands.items a b (slice_index_or (map (λ l. l.items) v.items) (a * length ends.items + b) [])) }
+        IsCell ends.items (map (λ h. h.items) hands.items) a b
+        (slice_index_or (map (λ l. l.items) v.items) (a * length ends.items + b) [])) }
 {
     let mut links = VecDeque::new(alloc);
     let mut from = ends.len();
@@ -146,17 +147,17 @@ fn meet_row<T: Drop>(
     alloc: Global,
     from: usize,
     ends: &mut Vec<Ends<T>>,
-    hands: &mut Vec<Option<(u8, Letter<T>)>>,
+    hands: &mut Vec<VecDeque<(u8, Letter<T>)>>,
     links: &mut VecDeque<Vec<T>>,
 ) -> Result<(), AllocError>
     requires from { from < length ends.old.items }
     requires reached { Reached (length ends.old.items) (from + 1) 0 ends.old.items }
     requires paired { ArePaired ends.old.items }
     requires hands { length hands.old.items ≡ length ends.old.items }
-    ensures remaining { OnOk result (Remaining (length ends.old.items) from 0 ends.old.items hands.old.items
-        ends.new.items hands.new.items) }
+    ensures remaining { OnOk result (Remaining (length ends.old.items) from 0 ends.old.items (map (λ h. h.items) hands.old.items)
+        ends.new.items (map (λ h. h.items) hands.new.items)) }
     ensures row { OnOk result ((row : List (List T)) × (map (λ l. l.items) links.new.items ≡ row ++ map (λ l. l.items) links.old.items)
-        × (length row ≡ length ends.old.items) × IsRow ends.old.items hands.old.items from 0 row) }
+        × (length row ≡ length ends.old.items) × IsRow ends.old.items (map (λ h. h.items) hands.old.items) from 0 row) }
 {
     let mut to = ends.len();
     while to > 0 {
@@ -173,16 +174,16 @@ fn meet_link<T: Drop>(
     from: usize,
     to: usize,
     ends: &mut Vec<Ends<T>>,
-    hands: &mut Vec<Option<(u8, Letter<T>)>>,
+    hands: &mut Vec<VecDeque<(u8, Letter<T>)>>,
 ) -> Result<Vec<T>, AllocError>
     requires from { from < length ends.old.items }
     requires to { to < length ends.old.items }
     requires reached { Reached (length ends.old.items) from (to + 1) ends.old.items }
     requires paired { ArePaired ends.old.items }
     requires hands { length hands.old.items ≡ length ends.old.items }
-    ensures remaining { OnOk result (Remaining (length ends.old.items) from to ends.old.items hands.old.items
-        ends.new.items hands.new.items) }
-    ensures cell { IfOk result (λ l. IsCell ends.old.items hands.old.items from to l.items) }
+    ensures remaining { OnOk result (Remaining (length ends.old.items) from to ends.old.items (map (λ h. h.items) hands.old.items)
+        ends.new.items (map (λ h. h.items) hands.new.items)) }
+    ensures cell { IfOk result (λ l. IsCell ends.old.items (map (λ h. h.items) hands.old.items) from to l.items) }
 {
     let Some(out) = ends[from].outs.pop() else {
         unreachable!()
@@ -190,42 +191,33 @@ fn meet_link<T: Drop>(
     let Some(end) = ends[to].ins.pop() else {
         unreachable!()
     };
-    let held = from_hand(&mut hands[to], from);
-    let mut link = held_link(alloc, held)?;
+    let mut link = from_hand(alloc, &mut hands[to], from)?;
     let letters = meet(alloc, out, end)?;
     add_letters(&mut link, letters)?;
     Ok(link)
 }
 
-// The letter in hand, where it came from that node.
-fn from_hand<T: Drop>(hand: &mut Option<(u8, Letter<T>)>, from: usize) -> Option<Letter<T>>
-    ensures given { option_to_list result ≡ taken_by from hand.old }
-    ensures others { (a : ℕ) → a ≢ from → taken_by a hand.new ≡ taken_by a hand.old }
+// Takes the letters of that node out of the hand, and their stamps off. The others stay in their order.
+fn from_hand<T: Drop>(
+    alloc: Global,
+    hand: &mut VecDeque<(u8, Letter<T>)>,
+    from: usize,
+) -> Result<Vec<T>, AllocError>
+    ensures given { IfOk result (λ v. v.items ≡ items (items_to from hand.old.items)) }
+    ensures others { OnOk result ((a : ℕ) → a ≢ from → items_to a hand.new.items ≡ items_to a hand.old.items) }
 {
-    match hand.take() {
-        Some((sender, letter)) => {
-            if sender as usize == from {
-                return Some(letter);
-            }
-            *hand = Some((sender, letter));
-            return None;
+    let mut given = Vec::new(alloc);
+    for _i in 0..hand.len() {
+        let Some((sender, letter)) = hand.pop_front() else {
+            unreachable!()
+        };
+        if sender as usize == from {
+            given.push(letter.item)?;
+        } else {
+            hand.push_back_reserved((sender, letter));
         }
-        None => return None,
     }
-}
-
-// A link of the letter, if there is one.
-fn held_link<T: Drop>(alloc: Global, held: Option<Letter<T>>) -> Result<Vec<T>, AllocError>
-    ensures { IfOk result (λ v. v.items ≡ items (option_to_list held)) }
-{
-    let mut link = Vec::new(alloc);
-    match held {
-        Some(letter) => {
-            link.push(letter.item)?;
-            return Ok(link);
-        }
-        None => return Ok(link),
-    }
+    Ok(given)
 }
 
 // Adds the letters to a link, without their stamps.

@@ -1,5 +1,5 @@
 -- From the logs to the run.
-use Rattle.std.proofs.Common.{◌≡◌, ℕ, suc, ◌+◌, ◌<◌, ◌≤◌, ◌⊎◌, Bool, true, false, List, [], ◌∷◌, ◌++◌, length, Option, Some, get_or, map}
+use Rattle.std.proofs.Common.{◌≡◌, ℕ, suc, ◌+◌, ◌<◌, ◌≤◌, ◌⊎◌, Bool, true, false, List, [], ◌∷◌, ◌++◌, length, Some, get_or, map}
 use Rattle.std.proofs.Common.{refl, sym, ap, ◌∙◌, subst, arith, leb, inl, inr, append_assoc}
 use Rattle.std.specs.Prelude.{slice_get}
 use Rattle.std.proofs.lemmas.Bool.{cases_eq}
@@ -16,7 +16,7 @@ use Rattle.seam_stamp.specs.declared.Letter.{Letter}
 use Rattle.seam_stamp.specs.declared.Stamped.{Stamped}
 use Rattle.seam_stamp.specs.Logs.{by_node, IsFrom, RiseFrom, IsMerge}
 use Rattle.seam_stamp.proofs.Orders.{by_node_own, by_node_other}
-use Rattle.seam_stamp.specs.Acts.{Act, received, state_after, sends, event_by, taken_by, entries}
+use Rattle.seam_stamp.specs.Acts.{Act, received, state_after, sends, event_by, entries}
 use Rattle.seam_stamp.specs.Moves.{Move, own, events, Rises, Fits}
 use Rattle.seam_stamp.specs.Joined.{Did, left_of, Joined, IsRebuilt}
 use Rattle.seam_stamp.proofs.Moves.{own_here, own_other}
@@ -117,7 +117,7 @@ module _ {N M : Type 0} (has_work : N → Bool) (steps : N → Input M → Stepp
       (square-happens steps u e o p.0, length-happens steps u e o ∙ p.1)) w es s a
 
 module _ {N M : Type 0} (has_work : N → Bool) (steps : N → Input M → Stepped N M) (n : ℕ) (w v : NetView N M) (start now : ℕ → N)
-    (logs : List (List (Stamped Event))) (hand : ℕ → Option (ℕ × Letter M)) (first taken put met : ℕ → ℕ → List (Letter M))
+    (logs : List (List (Stamped Event))) (hand : ℕ → List (ℕ × Letter M)) (first taken put met : ℕ → ℕ → List (Letter M))
     (merged : List (Stamped Event)) (joined : Joined has_work steps n w start now logs hand first taken put met)
     (merge : IsMerge logs merged) (rebuilt : IsRebuilt n now (left_of hand met) v) where
   abbrev log : ℕ → List (Stamped Event)
@@ -154,7 +154,7 @@ module _ {N M : Type 0} (has_work : N → Bool) (steps : N → Input M → Stepp
       ≡ first a b ++ items_to b (sends steps (start a) (acts a))
   passed a b la lb =
       let got = received a (acts b) in
-      sym (append_assoc got (taken_by a (hand b)) (met a b))
+      sym (append_assoc got (items_to a (hand b)) (met a b))
       ∙ (ap (λ l. l ++ met a b) (sym ((did b lb).taken_is a la)) ∙ (joined.meet a b la lb ∙ (did a la).put_is b lb))
 
   fits : Fits has_work steps n w start (λ _. 0) first (left_of hand met) found.moves

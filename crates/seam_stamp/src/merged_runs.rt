@@ -8,7 +8,7 @@
 //
 // Each law is a clause of a function that does nothing.
 
-ghost use Rattle.std.specs.Prelude.{ℕ, List, Option, map};
+ghost use Rattle.std.specs.Prelude.{ℕ, List, map};
 ghost use Rattle.seam_machine.specs.Views.{NetView};
 ghost use Rattle.seam_machine.specs.Nets.{LeadsTo};
 ghost use Rattle.seam_machine.specs.declared.machines.Event.{Event};
@@ -31,7 +31,7 @@ pub fn moves_are_run<M: Machine>()
 /// The logs of all nodes, merged, are a run from the net at their start to the net of the nodes and of what was left of the links.
 pub fn logs_are_run<M: Machine>()
     ensures { (n : ℕ) (w v : NetView M M.Msg) (start now : ℕ → M) (logs : List (List (Stamped Event))) (hand : ℕ →
-        Option (ℕ × Letter M.Msg)) (first taken put met : ℕ → ℕ → List (Letter M.Msg)) (merged : List (Stamped Event)) →
+        List (ℕ × Letter M.Msg)) (first taken put met : ℕ → ℕ → List (Letter M.Msg)) (merged : List (Stamped Event)) →
         Joined M.has_work M.steps n w start now logs hand first taken put met → IsMerge logs merged →
         IsRebuilt n now (left_of hand met) v →
         LeadsTo M.has_work M.steps w (map (λ e. e.item) merged) v }

@@ -18,7 +18,7 @@ use Rattle.seam_stamp.specs.declared.Letter.{Letter}
 use Rattle.seam_stamp.specs.declared.Stamped.{Stamped}
 use Rattle.seam_stamp.specs.Logs.{IsLogFrom, AreLogs, by_node}
 use Rattle.seam_stamp.proofs.Orders.{by_node_own, by_node_other}
-use Rattle.seam_stamp.specs.Acts.{Act, received, state_after, sends, Legal, items, taken_by, entries, event_by, input_by}
+use Rattle.seam_stamp.specs.Acts.{Act, received, state_after, sends, Legal, items, entries, event_by, input_by}
 use Rattle.seam_stamp.specs.Joined.{Did, Joined, IsRebuilt, left_of}
 use Rattle.seam_stamp.proofs.Whole.{logs_are_run}
 use Rattle.seam_logged.proofs.Replay.{no_acts}
@@ -213,8 +213,8 @@ module _ {N M H : Type 0} (has_work : N → Bool) (steps : N → Input M → Ste
     abbrev now : ℕ → N
     now k = get_or (map (λ (v : LoggedView N M H). v.node) done) k d
 
-    abbrev hand : ℕ → Option (ℕ × Letter M)
-    hand k = get_or (map (λ (v : LoggedView N M H). v.hand) done) k None
+    abbrev hand : ℕ → List (ℕ × Letter M)
+    hand k = get_or (map (λ (v : LoggedView N M H). v.hand) done) k []
 
     abbrev ends_of : ℕ → EndsView M H
     ends_of k = get_or (map (λ (v : LoggedView N M H). v.ends) done) k no_ends
@@ -258,7 +258,7 @@ module _ {N M H : Type 0} (has_work : N → Bool) (steps : N → Input M → Ste
         let u = h.node in
         let start_is : start k ≡ r.root.start = get_or_from_slice_get p.nodes k r.root.start d h.starts in
         let ends_are : ends_of k ≡ u.ends = map_read (λ (v : LoggedView N M H). v.ends) done k u no_ends h.at in
-        let hand_is : hand k ≡ u.hand = map_read (λ (v : LoggedView N M H). v.hand) done k u None h.at in (
+        let hand_is : hand k ≡ u.hand = map_read (λ (v : LoggedView N M H). v.hand) done k u [] h.at in (
           r.acts,
           record {
             log_is =
@@ -273,8 +273,8 @@ module _ {N M H : Type 0} (has_work : N → Bool) (steps : N → Input M → Ste
                 let l = new_link a k la lt in
                 let none : taken r.root.first.ins a ≡ [] = taken_at r.root.first.ins a l.1 l.3 ∙ l.4.taken in
                 ap (λ (e : EndsView M H). taken e.ins a) ends_are
-                ∙ (r.taken_is a ∙ (ap (λ t. t ++ received a r.acts ++ taken_by a u.hand) none
-                ∙ ap (λ x. received a r.acts ++ taken_by a x) (sym hand_is)));
+                ∙ (r.taken_is a ∙ (ap (λ t. t ++ received a r.acts ++ items_to a u.hand) none
+                ∙ ap (λ x. received a r.acts ++ items_to a x) (sym hand_is)));
             put_is = λ b lb.
                 let l = new_link k b lt lb in
                 let old : put r.root.first.outs b ≡ first k b =

@@ -7,13 +7,14 @@ use seam_logged::{Apart, Ends, left};
 use seam_machine::{Event, Machine, Net, NetParts};
 use seam_stamp::{Letter, Stamped, merge};
 use std::alloc::{AllocError, Global};
+use std::collections::VecDeque;
 
 // What the nodes of a net are made of, each kind in the order of their numbers.
 #[derive(Drop)]
 struct Columns<M: Machine> {
     nodes: Vec<M>,
     logs: Vec<Vec<Stamped<Event>>>,
-    hands: Vec<Option<(u8, Letter<M::Msg>)>>,
+    hands: Vec<VecDeque<(u8, Letter<M::Msg>)>>,
     ends: Vec<Ends<M::Msg>>,
 }
 
@@ -21,7 +22,7 @@ struct Columns<M: Machine> {
 fn in_columns<M: Machine>(alloc: Global, done: Vec<Apart<M>>) -> Result<Columns<M>, AllocError>
     ensures nodes { IfOk result (λ c. c.nodes.items ≡ map (λ v. v.node) done.items) }
     ensures logs { IfOk result (λ c. map (λ l. l.items) c.logs.items ≡ map (λ v. v.log) done.items) }
-    ensures hands { IfOk result (λ c. c.hands.items ≡ map (λ v. v.hand) done.items) }
+    ensures hands { IfOk result (λ c. map (λ h. h.items) c.hands.items ≡ map (λ v. v.hand) done.items) }
     ensures ends { IfOk result (λ c. c.ends.items ≡ map (λ v. v.ends) done.items) }
 {
     let mut nodes = Vec::new(alloc);

@@ -16,12 +16,13 @@
 //! try answers want of memory without having met it no contract can refuse; a test does.
 #![tactic(auto)]
 
-ghost use Rattle.std.specs.Prelude.{◌≡◌, ◌≢◌, ℕ, ◌+◌, ◌%◌, ◌<◌, ◌≤◌, [], length, map, true, Some, IfOk, vec_len, slice_get};
+ghost use Rattle.std.specs.Prelude.{◌≡◌, ◌≢◌, ℕ, ◌+◌, ◌%◌, ◌^◌, ◌<◌, ◌≤◌, ◌⊎◌, [], length, map, true, Some, IfOk, vec_len, slice_get};
 ghost use Rattle.std.specs.List.{All};
 ghost use Rattle.seam_machine.specs.Nets.{LeadsTo, ArePeers};
 ghost use Rattle.seam_workers.specs.Seats.{Placed, filled, AreRuns, roots_of, HasEnds};
 ghost use Rattle.seam_workers.specs.Rejoined.{HasEventOf, IsOutcome};
 ghost use Rattle.seam_workers.specs.Shifts.{IsDone};
+ghost use Rattle.seam_workers.specs.Tries.{IsCounted};
 ghost use Rattle.seam_logged.specs.Logs.{HasStepped, SameBut, IsIdle};
 ghost use Rattle.seam_logged.specs.declared.Try.TheVariants as Try;
 
@@ -140,9 +141,20 @@ impl<M: Machine, J: Naming<M, M::Msg> + Claims> Seat<M, J> {
     fn try_step(&mut self, alloc: Global) -> Try
         ensures me { self.new.me ≡ self.old.me }
         ensures stepped { result ≡ Try.Stepped → HasStepped M.steps self.old self.new × (self.new.unsent ≡ []) }
-        ensures idle { result ≡ Try.Idle → SameBut self.old self.new × IsIdle M.has_work self.new × (self.new.unsent ≡ []) }
+        ensures idle { result ≡ Try.Idle → SameBut self.old self.new × IsIdle M.has_work self.old self.new × (self.new.unsent ≡ []) }
+        ensures memory { result ≡ Try.NoMemory → SameBut self.old self.new ⊎ HasStepped M.steps self.old self.new }
     {
         self.logged.try_step(alloc)
+    }
+
+    // Makes one step, if there is one to make, and counts the answer.
+    fn try_counted(&mut self, alloc: Global, shift: &mut Shift)
+        requires { shift.old.tries + 1 < 2 ^ 32 }
+        ensures me { self.new.me ≡ self.old.me }
+        ensures counted { IsCounted M.has_work M.steps self.old self.new shift.old shift.new }
+    {
+        let tried = self.try_step(alloc);
+        shift.count(tried);
     }
 
     // The node without its claim.

@@ -1,8 +1,10 @@
 //! What a worker does at a node, and what it did in all.
 
 ghost use Rattle.std.specs.Prelude.{◌≡◌, ◌+◌, ◌^◌, ◌<◌, ◌≤◌, ◌⊎◌, true, false};
+ghost use Rattle.std.specs.declared.alloc.Global.{Global};
+ghost use Rattle.seam_logged.specs.Logs.{LoggedView};
 ghost use Rattle.seam_workers.specs.Shifts.{after_try};
-ghost use Rattle.seam_logged.specs.declared.Try.{Try};
+ghost use Rattle.seam_workers.specs.Tries.{IsCounted};
 
 use crate::{Claims, Gate, Seat};
 use crossbeam_utils::CachePadded;
@@ -59,8 +61,8 @@ impl Shift {
         self.refused
     }
 
-    // Counts a try.
-    fn count(&mut self, tried: Try)
+    /// Counts a try.
+    pub fn count(&mut self, tried: Try)
         requires { self.old.tries + 1 < 2 ^ 32 }
         ensures { self.new ≡ after_try self.old tried }
     {
@@ -73,7 +75,7 @@ impl Shift {
     }
 }
 
-/// Tries one step of a node, under its lock.
+/// Tries one step of a node, under its lock, and counts what the try answered.
 pub fn visit<M: Machine, J: Naming<M, M::Msg> + Claims, G: Gate, R: Threads + Wait + Sync>(
     rt: &R,
     alloc: Global,
@@ -82,11 +84,10 @@ pub fn visit<M: Machine, J: Naming<M, M::Msg> + Claims, G: Gate, R: Threads + Wa
     shift: &mut Shift,
 )
     requires { shift.old.tries + 1 < 2 ^ 32 }
-    ensures { (tried : Try) × (shift.new ≡ after_try shift.old tried) }
+    ensures { (v : LoggedView M M.Msg Global) × (v' : LoggedView M M.Msg Global) × IsCounted M.has_work M.steps v v' shift.old shift.new }
 {
     let lock: &Mutex<Seat<M, J>> = place;
     let mut held = lock.lock(rt);
     gate.at_step(rt, held.number());
-    let tried = held.try_step(alloc);
-    shift.count(tried);
+    held.try_counted(alloc, shift);
 }

@@ -15,10 +15,10 @@ returns-clause-stamp g c = λ e.
       node = i.node;
       stamp = i.stamp;
       log = i.log.items;
-      hand = i.hand;
+      hand = i.hand.items;
       unsent = stamped i.stamp i.out.items;
       ends = i.ends;
     } in
     let none : i.log.items ≡ [] = nil_from_length i.log.items (search rules) in
     sym (ap (λ (v : LoggedView _ _ _). v.stamp) c.self.view_is)
-    ∙ stamp_of_none K.has_work K.steps K.peer_count g.J.Naming.roots v c.self.invariant none
+    ∙ stamp_of_none K.has_work K.steps K.peer_count g.J.Naming.roots v c.self.invariant.0 none

@@ -12,7 +12,7 @@ pub loop-from-init : goal.loop-from-init
 loop-from-init g c =
     let ends = c.args.ends.items in
     let n = length ends in
-    let hands = c.args.hands.items in
+    let hands = map (λ h. h.items) c.args.hands.items in
     let all : c.len-from.result ≡ n = search rules in
     let none = c.new-links.ensures.items in
     record {
@@ -25,22 +25,29 @@ loop-from-init g c =
 pub meet_row-requires-clause-paired : goal.meet_row-requires-clause-paired
 meet_row-requires-clause-paired g c =
     let ends = c.args.ends.items in
-    paired_less (length ends) ends c.args.hands.items c.loop-from.from 0 c.loop-from.ends.items c.loop-from.hands.items
-    c.loop-from.invariant.remaining c.requires.paired
+    paired_less (length ends) ends (map (λ h. h.items) c.args.hands.items) c.loop-from.from 0 c.loop-from.ends.items
+    (map (λ h. h.items) c.loop-from.hands.items) c.loop-from.invariant.remaining c.requires.paired
+
+pub meet_row-requires-clause-hands : goal.meet_row-requires-clause-hands
+meet_row-requires-clause-hands g c =
+    let r = c.loop-from.invariant.remaining in
+    let many = length-map c.args.hands.items (λ h. h.items) in
+    let many' = length-map c.loop-from.hands.items (λ h. h.items) in
+    omega (arith, r.many, r.reached.count, many, many', c.requires.hands)
 
 pub loop-from-preserved : goal.loop-from-preserved
 loop-from-preserved g c =
     let ends = c.args.ends.items in
     let n = length ends in
-    let hands = c.args.hands.items in
+    let hands = map (λ h. h.items) c.args.hands.items in
     let from = c.loop-from.from in
     let at = from - 1 in
     let back : at + 1 ≡ from = omega (arith, c.loop-from-test.true) in
     let inv = c.loop-from.invariant in
     let ends' = c.loop-from.ends.items in
-    let hands' = c.loop-from.hands.items in
+    let hands' = map (λ h. h.items) c.loop-from.hands.items in
     let ends'' = c.meet_row.new.ends.items in
-    let hands'' = c.meet_row.new.hands.items in
+    let hands'' = map (λ h. h.items) c.meet_row.new.hands.items in
     let count : length ends' ≡ n = inv.remaining.reached.count in
     let old = map (λ v. v.items) c.loop-from.links.items in
     let new = map (λ v. v.items) c.meet_row.new.links.items in
@@ -71,7 +78,7 @@ pub returns-clause-cells : goal.returns-clause-cells
 returns-clause-cells g c =
     let ends = c.args.ends.items in
     let n = length ends in
-    let hands = c.args.hands.items in
+    let hands = map (λ h. h.items) c.args.hands.items in
     let none : c.loop-from.from ≡ 0 = omega (arith, c.loop-from-test.false) in
     let links = map (λ v. v.items) c.loop-from.links.items in
     let no_more : c.loop-from.from * n ≡ 0 = ap (λ (k : ℕ). k * n) none ∙ omega arith in

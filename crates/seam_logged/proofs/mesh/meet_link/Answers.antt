@@ -1,8 +1,9 @@
-use Rattle.std.proofs.Common.{rules, ◌≡◌, ◌∙◌, ◌<◌, ◌++◌, None, Some, length, set, get_or, refl, ap, sym, arith}
+use Rattle.std.proofs.Common.{rules, ◌≡◌, ◌∙◌, ◌<◌, ◌++◌, [], Some, length, map, set, get_or, refl, ap, sym, arith}
 use Rattle.std.specs.Prelude.{slice_get}
-use Rattle.std.proofs.lemmas.List.{length-set}
-use Rattle.std.proofs.lemmas.Option.{slice_get_read, get_or_from_slice_get}
-use Rattle.seam_stamp.specs.Acts.{taken_by, items}
+use Rattle.std.proofs.lemmas.List.{length-set, get_or-map, map-set}
+use Rattle.std.proofs.lemmas.Option.{slice_get_read}
+use Rattle.seam_machine.specs.Sends.{items_to}
+use Rattle.seam_stamp.specs.Acts.{items}
 use Rattle.seam_stamp.proofs.Moves.{items_append}
 use Rattle.seam_logged.specs.Logs.{EndsView}
 use Rattle.seam_logged.proofs.Meets.{reached_less, within_less, last_out, last_in, last_taken, hands_less, drop_prefix}
@@ -97,16 +98,14 @@ returns-clause-remaining g c =
     let ins_are = c.in-Some-pop.ensures.items in
     let hands = c.args.hands.now.items in
     let hand = c.index_mut-3.result.now in
+    let hand' = c.from_hand.new.hand in
     let in_hands : to < length hands = omega (arith, c.requires.to, c.requires.hands) in
-    let hand_is : get_or hands to None ≡ hand =
-    get_or_from_slice_get hands to hand None (slice_get_read hands (length hands) to hand refl in_hands c.index_mut-3.ensures.value) in
+    let hand_at : slice_get hands to ≡ Some hand = slice_get_read hands (length hands) to hand refl in_hands c.index_mut-3.ensures.value in
     record {
       reached = reached_less n from to ends ea eb os o is i r c.requires.from c.requires.to is_a outs_are is_b ins_are;
       within = within_less n from to ends ea eb os o is i r c.requires.from c.requires.to is_a outs_are is_b ins_are;
-      many = length-set hands to c.from_hand-held.new.hand;
-      same =
-          hands_less hands from to c.from_hand-held.new.hand in_hands (λ k differ. c.from_hand-held.ensures.others k differ
-          ∙ ap (taken_by k) (sym hand_is));
+      many = ap length (map-set (λ h. h.items) hands to hand') ∙ length-set (map (λ h. h.items) hands) to hand'.items;
+      same = hands_less (λ h. h.items) hands from to hand hand' in_hands hand_at c.in_ok-link.ensures.others;
     }
 
 pub returns-clause-cell : goal.returns-clause-cell
@@ -135,14 +134,13 @@ returns-clause-cell g c =
     let hands = c.args.hands.now.items in
     let hand = c.index_mut-3.result.now in
     let in_hands : to < length hands = omega (arith, c.requires.to, c.requires.hands) in
-    let hand_is : get_or hands to None ≡ hand =
-    get_or_from_slice_get hands to hand None (slice_get_read hands (length hands) to hand refl in_hands c.index_mut-3.ensures.value) in
+    let hand_is : get_or (map (λ h. h.items) hands) to [] ≡ hand.items =
+    get_or-map (λ h. h.items) hands to hand [] in_hands ∙ ap (λ h. h.items) (sym c.index_mut-3.ensures.value) in
     let letters = c.in_ok-letters.letters.items in
     let met : i.taken ++ letters ≡ o.put = c.in_ok-letters.ensures in
     let rest = drop_prefix i.taken letters o.put met in
-    let held = taken_by from (get_or hands to None) in
-    let is_held : c.in_ok-link.link.items ≡ items held =
-    c.in_ok-link.ensures ∙ ap items (c.from_hand-held.ensures.given ∙ ap (taken_by from) (sym hand_is)) in
+    let held = items_to from (get_or (map (λ h. h.items) hands) to []) in
+    let is_held : c.in_ok-link.link.items ≡ items held = c.in_ok-link.ensures.given ∙ ap (λ l. items (items_to from l)) (sym hand_is) in
     record {
       out = o;
       end = i;

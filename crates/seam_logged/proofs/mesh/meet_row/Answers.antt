@@ -1,4 +1,5 @@
 use Rattle.std.proofs.Common.{rules, ◌≡◌, ◌∙◌, ◌+◌, ◌-◌, ◌∷◌, [], ℕ, length, map, refl, ap, sym, subst, arith, inl, inr}
+use Rattle.std.proofs.lemmas.List.{length-map}
 use Rattle.seam_logged.specs.Mesh.{IsCell}
 use Rattle.seam_logged.specs.Parts.{Remaining, IsRow, Below}
 use Rattle.seam_logged.proofs.Rows.{row_reached}
@@ -9,7 +10,7 @@ pub loop-to-init : goal.loop-to-init
 loop-to-init g c =
     let ends = c.args.ends.now.items in
     let n = length ends in
-    let hands = c.args.hands.now.items in
+    let hands = map (λ h. h.items) c.args.hands.now.items in
     let all : c.len-to.result ≡ n = search rules in
     record {
       small = omega (arith, all);
@@ -20,23 +21,30 @@ loop-to-init g c =
 pub meet_link-requires-clause-paired : goal.meet_link-requires-clause-paired
 meet_link-requires-clause-paired g c =
     let ends = c.args.ends.now.items in
-    paired_less (length ends) ends c.args.hands.now.items c.args.from c.loop-to.to c.loop-to.ends.items c.loop-to.hands.items
-    c.loop-to.invariant.remaining c.requires.paired
+    paired_less (length ends) ends (map (λ h. h.items) c.args.hands.now.items) c.args.from c.loop-to.to c.loop-to.ends.items
+    (map (λ h. h.items) c.loop-to.hands.items) c.loop-to.invariant.remaining c.requires.paired
+
+pub meet_link-requires-clause-hands : goal.meet_link-requires-clause-hands
+meet_link-requires-clause-hands g c =
+    let r = c.loop-to.invariant.remaining in
+    let many = length-map c.args.hands.now.items (λ h. h.items) in
+    let many' = length-map c.loop-to.hands.items (λ h. h.items) in
+    omega (arith, r.many, r.reached.count, many, many', c.requires.hands)
 
 pub loop-to-preserved : goal.loop-to-preserved
 loop-to-preserved g c =
     let ends = c.args.ends.now.items in
     let n = length ends in
-    let hands = c.args.hands.now.items in
+    let hands = map (λ h. h.items) c.args.hands.now.items in
     let from = c.args.from in
     let to = c.loop-to.to in
     let at = to - 1 in
     let back : at + 1 ≡ to = omega (arith, c.loop-to-test.true) in
     let inv = c.loop-to.invariant in
     let ends' = c.loop-to.ends.items in
-    let hands' = c.loop-to.hands.items in
+    let hands' = map (λ h. h.items) c.loop-to.hands.items in
     let ends'' = c.meet_link.new.ends.items in
-    let hands'' = c.meet_link.new.hands.items in
+    let hands'' = map (λ h. h.items) c.meet_link.new.hands.items in
     let count : length ends' ≡ n = inv.remaining.reached.count in
     let link = c.in_ok-link.link.items in
     let old = map (λ v. v.items) c.args.links.now.items in
@@ -63,13 +71,15 @@ loop-to-preserved g c =
 pub returns-clause-remaining : goal.returns-clause-remaining
 returns-clause-remaining g c =
     let ends = c.args.ends.now.items in
+    let hands = map (λ h. h.items) c.args.hands.now.items in
     let none : c.loop-to.to ≡ 0 = omega (arith, c.loop-to-test.false) in
-    subst (λ (b : ℕ). Remaining (length ends) c.args.from b ends c.args.hands.now.items c.loop-to.ends.items c.loop-to.hands.items) none
+    subst (λ (b : ℕ). Remaining (length ends) c.args.from b ends hands c.loop-to.ends.items (map (λ h. h.items) c.loop-to.hands.items)) none
     c.loop-to.invariant.remaining
 
 pub returns-clause-row : goal.returns-clause-row
 returns-clause-row g c =
     let ends = c.args.ends.now.items in
+    let hands = map (λ h. h.items) c.args.hands.now.items in
     let row = c.loop-to.invariant.row in
     let none : c.loop-to.to ≡ 0 = omega (arith, c.loop-to-test.false) in
-    (row.0, row.1, omega (arith, row.2, none), subst (λ (b : ℕ). IsRow ends c.args.hands.now.items c.args.from b row.0) none row.3)
+    (row.0, row.1, omega (arith, row.2, none), subst (λ (b : ℕ). IsRow ends hands c.args.from b row.0) none row.3)

@@ -12,6 +12,13 @@ left-requires-clause-paired g c = subst (λ l. ArePaired l) (sym c.in_ok-nodes.e
 pub left-requires-clause-full : goal.left-requires-clause-full
 left-requires-clause-full g c = subst (λ l. AreFull (length l) l) (sym c.in_ok-nodes.ensures.ends) c.requires.can.full
 
+pub left-requires-clause-hands : goal.left-requires-clause-hands
+left-requires-clause-hands g c =
+    let done = c.args.done.items in
+    let is = c.in_ok-nodes.ensures in
+    let hands = length-map c.in_ok-nodes.field-0.hands.items (λ h. h.items) in
+    omega (arith, ap length is.hands, ap length is.ends, hands, length-map done (λ v. v.hand), length-map done (λ v. v.ends))
+
 pub merge-requires : goal.merge-requires
 merge-requires g c = subst (λ l. AreLogs l) (sym c.in_ok-nodes.ensures.logs) c.requires.can.logs
 
