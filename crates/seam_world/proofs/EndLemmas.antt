@@ -4,7 +4,8 @@ use Rattle.std.proofs.Common.{subst, arith}
 use Rattle.std.proofs.KnownBytes.{Appends-trans, Consumes-nil}
 use Rattle.std.specs.Prelude.{MatchOption, ◌⊎◌}
 use Rattle.std.specs.Io.KnownBytes.{Appends}
-use Rattle.seam_rule_rounds.specs.Prelude.{Rose, SourceState, SinkState, Line, whole_lines_of, totals_of, Totals, Told, Journal}
+use Rattle.seam_rule_rounds.specs.Prelude.{Rose, SourceState, SinkState, Line, whole_lines_of, totals_of, Told, Journal}
+use Rattle.seam_rule_rounds.specs.declared.totals.Totals.{Totals}
 use Rattle.seam_world_rounds.specs.Transcripts.{IsOpen, IsEnded}
 use Rattle.seam_world_rounds.specs.Output.{text_output}
 use Rattle.seam_world_rounds.specs.declared.round.Output.TheVariants as output

@@ -1,7 +1,8 @@
 // What the words of the command line ask for is run, and its fault line is written.
 ghost use Rattle.std.specs.Prelude.{◌≡◌, ◌≤◌, ◌⊎◌, MatchOption};
 ghost use Rattle.std.specs.Prelude.{IfOk, IfErr, OnOk, map};
-ghost use Rattle.seam_rule_rounds.specs.Prelude.{Rose, Totals as TotalsOf};
+ghost use Rattle.seam_rule_rounds.specs.Prelude.{Rose};
+ghost use Rattle.seam_rule_rounds.specs.declared.totals.Totals.{Totals as TotalsOf};
 ghost use Rattle.seam_world_rounds.specs.Transcripts.{IsOpen, IsEnded};
 ghost use Rattle.seam_world_ends.specs.Status.{IsRunEnd};
 ghost use Rattle.seam_world_rounds.specs.Output.{text_output};

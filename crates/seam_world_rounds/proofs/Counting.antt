@@ -1,6 +1,8 @@
 -- What is counted of pieces.
 use Rattle.std.proofs.Common.{◌≡◌, ℕ, List, [], ◌∷◌, ◌++◌, refl, sym, ap, ◌∙◌, append-nil}
-use Rattle.seam_rule_rounds.specs.Prelude.{Cause, Piece, Refusal, totals_of, Sums, Totals}
+use Rattle.seam_rule_rounds.specs.Prelude.{Cause, Piece, Refusal, totals_of}
+use Rattle.seam_rule_rounds.specs.declared.totals.Sums.{Sums}
+use Rattle.seam_rule_rounds.specs.declared.totals.Totals.{Totals}
 use Rattle.seam_rule_rounds.proofs.Pieces.{sums_of_append}
 use Rattle.seam_world_rounds.specs.Output.{Counts, sums_for}
 use Rattle.seam_world_rounds.specs.declared.round.Output.{Output}

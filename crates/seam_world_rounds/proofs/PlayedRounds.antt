@@ -4,8 +4,9 @@ use Rattle.std.proofs.Common.{◌≡◌, ℕ, ◌+◌, ◌<◌, Bool, true, fals
 use Rattle.std.specs.Prelude.{IsTrue, IsFalse}
 use Rattle.seam_node_steps.specs.Prelude.{Pos, Division, IsTree, World}
 use Rattle.seam_rule_rounds.specs.Prelude.{Journal, IsBalanced, HasSameCuts, Header, Book, open_lines, has_balance, tree_of}
-use Rattle.seam_rule_rounds.specs.Prelude.{with_round_ended, with_tree, MOST_LINES, RoundData, IsRound, with_bounds, Standing, Ended, Sums}
-use Rattle.seam_rule_rounds.specs.Prelude.{Totals}
+use Rattle.seam_rule_rounds.specs.Prelude.{with_round_ended, with_tree, MOST_LINES, RoundData, IsRound, with_bounds, Standing, Ended}
+use Rattle.seam_rule_rounds.specs.declared.totals.Sums.{Sums}
+use Rattle.seam_rule_rounds.specs.declared.totals.Totals.{Totals}
 use Rattle.seam_law_book.specs.Prelude.{as_begun}
 use Rattle.seam_law_transcript.specs.Prelude.{IsPlayed, data_of, standing_of, GoesOn, HasOneReal, ExecutesInTurn, ClientsSeeAll}
 use Rattle.seam_accept.specs.Refines.{Refines as HoldsBook}

@@ -2,8 +2,9 @@
 use Rattle.std.specs.Prelude.{◌≡◌, ℕ, true, false, Bool, List, [], ◌∷◌, ◌++◌, Option, None, Some}
 use Rattle.std.specs.List.{flat_map}
 use Rattle.seam_node_steps.specs.Prelude.{TypeDef}
-use Rattle.seam_rule_rounds.specs.Prelude.{Journal, refusal, Cause, RoundData, Piece, played_text, sums_of, all_sums, totals_of, Sums}
-use Rattle.seam_rule_rounds.specs.Prelude.{Totals}
+use Rattle.seam_rule_rounds.specs.Prelude.{Journal, refusal, Cause, RoundData, Piece, played_text, sums_of, all_sums, totals_of}
+use Rattle.seam_rule_rounds.specs.declared.totals.Sums.{Sums}
+use Rattle.seam_rule_rounds.specs.declared.totals.Totals.{Totals}
 use Rattle.seam_rule_rounds.specs.Transcript.{piece_text}
 use Rattle.seam_world_rounds.specs.declared.round.Output.{Output}
 use Rattle.seam_world_rounds.specs.declared.round.Output.TheVariants as output

@@ -7,7 +7,8 @@ use Rattle.std.proofs.lemmas.Option.{same_Some, none-some}
 use Rattle.std.specs.Prelude.{MatchOption}
 use Rattle.std.specs.Io.KnownBytes.{Consumes}
 use Rattle.seam_rule_rounds.specs.Prelude.{Rose, SourceState, Line, Long, whole_lines_of, Reader, Reading, IsExact, Header, AreHeaderLines}
-use Rattle.seam_rule_rounds.specs.Prelude.{BeginWithHeader, AwaitHeader, RefusesHeader, separator, Totals}
+use Rattle.seam_rule_rounds.specs.Prelude.{BeginWithHeader, AwaitHeader, RefusesHeader, separator}
+use Rattle.seam_rule_rounds.specs.declared.totals.Totals.{Totals}
 use Rattle.seam_io.specs.declared.lines.Next.TheVariants as next
 use Rattle.seam_toml.specs.declared.header.HeaderError.{HeaderError}
 use Rattle.seam_toml.specs.declared.header.HeaderError.TheVariants as error

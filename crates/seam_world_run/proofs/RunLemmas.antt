@@ -8,7 +8,8 @@ use Rattle.std.specs.Io.KnownBytes.{Appends}
 use Rattle.std.proofs.lemmas.Option.{same_Some}
 use Rattle.seam_node_steps.specs.Prelude.{World, opened}
 use Rattle.seam_rule_rounds.specs.Prelude.{Rose, SourceState, SinkState, Line, whole_lines_of, Reader, Reading, IsExact, Header}
-use Rattle.seam_rule_rounds.specs.Prelude.{after_header, Piece, Step, PrintLines, journals_of, totals_of, Totals, Told, after_all, Journal}
+use Rattle.seam_rule_rounds.specs.Prelude.{after_header, Piece, Step, PrintLines, journals_of, totals_of, Told, after_all, Journal}
+use Rattle.seam_rule_rounds.specs.declared.totals.Totals.{Totals}
 use Rattle.seam_io.specs.declared.lines.Next.TheVariants as next
 use Rattle.seam_rule_rounds.specs.Transcript.{journal_of}
 use Rattle.seam_rule_lines.proofs.RunLemmas.{run_with_line}

@@ -6,7 +6,8 @@ use Rattle.std.specs.Io.KnownBytes.{Appends}
 use Rattle.std.specs.Prelude.{◌⊎◌}
 use Rattle.seam_node_steps.specs.Prelude.{TypeDef}
 use Rattle.seam_rule_rounds.specs.Prelude.{Rose, SourceState, SinkState, Line, lines_of, text_of_storm, Told, Journal, Piece, PrintAll}
-use Rattle.seam_rule_rounds.specs.Prelude.{totals_text, Totals}
+use Rattle.seam_rule_rounds.specs.Prelude.{totals_text}
+use Rattle.seam_rule_rounds.specs.declared.totals.Totals.{Totals}
 use Rattle.seam_rule_lines.proofs.HeaderLemmas.{await_at_first}
 use Rattle.seam_watch.proofs.Told.{told_nothing}
 use Rattle.seam_rule_rounds.specs.Transcript.{text_of}

@@ -4,7 +4,8 @@ use Rattle.std.specs.Io.KnownBytes.{Consumes, Appends}
 use Rattle.seam_node_steps.specs.Prelude.{opened}
 use Rattle.seam_rule_rounds.specs.Prelude.{Rose, SourceState, SinkState, Line, Reader, Reading, Header, AreHeaderLines, BeginWithHeader}
 use Rattle.seam_rule_rounds.specs.Prelude.{AwaitHeader, Run, Standing, after_header, Piece, journals_of, Step, PrintLines, PrintAll, Told}
-use Rattle.seam_rule_rounds.specs.Prelude.{after_all, Journal, totals_of, Totals}
+use Rattle.seam_rule_rounds.specs.Prelude.{after_all, Journal, totals_of}
+use Rattle.seam_rule_rounds.specs.declared.totals.Totals.{Totals}
 use Rattle.seam_world_rounds.specs.Transcripts.{PlayRounds, WerePlayed}
 use Rattle.seam_world_rounds.specs.Output.{output_of, sums_for}
 use Rattle.seam_world_rounds.specs.declared.round.Output.{Output}
