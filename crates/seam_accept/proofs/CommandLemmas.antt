@@ -4,7 +4,7 @@ use Rattle.std.specs.Prelude.{Contains, IsTrue}
 use Rattle.std.proofs.lemmas.Bool.{false≢true}
 use Rattle.std.proofs.lemmas.List.Elements.{Contains-append_right, Contains-append_cases}
 use Rattle.seam_io.specs.Lines.{Content}
-use Rattle.seam_words.specs.Texts.{HasWords}
+use Rattle.seam_words.specs.SplitWords.{HasWords}
 use Rattle.seam_rule_lines.specs.Language.{IsSkipped}
 use Rattle.seam_rule_lines.specs.Book.{Book}
 use Rattle.seam_rule_lines.specs.Judging.{Judges}

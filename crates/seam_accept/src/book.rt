@@ -23,6 +23,7 @@ use seam_call::{Batch, Call, Create, Order, Sender, base_node_of};
 use seam_defs::{Listed, Part};
 use seam_io::LONGEST_LINE;
 use seam_rule_lines::{Entry, Header};
+use seam_table::HashKey;
 use seam_tree::{MOST_CELLS, Tree};
 use seam_words::MOST_WORDS;
 use std::alloc::{AllocError, Global};
@@ -37,7 +38,7 @@ pub struct Book {
     alloc: Global,
     header: Header,
     tree: Tree,
-    entities: IndexMap<u32, Entity>,
+    entities: IndexMap<u32, Entity, HashKey>,
     // the live entities that have a client
     clients: BTreeSet<u32>,
     // how many lines of the open round were kept, and what it brings
@@ -79,11 +80,12 @@ impl Book {
     {
         let settings = header.settings;
         let defs = header.defs.copy()?;
+        let key = defs.hash_key();
         Ok(Book {
             alloc,
             header: Header { settings, defs },
             tree: Tree::one(settings.size),
-            entities: IndexMap::new(alloc),
+            entities: IndexMap::with_hasher(alloc, key),
             clients: BTreeSet::new(alloc),
             count: 0,
             creates: Vec::new(alloc),
@@ -170,8 +172,9 @@ impl Book {
 
     // Keeps a new entity.
     fn add_create(&mut self, create: Create) -> Result<(), AllocError>
-        ensures kept { OnOk result ((h : Headers) (b : Books) → Refines h b self.old → created_as b create.entity ≡ None
-            → Refines h (with_entry b (Entry.Created create)) (counted self.new)) }
+        ensures kept { OnOk result ((h : Headers) (b : Books) → Refines h b self.old →
+            created_as b create.entity ≡ None → Refines h (with_entry b (Entry.Created create))
+            (counted self.new)) }
         ensures unchanged { OnErr result (self.new ≡ self.old) }
     {
         self.creates.reserve(1)?;
@@ -185,8 +188,9 @@ impl Book {
     // Keeps a call to the entity at a place.
     fn add_call(&mut self, place: usize, call: Call) -> Result<(), AllocError>
         requires { IsPlaceOf self.old.entities call.entity place }
-        ensures kept { OnOk result ((h : Headers) (b : Books) → Refines h b self.old → IsNextCall b call
-            → Refines h (with_entry b (Entry.Called call)) (counted self.new)) }
+        ensures kept { OnOk result ((h : Headers) (b : Books) → Refines h b self.old →
+            IsNextCall b call → Refines h (with_entry b (Entry.Called call))
+            (counted self.new)) }
         ensures unchanged { OnErr result (self.new ≡ self.old) }
     {
         self.orders.reserve(1)?;
@@ -198,8 +202,9 @@ impl Book {
 
     // Keeps that a live entity has a client.
     fn add_client(&mut self, entity: u32) -> Result<(), AllocError>
-        ensures kept { OnOk result ((h : Headers) (b : Books) → Refines h b self.old → LivesAlone b entity
-            → Refines h (with_entry b (Entry.Joined entity)) (counted self.new)) }
+        ensures kept { OnOk result ((h : Headers) (b : Books) → Refines h b self.old →
+            LivesAlone b entity → Refines h (with_entry b (Entry.Joined entity))
+            (counted self.new)) }
         ensures unchanged { OnErr result (self.new ≡ self.old) }
     {
         self.joined.reserve(1)?;
@@ -220,8 +225,9 @@ impl Book {
 
     // Keeps that a live entity is destroyed, and its client with it.
     fn add_death(&mut self, entity: u32) -> Result<(), AllocError>
-        ensures kept { OnOk result ((h : Headers) (b : Books) → Refines h b self.old → IsSome (live_as b entity)
-            → Refines h (with_entry b (Entry.Destroyed entity)) (counted self.new)) }
+        ensures kept { OnOk result ((h : Headers) (b : Books) → Refines h b self.old →
+            IsSome (live_as b entity) → Refines h (with_entry b (Entry.Destroyed entity))
+            (counted self.new)) }
         ensures unchanged { OnErr result (self.new ≡ self.old) }
     {
         self.destroyed.push(entity)?;
@@ -240,7 +246,8 @@ impl Book {
     /// What the open round brings; the next one begins.
     pub fn take_batch(&mut self) -> Batch
         ensures batch { (h : Headers) (b : Books) → Refines h b self.old → result ≡ batch_of h b }
-        ensures ended { (h : Headers) (b : Books) → Refines h b self.old → Refines h (with_round_ended b) self.new }
+        ensures ended { (h : Headers) (b : Books) → Refines h b self.old →
+            Refines h (with_round_ended b) self.new }
         ensures none { self.new.count ≡ 0 }
     {
         let creates = std::mem::replace(&mut self.creates, Vec::new(self.alloc));
@@ -262,7 +269,8 @@ impl Book {
     /// Begins the open round, of which no line was kept so far, with this tree: the one that a balance made when the last round ended.
     pub fn set_tree(&mut self, tree: Tree)
         requires { self.old.count ≡ 0 }
-        ensures { (h : Headers) (b : Books) → Refines h b self.old → Refines h (with_tree b tree) self.new }
+        ensures { (h : Headers) (b : Books) → Refines h b self.old →
+            Refines h (with_tree b tree) self.new }
     {
         self.tree = tree;
     }

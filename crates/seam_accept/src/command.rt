@@ -121,9 +121,10 @@ pub fn read_line<'a, 'b>(
     table: &'b mut [&'a [u8]; MOST_WORDS],
 ) -> Result<Option<Command<'a, 'b>>, Cause>
     requires { length line.now ≤ LONGEST_LINE }
-    ensures command { IfOk result (λ read. MatchOption read (IsSkipped line.now) (λ c. ¬ (IsSkipped line.now)
-        × SpellsCommand line.now c)) }
-    ensures cause { IfErr result (λ cause. (h : Header) (b : Book) → Judges h b (Content line.now) (Refused cause)) }
+    ensures command { IfOk result (λ read. MatchOption read (IsSkipped line.now)
+        (λ c. ¬ (IsSkipped line.now) × SpellsCommand line.now c)) }
+    ensures cause { IfErr result (λ cause. (h : Header) (b : Book) →
+        Judges h b (Content line.now) (Refused cause)) }
 {
     if is_skipped(line) {
         return Ok(None);
@@ -163,14 +164,15 @@ fn is_command_name(word: &[u8]) -> bool
 }
 
 fn is_create_call_move_or_sync(word: &[u8]) -> bool
-    ensures { IsTrue result ↔ Contains (codes "create" ∷ codes "call" ∷ codes "move" ∷ codes "sync" ∷ []) word.now }
+    ensures { IsTrue result ↔ Contains (codes "create" ∷ codes "call" ∷ codes "move" ∷
+        codes "sync" ∷ []) word.now }
 {
     matches!(word, b"create" | b"call" | b"move" | b"sync")
 }
 
 fn is_other_name(word: &[u8]) -> bool
-    ensures { IsTrue result
-        ↔ Contains (codes "client" ∷ codes "tick" ∷ codes "cut" ∷ codes "shift" ∷ codes "balance" ∷ codes "destroy" ∷ []) word.now }
+    ensures { IsTrue result ↔ Contains (codes "client" ∷ codes "tick" ∷ codes "cut" ∷
+        codes "shift" ∷ codes "balance" ∷ codes "destroy" ∷ []) word.now }
 {
     is_client_tick_or_cut(word) || is_shift_balance_or_destroy(word)
 }
@@ -182,7 +184,8 @@ fn is_client_tick_or_cut(word: &[u8]) -> bool
 }
 
 fn is_shift_balance_or_destroy(word: &[u8]) -> bool
-    ensures { IsTrue result ↔ Contains (codes "shift" ∷ codes "balance" ∷ codes "destroy" ∷ []) word.now }
+    ensures { IsTrue result ↔ Contains (codes "shift" ∷ codes "balance" ∷ codes "destroy" ∷ [])
+        word.now }
 {
     matches!(word, b"shift" | b"balance" | b"destroy")
 }
@@ -201,7 +204,8 @@ fn is_skipped(line: &[u8]) -> bool
 
 // The command that words spell.
 fn read_words<'a, 'b>(words: &'b [&'a [u8]]) -> Option<Command<'a, 'b>>
-    ensures { MatchOption result ((c : Commands) → texts_of words.now ≢ words_of c) (λ c. texts_of words.now ≡ words_of c) }
+    ensures { MatchOption result ((c : Commands) → texts_of words.now ≢ words_of c)
+        (λ c. texts_of words.now ≡ words_of c) }
 {
     match words {
         [first, rest @ ..] => read_command(first, rest),

@@ -26,7 +26,8 @@ pub fn deed_named(
     requires { IsType t.now }
     ensures deed { IfOk result (Asks header.now words.now t.now) }
     ensures may { IfOk result (MayAsk asked.now.sender asked.now.entity t.now) }
-    ensures none { IfErr result (NoDeed header.now asked.now.sender asked.now.entity words.now t.now) }
+    ensures none { IfErr result (NoDeed header.now asked.now.sender asked.now.entity words.now
+        t.now) }
 {
     match words {
         DeedWords::Method(words) => method_deed(alloc, asked, t, words),
@@ -57,7 +58,8 @@ fn method_deed(
     words: &MethodWords,
 ) -> Result<Deed, Refusal>
     requires { IsType t.now }
-    ensures deed { IfOk result (NamesDeed (texts_of words.now.arguments.now) words.now.name.now t.now) }
+    ensures deed { IfOk result (NamesDeed (texts_of words.now.arguments.now) words.now.name.now
+        t.now) }
     ensures may { IfOk result (MayAsk asked.now.sender asked.now.entity t.now) }
     ensures none { IfErr result (NoMethod asked.now.sender asked.now.entity words.now t.now) }
 {
@@ -77,7 +79,8 @@ fn method_deed(
 // The arguments that a method takes, by their words.
 fn args_named(alloc: Global, method: &Method, arguments: &[&[u8]]) -> Result<Args, Refusal>
     ensures args { IfOk result (SpellsArgs method.now (texts_of arguments.now)) }
-    ensures none { IfErr result (IsIllTyped ((args : List Values) → ¬ (SpellsArgs method.now (texts_of arguments.now) args))) }
+    ensures none { IfErr result (IsIllTyped ((args : List Values) →
+        ¬ (SpellsArgs method.now (texts_of arguments.now) args))) }
 {
     let types = method.args.as_slice();
     if arguments.len() != types.len() {

@@ -11,6 +11,7 @@ use crate::last::LastCalls;
 use indexmap::IndexMap;
 use seam_call::{Call, Sender};
 use seam_defs::Part;
+use seam_table::HashKey;
 use std::alloc::{AllocError, Global};
 
 /// An entity: its type, whether it lives, and for each part and sender the number of the last call.
@@ -60,7 +61,7 @@ impl Entity {
 }
 
 /// Keeps that an entity is destroyed.
-pub fn keep_destroyed(entities: &mut IndexMap<u32, Entity>, entity: u32)
+pub fn keep_destroyed(entities: &mut IndexMap<u32, Entity, HashKey>, entity: u32)
     ensures { ChangesOne entities.old.entries entities.new.entries entity Dies }
 {
     let Some(found) = entities.get_mut(&entity) else {
@@ -71,7 +72,7 @@ pub fn keep_destroyed(entities: &mut IndexMap<u32, Entity>, entity: u32)
 
 /// Keeps the number of a call to the entity at a place as that of its sender's last one.
 pub fn keep_last(
-    entities: &mut IndexMap<u32, Entity>,
+    entities: &mut IndexMap<u32, Entity, HashKey>,
     place: usize,
     call: &Call,
 ) -> Result<(), AllocError>

@@ -41,11 +41,12 @@ impl HeaderLines {
     /// it is no header.
     pub fn read_line(&mut self, line: &[u8]) -> Result<Option<Header>, HeaderError>
         requires { length line.now ≤ LONGEST_LINE }
-        ensures reads { IfOk result (λ read. (lines : List Line) → AreHeaderLines lines self.old → MatchOption read
-            (AreHeaderLines (lines ++ Content line.now ∷ []) self.new)
+        ensures reads { IfOk result (λ read. (lines : List Line) → AreHeaderLines lines self.old →
+            MatchOption read (AreHeaderLines (lines ++ Content line.now ∷ []) self.new)
             (λ h. BeginWithHeader (lines ++ Content line.now ∷ []) h (length lines + 1) [])) }
-        ensures refused { IfErr result (λ error. (lines : List Line) (k : ℕ) → AreHeaderLines lines self.old → number_of error ≡ Some k
-            → RefusesHeader lines (Content line.now) k) }
+        ensures refused { IfErr result (λ error. (lines : List Line) (k : ℕ) →
+            AreHeaderLines lines self.old → number_of error ≡ Some k →
+            RefusesHeader lines (Content line.now) k) }
     {
         if is_separator(line) {
             return self.end();

@@ -17,6 +17,7 @@ use indexmap::IndexMap;
 use seam_call::{Call, Create};
 use seam_geo::Pos;
 use seam_rule_lines::{Asked, Cause, Entry, Header, MOST_CLIENTS, MOST_ENTITIES};
+use seam_table::HashKey;
 use seam_tree::Tree;
 use seam_value::{positive_number, whole_number};
 use std::alloc::Global;
@@ -25,7 +26,7 @@ use std::collections::BTreeSet;
 /// The entity that a `create` makes.
 pub fn judge_create(
     header: &Header,
-    entities: &IndexMap<u32, Entity>,
+    entities: &IndexMap<u32, Entity, HashKey>,
     words: &CreateWords,
 ) -> Result<Create, Cause>
     ensures judged { IfOk result (λ c. (b : Book) → EntitiesRefine b entities.now.entries
@@ -61,14 +62,16 @@ pub fn judge_create(
 
 /// The entity that a `client` gives a client, beside the live ones that have one.
 pub fn judge_client(
-    entities: &IndexMap<u32, Entity>,
+    entities: &IndexMap<u32, Entity, HashKey>,
     clients: &BTreeSet<u32>,
     word: &[u8],
 ) -> Result<u32, Cause>
-    ensures judged { IfOk result (λ e. (h : Headers) (b : Book) → EntitiesRefine b entities.now.entries → ClientsRefine b clients.now.keys
-        → Judged h b (Client word.now) (Some (Entry.Joined e))) }
-    ensures refused { IfErr result (λ k. (h : Headers) (b : Book) → EntitiesRefine b entities.now.entries
-        → ClientsRefine b clients.now.keys → IsFirst (HoldsAgainst h b (Client word.now)) k) }
+    ensures judged { IfOk result (λ e. (h : Headers) (b : Book) →
+        EntitiesRefine b entities.now.entries → ClientsRefine b clients.now.keys →
+        Judged h b (Client word.now) (Some (Entry.Joined e))) }
+    ensures refused { IfErr result (λ k. (h : Headers) (b : Book) →
+        EntitiesRefine b entities.now.entries → ClientsRefine b clients.now.keys →
+        IsFirst (HoldsAgainst h b (Client word.now)) k) }
 {
     let Some(entity) = positive_number(word) else {
         return Err(Cause::BadNumber);
@@ -86,11 +89,13 @@ pub fn judge_client(
 }
 
 /// The entity that a `destroy` destroys.
-pub fn judge_destroy(entities: &IndexMap<u32, Entity>, word: &[u8]) -> Result<u32, Cause>
-    ensures judged { IfOk result (λ e. (h : Headers) (b : Book) → EntitiesRefine b entities.now.entries
-        → Judged h b (Destroy word.now) (Some (Entry.Destroyed e))) }
-    ensures refused { IfErr result (λ k. (h : Headers) (b : Book) → EntitiesRefine b entities.now.entries
-        → IsFirst (HoldsAgainst h b (Destroy word.now)) k) }
+pub fn judge_destroy(entities: &IndexMap<u32, Entity, HashKey>, word: &[u8]) -> Result<u32, Cause>
+    ensures judged { IfOk result (λ e. (h : Headers) (b : Book) →
+        EntitiesRefine b entities.now.entries → Judged h b (Destroy word.now)
+        (Some (Entry.Destroyed e))) }
+    ensures refused { IfErr result (λ k. (h : Headers) (b : Book) →
+        EntitiesRefine b entities.now.entries → IsFirst (HoldsAgainst h b (Destroy word.now))
+        k) }
 {
     let Some(entity) = positive_number(word) else {
         return Err(Cause::BadNumber);
@@ -148,15 +153,16 @@ pub fn make_shift(tree: &mut Tree, words: &ShiftWords) -> Result<(), Cause>
 pub fn judge_call(
     alloc: Global,
     header: &Header,
-    entities: &IndexMap<u32, Entity>,
+    entities: &IndexMap<u32, Entity, HashKey>,
     clients: &BTreeSet<u32>,
     words: &CallWords,
 ) -> Result<(usize, Call), Refusal>
-    ensures judged { IfOk result (λ r. (b : Book) → EntitiesRefine b entities.now.entries → ClientsRefine b clients.now.keys
-        → Judged header.now b (call_of words.now) (Some (Entry.Called r.1))) }
+    ensures judged { IfOk result (λ r. (b : Book) → EntitiesRefine b entities.now.entries →
+        ClientsRefine b clients.now.keys → Judged header.now b (call_of words.now)
+        (Some (Entry.Called r.1))) }
     ensures place { IfOk result (λ r. IsPlaceOf entities.now.entries r.1.entity r.0) }
-    ensures refused { IfErr result (λ r. (b : Book) → EntitiesRefine b entities.now.entries → ClientsRefine b clients.now.keys
-        → Refuses header.now b (call_of words.now) r) }
+    ensures refused { IfErr result (λ r. (b : Book) → EntitiesRefine b entities.now.entries →
+        ClientsRefine b clients.now.keys → Refuses header.now b (call_of words.now) r) }
 {
     let Some(entity) = positive_number(words.entity) else {
         return Err(Refusal::Cause(Cause::BadNumber));

@@ -67,8 +67,9 @@ impl LastCalls {
     // Out of line, so that the call of a base node costs no more than its store.
     #[inline(never)]
     fn keep_of_client(&mut self, entity: u32, number: u64) -> Result<(), AllocError>
-        ensures kept { OnOk result ((s : Senders) → IsSender s
-            → number_of self.new s ≡ cond (same_sender (Sender.Client entity) s) number (number_of self.old s)) }
+        ensures kept { OnOk result ((s : Senders) → IsSender s →
+            number_of self.new s ≡ cond (same_sender (Sender.Client entity) s) number
+            (number_of self.old s)) }
         ensures unchanged { OnErr result (self.new ≡ self.old) }
     {
         self.clients.insert(entity, number)?;

@@ -18,6 +18,7 @@ use seam_call::{BaseNode, Sender};
 use seam_defs::{Defs, MOST_BASE_NODES, TypeDef};
 use seam_geo::Pos;
 use seam_rule_lines::Header;
+use seam_table::HashKey;
 use seam_tree::Axis;
 use seam_value::whole_number;
 use std::collections::BTreeSet;
@@ -45,8 +46,9 @@ pub fn base_named(name: &[u8], bases: u32) -> Option<BaseNode>
 
 /// The sender of this name: a base node of the header's, or the client of a live entity.
 pub fn sender_named(header: &Header, clients: &BTreeSet<u32>, name: &[u8]) -> Option<Sender>
-    ensures { (b : Book) (entities : List (ℕ × Entity)) → EntitiesRefine b entities → ClientsRefine b clients.now.keys → MatchOption result
-        ((s : Senders) → ¬ (NamesSender header.now b name.now s)) (NamesSender header.now b name.now) }
+    ensures { (b : Book) (entities : List (ℕ × Entity)) → EntitiesRefine b entities →
+        ClientsRefine b clients.now.keys → MatchOption result ((s : Senders) →
+        ¬ (NamesSender header.now b name.now s)) (NamesSender header.now b name.now) }
 {
     match base_named(name, header.settings.bases) {
         Some(node) => Some(Sender::Base(node)),
@@ -56,9 +58,10 @@ pub fn sender_named(header: &Header, clients: &BTreeSet<u32>, name: &[u8]) -> Op
 
 // The live entity with a client of this name: `c`, and the number of the entity.
 fn client_named(clients: &BTreeSet<u32>, name: &[u8]) -> Option<u32>
-    ensures { (b : Book) (entities : List (ℕ × Entity)) → EntitiesRefine b entities → ClientsRefine b clients.now.keys → MatchOption result
-        ((e : ℕ) → IsTrue (has_client b e) → sender_text (Sender.Client e) ≢ name.now)
-        (λ e. IsTrue (has_client b e) × (sender_text (Sender.Client e) ≡ name.now)) }
+    ensures { (b : Book) (entities : List (ℕ × Entity)) → EntitiesRefine b entities →
+        ClientsRefine b clients.now.keys → MatchOption result ((e : ℕ) → IsTrue (has_client b e) →
+        sender_text (Sender.Client e) ≢ name.now) (λ e. IsTrue (has_client b e) ×
+        (sender_text (Sender.Client e) ≡ name.now)) }
 {
     match name {
         [b'c', number @ ..] => {
@@ -76,9 +79,12 @@ fn client_named(clients: &BTreeSet<u32>, name: &[u8]) -> Option<u32>
 }
 
 /// The live entity of this number, and its place among the entities.
-pub fn live_entity(entities: &IndexMap<u32, Entity>, entity: u32) -> Option<(usize, &Entity)>
-    ensures live { (b : Book) → EntitiesRefine b entities.now.entries → MatchOption result (live_as b entity ≡ None)
-        (λ found. IsLive b entity found.1) }
+pub fn live_entity(
+    entities: &IndexMap<u32, Entity, HashKey>,
+    entity: u32,
+) -> Option<(usize, &Entity)>
+    ensures live { (b : Book) → EntitiesRefine b entities.now.entries →
+        MatchOption result (live_as b entity ≡ None) (λ found. IsLive b entity found.1) }
     ensures place { IfSome result (λ found. IsPlaceOf entities.now.entries entity found.0) }
 {
     match entities.get_full(&entity) {
@@ -131,7 +137,8 @@ fn place_named(header: &Header, word: &[u8]) -> Option<u32>
 
 /// The axis of this name.
 pub fn axis_named(name: &[u8]) -> Option<Axis>
-    ensures { MatchOption result ((a : Axes) → ¬ (axis_text a ≡ name.now)) (λ a. axis_text a ≡ name.now) }
+    ensures { MatchOption result ((a : Axes) → ¬ (axis_text a ≡ name.now)) (λ a. axis_text a
+        ≡ name.now) }
 {
     match name {
         b"x" => Some(Axis::X),
@@ -142,7 +149,8 @@ pub fn axis_named(name: &[u8]) -> Option<Axis>
 
 /// The type of this name.
 pub fn type_named(defs: &Defs, name: &[u8]) -> Option<u16>
-    ensures { MatchOption result ((ty : ℕ) → ¬ (NamesType defs.now name.now ty)) (NamesType defs.now name.now) }
+    ensures { MatchOption result ((ty : ℕ) → ¬ (NamesType defs.now name.now ty))
+        (NamesType defs.now name.now) }
 {
     defs.find_type(name)
 }
@@ -150,7 +158,8 @@ pub fn type_named(defs: &Defs, name: &[u8]) -> Option<u16>
 /// The method of this name of a type.
 pub fn method_named(t: &TypeDef, name: &[u8]) -> Option<u16>
     requires { IsType t.now }
-    ensures named { MatchOption result ((m : ℕ) → ¬ (NamesMethod t.now name.now m)) (NamesMethod t.now name.now) }
+    ensures named { MatchOption result ((m : ℕ) → ¬ (NamesMethod t.now name.now m))
+        (NamesMethod t.now name.now) }
     ensures only { (m : ℕ) → NamesMethod t.now name.now m → result ≡ Some m }
 {
     t.find_method(name)

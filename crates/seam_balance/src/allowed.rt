@@ -11,7 +11,8 @@ use seam_tree::Tree;
 pub(crate) fn allowed_range(tree: &Tree, b: u8, shift: u32) -> (u32, u32)
     requires there { HasBoundary tree.now b }
     requires tree { IsTree tree.now }
-    ensures allowed { (at : ℕ) → IsAllowed tree.now b shift at ↔ ((result.0 ≤ at) × (at ≤ result.1)) }
+    ensures allowed { (at : ℕ) → IsAllowed tree.now b shift at ↔
+        ((result.0 ≤ at) × (at ≤ result.1)) }
     ensures range { result.0 ≤ result.1 }
 {
     let boundary = boundary_of(tree, b);
@@ -26,7 +27,8 @@ pub(crate) fn allowed_range(tree: &Tree, b: u8, shift: u32) -> (u32, u32)
 // Whether no cell's area is empty with the boundary at the place.
 fn is_allowed(tree: &Tree, b: u8, at: u32) -> bool
     requires { HasBoundary tree.now b }
-    ensures { MatchBool result (NoneEmpty (with_place tree.now b at)) (SomeEmpty (with_place tree.now b at)) }
+    ensures { MatchBool result (NoneEmpty (with_place tree.now b at))
+        (SomeEmpty (with_place tree.now b at)) }
 {
     let mut moved = *tree;
     moved.shift(u32::from(b), at).is_ok()

@@ -19,7 +19,8 @@ pub(crate) fn boundaries_from_root(alloc: Global, tree: &Tree) -> Result<Vec<u8>
 // Adds those within a cell whose numbers are `from` or more.
 fn push_boundaries(tree: &Tree, cell: u8, from: u8, order: &mut Vec<u8>) -> Result<(), AllocError>
     requires { 1 ≤ from }
-    ensures pushed { OnOk result (order.new.items ≡ order.old.items ++ boundaries_within (drop (from - 1) tree.now.cuts) from cell) }
+    ensures pushed { OnOk result (order.new.items ≡ order.old.items
+        ++ boundaries_within (drop (from - 1) tree.now.cuts) from cell) }
     ensures tree { IsTree tree.now }
 {
     if from >= tree.cells() {

@@ -17,7 +17,8 @@ pub(crate) fn sorted_places(
     positions: &[Pos],
 ) -> Result<Vec<u32>, AllocError>
     requires { HasBoundary tree.now b }
-    ensures same { IfOk result (λ places. IsPermutation (places_divided tree.now b positions.now) places.items) }
+    ensures same { IfOk result (λ places. IsPermutation (places_divided tree.now b positions.now)
+        places.items) }
     ensures rising { IfOk result (λ places. IsSorted nat_cmp places.items) }
 {
     let mut places = places_along(
@@ -36,7 +37,8 @@ fn places_along(
     axis: Axis,
     positions: &[Pos],
 ) -> Result<Vec<u32>, AllocError>
-    ensures { IfOk result (λ places. places.items ≡ map (place_along axis) (filter (lies_in area.now) positions.now)) }
+    ensures { IfOk result (λ places. places.items ≡ map (place_along axis)
+        (filter (lies_in area.now) positions.now)) }
 {
     positions
         .iter()
@@ -76,7 +78,8 @@ fn first_above(places: &[u32], count: usize, lowest: u32, highest: u32) -> u32
     ensures from { lowest ≤ result }
     ensures to { result ≤ highest }
     ensures enough { count ≤ count_by (λ place. nat_lt place result) places.now }
-    ensures first { (at : ℕ) → lowest ≤ at → at < result → count_by (λ place. nat_lt place at) places.now < count }
+    ensures first { (at : ℕ) → lowest ≤ at → at < result →
+        count_by (λ place. nat_lt place at) places.now < count }
 {
     if count == 0 {
         return lowest;
@@ -90,8 +93,10 @@ pub(crate) fn best_place(places: &[u32], lowest: u32, highest: u32) -> u32
     requires range { lowest ≤ highest }
     ensures from { lowest ≤ result }
     ensures to { result ≤ highest }
-    ensures least { (at : ℕ) → lowest ≤ at → at ≤ highest → difference places.now result ≤ difference places.now at }
-    ensures lowest { (at : ℕ) → lowest ≤ at → at < result → difference places.now result < difference places.now at }
+    ensures least { (at : ℕ) → lowest ≤ at → at ≤ highest → difference places.now result
+        ≤ difference places.now at }
+    ensures lowest { (at : ℕ) → lowest ≤ at → at < result → difference places.now result
+        < difference places.now at }
 {
     // The difference falls while fewer than half of the places lie below, and never falls from there on: so the best is
     // the first place from there on, or the first with as many below as the last before it has.

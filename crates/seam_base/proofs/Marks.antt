@@ -261,7 +261,8 @@ mark_changed old new e b updates =
     apart true r = refl
     apart false r = refl
 
-    got : (b : Bool) (q : ℕ) → table.get (marked b (marks_of old) e tt) q ≡ cond (eq_by_cmp nat_cmp q e) (mark_of b) (table.get (marks_of old) q)
+    got : (b : Bool) (q : ℕ) → table.get (marked b (marks_of old) e tt) q
+        ≡ cond (eq_by_cmp nat_cmp q e) (mark_of b) (table.get (marks_of old) q)
     got true q = table.get-insert nat_cmp_total (marks_of old) e tt q
     got false q = table.get-remove nat_cmp_total (marks_of old) e q
 

@@ -12,7 +12,7 @@ use Rattle.std.specs.declared.cmp.Ordering.TheVariants.{Less, Equal, Greater}
 use Rattle.seam_call.specs.declared.shown.ClientText.TheVariants as text
 use Rattle.std.specs.Ordering.{nat_cmp}
 use Rattle.std.proofs.lemmas.Bool.Decides.{nat_tests}
-use Rattle.seam_entity.specs.Calls.{call_in, after_order, after_ready}
+use Rattle.seam_entity.specs.ReadyCalls.{call_in, after_order, after_ready}
 use Rattle.seam_node_steps.proofs.Tables.{entries_empty}
 use Rattle.seam_node_steps.specs.BaseCases
 use Rattle.seam_node_steps.specs.BaseCases.{with_offer, executed}

@@ -6,7 +6,7 @@ ghost use Rattle.std.specs.FinSet as set;
 ghost use Rattle.seam_node_steps.specs.Prelude.{client_of, Settings as AllSettings, item_at, rank_of, order_of, may_offer, ready_call};
 ghost use Rattle.seam_node_steps.specs.Prelude.{Call as AnyCall, node_with, may_show, with_deed};
 ghost use Rattle.seam_call.specs.declared.shown.ClientText.TheVariants as text;
-ghost use Rattle.seam_entity.specs.Calls.{after_ready};
+ghost use Rattle.seam_entity.specs.ReadyCalls.{after_ready};
 ghost use Rattle.seam_base.specs.Nodes.{has_call};
 ghost use Rattle.seam_node_steps.specs.BaseCases.{may_execute, with_offer, executed};
 ghost use Rattle.seam_base.specs.Parts.{part_of, client_in, shows, told, with_state};
@@ -65,7 +65,8 @@ pub(crate) fn text_of(
     state: &State,
     due: bool,
 ) -> Result<Option<ClientText>, AllocError>
-    ensures { IfOk result (λ o. o ≡ (if due then Some (text.Base version (client_of t.now.properties state.now)) else None)) }
+    ensures { IfOk result (λ o. o ≡ (if due then Some (text.Base version
+        (client_of t.now.properties state.now)) else None)) }
 {
     if !due {
         return Ok(None);
@@ -85,9 +86,11 @@ fn is_due(changed: bool, proxy: &Option<Box<Proxy>>) -> bool
 fn look_ahead(body: &Body, defs: &Defs, call: &Call) -> Result<After, AllocError>
     requires version { body.now.version < 2 ^ 62 }
     ensures state { (me : ℕ) (settings : AllSettings) →
-        IfOk result (λ a. a.state ≡ (with_deed (node_with defs.now me settings) (part_of body.now) call.now).state) }
+        IfOk result (λ a. a.state ≡ (with_deed (node_with defs.now me settings) (part_of body.now)
+        call.now).state) }
     ensures text { (me : ℕ) (settings : AllSettings) → let h = node_with defs.now me settings in
-        IfOk result (λ a. told (with_deed h (part_of body.now) call.now) a.text ≡ executed h (part_of body.now) call.now) }
+        IfOk result (λ a. told (with_deed h (part_of body.now) call.now) a.text
+        ≡ executed h (part_of body.now) call.now) }
 {
     let t = defs.type_at(body.ty);
     let (state, changed) = t.state_after(&body.state, &call.deed)?;
@@ -100,7 +103,8 @@ fn look_ahead(body: &Body, defs: &Defs, call: &Call) -> Result<After, AllocError
 fn tell(proxy: &mut Option<Box<Proxy>>, text: ClientText)
     requires room { HasLine proxy.old }
     requires small { may_show (option_map client_in proxy.old) ≡ true }
-    ensures { option_map client_in proxy.new ≡ option_map (shows text) (option_map client_in proxy.old) }
+    ensures { option_map client_in proxy.new ≡ option_map (shows text)
+        (option_map client_in proxy.old) }
 {
     match proxy {
         Some(proxy) => proxy.show(text),
@@ -113,10 +117,12 @@ fn execute_after(body: &mut Body, call: Call, after: After)
     requires from_one { 1 ≤ call.number }
     requires small { call.number < 2 ^ 62 }
     requires may { may_execute (part_of body.old) ≡ true }
-    requires not_held { is_some (item_at call.number (order_of body.old.orders.orders call.sender).held) ≡ false }
+    requires not_held { is_some (item_at call.number (order_of body.old.orders.orders
+        call.sender).held) ≡ false }
     requires turn { call.number ≡ (order_of body.old.orders.orders call.sender).next }
     requires room { HasRoom body.old (rank_of call.sender) }
-    ensures { part_of body.new ≡ with_offer (told (with_state (part_of body.old) after.state call) after.text) call }
+    ensures { part_of body.new ≡ with_offer (told (with_state (part_of body.old) after.state call)
+        after.text) call }
 {
     body.state = after.state;
     body.version += 1;
@@ -135,7 +141,8 @@ fn execute_turn(body: &mut Body, defs: &Defs, call: Call) -> Result<(), NoMemory
     requires from_one { 1 ≤ call.number }
     requires small { call.number < 2 ^ 62 }
     requires may { may_execute (part_of body.old) ≡ true }
-    requires not_held { is_some (item_at call.number (order_of body.old.orders.orders call.sender).held) ≡ false }
+    requires not_held { is_some (item_at call.number (order_of body.old.orders.orders
+        call.sender).held) ≡ false }
     requires turn { call.number ≡ (order_of body.old.orders.orders call.sender).next }
     ensures after { (me : ℕ) (settings : AllSettings) → let h = node_with defs.now me settings in
         OnOk result (part_of body.new ≡ with_offer (executed h (part_of body.old) call) call) }
@@ -156,7 +163,8 @@ fn execute_turn(body: &mut Body, defs: &Defs, call: Call) -> Result<(), NoMemory
 fn hold(body: &mut Body, call: Call) -> Result<(), NoMemoryFor<Call>>
     requires from_one { 1 ≤ call.number }
     requires small { call.number < 2 ^ 62 }
-    requires not_held { is_some (item_at call.number (order_of body.old.orders.orders call.sender).held) ≡ false }
+    requires not_held { is_some (item_at call.number (order_of body.old.orders.orders
+        call.sender).held) ≡ false }
     ensures after { OnOk result (part_of body.new ≡ with_offer (part_of body.old) call) }
     ensures err { OnErr result (part_of body.new ≡ part_of body.old) }
     ensures err_item { IfErr result (λ e. e.item ≡ call) }
@@ -172,10 +180,12 @@ fn hold(body: &mut Body, call: Call) -> Result<(), NoMemoryFor<Call>>
 
 // Executes the call where it is its turn, holds it where it came early, and drops it where it came late.
 fn offer_in(body: &mut Body, defs: &Defs, call: Call) -> Result<(), NoMemoryFor<Call>>
-    requires may_offer { may_offer (order_of body.old.orders.orders call.sender) call.number ≡ true }
+    requires may_offer { may_offer (order_of body.old.orders.orders call.sender) call.number
+        ≡ true }
     requires may_execute { may_execute (part_of body.old) ≡ true }
     ensures after { (me : ℕ) (settings : AllSettings) →
-        OnOk result (part_of body.new ≡ with_call (node_with defs.now me settings) call (part_of body.old)) }
+        OnOk result (part_of body.new ≡ with_call (node_with defs.now me settings) call
+        (part_of body.old)) }
     ensures err { OnErr result (part_of body.new ≡ part_of body.old) }
     ensures err_item { IfErr result (λ e. e.item ≡ call) }
 {
@@ -195,8 +205,9 @@ fn execute_ready_after(body: &mut Body, after: After)
     requires done { vec_len body.old.done < vec_capacity body.old.done }
     requires line { HasLine body.old.proxy }
     requires ready { is_some (ready_call body.old.orders.orders) ≡ true }
-    ensures { (k : AnyCall) → ready_call body.old.orders.orders ≡ Some k → part_of body.new
-        ≡ with_orders (told (with_state (part_of body.old) after.state k) after.text) (after_ready body.old.orders.orders) }
+    ensures { (k : AnyCall) → ready_call body.old.orders.orders ≡ Some k →
+        part_of body.new ≡ with_orders (told (with_state (part_of body.old) after.state k)
+        after.text) (after_ready body.old.orders.orders) }
 {
     body.state = after.state;
     body.version += 1;
@@ -213,7 +224,8 @@ fn execute_ready_after(body: &mut Body, after: After)
 fn execute_ready_in(body: &mut Body, defs: &Defs) -> Result<(), AllocError>
     requires { may_execute (part_of body.old) ≡ true }
     ensures after { (me : ℕ) (settings : AllSettings) →
-        OnOk result (part_of body.new ≡ with_ready_call (node_with defs.now me settings) (part_of body.old)) }
+        OnOk result (part_of body.new ≡ with_ready_call (node_with defs.now me settings)
+        (part_of body.old)) }
     ensures err { OnErr result (part_of body.new ≡ part_of body.old) }
 {
     make_place(body)?;

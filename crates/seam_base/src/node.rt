@@ -59,6 +59,7 @@ impl Base {
         requires most { settings.bases ≤ MOST_BASE_NODES }
         ensures { BaseNodeView result ≡ empty_base defs settings me }
     {
+        let key = defs.hash_key();
         Base {
             known: BaseContext {
                 me,
@@ -67,8 +68,8 @@ impl Base {
                 settings,
             },
             orders: VecDeque::new(alloc),
-            routes: Table::new(alloc),
-            parts: Parts::new(alloc),
+            routes: Table::new(alloc, key),
+            parts: Parts::new(alloc, key),
         }
     }
 
@@ -102,7 +103,8 @@ impl Base {
     /// Load, point 1: the entity, which is created in that cell, gets a route, and its base part where this is its base node.
     pub fn add_entity(&mut self, alloc: Global, e: u32, ty: u16, cell: u8) -> Result<(), AllocError>
         requires { cell < CELLS }
-        ensures after { (pos : AnyPos) → OnOk result (self.new ≡ part_if (is_base_node_of self.old.here e) (with_route self.old e cell)
+        ensures after { (pos : AnyPos) → OnOk result (self.new
+            ≡ part_if (is_base_node_of self.old.here e) (with_route self.old e cell)
             (record { entity = e; ty = ty; pos = pos })) }
         ensures err { OnErr result (self.new ≡ self.old) }
     {
@@ -136,7 +138,10 @@ impl Base {
 
     /// Load, point 4: appends an order to the node's list.
     pub fn add_order(&mut self, order: Order) -> Result<(), NoMemoryFor<Order>>
-        ensures after { OnOk result (self.new ≡ record self.old { orders = self.old.orders ++ order ∷ [] }) }
+        ensures after { OnOk result (self.new ≡ record self.old {
+          orders =
+              self.old.orders ++ order ∷ [];
+        }) }
 
         // If allocation fails, the order comes back and nothing has changed.
         ensures err { OnErr result (self.new ≡ self.old) }
@@ -154,9 +159,9 @@ impl Base {
 
     // Base call: it is offered to the entity's part.
     fn hear_call(&mut self, call: Call) -> Result<(), NoMemoryFor<Call>>
-        ensures after { OnOk result (self.new
-            ≡ (unless_stray (stray_base_call self.old.here call (table.get self.old.parts call.entity)) self.old
-            (sends_none (base_call self.old call))).state) }
+        ensures after { OnOk result (self.new ≡ (unless_stray
+            (stray_base_call self.old.here call (table.get self.old.parts call.entity))
+            self.old (sends_none (base_call self.old call))).state) }
         ensures err { OnErr result (self.new ≡ self.old) }
         ensures err_item { IfErr result (λ e. e.item ≡ call) }
     {
@@ -168,8 +173,10 @@ impl Base {
 
     // Update: it is offered to the client, if there is one, and shown in its turn. It is used up then.
     fn hear_update(&mut self, update: &mut Update) -> Result<(), AllocError>
-        ensures after { OnOk result (self.new ≡ (unless_stray (stray_update update.old (table.get self.old.parts update.old.entity)) self.old
-            (sends_none (update_case self.old update.old (table.get self.old.parts update.old.entity)))).state) }
+        ensures after { OnOk result (self.new ≡ (unless_stray
+            (stray_update update.old (table.get self.old.parts update.old.entity)) self.old
+            (sends_none (update_case self.old update.old
+            (table.get self.old.parts update.old.entity)))).state) }
         ensures err { OnErr result (self.new ≡ self.old) }
         ensures err_update { OnErr result (update.new ≡ update.old) }
     {
@@ -178,8 +185,9 @@ impl Base {
 
     // A cell tells that the entity's real is there, at that generation: the route is replaced where the generation is greater.
     fn hear_current(&mut self, e: u32, new: Route)
-        ensures { self.new ≡ (unless_stray (stray_current new (table.get self.old.routes e)) self.old
-            (sends_none (current self.old e new (table.get self.old.routes e)))).state }
+        ensures { self.new ≡ (unless_stray (stray_current new (table.get self.old.routes e))
+            self.old (sends_none (current self.old e new
+            (table.get self.old.routes e)))).state }
     {
         let Some(route) = self.routes.get_mut(e) else {
             return;
@@ -191,8 +199,8 @@ impl Base {
     #[inline(never)]
     fn take_call(&mut self, message: &mut Msg) -> Result<(), AllocError>
         requires { (call : AnyCall) × (message.old ≡ BaseCall call) }
-        ensures after { OnOk result (self.new
-            ≡ (unless_stray (is_stray self.old message.old) self.old (sends_none (case_of self.old message.old))).state) }
+        ensures after { OnOk result (self.new ≡ (unless_stray (is_stray self.old message.old)
+            self.old (sends_none (case_of self.old message.old))).state) }
         ensures err { OnErr result (self.new ≡ self.old) }
         ensures err_message { OnErr result (message.new ≡ message.old) }
     {
@@ -210,8 +218,8 @@ impl Base {
 
     // A message from another node, which is used up.
     fn hear(&mut self, message: &mut Msg) -> Result<(), AllocError>
-        ensures after { OnOk result (self.new
-            ≡ (unless_stray (is_stray self.old message.old) self.old (sends_none (case_of self.old message.old))).state) }
+        ensures after { OnOk result (self.new ≡ (unless_stray (is_stray self.old message.old)
+            self.old (sends_none (case_of self.old message.old))).state) }
         ensures err { OnErr result (self.new ≡ self.old) }
         ensures err_message { OnErr result (message.new ≡ message.old) }
     {
@@ -238,7 +246,8 @@ impl Base {
     // The least part that has a ready call executes it.
     fn ready_call_task(&mut self, e: u32) -> Result<(), AllocError>
         requires { least has_call self.old.parts ≡ Some e }
-        ensures after { OnOk result (self.new ≡ (task_without_orders self.old (ready_part self.old)).state) }
+        ensures after { OnOk result (self.new ≡ (task_without_orders self.old
+            (ready_part self.old)).state) }
         ensures err { OnErr result (self.new ≡ self.old) }
     {
         let Some(part) = self.parts.get(e) else {
@@ -254,7 +263,8 @@ impl Base {
     fn ready_update_task(&mut self, e: u32) -> Result<(), AllocError>
         requires no_call { least has_call self.old.parts ≡ None }
         requires update { least has_update self.old.parts ≡ Some e }
-        ensures after { OnOk result (self.new ≡ (task_without_orders self.old (ready_part self.old)).state) }
+        ensures after { OnOk result (self.new ≡ (task_without_orders self.old
+            (ready_part self.old)).state) }
         ensures err { OnErr result (self.new ≡ self.old) }
     {
         let Some(part) = self.parts.get(e) else {
@@ -268,7 +278,8 @@ impl Base {
 
     // The task without orders: a ready call is executed, else a ready update is shown.
     fn ready_task(&mut self) -> Result<(), AllocError>
-        ensures after { OnOk result (self.new ≡ (task_without_orders self.old (ready_part self.old)).state) }
+        ensures after { OnOk result (self.new ≡ (task_without_orders self.old
+            (ready_part self.old)).state) }
         ensures err { OnErr result (self.new ≡ self.old) }
     {
         if let Some(e) = self.parts.least_call() {
@@ -285,7 +296,8 @@ impl Base {
     fn order_task(&mut self, out: &mut Out<Msg>) -> Result<(), AllocError>
         requires { has_any self.old.orders ≡ true }
         ensures state { OnOk result (self.new ≡ (base_task self.old self.old.orders).state) }
-        ensures sent { OnOk result (out.new.items ≡ out.old.items ++ (base_task self.old self.old.orders).sent) }
+        ensures sent { OnOk result (out.new.items ≡ out.old.items
+            ++ (base_task self.old self.old.orders).sent) }
         ensures err_state { OnErr result (self.new ≡ self.old) }
         ensures err_out { OnErr result (out.new.items ≡ out.old.items) }
     {
@@ -304,7 +316,8 @@ impl Base {
     // The node's task.
     fn task(&mut self, out: &mut Out<Msg>) -> Result<(), AllocError>
         ensures state { OnOk result (self.new ≡ (base_task self.old self.old.orders).state) }
-        ensures sent { OnOk result (out.new.items ≡ out.old.items ++ (base_task self.old self.old.orders).sent) }
+        ensures sent { OnOk result (out.new.items ≡ out.old.items
+            ++ (base_task self.old self.old.orders).sent) }
         ensures err_state { OnErr result (self.new ≡ self.old) }
         ensures err_out { OnErr result (out.new.items ≡ out.old.items) }
     {
@@ -365,7 +378,8 @@ impl Machine for Base {
     ) -> Result<(), AllocError>
         requires { input.old ≡ Input.Task → base_has_work self.old ≡ true }
         ensures state { OnOk result (self.new ≡ (base_steps self.old input.old).state) }
-        ensures sent { OnOk result (out.new.items ≡ out.old.items ++ (base_steps self.old input.old).sent) }
+        ensures sent { OnOk result (out.new.items ≡ out.old.items
+            ++ (base_steps self.old input.old).sent) }
         ensures err_state { OnErr result (self.new ≡ self.old) }
         ensures err_out { OnErr result (out.new.items ≡ out.old.items) }
         ensures err_input { OnErr result (input.new ≡ input.old) }

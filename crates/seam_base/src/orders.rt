@@ -29,11 +29,13 @@ pub struct Stays {
 
 // Cell order: the call goes to the route's cell.
 fn cell_order(routes: &Table<Route>, call: Call, out: &mut Out<Msg>) -> Result<(), Stays>
-    ensures sent { OnOk result (out.new.items ≡ out.old.items ++ on_route (table.get routes.now.items call.entity) (message.Call call)) }
+    ensures sent { OnOk result (out.new.items ≡ out.old.items
+        ++ on_route (table.get routes.now.items call.entity) (message.Call call)) }
     ensures done { OnOk result (is_none (table.get routes.now.items call.entity) ≡ false) }
     ensures err { OnErr result (out.new.items ≡ out.old.items) }
     ensures stays { IfErr result (λ s. s.order ≡ order.Cell call) }
-    ensures stray { IfErr result (λ s. OnOk s.result (is_none (table.get routes.now.items call.entity) ≡ true)) }
+    ensures stray { IfErr result (λ s. OnOk s.result (is_none
+        (table.get routes.now.items call.entity) ≡ true)) }
 {
     let Some(route) = routes.get(call.entity) else {
         return Err(Stays {
@@ -54,7 +56,8 @@ fn cell_order(routes: &Table<Route>, call: Call, out: &mut Out<Msg>) -> Result<(
 
 // Tick order: every cell of the tree is told, in rising number.
 fn tick_order(cells: u8, out: &mut Out<Msg>) -> Result<(), Stays>
-    ensures sent { OnOk result (out.new.items ≡ out.old.items ++ map tick_to (range_with_len 0 cells)) }
+    ensures sent { OnOk result (out.new.items ≡ out.old.items
+        ++ map tick_to (range_with_len 0 cells)) }
     ensures err { OnErr result (out.new.items ≡ out.old.items) }
     ensures stays { IfErr result (λ s. s.order ≡ order.Tick) }
     ensures stray { IfErr result (λ s. OnOk s.result ⊥) }
@@ -79,12 +82,14 @@ fn reap_order(
     out: &mut Out<Msg>,
 ) -> Result<(), Stays>
     ensures parts { OnOk result (parts.new ≡ table.remove parts.old e) }
-    ensures sent { OnOk result (out.new.items ≡ out.old.items ++ on_route (table.get routes.now.items e) (message.Reap e)) }
+    ensures sent { OnOk result (out.new.items ≡ out.old.items
+        ++ on_route (table.get routes.now.items e) (message.Reap e)) }
     ensures done { OnOk result (is_none (table.get routes.now.items e) ≡ false) }
     ensures err_parts { OnErr result (parts.new ≡ parts.old) }
     ensures err { OnErr result (out.new.items ≡ out.old.items) }
     ensures stays { IfErr result (λ s. s.order ≡ order.Reap e) }
-    ensures stray { IfErr result (λ s. OnOk s.result (is_none (table.get routes.now.items e) ≡ true)) }
+    ensures stray { IfErr result (λ s. OnOk s.result (is_none (table.get routes.now.items e)
+        ≡ true)) }
 {
     let Some(route) = routes.get(e) else {
         return Err(Stays {
@@ -114,16 +119,20 @@ fn base_order(
     requires bases { 1 ≤ known.now.settings.bases }
     requires most { known.now.settings.bases ≤ MOST_BASE_NODES }
     ensures parts { let h = here_in known.now in OnOk result (parts.new
-        ≡ (if is_base_node_of h call.entity then changed_at (with_call h call) parts.old call.entity else parts.old)) }
+        ≡ (if is_base_node_of h call.entity then changed_at (with_call h call) parts.old call.entity
+        else parts.old)) }
     ensures sent { let h = here_in known.now in OnOk result (out.new.items ≡ out.old.items ++
-        (if is_base_node_of h call.entity then [] else (base_of h call.entity, message.BaseCall call) ∷ [])) }
+        (if is_base_node_of h call.entity then []
+        else (base_of h call.entity, message.BaseCall call) ∷ [])) }
     ensures done { let h = here_in known.now in OnOk result
-        ((is_base_node_of h call.entity && stray_base_call h call (table.get parts.old call.entity)) ≡ false) }
+        ((is_base_node_of h call.entity && stray_base_call h call (table.get parts.old call.entity))
+        ≡ false) }
     ensures err_parts { OnErr result (parts.new ≡ parts.old) }
     ensures err { OnErr result (out.new.items ≡ out.old.items) }
     ensures stays { IfErr result (λ s. s.order ≡ order.Base call) }
     ensures stray { let h = here_in known.now in IfErr result (λ s. OnOk s.result
-        ((is_base_node_of h call.entity && stray_base_call h call (table.get parts.old call.entity)) ≡ true)) }
+        ((is_base_node_of h call.entity && stray_base_call h call (table.get parts.old call.entity))
+        ≡ true)) }
 {
     let node = known.base_node_of(call.entity);
     if node == known.me {
@@ -141,11 +150,14 @@ fn base_order(
 
 // A base order for a part of this node.
 fn own_order(known: &BaseContext, parts: &mut Parts, call: Call) -> Result<(), Stays>
-    ensures parts { OnOk result (parts.new ≡ changed_at (with_call (here_in known.now) call) parts.old call.entity) }
-    ensures done { OnOk result (stray_base_call (here_in known.now) call (table.get parts.old call.entity) ≡ false) }
+    ensures parts { OnOk result (parts.new ≡ changed_at (with_call (here_in known.now) call)
+        parts.old call.entity) }
+    ensures done { OnOk result (stray_base_call (here_in known.now) call
+        (table.get parts.old call.entity) ≡ false) }
     ensures err { OnErr result (parts.new ≡ parts.old) }
     ensures stays { IfErr result (λ s. s.order ≡ order.Base call) }
-    ensures stray { IfErr result (λ s. OnOk s.result (stray_base_call (here_in known.now) call (table.get parts.old call.entity) ≡ true)) }
+    ensures stray { IfErr result (λ s. OnOk s.result (stray_base_call (here_in known.now) call
+        (table.get parts.old call.entity) ≡ true)) }
 {
     if parts.refuses(known, &call) {
         return Err(Stays {
@@ -176,11 +188,13 @@ pub fn execute(
 ) -> Result<(), Stays>
     requires bases { 1 ≤ known.now.settings.bases }
     requires most { known.now.settings.bases ≤ MOST_BASE_NODES }
-    ensures state { (os : List AnyOrder) → OnOk result (node_of known.now os routes.now.items parts.new
-        ≡ (order_of_node (node_of known.now os routes.now.items parts.old) order).state) }
-    ensures sent { (os : List AnyOrder) → OnOk result (out.new.items
-        ≡ out.old.items ++ (order_of_node (node_of known.now os routes.now.items parts.old) order).sent) }
-    ensures done { (os : List AnyOrder) → OnOk result (stray_order (node_of known.now os routes.now.items parts.old) order ≡ false) }
+    ensures state { (os : List AnyOrder) → OnOk result (node_of known.now os routes.now.items
+        parts.new ≡ (order_of_node (node_of known.now os routes.now.items parts.old)
+        order).state) }
+    ensures sent { (os : List AnyOrder) → OnOk result (out.new.items ≡ out.old.items
+        ++ (order_of_node (node_of known.now os routes.now.items parts.old) order).sent) }
+    ensures done { (os : List AnyOrder) → OnOk result (stray_order
+        (node_of known.now os routes.now.items parts.old) order ≡ false) }
     ensures err_parts { OnErr result (parts.new ≡ parts.old) }
     ensures err { OnErr result (out.new.items ≡ out.old.items) }
     ensures stays { IfErr result (λ s. s.order ≡ order) }

@@ -85,7 +85,8 @@ impl Model for BasePart {
 impl BasePart {
     /// A base part that has done nothing.
     pub fn create(alloc: Global, defs: &Defs, ty: u16) -> Result<Self, AllocError>
-        ensures { (me : ℕ) (settings : AllSettings) → IfOk result (λ p. p ≡ new_part (node_with defs.now me settings) ty) }
+        ensures { (me : ℕ) (settings : AllSettings) → IfOk result (λ p. p
+            ≡ new_part (node_with defs.now me settings) ty) }
     {
         let props = defs.type_at(ty).start_props(Group::Base)?;
         let body = Body {
@@ -193,7 +194,8 @@ impl BasePart {
 
     // Whether the call is for a base part, and fits this one.
     fn fits(&self, defs: &Defs, settings: &Settings, call: &Call) -> bool
-        ensures { (me : ℕ) → result ≡ fits_base_part (node_with defs.now me settings.now) self.now.ty call.now }
+        ensures { (me : ℕ) → result ≡ fits_base_part (node_with defs.now me settings.now)
+            self.now.ty call.now }
     {
         call.is_for(Part::Base, call.entity)
             && can_do(
@@ -206,7 +208,8 @@ impl BasePart {
 
     /// Whether it may be offered the call.
     pub fn may_call(&self, defs: &Defs, settings: &Settings, call: &Call) -> bool
-        ensures { (me : ℕ) → result ≡ part_may_call (node_with defs.now me settings.now) self.now call.now }
+        ensures { (me : ℕ) → result ≡ part_may_call (node_with defs.now me settings.now) self.now
+            call.now }
     {
         if !self.fits(defs, settings, call) {
             return false;

@@ -15,7 +15,7 @@ use crate::mark_set::MarkSet;
 use crate::part::BasePart;
 use seam_call::{Call, Update};
 use seam_defs::{Defs, MOST_BASE_NODES};
-use seam_table::{NoMemoryFor, Table};
+use seam_table::{HashKey, NoMemoryFor, Table};
 use std::alloc::{AllocError, Global};
 use std::marker::Model;
 
@@ -69,7 +69,8 @@ fn update_part(
     ensures err { OnErr result (part.new ≡ part.old) }
     ensures err_update { OnErr result (update.new ≡ update.old) }
     ensures marks { (parts : Map PartView) → Some part.old ≡ table.get parts update.old.entity →
-        AreMarked has_update updates.old parts → AreMarked has_update updates.new (table.insert parts update.old.entity part.new) }
+        AreMarked has_update updates.old parts → AreMarked has_update updates.new
+        (table.insert parts update.old.entity part.new) }
 {
     if part.stays_as_ready(update) {
         return part.offer_update(update);
@@ -110,9 +111,11 @@ fn call_in(
     known: &BaseContext,
     call: Call,
 ) -> Result<(), NoMemoryFor<Call>>
-    requires fits { stray_base_call (here_in known.now) call (table.get items.old.items call.entity) ≡ false }
+    requires fits { stray_base_call (here_in known.now) call (table.get items.old.items call.entity)
+        ≡ false }
     requires marks { AreMarked has_call calls.old items.old.items }
-    ensures after { OnOk result (items.new.items ≡ changed_at (with_call (here_in known.now) call) items.old.items call.entity) }
+    ensures after { OnOk result (items.new.items ≡ changed_at (with_call (here_in known.now) call)
+        items.old.items call.entity) }
     ensures err { OnErr result (items.new.items ≡ items.old.items) }
     ensures err_item { IfErr result (λ e. e.item ≡ call) }
     ensures marks { AreMarked has_call calls.new items.new.items }
@@ -139,7 +142,8 @@ fn ready_in(
 ) -> Result<(), AllocError>
     requires may { passes may_execute (table.get items.old.items e) ≡ true }
     requires marks { AreMarked has_call calls.old items.old.items }
-    ensures after { OnOk result (items.new.items ≡ changed_at (with_ready_call (here_in known.now)) items.old.items e) }
+    ensures after { OnOk result (items.new.items ≡ changed_at (with_ready_call (here_in known.now))
+        items.old.items e) }
     ensures err { OnErr result (items.new.items ≡ items.old.items) }
     ensures marks { AreMarked has_call calls.new items.new.items }
     ensures others { PassAlike has_update items.old.items items.new.items }
@@ -180,7 +184,8 @@ fn attach_in(
 ) -> Result<(), AllocError>
     requires { passes has_client (table.get items.old.items e) ≡ false }
     ensures after { (me : ℕ) (settings : AllSettings) →
-        OnOk result (items.new.items ≡ changed_at (with_proxy (node_with defs.now me settings)) items.old.items e) }
+        OnOk result (items.new.items ≡ changed_at (with_proxy (node_with defs.now me settings))
+        items.old.items e) }
     ensures err { OnErr result (items.new.items ≡ items.old.items) }
     ensures calls { PassAlike has_call items.old.items items.new.items }
     ensures updates { PassAlike has_update items.old.items items.new.items }
@@ -202,12 +207,12 @@ fn begin(part: &mut BasePart)
 }
 
 impl Parts {
-    /// No parts.
-    pub fn new(alloc: Global) -> Self
+    /// No parts. They are found by a hash with this key.
+    pub fn new(alloc: Global, key: HashKey) -> Self
         ensures { result ≡ table.empty }
     {
         Parts {
-            items: Table::new(alloc),
+            items: Table::new(alloc, key),
             calls: MarkSet::new(alloc),
             updates: MarkSet::new(alloc),
         }
@@ -249,7 +254,8 @@ impl Parts {
 
     /// Whether the entity's part is not here, or may not be offered the call.
     pub fn refuses(&self, known: &BaseContext, call: &Call) -> bool
-        ensures { result ≡ stray_base_call (here_in known.now) call.now (table.get self.now call.now.entity) }
+        ensures { result ≡ stray_base_call (here_in known.now) call.now
+            (table.get self.now call.now.entity) }
     {
         match self.get(call.entity) {
             Some(part) => !part.may_call(&known.defs, &known.settings, call),
@@ -259,8 +265,10 @@ impl Parts {
 
     /// Offers the call to the entity's part, which may be offered it.
     pub fn offer(&mut self, known: &BaseContext, call: Call) -> Result<(), NoMemoryFor<Call>>
-        requires { stray_base_call (here_in known.now) call (table.get self.old call.entity) ≡ false }
-        ensures after { OnOk result (self.new ≡ changed_at (with_call (here_in known.now) call) self.old call.entity) }
+        requires { stray_base_call (here_in known.now) call (table.get self.old call.entity)
+            ≡ false }
+        ensures after { OnOk result (self.new ≡ changed_at (with_call (here_in known.now) call)
+            self.old call.entity) }
 
         // If allocation fails, the call comes back and nothing has changed.
         ensures err { OnErr result (self.new ≡ self.old) }
@@ -272,7 +280,8 @@ impl Parts {
     /// Executes the ready call of the least sender of the entity's part.
     pub fn execute_ready(&mut self, known: &BaseContext, e: u32) -> Result<(), AllocError>
         requires { passes may_execute (table.get self.old e) ≡ true }
-        ensures after { OnOk result (self.new ≡ changed_at (with_ready_call (here_in known.now)) self.old e) }
+        ensures after { OnOk result (self.new ≡ changed_at (with_ready_call (here_in known.now))
+            self.old e) }
         ensures err { OnErr result (self.new ≡ self.old) }
     {
         ready_in(&mut self.items, &mut self.calls, known, e)
@@ -303,7 +312,8 @@ impl Parts {
     pub fn attach(&mut self, alloc: Global, defs: &Defs, e: u32) -> Result<(), AllocError>
         requires { passes has_client (table.get self.old e) ≡ false }
         ensures after { (me : ℕ) (settings : AllSettings) →
-            OnOk result (self.new ≡ changed_at (with_proxy (node_with defs.now me settings)) self.old e) }
+            OnOk result (self.new ≡ changed_at (with_proxy (node_with defs.now me settings))
+            self.old e) }
         ensures err { OnErr result (self.new ≡ self.old) }
     {
         attach_in(&mut self.items, alloc, defs, e)
@@ -320,7 +330,9 @@ impl Parts {
         requires bases { 1 ≤ known.now.settings.bases }
         requires most { known.now.settings.bases ≤ MOST_BASE_NODES }
         ensures after { let h = here_in known.now in
-            OnOk result (self.new ≡ (if is_base_node_of h e then table.insert self.old e (new_part h ty) else self.old)) }
+            OnOk result (self.new
+            ≡ (if is_base_node_of h e then table.insert self.old e (new_part h ty)
+            else self.old)) }
         ensures err { OnErr result (self.new ≡ self.old) }
     {
         if known.base_node_of(e) != known.me {

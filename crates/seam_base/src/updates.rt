@@ -30,7 +30,8 @@ fn may_update(proxy: &Proxy, update: &Update) -> bool
 // Whether the client has a ready update after it was offered this one exactly where it has one before.
 fn stays_as_ready(proxy: &Proxy, update: &Update) -> bool
     requires { may_offer proxy.now.updates update.now.number ≡ true }
-    ensures { IsTrue result ↔ is_ready (client_with_update update.now (proxy_of proxy.now)).updates ≡ is_ready proxy.now.updates }
+    ensures { IsTrue result ↔ is_ready (client_with_update update.now (proxy_of proxy.now)).updates
+        ≡ is_ready proxy.now.updates }
 {
     // An update in its turn makes the one after it ready.
     update.number != proxy.updates.next_number() || !proxy.updates.holds(update.number + 1)
@@ -40,8 +41,8 @@ fn stays_as_ready(proxy: &Proxy, update: &Update) -> bool
 fn offer_update(proxy: &mut Proxy, update: &mut Update) -> Result<(), AllocError>
     requires may { may_offer proxy.old.updates update.old.number ≡ true }
     requires small { may_rise proxy.old.last ≡ true }
-    ensures after { OnOk result (proxy_of proxy.new
-        ≡ offered_update (proxy_of proxy.old) update.old (nat_cmp update.old.number proxy.old.updates.next)) }
+    ensures after { OnOk result (proxy_of proxy.new ≡ offered_update (proxy_of proxy.old) update.old
+        (nat_cmp update.old.number proxy.old.updates.next)) }
     ensures err { OnErr result (proxy_of proxy.new ≡ proxy_of proxy.old) }
     ensures err_update { OnErr result (update.new ≡ update.old) }
 {
@@ -64,7 +65,8 @@ fn offer_update(proxy: &mut Proxy, update: &mut Update) -> Result<(), AllocError
 // Shows the update whose turn it is, if it has come.
 fn show_next(proxy: &mut Proxy) -> Result<(), AllocError>
     requires small { may_rise proxy.old.last ≡ true }
-    ensures after { OnOk result (proxy_of proxy.new ≡ shows_next (proxy_of proxy.old) (next_item proxy.old.updates)) }
+    ensures after { OnOk result (proxy_of proxy.new ≡ shows_next (proxy_of proxy.old)
+        (next_item proxy.old.updates)) }
     ensures err { OnErr result (proxy_of proxy.new ≡ proxy_of proxy.old) }
 {
     reserve_line(&mut proxy.lines)?;
@@ -116,7 +118,8 @@ impl BasePart {
     /// Whether the update makes no difference to whether the client has a ready one. `true` where there is no client.
     pub fn stays_as_ready(&self, update: &Update) -> bool
         requires { stray_proxy_update update.now self.now.proxy ≡ false }
-        ensures { IsTrue result ↔ has_update (with_update update.now self.now) ≡ has_update self.now }
+        ensures { IsTrue result ↔ has_update (with_update update.now self.now)
+            ≡ has_update self.now }
     {
         match &self.body.proxy {
             Some(proxy) => stays_as_ready(proxy, update),
@@ -163,7 +166,8 @@ impl BasePart {
 
     /// Gives the part a client. If the part's type has something for clients, the client is shown the part.
     pub fn attach(&mut self, alloc: Global, defs: &Defs) -> Result<(), AllocError>
-        ensures after { (me : ℕ) (settings : AllSettings) → OnOk result (self.new ≡ with_proxy (node_with defs.now me settings) self.old) }
+        ensures after { (me : ℕ) (settings : AllSettings) →
+            OnOk result (self.new ≡ with_proxy (node_with defs.now me settings) self.old) }
         ensures err { OnErr result (self.new ≡ self.old) }
     {
         let t = defs.type_at(self.body.ty);

@@ -10,6 +10,7 @@ use seam_watch::{Journal, JournalLog};
 use seam_workers::Gate;
 use seam_world::Status;
 use std::alloc::{AllocError, Global};
+use std::random::RandomSource;
 use std::sync::Wait;
 use std::sync::atomic::{AtomicU64, Ordering};
 use std::test::Fail;
@@ -161,7 +162,7 @@ fn is_as_said(log: &JournalLog, tries: &Tries, row: &Row) -> bool {
 }
 
 // How the script ends, and whether its round is as the row says.
-fn tried<R: Threads + Wait + Sync>(
+fn tried<R: Threads + Wait + Sync + RandomSource>(
     rt: &R,
     alloc: Global,
     script: &str,
@@ -179,7 +180,7 @@ fn tried<R: Threads + Wait + Sync>(
 }
 
 // How many rows are kept to before the first one that is not.
-fn wrong_in<R: Threads + Wait + Sync>(
+fn wrong_in<R: Threads + Wait + Sync + RandomSource>(
     rt: &R,
     alloc: Global,
     rows: &[Row],

@@ -84,12 +84,8 @@ module _ (c : CellView) (from : ℕ) (k : CallData) (gone : is_some (table.get c
   pub passed_state : (cell_steps c (From from (CallTo k))).state ≡ c
   passed_state = ap (λ t. (stepped c k.entity t).state) passed_slot ∙ rests_there (table.get c.nexts k.entity)
 
-  pub passed_none : table.get c.nexts k.entity ≡ None → (cell_steps c (From from (CallTo k))).sent ≡ []
-  passed_none e = ap (λ t. t.sent) passed_slot ∙ ap (λ n. (call_next_place k n).sent) e
-
-  pub passed_some : (n : NextPlace) → table.get c.nexts k.entity ≡ Some n →
-      (cell_steps c (From from (CallTo k))).sent ≡ (n.cell, CallTo k) ∷ []
-  passed_some n e = ap (λ t. t.sent) passed_slot ∙ ap (λ n. (call_next_place k n).sent) e
+  pub passed_sent : (cell_steps c (From from (CallTo k))).sent ≡ (call_next_place k (table.get c.nexts k.entity)).sent
+  passed_sent = ap (λ t. t.sent) passed_slot
 
 -- ---- a cell without entities
 

@@ -11,15 +11,17 @@ ghost use Rattle.seam_cell.specs.Machines.{cell_peers, cell_targets, cell_keeps_
 ghost use Rattle.seam_cell_cases.specs.Calling.{is_called, IsTurn, may_run};
 
 use seam_call::{Call, Create, GhostCopy};
+use seam_cell_calls::{execute_here, pass_on};
 use seam_cell_cases::{
-    Turn, arrive, begin_round, execute_ready, execute_turn, give_witness, hold, make_real,
-    may_call, may_execute, reap, survey_task,
+    Turn, arrive, begin_round, execute_ready, give_witness, hold, make_real, may_call, may_execute,
+    reap, survey_task,
 };
-use seam_cell_look::{ToldCopies, look_task};
+use seam_cell_look::look_task;
 use seam_cell_parts::{
     CellContext, CopyBook, EntityQueue, EntitySet, Lists, Places, RealTable, Reals, first_ready,
     put_after, put_in, take_out,
 };
+use seam_cell_told::ToldCopies;
 use seam_defs::{Defs, Settings};
 use seam_entity::{Msg, Parcel, fits_copy, is_small};
 use seam_ghosts::GhostBook;
@@ -47,7 +49,7 @@ impl Model for Cell {
     ghost use Rattle.seam_node_steps.specs.Cells.{CellView};
     ghost use Rattle.seam_node_steps.specs.Knowing.{known_at};
     ghost use Rattle.seam_cell_parts.specs.Kept.{cell_of, AreWhole};
-    ghost use Rattle.seam_cell_look.specs.Told.{AreTold};
+    ghost use Rattle.seam_cell_told.specs.Told.{AreTold};
 
     ghost Value = { CellView };
 
@@ -61,7 +63,8 @@ impl Model for Cell {
 
 // Whether a copy that comes at that beat does not fit, or a number is not small.
 fn is_stray_set(defs: &Defs, settings: &Settings, beat: u64, copy: &GhostCopy) -> bool
-    ensures { (me : ℕ) → result ≡ stray_ghost_set (node_with defs.now me settings.now) beat copy.now }
+    ensures { (me : ℕ) → result ≡ stray_ghost_set (node_with defs.now me settings.now) beat
+        copy.now }
 {
     if !is_small(beat) {
         return true;
@@ -80,6 +83,7 @@ impl Cell {
         ensures { CellNode result ≡ empty_cell defs settings me }
     {
         let tree = Tree::one(settings.size);
+        let key = defs.hash_key();
         Cell {
             known: CellContext {
                 me,
@@ -88,19 +92,19 @@ impl Cell {
                 tree,
             },
             reals: Reals {
-                items: RealTable::new(alloc),
+                items: RealTable::new(alloc, key),
                 ready: EntitySet::new(alloc),
                 witnesses: EntitySet::new(alloc),
             },
             places: Places {
-                nexts: Table::new(alloc),
-                copies: CopyBook::new(alloc),
+                nexts: Table::new(alloc, key),
+                copies: CopyBook::new(alloc, key),
             },
             lists: Lists {
                 survey: EntityQueue::new(alloc),
                 looks: EntityQueue::new(alloc),
             },
-            told: ToldCopies::new(alloc),
+            told: ToldCopies::new(alloc, key),
         }
     }
 
@@ -138,7 +142,7 @@ impl Cell {
         // `size` is called for its clause that it is a tree.
         let _ = tree.size();
         self.known.tree = tree;
-        self.places.nexts = Table::new(alloc);
+        self.places.nexts = Table::new(alloc, self.known.defs.hash_key());
         Ok(())
     }
 
@@ -149,9 +153,10 @@ impl Cell {
         beat: u64,
         copy: GhostCopy,
     ) -> Result<(), NoMemoryFor<GhostCopy>>
-        ensures state { (from : ℕ) →
-            OnOk result (self.new ≡ (cell_steps self.old (From from (msg.GhostSet e beat copy))).state) }
-        ensures sent { (from : ℕ) → (cell_steps self.old (From from (msg.GhostSet e beat copy))).sent ≡ [] }
+        ensures state { (from : ℕ) → OnOk result (self.new
+            ≡ (cell_steps self.old (From from (msg.GhostSet e beat copy))).state) }
+        ensures sent { (from : ℕ) → (cell_steps self.old
+            (From from (msg.GhostSet e beat copy))).sent ≡ [] }
         ensures err { OnErr result (self.new ≡ self.old) }
         ensures err_item { IfErr result (λ r. r.item ≡ copy) }
     {
@@ -167,8 +172,10 @@ impl Cell {
 
     /// Ghost drop: the cell's book drops the copy at that beat.
     pub fn hear_ghost_drop(&mut self, e: u32, beat: u64) -> Result<(), AllocError>
-        ensures state { (from : ℕ) → OnOk result (self.new ≡ (cell_steps self.old (From from (msg.GhostDrop e beat))).state) }
-        ensures sent { (from : ℕ) → (cell_steps self.old (From from (msg.GhostDrop e beat))).sent ≡ [] }
+        ensures state { (from : ℕ) → OnOk result (self.new
+            ≡ (cell_steps self.old (From from (msg.GhostDrop e beat))).state) }
+        ensures sent { (from : ℕ) → (cell_steps self.old (From from (msg.GhostDrop e beat))).sent
+            ≡ [] }
         ensures err { OnErr result (self.new ≡ self.old) }
     {
         if !is_small(beat) {
@@ -180,7 +187,8 @@ impl Cell {
 
     /// Tick: all witnesses here are to look.
     pub fn hear_tick(&mut self) -> Result<(), AllocError>
-        ensures state { (from : ℕ) → OnOk result (self.new ≡ (cell_steps self.old (From from msg.Tick)).state) }
+        ensures state { (from : ℕ) → OnOk result (self.new
+            ≡ (cell_steps self.old (From from msg.Tick)).state) }
         ensures sent { (from : ℕ) → (cell_steps self.old (From from msg.Tick)).sent ≡ [] }
         ensures err { OnErr result (self.new ≡ self.old) }
     {
@@ -204,9 +212,10 @@ impl Cell {
     /// Call. If the real is here and may be offered the call, it executes it in its turn and settles, and holds it if it is early. If the
     /// real is not here, the call is sent to the next place.
     pub fn hear_call(&mut self, call: Call, out: &mut Out<Msg>) -> Result<(), NoMemoryFor<Call>>
-        ensures state { (from : ℕ) → OnOk result (self.new ≡ (cell_steps self.old (From from (msg.Call call))).state) }
-        ensures sent { (from : ℕ) →
-            OnOk result (out.new.items ≡ out.old.items ++ (cell_steps self.old (From from (msg.Call call))).sent) }
+        ensures state { (from : ℕ) → OnOk result (self.new
+            ≡ (cell_steps self.old (From from (msg.Call call))).state) }
+        ensures sent { (from : ℕ) → OnOk result (out.new.items ≡ out.old.items
+            ++ (cell_steps self.old (From from (msg.Call call))).sent) }
 
         // If allocation fails, the call comes back and nothing has changed.
         ensures err { OnErr result (self.new ≡ self.old) }
@@ -229,29 +238,31 @@ impl Cell {
     fn execute_call(&mut self, call: Call, out: &mut Out<Msg>) -> Result<(), NoMemoryFor<Call>>
         requires may { is_called self.old call ≡ true }
         requires turn { IsTurn self.old call }
-        ensures state { (from : ℕ) → OnOk result (self.new ≡ (cell_steps self.old (From from (msg.Call call))).state) }
-        ensures sent { (from : ℕ) →
-            OnOk result (out.new.items ≡ out.old.items ++ (cell_steps self.old (From from (msg.Call call))).sent) }
+        ensures state { (from : ℕ) → OnOk result (self.new
+            ≡ (cell_steps self.old (From from (msg.Call call))).state) }
+        ensures sent { (from : ℕ) → OnOk result (out.new.items ≡ out.old.items
+            ++ (cell_steps self.old (From from (msg.Call call))).sent) }
         ensures err { OnErr result (self.new ≡ self.old) }
         ensures err_out { OnErr result (out.new.items ≡ out.old.items) }
         ensures err_item { IfErr result (λ r. r.item ≡ call) }
     {
         self.told.clear();
-        let e = call.entity;
-        let Ok(real) = take_out(&mut self.reals, e) else {
-            return Err(NoMemoryFor { item: call });
-        };
-        let turn = Turn { real, call };
-        let called = execute_turn(&self.known, turn, &mut self.places, out);
-        put_after(&mut self.reals, &mut self.lists, e, called.left);
-        called.result
+        execute_here(
+            &self.known,
+            call,
+            &mut self.reals,
+            &mut self.places,
+            &mut self.lists,
+            out,
+        )
     }
 
     // Call, real here, which comes early and is held, or late and is dropped.
     fn hold_call(&mut self, call: Call) -> Result<(), NoMemoryFor<Call>>
         requires may { is_called self.old call ≡ true }
         requires not_turn { IsTurn self.old call → ⊥ }
-        ensures state { (from : ℕ) → OnOk result (self.new ≡ (cell_steps self.old (From from (msg.Call call))).state) }
+        ensures state { (from : ℕ) → OnOk result (self.new
+            ≡ (cell_steps self.old (From from (msg.Call call))).state) }
         ensures sent { (from : ℕ) → (cell_steps self.old (From from (msg.Call call))).sent ≡ [] }
         ensures err { OnErr result (self.new ≡ self.old) }
         ensures err_item { IfErr result (λ r. r.item ≡ call) }
@@ -271,7 +282,8 @@ impl Cell {
         requires surveyed { self.old.survey ≡ [] }
         requires ready { ready_entity self.old ≡ Some e }
         ensures state { OnOk result (self.new ≡ (cell_steps self.old Task).state) }
-        ensures sent { OnOk result (out.new.items ≡ out.old.items ++ (cell_steps self.old Task).sent) }
+        ensures sent { OnOk result (out.new.items ≡ out.old.items
+            ++ (cell_steps self.old Task).sent) }
         ensures err { OnErr result (self.new ≡ self.old) }
         ensures err_out { OnErr result (out.new.items ≡ out.old.items) }
     {
@@ -290,7 +302,8 @@ impl Cell {
         requires ready { ready_entity self.old ≡ Some e }
         requires may { may_run (table.get self.old.reals e) ≡ true }
         ensures state { OnOk result (self.new ≡ (cell_steps self.old Task).state) }
-        ensures sent { OnOk result (out.new.items ≡ out.old.items ++ (cell_steps self.old Task).sent) }
+        ensures sent { OnOk result (out.new.items ≡ out.old.items
+            ++ (cell_steps self.old Task).sent) }
         ensures err { OnErr result (self.new ≡ self.old) }
         ensures err_out { OnErr result (out.new.items ≡ out.old.items) }
     {
@@ -303,9 +316,10 @@ impl Cell {
 
     // Hand-over comes.
     fn hear_hand(&mut self, parcel: Parcel, out: &mut Out<Msg>) -> Result<(), NoMemoryFor<Parcel>>
-        ensures state { (from : ℕ) → OnOk result (self.new ≡ (cell_steps self.old (From from (msg.Hand parcel))).state) }
-        ensures sent { (from : ℕ) →
-            OnOk result (out.new.items ≡ out.old.items ++ (cell_steps self.old (From from (msg.Hand parcel))).sent) }
+        ensures state { (from : ℕ) → OnOk result (self.new
+            ≡ (cell_steps self.old (From from (msg.Hand parcel))).state) }
+        ensures sent { (from : ℕ) → OnOk result (out.new.items ≡ out.old.items
+            ++ (cell_steps self.old (From from (msg.Hand parcel))).sent) }
         ensures err { OnErr result (self.new ≡ self.old) }
         ensures err_out { OnErr result (out.new.items ≡ out.old.items) }
         ensures err_item { IfErr result (λ r. r.item ≡ parcel) }
@@ -316,9 +330,10 @@ impl Cell {
 
     // Reap.
     fn hear_reap(&mut self, e: u32, out: &mut Out<Msg>) -> Result<(), AllocError>
-        ensures state { (from : ℕ) → OnOk result (self.new ≡ (cell_steps self.old (From from (msg.Reap e))).state) }
-        ensures sent { (from : ℕ) →
-            OnOk result (out.new.items ≡ out.old.items ++ (cell_steps self.old (From from (msg.Reap e))).sent) }
+        ensures state { (from : ℕ) → OnOk result (self.new
+            ≡ (cell_steps self.old (From from (msg.Reap e))).state) }
+        ensures sent { (from : ℕ) → OnOk result (out.new.items ≡ out.old.items
+            ++ (cell_steps self.old (From from (msg.Reap e))).sent) }
         ensures err { OnErr result (self.new ≡ self.old) }
         ensures err_out { OnErr result (out.new.items ≡ out.old.items) }
     {
@@ -331,7 +346,8 @@ impl Cell {
         requires surveyed { self.old.survey ≡ [] }
         requires not_ready { ready_entity self.old ≡ None }
         ensures state { OnOk result (self.new ≡ (cell_steps self.old Task).state) }
-        ensures sent { OnOk result (out.new.items ≡ out.old.items ++ (cell_steps self.old Task).sent) }
+        ensures sent { OnOk result (out.new.items ≡ out.old.items
+            ++ (cell_steps self.old Task).sent) }
         ensures err { OnErr result (self.new ≡ self.old) }
         ensures err_out { OnErr result (out.new.items ≡ out.old.items) }
     {
@@ -350,7 +366,8 @@ impl Cell {
     fn survey(&mut self, out: &mut Out<Msg>) -> Result<(), AllocError>
         requires { has_any self.old.survey ≡ true }
         ensures state { OnOk result (self.new ≡ (cell_steps self.old Task).state) }
-        ensures sent { OnOk result (out.new.items ≡ out.old.items ++ (cell_steps self.old Task).sent) }
+        ensures sent { OnOk result (out.new.items ≡ out.old.items
+            ++ (cell_steps self.old Task).sent) }
         ensures err { OnErr result (self.new ≡ self.old) }
         ensures err_out { OnErr result (out.new.items ≡ out.old.items) }
     {
@@ -367,7 +384,8 @@ impl Cell {
     // The cell's task: a real settles, else a ready call is executed, else a witness looks.
     fn task(&mut self, alloc: Global, out: &mut Out<Msg>) -> Result<(), AllocError>
         ensures state { OnOk result (self.new ≡ (cell_steps self.old Task).state) }
-        ensures sent { OnOk result (out.new.items ≡ out.old.items ++ (cell_steps self.old Task).sent) }
+        ensures sent { OnOk result (out.new.items ≡ out.old.items
+            ++ (cell_steps self.old Task).sent) }
         ensures err { OnErr result (self.new ≡ self.old) }
         ensures err_out { OnErr result (out.new.items ≡ out.old.items) }
     {
@@ -398,8 +416,10 @@ impl Cell {
     #[inline(never)]
     fn take_call(&mut self, message: &mut Msg, out: &mut Out<Msg>) -> Result<(), AllocError>
         requires { (call : AnyCall) × (message.old ≡ msg.Call call) }
-        ensures state { (from : ℕ) → OnOk result (self.new ≡ (cell_steps self.old (From from message.old)).state) }
-        ensures sent { (from : ℕ) → OnOk result (out.new.items ≡ out.old.items ++ (cell_steps self.old (From from message.old)).sent) }
+        ensures state { (from : ℕ) → OnOk result (self.new
+            ≡ (cell_steps self.old (From from message.old)).state) }
+        ensures sent { (from : ℕ) → OnOk result (out.new.items ≡ out.old.items
+            ++ (cell_steps self.old (From from message.old)).sent) }
         ensures err { OnErr result (self.new ≡ self.old) }
         ensures err_out { OnErr result (out.new.items ≡ out.old.items) }
         ensures err_message { OnErr result (message.new ≡ message.old) }
@@ -420,8 +440,10 @@ impl Cell {
     #[inline(never)]
     fn take_hand(&mut self, message: &mut Msg, out: &mut Out<Msg>) -> Result<(), AllocError>
         requires { (real : RealView) × (message.old ≡ msg.Hand real) }
-        ensures state { (from : ℕ) → OnOk result (self.new ≡ (cell_steps self.old (From from message.old)).state) }
-        ensures sent { (from : ℕ) → OnOk result (out.new.items ≡ out.old.items ++ (cell_steps self.old (From from message.old)).sent) }
+        ensures state { (from : ℕ) → OnOk result (self.new
+            ≡ (cell_steps self.old (From from message.old)).state) }
+        ensures sent { (from : ℕ) → OnOk result (out.new.items ≡ out.old.items
+            ++ (cell_steps self.old (From from message.old)).sent) }
         ensures err { OnErr result (self.new ≡ self.old) }
         ensures err_out { OnErr result (out.new.items ≡ out.old.items) }
         ensures err_message { OnErr result (message.new ≡ message.old) }
@@ -442,7 +464,8 @@ impl Cell {
     #[inline(never)]
     fn take_ghost_set(&mut self, message: &mut Msg) -> Result<(), AllocError>
         requires { (e beat : ℕ) × (copy : AnyCopy) × (message.old ≡ msg.GhostSet e beat copy) }
-        ensures state { (from : ℕ) → OnOk result (self.new ≡ (cell_steps self.old (From from message.old)).state) }
+        ensures state { (from : ℕ) → OnOk result (self.new
+            ≡ (cell_steps self.old (From from message.old)).state) }
         ensures sent { (from : ℕ) → (cell_steps self.old (From from message.old)).sent ≡ [] }
         ensures err { OnErr result (self.new ≡ self.old) }
         ensures err_message { OnErr result (message.new ≡ message.old) }
@@ -461,8 +484,10 @@ impl Cell {
 
     // A message from another node, which is used up; no case is for what goes to base nodes alone.
     fn hear(&mut self, message: &mut Msg, out: &mut Out<Msg>) -> Result<(), AllocError>
-        ensures state { (from : ℕ) → OnOk result (self.new ≡ (cell_steps self.old (From from message.old)).state) }
-        ensures sent { (from : ℕ) → OnOk result (out.new.items ≡ out.old.items ++ (cell_steps self.old (From from message.old)).sent) }
+        ensures state { (from : ℕ) → OnOk result (self.new
+            ≡ (cell_steps self.old (From from message.old)).state) }
+        ensures sent { (from : ℕ) → OnOk result (out.new.items ≡ out.old.items
+            ++ (cell_steps self.old (From from message.old)).sent) }
         ensures err { OnErr result (self.new ≡ self.old) }
         ensures err_out { OnErr result (out.new.items ≡ out.old.items) }
         ensures err_message { OnErr result (message.new ≡ message.old) }
@@ -483,21 +508,14 @@ impl Cell {
     /// Call, next place: a call whose real is not here is sent as it is to the entity's next place, if there is one.
     pub fn pass_call_on(&self, call: Call, out: &mut Out<Msg>) -> Result<(), NoMemoryFor<Call>>
         requires { is_some (table.get self.now.reals call.entity) ≡ false }
-        ensures state { (from : ℕ) → (cell_steps self.now (From from (msg.Call call))).state ≡ self.now }
-        ensures sent { (from : ℕ) →
-            OnOk result (out.new.items ≡ out.old.items ++ (cell_steps self.now (From from (msg.Call call))).sent) }
+        ensures state { (from : ℕ) → (cell_steps self.now (From from (msg.Call call))).state
+            ≡ self.now }
+        ensures sent { (from : ℕ) → OnOk result (out.new.items ≡ out.old.items
+            ++ (cell_steps self.now (From from (msg.Call call))).sent) }
         ensures err { OnErr result (out.new.items ≡ out.old.items) }
         ensures err_item { IfErr result (λ r. r.item ≡ call) }
     {
-        let Some(next) = self.places.nexts.get(call.entity) else {
-            return Ok(());
-        };
-        let to = next.cell;
-        if out.reserve(1).is_err() {
-            return Err(NoMemoryFor { item: call });
-        }
-        out.send(to, Msg::Call(call));
-        Ok(())
+        pass_on(&self.places.nexts, call, out)
     }
 
     /// The copies of entities of other cells.
@@ -551,7 +569,8 @@ impl Machine for Cell {
     ) -> Result<(), AllocError>
         requires { input.old ≡ Input.Task → cell_has_work self.old ≡ true }
         ensures state { OnOk result (self.new ≡ (cell_steps self.old input.old).state) }
-        ensures sent { OnOk result (out.new.items ≡ out.old.items ++ (cell_steps self.old input.old).sent) }
+        ensures sent { OnOk result (out.new.items ≡ out.old.items
+            ++ (cell_steps self.old input.old).sent) }
         ensures err_state { OnErr result (self.new ≡ self.old) }
         ensures err_out { OnErr result (out.new.items ≡ out.old.items) }
         ensures err_input { OnErr result (input.new ≡ input.old) }

@@ -17,7 +17,8 @@ module _ {X : Type 0} (f : X → X) (test : ℕ × X → Bool) (alike : (p : ℕ
   passing : (es : List (ℕ × X)) → map number_of (filter test (map (with_value f) es)) ≡ map number_of (filter test es)
   passing [] = refl
   passing (p ∷ ps) =
-      ap (λ b. map number_of (cond b (with_value f p ∷ filter test (map (with_value f) ps)) (filter test (map (with_value f) ps)))) (alike p)
+      ap (λ b. map number_of (cond b (with_value f p ∷ filter test (map (with_value f) ps)) (filter test (map (with_value f) ps))))
+      (alike p)
       ∙ by (test p) (passing ps)
     where
       by : (b : Bool) → map number_of (filter test (map (with_value f) ps)) ≡ map number_of (filter test ps) →

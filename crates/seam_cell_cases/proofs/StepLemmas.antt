@@ -129,7 +129,8 @@ pub record CallLeaves (c d : CellView) (k : CallData) (before after : List (ℕ 
   pub sent : (from : ℕ) → after ≡ before ++ (cell_steps c (From from (Call k))).sent
 
 -- after want of memory the cell is as it was
-pub undone : (k : CellContext) (r s : Reals) (p q : Places) (l m : Lists) (o n : OutView Msg) (e : ℕ) (x : RealView) (left : Option RealView) →
+pub undone : (k : CellContext) (r s : Reals) (p q : Places) (l m : Lists) (o n : OutView Msg) (e : ℕ) (x : RealView)
+    (left : Option RealView) →
     table.get r.items.items e ≡ Some x → s.items.items ≡ set_at (table.remove r.items.items e) e left →
     m.survey ≡ list_after (is_none left) e l.survey → m.looks ≡ list_after (is_none left) e l.looks → left ≡ Some x →
     parts_of q n ≡ parts_of p o → cell_of k s q m ≡ cell_of k r p l

@@ -114,7 +114,8 @@ module _ (k : CellContext) (r : Reals) (p : Places) (l m : Lists) (o : OutView M
 
   at_rest : (x : RealView) → table.get r.items.items e ≡ Some x → may_settle x ≡ true → Leaves
   at_rest x at may =
-      let due : true ≡ not (stray_survey (table.get r.items.items e)) = sym (ap (λ v. not (stray_survey v)) at ∙ ap (λ b. not (not b)) may) in
+      let due : true ≡ not (stray_survey (table.get r.items.items e)) =
+      sym (ap (λ v. not (stray_survey v)) at ∙ ap (λ b. not (not b)) may) in
       let entity = keys x at in
       let done = rest_done (here_in k) x k.tree (parts_of p o) (moot x at may) in (
         surveyed k r r p p l m o o e es x (Some x) at due entity is done (sym (put_back r.items.items e x at)) survey looks,

@@ -59,9 +59,11 @@ fn make_way(
     requires marks { AreKept reals.old }
     ensures same_reals { reals.new.items.items ≡ reals.old.items.items }
     ensures same_out { out.new.items ≡ out.old.items }
-    ensures open { OnOk result (IsOpen reals.new real.now.core.entity (is_some real.now.core.witness)) }
+    ensures open { OnOk result (IsOpen reals.new real.now.core.entity
+        (is_some real.now.core.witness)) }
     ensures ghosts { OnOk result (copies.new.ghosts ≡ set_at copies.old.ghosts real.now.core.entity
-        (ghost_after (table.get copies.old.ghosts real.now.core.entity) (record { beat = real.now.core.beat; copy = None }))) }
+        (ghost_after (table.get copies.old.ghosts real.now.core.entity)
+        (record { beat = real.now.core.beat; copy = None }))) }
     ensures spare { OnOk result (known.now.settings.bases ≤ out.new.spare) }
     ensures err_ghosts { OnErr result (copies.new.ghosts ≡ copies.old.ghosts) }
     ensures err_marks { OnErr result (AreKept reals.new) }
@@ -80,7 +82,8 @@ fn make_way(
 fn tell_bases(known: &CellContext, e: u32, generation: u64, out: &mut Out<Msg>)
     requires most { known.now.settings.bases ≤ MOST_BASE_NODES }
     requires room { known.now.settings.bases ≤ out.old.spare }
-    ensures { out.new.items ≡ out.old.items ++ map (current_of e known.now.me generation) (range_with_len 16 known.now.settings.bases) }
+    ensures { out.new.items ≡ out.old.items ++ map (current_of e known.now.me generation)
+        (range_with_len 16 known.now.settings.bases) }
 {
     for k in 0..known.settings.bases as u8 {
         out.send(MOST_CELLS as u8 + k, Msg::Current(e, known.me, generation));
@@ -98,7 +101,8 @@ fn settle_in(
     requires most { known.now.settings.bases ≤ MOST_BASE_NODES }
     requires open { IsOpen reals.old real.core.entity (is_some real.core.witness) }
     requires spare { known.now.settings.bases ≤ out.old.spare }
-    ensures reals { reals.new.items.items ≡ table.insert reals.old.items.items real.core.entity real.core }
+    ensures reals { reals.new.items.items ≡ table.insert reals.old.items.items real.core.entity
+        real.core }
     ensures nexts { nexts.new.items ≡ table.remove nexts.old.items real.core.entity }
     ensures sent { out.new.items ≡ out.old.items ++ currents (here_in known.now) real.core }
     ensures marks { AreKept reals.new }
@@ -120,11 +124,14 @@ pub fn arrive(
 ) -> Result<(), NoMemoryFor<Parcel>>
     requires marks { AreKept reals.old }
     requires most { known.now.settings.bases ≤ MOST_BASE_NODES }
-    ensures state { (l : AnyLists) (from : ℕ) → OnOk result (cell_of known.now reals.new places.new l
-        ≡ (cell_steps (cell_of known.now reals.old places.old l) (From from (msg.Hand parcel))).state) }
+    ensures state { (l : AnyLists) (from : ℕ) → OnOk result
+        (cell_of known.now reals.new places.new l ≡ (cell_steps
+        (cell_of known.now reals.old places.old l) (From from (msg.Hand parcel))).state) }
     ensures sent { (l : AnyLists) (from : ℕ) → OnOk result (out.new.items ≡ out.old.items
-        ++ (cell_steps (cell_of known.now reals.old places.old l) (From from (msg.Hand parcel))).sent) }
-    ensures err { (l : AnyLists) → OnErr result (cell_of known.now reals.new places.new l ≡ cell_of known.now reals.old places.old l) }
+        ++ (cell_steps (cell_of known.now reals.old places.old l)
+        (From from (msg.Hand parcel))).sent) }
+    ensures err { (l : AnyLists) → OnErr result (cell_of known.now reals.new places.new l
+        ≡ cell_of known.now reals.old places.old l) }
     ensures err_out { OnErr result (out.new.items ≡ out.old.items) }
     ensures err_item { IfErr result (λ r. r.item ≡ parcel) }
     ensures marks { AreKept reals.new }

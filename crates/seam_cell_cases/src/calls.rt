@@ -55,7 +55,8 @@ pub fn may_execute(real: &Real) -> bool
 
 // Whether the call's sender's order may be offered it.
 fn may_offer(real: &Real, call: &Call) -> bool
-    ensures { result ≡ order_may_offer (order_of real.now.core.orders call.now.sender) call.now.number }
+    ensures { result ≡ order_may_offer (order_of real.now.core.orders call.now.sender)
+        call.now.number }
 {
     call.number > 0 && (may_rise(call.number) && !real.holds(call.sender, call.number))
 }
@@ -83,11 +84,16 @@ fn begin_call(
     requires may { real_may_call (here_in known.now) real.old.core call.now ≡ true }
     ensures same { real.new.core ≡ real.old.core }
     ensures room { OnOk result (HasRoom real.new call.now) }
-    ensures state { IfOk result (λ m. with_later real.old.core.state m.after ≡ (with_deed (here_in known.now) real.old.core call.now).state) }
-    ensures changed { IfOk result (λ m. m.after.changed ≡ shows (here_in known.now) real.old.core call.now) }
-    ensures begun { let h = here_in known.now in let r = real.old.core in IfOk result (λ m. HasBegun h known.now.tree
-        (executed h r call.now) (shows h r call.now) (parts_of places.old out.old) (parts_of places.new out.new) m.begun) }
-    ensures places { IfOk result (λ m. HasRoomFor places.new.nexts.room out.new.spare m.begun.telling) }
+    ensures state { IfOk result (λ m. with_later real.old.core.state m.after
+        ≡ (with_deed (here_in known.now) real.old.core call.now).state) }
+    ensures changed { IfOk result (λ m. m.after.changed ≡ shows (here_in known.now) real.old.core
+        call.now) }
+    ensures begun { let h = here_in known.now in let r = real.old.core in
+        IfOk result (λ m. HasBegun h known.now.tree
+        (executed h r call.now) (shows h r call.now) (parts_of places.old out.old)
+        (parts_of places.new out.new) m.begun) }
+    ensures places { IfOk result (λ m. HasRoomFor places.new.nexts.room out.new.spare
+        m.begun.telling) }
     ensures err { OnErr result (parts_of places.new out.new ≡ parts_of places.old out.old) }
 {
     let after = real.prepare(&known.defs, call)?;
@@ -126,15 +132,18 @@ pub fn execute_turn(
     requires there { IsThere (here_in known.now) known.now.tree turn.real.core }
     requires may { real_may_call (here_in known.now) turn.real.core turn.call ≡ true }
     requires in_turn { turn.call.number ≡ (order_of turn.real.core.orders turn.call.sender).next }
-    ensures done { let h = here_in known.now in let r = turn.real.core in let before = parts_of places.old out.old in
+    ensures done { let h = here_in known.now in let r = turn.real.core in let before =
+        parts_of places.old out.old in
         OnOk result.result (IsDone
-        (settled h known.now.tree (slot_in before r.entity r) (executed h r turn.call) (shows h r turn.call)) r.entity r
+        (settled h known.now.tree (slot_in before r.entity r) (executed h r turn.call)
+        (shows h r turn.call)) r.entity r
         (option_map core_of result.left) before (parts_of places.new out.new)) }
     ensures witness { IfSome result.left (λ q. q.core.witness ≡ turn.real.core.witness) }
 
     // If allocation fails, the call and the real come back and nothing has changed.
     ensures err { OnErr result.result (option_map core_of result.left ≡ Some turn.real.core) }
-    ensures err_parts { OnErr result.result (parts_of places.new out.new ≡ parts_of places.old out.old) }
+    ensures err_parts { OnErr result.result (parts_of places.new out.new
+        ≡ parts_of places.old out.old) }
     ensures err_item { IfErr result.result (λ e. e.item ≡ turn.call) }
 {
     let Turn { mut real, call } = turn;
@@ -159,7 +168,8 @@ pub struct Held {
 /// Call, real here, whose turn it is not: the real holds an early call, and a late one changes nothing.
 pub fn hold(known: &CellContext, turn: Turn) -> Held
     requires may { real_may_call (here_in known.now) turn.real.core turn.call ≡ true }
-    ensures after { OnOk result.result (result.real.core ≡ offered (here_in known.now) turn.real.core turn.call) }
+    ensures after { OnOk result.result (result.real.core
+        ≡ offered (here_in known.now) turn.real.core turn.call) }
     ensures err { OnErr result.result (result.real.core ≡ turn.real.core) }
     ensures err_item { IfErr result.result (λ e. e.item ≡ turn.call) }
 {

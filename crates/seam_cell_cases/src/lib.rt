@@ -2,8 +2,10 @@
 
 //! The cases of a cell's step but a look, and its loads, each a free function over the parts of the cell (`seam_cell_parts`).
 //!
-//! Each does to the parts what the definitions of steps say (`seam_node_steps`), and first makes all that may want memory; if allocation fails,
-//! nothing has changed, and the input stays as it was. No step searches all reals or ghosts. Of `proofs/`, `Lookups` (what a look-up finds),
+//! Each does to the parts what the definitions of steps say (`seam_node_steps`), and first makes all that may want memory; if allocation
+//! fails,
+//! nothing has changed, and the input stays as it was. No step searches all reals or ghosts. Of `proofs/`, `Lookups` (what a look-up
+//! finds),
 //! `KeptLemmas` (a step keeps the reals in the space) and `StepLemmas` (what a step leaves of the cell) are for callers.
 #![tactic(auto)]
 

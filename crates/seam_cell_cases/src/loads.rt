@@ -23,8 +23,8 @@ pub fn make_real(
 ) -> Result<(), AllocError>
     requires gone { table.get reals.old.items.items create.entity ≡ None }
     requires kept { AreKept reals.old }
-    ensures after { OnOk result (reals.new.items.items ≡ table.insert reals.old.items.items create.entity
-        (created (here_in known.now) create.entity create.ty create.pos)) }
+    ensures after { OnOk result (reals.new.items.items ≡ table.insert reals.old.items.items
+        create.entity (created (here_in known.now) create.entity create.ty create.pos)) }
     ensures err { OnErr result (reals.new.items.items ≡ reals.old.items.items) }
     ensures kept { AreKept reals.new }
 {
@@ -43,14 +43,15 @@ pub fn give_witness(
     reals: &mut Reals,
 ) -> Result<(), AllocError>
     requires { AreKept reals.old }
-    ensures after { OnOk result (reals.new.items.items ≡ changed_at (with_witness (here_in known.now)) reals.old.items.items e) }
+    ensures after { OnOk result (reals.new.items.items ≡ changed_at
+        (with_witness (here_in known.now)) reals.old.items.items e) }
     ensures err { OnErr result (reals.new.items.items ≡ reals.old.items.items) }
     ensures kept { AreKept reals.new }
 {
     if reals.items.get(e).is_none() {
         return Ok(());
     }
-    let witness = Witness::new(alloc, &known.settings)?;
+    let witness = Witness::new(alloc, known.defs.hash_key(), &known.settings)?;
     let mut real = take_out(reals, e)?;
     if let Err(error) = reals.witnesses.insert(e) {
         put_in(reals, e, real);
@@ -84,7 +85,8 @@ pub fn begin_round(
     survey: &mut EntityQueue,
 ) -> Result<(), AllocError>
     requires { AreKept reals.old }
-    ensures reals { OnOk result (reals.new.items.items ≡ each_value real_begins reals.old.items.items) }
+    ensures reals { OnOk result (reals.new.items.items ≡ each_value real_begins
+        reals.old.items.items) }
     ensures survey { OnOk result (survey.new ≡ table.keys reals.old.items.items) }
     ensures kept { AreKept reals.new }
     ensures err { OnErr result (reals.new.items.items ≡ reals.old.items.items) }

@@ -56,11 +56,13 @@ pub fn reap(
     out: &mut Out<Msg>,
 ) -> Result<(), AllocError>
     requires marks { AreKept reals.old }
-    ensures state { (k : AnyCellContext) (from : ℕ) → OnOk result (cell_of k reals.new places.new lists.new
-        ≡ (cell_steps (cell_of k reals.old places.old lists.old) (From from (msg.Reap e))).state) }
+    ensures state { (k : AnyCellContext) (from : ℕ) → OnOk result
+        (cell_of k reals.new places.new lists.new ≡ (cell_steps
+        (cell_of k reals.old places.old lists.old) (From from (msg.Reap e))).state) }
     ensures sent { (k : AnyCellContext) (from : ℕ) → OnOk result (out.new.items ≡ out.old.items
         ++ (cell_steps (cell_of k reals.old places.old lists.old) (From from (msg.Reap e))).sent) }
-    ensures err { (k : AnyCellContext) → OnErr result (cell_of k reals.new places.new lists.new ≡ cell_of k reals.old places.old lists.old) }
+    ensures err { (k : AnyCellContext) → OnErr result (cell_of k reals.new places.new lists.new
+        ≡ cell_of k reals.old places.old lists.old) }
     ensures err_out { OnErr result (out.new.items ≡ out.old.items) }
     ensures marks { AreKept reals.new }
 {

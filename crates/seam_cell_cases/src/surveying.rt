@@ -21,8 +21,10 @@ use std::alloc::AllocError;
 fn is_moot(known: &CellContext, reals: &Reals, e: u32) -> bool
     requires me { known.now.me < cell_count }
     requires legal { AreLegal known.now.settings }
-    requires there { (r : RealView) → table.get reals.now.items.items e ≡ Some r → IsThere (here_in known.now) known.now.tree r }
-    ensures moot { IsTrue result → IsMoot (here_in known.now) known.now.tree (table.get reals.now.items.items e) }
+    requires there { (r : RealView) → table.get reals.now.items.items e ≡ Some r →
+        IsThere (here_in known.now) known.now.tree r }
+    ensures moot { IsTrue result → IsMoot (here_in known.now) known.now.tree
+        (table.get reals.now.items.items e) }
     ensures due { result ≡ false → true ≡ not (stray_survey (table.get reals.now.items.items e)) }
 {
     match reals.items.get(e) {
@@ -42,14 +44,17 @@ pub fn settle_again(
     requires legal { AreLegal known.now.settings }
     requires there { IsThere (here_in known.now) known.now.tree real.core }
     requires may { real_may_settle real.core ≡ true }
-    ensures done { let h = here_in known.now in let r = real.core in let before = parts_of places.old out.old in
-        OnOk result.result (IsDone (settled h known.now.tree (slot_in before r.entity r) r false) r.entity r
+    ensures done { let h = here_in known.now in let r = real.core in let before =
+        parts_of places.old out.old in
+        OnOk result.result (IsDone (settled h known.now.tree (slot_in before r.entity r) r false)
+        r.entity r
         (option_map core_of result.left) before (parts_of places.new out.new)) }
     ensures witness { IfSome result.left (λ q. q.core.witness ≡ real.core.witness) }
 
     // If allocation fails, the real comes back and nothing has changed.
     ensures err { OnErr result.result (option_map core_of result.left ≡ Some real.core) }
-    ensures err_parts { OnErr result.result (parts_of places.new out.new ≡ parts_of places.old out.old) }
+    ensures err_parts { OnErr result.result (parts_of places.new out.new
+        ≡ parts_of places.old out.old) }
 {
     let state = real.state();
     let of = Subject {
@@ -82,10 +87,12 @@ pub fn survey_task(
     requires whole { AreWhole known.now reals.old places.old lists.old }
     requires some { has_any lists.old.survey ≡ true }
     ensures state { let c = cell_of known.now reals.old places.old lists.old in
-        OnOk result (cell_of known.now reals.new places.new lists.new ≡ (cell_task c lists.old.survey).state) }
+        OnOk result (cell_of known.now reals.new places.new lists.new
+        ≡ (cell_task c lists.old.survey).state) }
     ensures sent { let c = cell_of known.now reals.old places.old lists.old in
         OnOk result (out.new.items ≡ out.old.items ++ (cell_task c lists.old.survey).sent) }
-    ensures err { OnErr result (cell_of known.now reals.new places.new lists.new ≡ cell_of known.now reals.old places.old lists.old) }
+    ensures err { OnErr result (cell_of known.now reals.new places.new lists.new
+        ≡ cell_of known.now reals.old places.old lists.old) }
     ensures err_out { OnErr result (out.new.items ≡ out.old.items) }
     ensures marks { AreKept reals.new }
 {

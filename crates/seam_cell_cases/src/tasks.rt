@@ -38,14 +38,18 @@ fn begin_ready(
     ensures same { real.new.core ≡ real.old.core }
     ensures room { OnOk result (HasSpare real.new) }
     ensures state { (o : ℕ × OrderView AnyCall) (k : AnyCall) → HasReady real.old.core o k →
-        IfOk result (λ m. with_later real.old.core.state m.after ≡ (with_deed (here_in known.now) real.old.core k).state) }
+        IfOk result (λ m. with_later real.old.core.state m.after
+        ≡ (with_deed (here_in known.now) real.old.core k).state) }
     ensures changed { (o : ℕ × OrderView AnyCall) (k : AnyCall) → HasReady real.old.core o k →
         IfOk result (λ m. m.after.changed ≡ shows (here_in known.now) real.old.core k) }
     ensures begun { (o : ℕ × OrderView AnyCall) (k : AnyCall) → HasReady real.old.core o k →
-        let h = here_in known.now in let r = real.old.core in IfOk result (λ m. HasBegun h known.now.tree
-        (executed_ready h r o k) (shows h r k) (parts_of places.old out.old) (parts_of places.new out.new) m.begun) }
+        let h = here_in known.now in let r = real.old.core in
+        IfOk result (λ m. HasBegun h known.now.tree
+        (executed_ready h r o k) (shows h r k) (parts_of places.old out.old)
+        (parts_of places.new out.new) m.begun) }
     ensures entity { IfOk result (λ m. m.begun.telling.entity ≡ real.old.core.entity) }
-    ensures places { IfOk result (λ m. HasRoomFor places.new.nexts.room out.new.spare m.begun.telling) }
+    ensures places { IfOk result (λ m. HasRoomFor places.new.nexts.room out.new.spare
+        m.begun.telling) }
     ensures err { OnErr result (parts_of places.new out.new ≡ parts_of places.old out.old) }
 {
     let after = real.prepare_ready(&known.defs)?;
@@ -73,14 +77,17 @@ pub fn execute_ready(
     requires there { IsThere (here_in known.now) known.now.tree real.core }
     requires ready { has_ready real.core.orders ≡ true }
     requires may { may_execute real.core ≡ true }
-    ensures done { let r = real.core in let before = parts_of places.old out.old in OnOk result.result (IsDone
-        (ready_call_task (here_in known.now) known.now.tree (slot_in before r.entity r) (Some r)) r.entity r
+    ensures done { let r = real.core in let before = parts_of places.old out.old in
+        OnOk result.result (IsDone
+        (ready_call_task (here_in known.now) known.now.tree (slot_in before r.entity r) (Some r))
+        r.entity r
         (option_map core_of result.left) before (parts_of places.new out.new)) }
     ensures witness { IfSome result.left (λ q. q.core.witness ≡ real.core.witness) }
 
     // If allocation fails, the real comes back and nothing has changed.
     ensures err { OnErr result.result (option_map core_of result.left ≡ Some real.core) }
-    ensures err_parts { OnErr result.result (parts_of places.new out.new ≡ parts_of places.old out.old) }
+    ensures err_parts { OnErr result.result (parts_of places.new out.new
+        ≡ parts_of places.old out.old) }
 {
     let Ok(made) = begin_ready(known, &mut real, places, out) else {
         return Tasked {

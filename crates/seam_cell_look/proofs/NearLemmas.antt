@@ -1,6 +1,6 @@
 -- What the lists of places give is what is known of others that are near.
 use Rattle.std.proofs.Common.{◌≡◌, ◌+◌, ◌++◌, ℕ, Bool, true, false, cond, not, eqb, T, List, [], ◌∷◌, map, find}
-use Rattle.std.proofs.Common.{Option, None, Some, is_some, refl, sym, ap, ◌∙◌, append_assoc, arith}
+use Rattle.std.proofs.Common.{Option, None, Some, is_some, refl, sym, ap, ◌∙◌, arith}
 use Rattle.std.specs.Prelude.{nat_lt, nat_le, nat_eq, option_map}
 use Rattle.std.specs.List.{filter}
 use Rattle.std.specs.Ordering.{nat_cmp}
@@ -8,7 +8,7 @@ use Rattle.std.specs.FinMap as table
 use Rattle.std.specs.FinMap.Entries.{is_sorted}
 use Rattle.std.proofs.lemmas.Bool.Decides.{nat_tests}
 use Rattle.seam_node_steps.specs.Prelude.{Pos, distance, copy_in, GhostCopy, RealView, Known, seen_as, known_of, shown_of_known, CellView}
-use Rattle.seam_node_steps.specs.Prelude.{known_to, is_another, or_else, known_by, known_at, unless_self}
+use Rattle.seam_node_steps.specs.Prelude.{known_to, or_else, known_by, known_at, unless_self}
 use Rattle.seam_range.specs.declared.Location.{Location}
 use Rattle.seam_range.specs.Locations.{Places, is_within, within}
 use Rattle.seam_view.specs.declared.Seen.{Seen}
@@ -18,10 +18,9 @@ use Rattle.seam_node_steps.proofs.Sorted.{passing, find_filter, sorted_filter, f
 use Rattle.seam_node_steps.proofs.Knowing.{known_rises, known_to_is, known_of_others}
 use Rattle.seam_cell_parts.specs.Spots.{AreNoted, place_of_real, place_of_copy, real_places, copy_places, placed_reals, placed_copies}
 use Rattle.seam_cell_parts.proofs.SpotLemmas.{real_list, reals_rise, copy_list, copies_list_rise}
-use Rattle.seam_cell_look.specs.Looking.{seen_if}
-use Rattle.seam_cell_look.specs.Near.{seen_at_place, is_other, without_reals, merged, is_near, HasNear, seen_of_entity}
-use Rattle.seam_cell_look.specs.Near.{place_within, AreNear}
-use Rattle.seam_cell_look.proofs.Merges.{rising_merged, find_merged, same_places}
+use Rattle.seam_cell_seen.specs.Merging.{seen_at_place, is_other, without_reals, merged}
+use Rattle.seam_cell_look.specs.Near.{is_near, HasNear, seen_of_entity, place_within, AreNear}
+use Rattle.seam_cell_seen.proofs.Merges.{rising_merged, find_merged, same_places}
 
 -- ---- what is known, by places
 
@@ -209,21 +208,6 @@ all_are d own =
     (λ q apart. real_list d.reals q ∙ all_pass q (real_places d.reals q))
     (λ q apart. copy_list d.ghosts q ∙ all_pass q (copy_places d.ghosts q))
     ∙ all_kept (map seen_as (known_to d own))
-
--- one more that is seen, if it is another one, and what is left after it
-pub merged_more : (own : ℕ) (x : ℕ × Location) (left all : List (ℕ × Location)) (v w : List Seen) (s : Seen) → s ≡ seen_at_place x →
-    all ≡ x ∷ left →
-    w ≡ v ++ seen_if (is_another own s.entity) s →
-    w ++ map seen_at_place (filter (is_other own) left) ≡ v ++ map seen_at_place (filter (is_other own) all)
-merged_more own x left all v w s seen is more =
-    ap (λ l. l ++ map seen_at_place (filter (is_other own) left)) (more ∙ ap (λ y. v ++ seen_if (is_another own y.entity) y) seen)
-    ∙ (append_assoc v (seen_if (is_other own x) (seen_at_place x)) (map seen_at_place (filter (is_other own) left))
-    ∙ ap (λ l. v ++ l) (by (is_other own x) ∙ sym (ap (λ l. map seen_at_place (filter (is_other own) l)) is)))
-  where
-    by : (b : Bool) → seen_if b (seen_at_place x) ++ map seen_at_place (filter (is_other own) left)
-        ≡ map seen_at_place (cond b (x ∷ filter (is_other own) left) (filter (is_other own) left))
-    by true = refl
-    by false = refl
 
 -- ---- of all that is known these are near, and maybe others
 

@@ -1,33 +1,14 @@
 -- What was told of entities while that is what is known of them.
-use Rattle.std.proofs.Common.{◌≡◌, ℕ, ◌∙◌, Bool, true, false, cond, eqb, [], Option, None, Some, refl, ap, sym, arith}
-use Rattle.std.specs.Prelude.{option_map, ◌≢◌}
+use Rattle.std.proofs.Common.{◌≡◌, ℕ, ◌∙◌, Bool, true, false, cond, eqb, Option, None, Some, refl, ap, sym, arith}
+use Rattle.std.specs.Prelude.{◌≢◌}
 use Rattle.std.specs.Ordering.{nat_cmp, is_eq, eq_by_cmp}
 use Rattle.std.specs.Cmp.{nat_cmp_total, tied_itself}
 use Rattle.std.specs.FinMap as table
 use Rattle.std.proofs.lemmas.Bool.Decides.{nat_tests}
 use Rattle.seam_node_steps.specs.Prelude.{Ghost, copy_in, GhostCopy, Here, RealView, Map, known_by}
-use Rattle.seam_entity.specs.WitnessLooks.{other_of_real, other_of_copy}
-use Rattle.seam_cell_look.specs.Told.{Told, told_of, known_with, AreTold, AreToldBut, AreStillTold}
-
-pub none_told : (known : ℕ → Option GhostCopy) (told : Told) → told ≡ [] → AreTold known told
-none_told known told none e c is = let wrong : None ≡ Some c = sym (ap (told_of e) none) ∙ is in cc
-
-module _ (own : ℕ) (known : ℕ → Option GhostCopy) where
-  pub told_again : (a b c : Told) → AreStillTold own known a b → AreStillTold own known b c → AreStillTold own known a c
-  told_again a b c first second = (second.0, second.1 ∙ first.1)
-
-  pub still_told : (a b c : Told) → b ≡ a → AreStillTold own known b c → AreStillTold own known a c
-  still_told a b c same still = (still.0, still.1 ∙ ap (told_of own) same)
-
--- ---- what is known of an entity
-
-module _ (h : Here) (reals : Map RealView) (ghosts : Map (Ghost GhostCopy)) (e : ℕ) where
-  pub real_is_known : (r : RealView) → Some r ≡ table.get reals e → Some (other_of_real h r) ≡ known_with h reals ghosts e
-  real_is_known r at = ap (λ o. known_by h o (copy_in (table.get ghosts e))) at
-
-  pub copy_is_known : (o : Option GhostCopy) → None ≡ table.get reals e → o ≡ copy_in (table.get ghosts e) →
-      option_map (other_of_copy h) o ≡ known_with h reals ghosts e
-  copy_is_known o none at = λ i. known_by h (none i) (at i)
+use Rattle.seam_entity.specs.WitnessLooks.{other_of_real}
+use Rattle.seam_cell_seen.specs.Known.{known_with}
+use Rattle.seam_cell_told.specs.Told.{Told, told_of, AreTold, AreToldBut, AreStillTold}
 
 -- ---- a look, in which the real of the own entity is not among the others
 

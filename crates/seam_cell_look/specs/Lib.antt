@@ -1,4 +1,2 @@
 pub mod Looking
 pub mod Near
-pub mod Told
-pub mod Updates

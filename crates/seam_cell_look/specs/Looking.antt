@@ -2,16 +2,8 @@
 use Rattle.std.specs.Prelude.{ℕ, ◌+◌, Bool, true, false, List, [], ◌∷◌, length, is_some, Option, None, Some}
 use Rattle.seam_node_steps.specs.Prelude.{Ghost, GhostCopy, Msg, Shown, Own, own_of, Here, base_of, properties, RealView, WitnessView, Map}
 use Rattle.seam_node_steps.specs.Prelude.{told_after, Known, looks_of, shown_of, after_looking, numbered, stray_look_by, own_due, CellView}
-use Rattle.seam_view.specs.declared.Seen.{Seen}
 use Rattle.seam_view.specs.Replica.{after_looks}
 use Rattle.seam_cell_look.specs.declared.looking.Glance.{Glance}
-
--- ---- what is seen
-
--- what is seen of it, where the first is true
-abbrev pub seen_if : Bool → Seen → List Seen
-seen_if true s = s ∷ []
-seen_if false s = []
 
 -- ---- what the witness does
 

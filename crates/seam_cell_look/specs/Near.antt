@@ -1,10 +1,10 @@
 -- What is near a witness, as the lists of places give it, and what it decides.
-use Rattle.std.specs.Prelude.{◌≡◌, ℕ, Bool, true, false, not, is_some, nat_eq, nat_lt, List, [], ◌∷◌, filter, Option, None, Some}
+use Rattle.std.specs.Prelude.{◌≡◌, ℕ, Bool, true, false, not, nat_eq, nat_lt, List, filter, Option, None, Some}
 use Rattle.std.specs.Prelude.{T, if◌then◌else◌}
-use Rattle.std.specs.Ordering.{nat_cmp, match_ordering}
+use Rattle.std.specs.Ordering.{nat_cmp}
 use Rattle.std.specs.FinMap as table
 use Rattle.std.specs.FinMap.Entries.{is_sorted}
-use Rattle.seam_node_steps.specs.Prelude.{Pos, GhostCopy, RealView, Map, Known, seen_as, is_another}
+use Rattle.seam_node_steps.specs.Prelude.{Pos, GhostCopy, Known, seen_as}
 use Rattle.seam_range.specs.declared.Location.{Location}
 use Rattle.seam_range.specs.Locations.{is_within}
 use Rattle.seam_view.specs.declared.Seen.{Seen}
@@ -21,28 +21,7 @@ known_entity e g = (e, g)
 abbrev pub seen_of_entity : ℕ → GhostCopy → Seen
 seen_of_entity e g = seen_as (known_entity e g)
 
--- ---- two lists of places
-
--- an entity as it is seen at its place
-abbrev pub seen_at_place : ℕ × Location → Seen
-seen_at_place x = record { entity = x.0; version = x.1.version; pos = x.1.pos }
-
-abbrev pub is_other : ℕ → ℕ × Location → Bool
-is_other own x = is_another own x.0
-
--- those of whose entities no real is here
-abbrev pub without_reals : Map RealView → List (ℕ × Location) → List (ℕ × Location)
-without_reals reals xs = filter (λ x. not (is_some (table.get reals x.0))) xs
-
--- one before the rest of its list, and those of another list, as they come in rising number
-abbrev pub merged_with : ℕ × Location → (List (ℕ × Location) → List (ℕ × Location)) → List (ℕ × Location) → List (ℕ × Location)
-merged_with x rest [] = x ∷ rest []
-merged_with x rest (y ∷ ys) = match_ordering (nat_cmp x.0 y.0) (x ∷ rest (y ∷ ys)) (x ∷ rest ys) (y ∷ merged_with x rest ys)
-
--- two lists in rising number as one; where both have an entity, the first one's place of it
-abbrev pub merged : List (ℕ × Location) → List (ℕ × Location) → List (ℕ × Location)
-merged [] ys = ys
-merged (x ∷ xs) ys = merged_with x (merged xs) ys
+-- ---- lists of places
 
 -- the place, if it is at distance at most d from a position
 abbrev pub place_within : Pos → ℕ → Option Location → Option Location

@@ -9,15 +9,9 @@
 //! An entity in view that is not near leaves, unless it is known and was shown at a greater version; that is asked for those that leave and
 //! for no other. A witness looks while its real is taken out: what is known of others is the same without it (`seam_node_steps`), so no
 //! copy of the reals is made.
-//!
-//! For callers, of `proofs/`: `ToldLemmas` (what was told of entities, where that is what is known of them).
 #![tactic(auto)]
 
 mod looking;
 mod near;
-mod told;
-mod updates;
 
 pub use looking::{Glance, Sight, look_task};
-pub use told::ToldCopies;
-pub use updates::Updates;

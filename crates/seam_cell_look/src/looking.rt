@@ -8,20 +8,20 @@ ghost use Rattle.std.specs.FinMap as table;
 ghost use Rattle.seam_view.specs.Replica.{HasRoom};
 ghost use Rattle.seam_node_steps.specs.Prelude.{MOST_BASE_NODES, base_of, Set, Enter, is_small as is_small_number, witness_of, seen_as};
 ghost use Rattle.seam_node_steps.specs.Prelude.{known_of, shown_for, all_shown, numbered, looks_of, shown_of, CellView, known_in, known_to};
-ghost use Rattle.seam_node_steps.specs.Prelude.{is_another, stepped, looks_around, look_next, known_at, is_empty};
+ghost use Rattle.seam_node_steps.specs.Prelude.{stepped, looks_around, look_next, known_at, is_empty};
 ghost use Rattle.seam_cell_parts.specs.Kept.{here_in, cell_of, AreKept};
 ghost use Rattle.seam_cell_parts.specs.News.{listed};
 ghost use Rattle.seam_cell_look.specs.Looking.{seeing, looked, told_at_look, own_told, told_these, real_has_witness};
-ghost use Rattle.seam_cell_look.specs.Looking.{seen_if};
 ghost use Rattle.seam_cell_look.specs.Near.{HasNear};
-ghost use Rattle.seam_cell_look.specs.Updates.{with_shown, updates_of};
-ghost use Rattle.seam_cell_look.specs.Told.{known_with, AreTold, AreToldBut, AreStillTold};
+ghost use Rattle.seam_cell_told.specs.Updates.{with_shown, updates_of};
+ghost use Rattle.seam_cell_seen.specs.Known.{known_with};
+ghost use Rattle.seam_cell_told.specs.Told.{AreTold, AreToldBut, AreStillTold};
 
-use crate::told::ToldCopies;
-use crate::updates::Updates;
 use seam_call::{GhostCopy, Shown};
 use seam_cell_parts::{CellContext, CopyBook, Lists, Places, RealTable, Reals, put_in, take_out};
-use seam_entity::{Msg, Observed, Real, Witness, is_small};
+use seam_cell_seen::known_copy;
+use seam_cell_told::{ToldCopies, Updates};
+use seam_entity::{Msg, Real, Witness, is_small};
 use seam_machine::Out;
 use seam_table::Shared;
 use seam_view::{Look, Seen};
@@ -47,7 +47,11 @@ pub struct Glance {
 
 /// A real as it is seen.
 pub fn seen_real(e: u32, real: &Real) -> Seen
-    ensures { result ≡ record { entity = e; version = real.now.core.public; pos = real.now.core.state.pos } }
+    ensures { result ≡ record {
+      entity = e;
+      version = real.now.core.public;
+      pos = real.now.core.state.pos;
+    } }
 {
     Seen {
         entity: e,
@@ -78,19 +82,6 @@ fn shown_as(e: u32, enters: bool, copy: Option<Shared<GhostCopy>>) -> Option<Sho
     }
 }
 
-/// Adds an entity that is seen, if it is another one.
-pub fn see(seen: &mut Vec<Seen>, next: Seen, own: u32) -> Result<(), AllocError>
-    ensures { OnOk result (seen.new.items ≡ seen.old.items ++ seen_if (is_another own next.entity) next) }
-{
-    if next.entity == own {
-        return Ok(());
-    }
-    match seen.push(next) {
-        Ok(()) => Ok(()),
-        Err(_) => Err(AllocError),
-    }
-}
-
 // Adds what is shown, if anything is.
 #[inline]
 fn push_if(shown: &mut Updates, item: Option<Shown>) -> Result<(), AllocError>
@@ -103,22 +94,6 @@ fn push_if(shown: &mut Updates, item: Option<Shown>) -> Result<(), AllocError>
 }
 
 impl Sight<'_> {
-    // What is known of an entity: its real as others see it or, where that is not here, its copy.
-    fn known_copy(&self, e: u32) -> Result<Option<GhostCopy>, AllocError>
-        ensures { let h = here_in self.now.known.now in
-            IfOk result (λ o. o ≡ known_with h self.now.reals.now.items self.now.copies.now.ghosts e) }
-    {
-        if let Some(parcel) = self.reals.get(e) {
-            let shown = parcel.real.observed().copy_for_others(&self.known.defs)?;
-            return Ok(Some(shown));
-        }
-        let Some(copy) = self.copies.get(e) else {
-            return Ok(None);
-        };
-        let shown = Observed::of_copy(copy).copy_for_others(&self.known.defs)?;
-        Ok(Some(shown))
-    }
-
     // What is known of another entity: what was told of it, or else what is found of it, which is kept.
     fn copy_of(
         &self,
@@ -126,12 +101,15 @@ impl Sight<'_> {
         told: &mut ToldCopies,
     ) -> Result<Option<Shared<GhostCopy>>, AllocError>
         requires told { let h = here_in self.now.known.now in
-            AreToldBut self.now.own (known_with h self.now.reals.now.items self.now.copies.now.ghosts) told.old }
+            AreToldBut self.now.own
+            (known_with h self.now.reals.now.items self.now.copies.now.ghosts) told.old }
         ensures copy { (c : CellView) →
-            let d = seeing c (here_in self.now.known.now) self.now.reals.now.items self.now.copies.now.ghosts in
+            let d = seeing c (here_in self.now.known.now) self.now.reals.now.items
+            self.now.copies.now.ghosts in
             IfOk result (λ o. o ≡ known_of e (known_to d self.now.own)) }
         ensures told { let h = here_in self.now.known.now in
-            AreStillTold self.now.own (known_with h self.now.reals.now.items self.now.copies.now.ghosts) told.old told.new }
+            AreStillTold self.now.own
+            (known_with h self.now.reals.now.items self.now.copies.now.ghosts) told.old told.new }
     {
         if e == self.own {
             return Ok(None);
@@ -139,7 +117,7 @@ impl Sight<'_> {
         if let Some(copy) = told.copy_of(e)? {
             return Ok(Some(copy));
         }
-        let Some(copy) = self.known_copy(e)? else {
+        let Some(copy) = known_copy(self.known, self.reals, self.copies, e)? else {
             return Ok(None);
         };
         let copy = Shared::new(self.alloc, copy)?;
@@ -150,12 +128,15 @@ impl Sight<'_> {
     // What is shown for a look, if anything is.
     fn shown_for(&self, look: &Look, told: &mut ToldCopies) -> Result<Option<Shown>, AllocError>
         requires told { let h = here_in self.now.known.now in
-            AreToldBut self.now.own (known_with h self.now.reals.now.items self.now.copies.now.ghosts) told.old }
+            AreToldBut self.now.own
+            (known_with h self.now.reals.now.items self.now.copies.now.ghosts) told.old }
         ensures shown { (c : CellView) →
-            let d = seeing c (here_in self.now.known.now) self.now.reals.now.items self.now.copies.now.ghosts in
+            let d = seeing c (here_in self.now.known.now) self.now.reals.now.items
+            self.now.copies.now.ghosts in
             IfOk result (λ o. o ≡ shown_for (known_to d self.now.own) look.now) }
         ensures told { let h = here_in self.now.known.now in
-            AreStillTold self.now.own (known_with h self.now.reals.now.items self.now.copies.now.ghosts) told.old told.new }
+            AreStillTold self.now.own
+            (known_with h self.now.reals.now.items self.now.copies.now.ghosts) told.old told.new }
     {
         let (e, enters) = match look {
             Look::Leave(e) => return Ok(Some(Shown::Leave(*e))),
@@ -174,12 +155,16 @@ impl Sight<'_> {
         shown: &mut Updates,
     ) -> Result<(), AllocError>
         requires told { let h = here_in self.now.known.now in
-            AreToldBut self.now.own (known_with h self.now.reals.now.items self.now.copies.now.ghosts) told.old }
+            AreToldBut self.now.own
+            (known_with h self.now.reals.now.items self.now.copies.now.ghosts) told.old }
         ensures shown { (c : CellView) →
-            let d = seeing c (here_in self.now.known.now) self.now.reals.now.items self.now.copies.now.ghosts in
-            OnOk result (shown.new ≡ with_shown shown.old (filter_map (shown_for (known_to d self.now.own)) looks.now)) }
+            let d = seeing c (here_in self.now.known.now) self.now.reals.now.items
+            self.now.copies.now.ghosts in
+            OnOk result (shown.new
+            ≡ with_shown shown.old (filter_map (shown_for (known_to d self.now.own)) looks.now)) }
         ensures told { let h = here_in self.now.known.now in
-            AreStillTold self.now.own (known_with h self.now.reals.now.items self.now.copies.now.ghosts) told.old told.new }
+            AreStillTold self.now.own
+            (known_with h self.now.reals.now.items self.now.copies.now.ghosts) told.old told.new }
     {
         for look in looks {
             let item = self.shown_for(look, told)?;
@@ -191,7 +176,8 @@ impl Sight<'_> {
     // Adds the own state, where that is due.
     fn add_own(&self, real: &Real, witness: &Witness, shown: &mut Updates) -> Result<(), AllocError>
         ensures { let h = here_in self.now.known.now in
-            OnOk result (shown.new ≡ with_shown shown.old (own_told h real.now.core witness.now.told)) }
+            OnOk result (shown.new
+            ≡ with_shown shown.old (own_told h real.now.core witness.now.told)) }
     {
         if !witness.is_own_due(real.version()) {
             return Ok(());
@@ -215,13 +201,16 @@ impl Sight<'_> {
         requires most { self.now.known.now.settings.bases ≤ MOST_BASE_NODES }
         requires small { witness.now.sent < 2 ^ 62 }
         requires told { let h = here_in self.now.known.now in
-            AreToldBut self.now.own (known_with h self.now.reals.now.items self.now.copies.now.ghosts) told.old }
+            AreToldBut self.now.own
+            (known_with h self.now.reals.now.items self.now.copies.now.ghosts) told.old }
         ensures shown { (c : CellView) → let h = here_in self.now.known.now in
             let d = seeing c h self.now.reals.now.items self.now.copies.now.ghosts in
             IfOk result (λ u. u ≡ updates_of h real.now.core witness.now.sent
-            (all_shown h real.now.core (witness_of witness.now) (known_to d self.now.own) looks.now)) }
+            (all_shown h real.now.core (witness_of witness.now) (known_to d self.now.own)
+            looks.now)) }
         ensures told { let h = here_in self.now.known.now in
-            AreStillTold self.now.own (known_with h self.now.reals.now.items self.now.copies.now.ghosts) told.old told.new }
+            AreStillTold self.now.own
+            (known_with h self.now.reals.now.items self.now.copies.now.ghosts) told.old told.new }
     {
         // Besides the looks there is the own state.
         room.reserve(looks.len().saturating_add(1))?;
@@ -246,22 +235,28 @@ impl Sight<'_> {
         requires most { self.now.known.now.settings.bases ≤ MOST_BASE_NODES }
         requires small { witness.old.sent < 2 ^ 62 }
         requires told { let h = here_in self.now.known.now in
-            AreToldBut self.now.own (known_with h self.now.reals.now.items self.now.copies.now.ghosts) told.old }
+            AreToldBut self.now.own
+            (known_with h self.now.reals.now.items self.now.copies.now.ghosts) told.old }
         ensures same { witness_of witness.new ≡ witness_of witness.old }
-        ensures rising { IfOk result (λ g. IsStrictlySortedBy nat_cmp (map (λ s. s.entity) g.seen.items)) }
-        ensures near { (c : CellView) → let h = here_in self.now.known.now in let own = real.now.core.state.pos in
+        ensures rising { IfOk result (λ g. IsStrictlySortedBy nat_cmp
+            (map (λ s. s.entity) g.seen.items)) }
+        ensures near { (c : CellView) → let h = here_in self.now.known.now in let own =
+            real.now.core.state.pos in
             let d = seeing c h self.now.reals.now.items self.now.copies.now.ghosts in
-            IfOk result (λ g. HasNear witness.old.view.core own (map seen_as (known_to d self.now.own)) g.seen.items) }
+            IfOk result (λ g. HasNear witness.old.view.core own
+            (map seen_as (known_to d self.now.own)) g.seen.items) }
         ensures looks { (c : CellView) → let h = here_in self.now.known.now in
             let d = seeing c h self.now.reals.now.items self.now.copies.now.ghosts in
-            IfOk result (λ g. g.looks.items ≡ looks_of real.now.core (witness_of witness.old) (known_to d self.now.own)) }
+            IfOk result (λ g. g.looks.items ≡ looks_of real.now.core (witness_of witness.old)
+            (known_to d self.now.own)) }
         ensures shown { (c : CellView) → let h = here_in self.now.known.now in
             let d = seeing c h self.now.reals.now.items self.now.copies.now.ghosts in
             IfOk result (λ g. g.shown ≡ updates_of h real.now.core witness.old.sent
             (shown_of h real.now.core (witness_of witness.old) (known_to d self.now.own))) }
         ensures room { IfOk result (λ g. HasRoom witness.new.view g.looks.items) }
         ensures told { let h = here_in self.now.known.now in
-            AreStillTold self.now.own (known_with h self.now.reals.now.items self.now.copies.now.ghosts) told.old told.new }
+            AreStillTold self.now.own
+            (known_with h self.now.reals.now.items self.now.copies.now.ghosts) told.old told.new }
     {
         let own = real.state().pos;
         let seen = self.seen(own, &witness.view)?;
@@ -282,18 +277,22 @@ impl Sight<'_> {
         requires bases { 1 ≤ self.now.known.now.settings.bases }
         requires most { self.now.known.now.settings.bases ≤ MOST_BASE_NODES }
         requires told { let h = here_in self.now.known.now in
-            AreToldBut self.now.own (known_with h self.now.reals.now.items self.now.copies.now.ghosts) told.old }
+            AreToldBut self.now.own
+            (known_with h self.now.reals.now.items self.now.copies.now.ghosts) told.old }
         ensures witness { (c : CellView) → let h = here_in self.now.known.now in
             let d = seeing c h self.now.reals.now.items self.now.copies.now.ghosts in
-            OnOk result (witness_of witness.new ≡ looked h real.now.core (witness_of witness.old) (known_to d self.now.own)) }
+            OnOk result (witness_of witness.new ≡ looked h real.now.core (witness_of witness.old)
+            (known_to d self.now.own)) }
         ensures sent { (c : CellView) → let h = here_in self.now.known.now in
             let d = seeing c h self.now.reals.now.items self.now.copies.now.ghosts in
             OnOk result (out.new.items
-            ≡ out.old.items ++ told_at_look h real.now.core (witness_of witness.old) (known_to d self.now.own)) }
+            ≡ out.old.items ++ told_at_look h real.now.core (witness_of witness.old)
+            (known_to d self.now.own)) }
         ensures err { OnErr result (witness_of witness.new ≡ witness_of witness.old) }
         ensures err_out { OnErr result (out.new.items ≡ out.old.items) }
         ensures told { let h = here_in self.now.known.now in
-            AreStillTold self.now.own (known_with h self.now.reals.now.items self.now.copies.now.ghosts) told.old told.new }
+            AreStillTold self.now.own
+            (known_with h self.now.reals.now.items self.now.copies.now.ghosts) told.old told.new }
     {
         if !is_small(witness.sent) {
             return Ok(());
@@ -318,8 +317,10 @@ fn tell(real: &Real, witness: &mut Witness, glance: Glance, out: &mut Out<Msg>)
     requires room { HasRoom witness.old.view glance.looks.items }
     requires small { witness.old.sent + length glance.shown.shown < 2 ^ 62 }
     requires out { is_empty out.old.items ≡ false → length glance.shown.shown ≤ out.old.spare }
-    ensures witness { witness_of witness.new ≡ told_these glance real.now.core (witness_of witness.old) }
-    ensures sent { let u = glance.shown in out.new.items ≡ out.old.items ++ numbered u.to u.entity u.sent u.shown }
+    ensures witness { witness_of witness.new ≡ told_these glance real.now.core
+        (witness_of witness.old) }
+    ensures sent { let u = glance.shown in
+        out.new.items ≡ out.old.items ++ numbered u.to u.entity u.sent u.shown }
 {
     let Glance { seen, looks, shown } = glance;
     witness.keep(&seen, &looks, real.version(), shown.len() as u64);
@@ -366,16 +367,21 @@ fn look_around(
     requires marks { AreKept reals.old }
     requires bases { 1 ≤ known.now.settings.bases }
     requires most { known.now.settings.bases ≤ MOST_BASE_NODES }
-    requires told { AreTold (known_with (here_in known.now) reals.old.items.items copies.now.ghosts) told.old }
-    ensures reals { (c : CellView) → let d = seeing c (here_in known.now) reals.old.items.items copies.now.ghosts in
+    requires told { AreTold (known_with (here_in known.now) reals.old.items.items copies.now.ghosts)
+        told.old }
+    ensures reals { (c : CellView) →
+        let d = seeing c (here_in known.now) reals.old.items.items copies.now.ghosts in
         OnOk result (record d { reals = reals.new.items.items }
         ≡ (stepped d e (looks_around d e (table.get d.reals e) (known_to d e))).state) }
-    ensures sent { (c : CellView) → let d = seeing c (here_in known.now) reals.old.items.items copies.now.ghosts in
-        OnOk result (out.new.items ≡ out.old.items ++ (stepped d e (looks_around d e (table.get d.reals e) (known_to d e))).sent) }
+    ensures sent { (c : CellView) →
+        let d = seeing c (here_in known.now) reals.old.items.items copies.now.ghosts in
+        OnOk result (out.new.items ≡ out.old.items
+        ++ (stepped d e (looks_around d e (table.get d.reals e) (known_to d e))).sent) }
     ensures err { OnErr result (reals.new.items.items ≡ reals.old.items.items) }
     ensures err_out { OnErr result (out.new.items ≡ out.old.items) }
     ensures marks { AreKept reals.new }
-    ensures told { AreTold (known_with (here_in known.now) reals.new.items.items copies.now.ghosts) told.new }
+    ensures told { AreTold (known_with (here_in known.now) reals.new.items.items copies.now.ghosts)
+        told.new }
 {
     if !has_witness(reals, e) {
         return Ok(());
@@ -413,10 +419,12 @@ pub fn look_task(
     requires most { known.now.settings.bases ≤ MOST_BASE_NODES }
     requires told { AreTold (known_at (cell_of known.now reals.old places.old lists.old)) told.old }
     ensures state { let c = cell_of known.now reals.old places.old lists.old in
-        OnOk result (cell_of known.now reals.new places.new lists.new ≡ (look_next c lists.old.looks).state) }
+        OnOk result (cell_of known.now reals.new places.new lists.new
+        ≡ (look_next c lists.old.looks).state) }
     ensures sent { let c = cell_of known.now reals.old places.old lists.old in
         OnOk result (out.new.items ≡ out.old.items ++ (look_next c lists.old.looks).sent) }
-    ensures err { OnErr result (cell_of known.now reals.new places.new lists.new ≡ cell_of known.now reals.old places.old lists.old) }
+    ensures err { OnErr result (cell_of known.now reals.new places.new lists.new
+        ≡ cell_of known.now reals.old places.old lists.old) }
     ensures err_out { OnErr result (out.new.items ≡ out.old.items) }
     ensures marks { AreKept reals.new }
     ensures told { AreTold (known_at (cell_of known.now reals.new places.new lists.new)) told.new }

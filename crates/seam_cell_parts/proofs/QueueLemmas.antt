@@ -66,7 +66,8 @@ first_taken (w ∷ ws) zero d x at lt gone = by w.waits at
     by false a = absurd (omega (arith, a))
 first_taken (w ∷ ws) (suc i) d x at lt gone = by (λ a. first_taken ws i d x a (omega (arith, lt)) gone) w.waits at
   where
-    by : (i ≡ passed ws → waiting ws ≡ (get_or ws i d).entity ∷ waiting (set ws i x)) → (b : Bool) → suc i ≡ cond b 0 (passed ws + 1) → entities (cond b (w ∷ filter (λ v. v.waits) ws) (filter (λ v. v.waits) ws))
+    by : (i ≡ passed ws → waiting ws ≡ (get_or ws i d).entity ∷ waiting (set ws i x)) → (b : Bool) → suc i ≡ cond b 0 (passed ws + 1) →
+        entities (cond b (w ∷ filter (λ v. v.waits) ws) (filter (λ v. v.waits) ws))
         ≡ (get_or ws i d).entity ∷ entities (cond b (w ∷ filter (λ v. v.waits) (set ws i x)) (filter (λ v. v.waits) (set ws i x)))
     by next true a = absurd (omega (arith, a))
     by next false a = next (omega (arith, a))
@@ -116,7 +117,8 @@ all_waiting : (P : ℕ → Type 0) (ws : List Entry) → AllByRecursion P (entit
 all_waiting P [] h = tt
 all_waiting P (w ∷ ws) h = by (all_waiting P ws h.1) w.waits
   where
-    by : AllByRecursion P (waiting ws) → (b : Bool) → AllByRecursion P (entities (cond b (w ∷ filter (λ v. v.waits) ws) (filter (λ v. v.waits) ws)))
+    by : AllByRecursion P (waiting ws) → (b : Bool) →
+        AllByRecursion P (entities (cond b (w ∷ filter (λ v. v.waits) ws) (filter (λ v. v.waits) ws)))
     by all true = (h.0, all)
     by all false = all
 

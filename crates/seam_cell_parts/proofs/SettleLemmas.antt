@@ -103,7 +103,8 @@ module _ (h : Here) (t : Division) (r later : RealView) (changed : Bool) (is : I
         HasBegun h t later changed before after b
     begun_is kept some nexts ghosts sent =
         let all : after.sent ≡ before.sent ++ told_of h later b.telling =
-        sent ∙ (ap (λ l. before.sent ++ l) (all_told h later told g tells) ∙ ap (λ x. before.sent ++ told_of h later x) (sym kept)) in record {
+        sent ∙ (ap (λ l. before.sent ++ l) (all_told h later told g tells) ∙ ap (λ x. before.sent ++ told_of h later x) (sym kept)) in
+        record {
           telling = kept ∙ told_later;
           has_told =
               some
@@ -166,7 +167,8 @@ module _ (h : Here) (t : Division) (r was : RealView) (changed : Bool) (left : O
       after.ghosts ≡ begun.ghosts → after.sent ≡ begun.sent → Settles
   stay_done test stays nexts ghosts sent =
       let real : left ≡ Some (settled_to r b.telling.haunts (beat_after (told_of h r b.telling) r.beat) r.generation) =
-      stays ∙ ap (λ n. Some (settled_to r b.telling.haunts n r.generation)) (beat_by b.has_told (told_of h r b.telling) r.beat is.has_told) in
+      stays ∙ ap (λ n. Some (settled_to r b.telling.haunts n r.generation)) (beat_by b.has_told (told_of h r b.telling) r.beat is.has_told)
+      in
       subst (λ x. IsDone x r.entity was left before after)
       (sym (stays_is h t (slot_in before r.entity was) r changed b.telling is.telling test))
       (record {

@@ -195,17 +195,20 @@ listed_more es i d l now sorted lt put so_far q =
 pub all_listed : (es : List (ℕ × Location)) (l : Places) → T (is_sorted nat_cmp es) → ((q : ℕ) → map.get l q ≡ map.find nat_cmp q es) →
     l ≡ map.from_sorted es
 all_listed es l sorted are =
-    map.same_map nat_cmp_total map.nat_cmp-IsAntisymmetric l (map.from_sorted es) (λ q. are q ∙ sym (map.get-from_sorted nat_cmp es q sorted))
+    map.same_map nat_cmp_total map.nat_cmp-IsAntisymmetric l (map.from_sorted es)
+    (λ q. are q ∙ sym (map.get-from_sorted nat_cmp es q sorted))
 
 -- what such a list is kept for
-pub kept_noted : (list : Option Places) (out : Option ℕ) (es : List (ℕ × Location)) (place : ℕ → Option Location) → T (is_sorted nat_cmp es) →
+pub kept_noted : (list : Option Places) (out : Option ℕ) (es : List (ℕ × Location)) (place : ℕ → Option Location) →
+    T (is_sorted nat_cmp es) →
     list ≡ Some (map.from_sorted es) → out ≡ None → ((q : ℕ) → map.find nat_cmp q es ≡ place q) → AreListed list out place
 kept_noted list out es place sorted is none are =
     subst (λ l. AreListed l out place) (sym is) (λ q not. map.get-from_sorted nat_cmp es q sorted ∙ are q)
 
 -- ---- the places of entries, by their numbers
 
-module _ {X : Type 0} (f : X → Location) (es : List (ℕ × X)) (sorted : T (is_sorted nat_cmp es)) (ns : List ℕ) (are : ns ≡ keys_of es) (i : ℕ) where
+module _ {X : Type 0} (f : X → Location) (es : List (ℕ × X)) (sorted : T (is_sorted nat_cmp es)) (ns : List ℕ) (are : ns ≡ keys_of es)
+    (i : ℕ) where
   abbrev number : ℕ
   number = get_or ns i 0
 
@@ -233,7 +236,8 @@ module _ {X : Type 0} (f : X → Location) (es : List (ℕ × X)) (sorted : T (i
     placed_more x old new found so_far more =
         let d : ℕ × X = (0, x) in
         let key : number ≡ (get_or es i d).0 = ap (λ l. get_or l i 0) are ∙ get_or-map (λ e. e.0) es i d 0 in_entries in
-        let value : Some x ≡ Some (get_or es i d).1 = found ∙ (ap (λ n. map.find nat_cmp n es) key ∙ entry_found es sorted i d in_entries) in
+        let value : Some x ≡ Some (get_or es i d).1 = found ∙ (ap (λ n. map.find nat_cmp n es) key ∙ entry_found es sorted i d in_entries)
+        in
         let inner : x ≡ (get_or es i d).1 = cc in
         more
         ∙ (ap (λ l. l ++ (number, f x) ∷ []) so_far

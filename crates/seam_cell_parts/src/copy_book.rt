@@ -11,7 +11,7 @@ use crate::spots::{Spots, beside, forget, note};
 use seam_call::GhostCopy;
 use seam_ghosts::{GhostBook, Kept};
 use seam_range::{Location, RangeList};
-use seam_table::NoMemoryFor;
+use seam_table::{HashKey, NoMemoryFor};
 use std::alloc::{AllocError, Global};
 use std::marker::Model;
 
@@ -73,12 +73,12 @@ fn spots_of(alloc: Global, book: &GhostBook<GhostCopy>) -> Result<Spots, AllocEr
 }
 
 impl CopyBook {
-    /// A book that knows of no entity.
-    pub fn new(alloc: Global) -> Self
+    /// A book that knows of no entity, and finds entities by a hash with this key.
+    pub fn new(alloc: Global, key: HashKey) -> Self
         ensures { result ≡ record { ghosts = map.empty } }
     {
         CopyBook {
-            book: GhostBook::new(alloc),
+            book: GhostBook::new(alloc, key),
             spots: Spots::none(),
         }
     }
@@ -99,8 +99,11 @@ impl CopyBook {
 
     /// Takes the copy at that beat, if none came at that or a later one. If allocation fails, it comes back and nothing has changed.
     pub fn set(&mut self, e: u32, beat: u64, copy: GhostCopy) -> Result<(), NoMemoryFor<GhostCopy>>
-        ensures ok { OnOk result (self.new.ghosts
-            ≡ set_at self.old.ghosts e (ghost_after (map.get self.old.ghosts e) (record { beat = beat; copy = Some copy }))) }
+        ensures ok { OnOk result (self.new.ghosts ≡ set_at self.old.ghosts e
+            (ghost_after (map.get self.old.ghosts e) (record {
+              beat = beat;
+              copy = Some copy;
+            }))) }
         ensures err { OnErr result (self.new.ghosts ≡ self.old.ghosts) }
         ensures err_item { IfErr result (λ r. r.item ≡ copy) }
     {
@@ -117,8 +120,8 @@ impl CopyBook {
 
     /// Drops the copy at that beat, if none came at that or a later one. If allocation fails, nothing has changed.
     pub fn drop_copy(&mut self, e: u32, beat: u64) -> Result<(), AllocError>
-        ensures ok { OnOk result (self.new.ghosts
-            ≡ set_at self.old.ghosts e (ghost_after (map.get self.old.ghosts e) (record { beat = beat; copy = None }))) }
+        ensures ok { OnOk result (self.new.ghosts ≡ set_at self.old.ghosts e
+            (ghost_after (map.get self.old.ghosts e) (record { beat = beat; copy = None }))) }
         ensures err { OnErr result (self.new.ghosts ≡ self.old.ghosts) }
     {
         match self.book.drop_copy(e, beat) {

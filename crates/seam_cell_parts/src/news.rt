@@ -27,8 +27,9 @@ pub struct Subject<'a> {
 impl Subject<'_> {
     /// What its ghosts hold.
     pub fn copy(&self) -> Result<GhostCopy, AllocError>
-        ensures { (me : ℕ) (settings : AllSettings) →
-            IfOk result (λ c. c ≡ copy_with (node_with self.now.defs.now me settings) self.now.ty self.now.version (state_of self.now)) }
+        ensures { (me : ℕ) (settings : AllSettings) → IfOk result (λ c. c
+            ≡ copy_with (node_with self.now.defs.now me settings) self.now.ty self.now.version
+            (state_of self.now)) }
     {
         ghost_copy(self.defs, self.ty, self.version, self.pos, self.props)
     }
@@ -37,7 +38,8 @@ impl Subject<'_> {
 // Tells the cell what it is told. If allocation fails, nothing was sent.
 fn tell_cell(t: &Telling, of: &Subject<'_>, k: u8, out: &mut Out<Msg>) -> Result<(), AllocError>
     ensures ok { (me : ℕ) (settings : AllSettings) →
-        let copy = copy_with (node_with of.now.defs.now me settings) of.now.ty of.now.version (state_of of.now) in
+        let copy = copy_with (node_with of.now.defs.now me settings) of.now.ty of.now.version
+        (state_of of.now) in
         OnOk result (out.new.items ≡ out.old.items ++ listed (said t.now copy k (word t.now k))) }
     ensures err { OnErr result (out.new.items ≡ out.old.items) }
 {
@@ -68,7 +70,8 @@ fn are_none(haunts: &CellSet, old: &CellSet) -> bool
 /// Tells the cells, in rising number. If allocation fails, some may have been told.
 pub fn tell(t: &Telling, of: &Subject<'_>, out: &mut Out<Msg>) -> Result<(), AllocError>
     ensures ok { (me : ℕ) (settings : AllSettings) → OnOk result (out.new.items ≡ out.old.items
-        ++ news t.now (copy_with (node_with of.now.defs.now me settings) of.now.ty of.now.version (state_of of.now)) 16) }
+        ++ news t.now (copy_with (node_with of.now.defs.now me settings) of.now.ty
+        of.now.version (state_of of.now)) 16) }
     ensures kept { take (length out.old.items) out.new.items ≡ out.old.items }
 {
     // Most reals have and had few haunts, in the first cells: what is left of both sets tells when all were told.

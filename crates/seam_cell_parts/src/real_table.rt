@@ -10,7 +10,7 @@ ghost use Rattle.seam_cell_parts.specs.Spots.{AreNoted, AreKeptNoted, place_of_r
 use crate::spots::{Spots, beside, forget, let_out, note};
 use seam_entity::{Parcel, Real};
 use seam_range::{Location, RangeList};
-use seam_table::Table;
+use seam_table::{HashKey, Table};
 use std::alloc::{AllocError, Global};
 use std::marker::Model;
 
@@ -82,12 +82,12 @@ fn spots_of(alloc: Global, items: &Table<Parcel>) -> Result<Spots, AllocError>
 }
 
 impl RealTable {
-    /// A table with no real and room for none.
-    pub fn new(alloc: Global) -> Self
+    /// A table with no real and room for none, which finds entities by a hash with this key.
+    pub fn new(alloc: Global, key: HashKey) -> Self
         ensures { result ≡ record { items = map.empty; room = set.empty } }
     {
         RealTable {
-            items: Table::new(alloc),
+            items: Table::new(alloc, key),
             spots: Spots::none(),
         }
     }

@@ -83,7 +83,8 @@ pub fn close(reals: &mut Reals, e: u32)
 /// The least entity whose real has a ready call.
 pub fn first_ready(reals: &Reals) -> Option<u32>
     requires { AreKept reals.now }
-    ensures { result ≡ option_map number_of (find real_is_ready (table.entries reals.now.items.items)) }
+    ensures { result ≡ option_map number_of (find real_is_ready
+        (table.entries reals.now.items.items)) }
 {
     // Asked of every cell before most events: most often none is ready.
     if reals.ready.is_empty() {
@@ -95,10 +96,13 @@ pub fn first_ready(reals: &Reals) -> Option<u32>
 /// Puts back what a step left of the entity's real, which was taken out. Where it left none, the entity goes off the lists too.
 pub fn put_after(reals: &mut Reals, lists: &mut Lists, e: u32, left: Option<Real>)
     requires { IsOpenFor reals.old e (option_map core_of left) }
-    ensures items { reals.new.items.items ≡ set_at reals.old.items.items e (option_map core_of left) }
+    ensures items { reals.new.items.items ≡ set_at reals.old.items.items e
+        (option_map core_of left) }
     ensures kept { AreKept reals.new }
-    ensures survey { lists.new.survey ≡ list_after (is_none (option_map core_of left)) e lists.old.survey }
-    ensures looks { lists.new.looks ≡ list_after (is_none (option_map core_of left)) e lists.old.looks }
+    ensures survey { lists.new.survey ≡ list_after (is_none (option_map core_of left)) e
+        lists.old.survey }
+    ensures looks { lists.new.looks ≡ list_after (is_none (option_map core_of left)) e
+        lists.old.looks }
 {
     match left {
         Some(real) => put_in(reals, e, real),

@@ -45,7 +45,8 @@ pub struct Begun {
 // The home of a real of cell `me` that stands there.
 fn home_after(me: u8, settings: &Settings, tree: &Tree, pos: Pos) -> u8
     requires inside { IsInSpace tree.now pos }
-    ensures { (defs : List TypeDef) → result ≡ home_after (node_with defs me settings.now) tree.now pos }
+    ensures { (defs : List TypeDef) → result ≡ home_after (node_with defs me settings.now) tree.now
+        pos }
 {
     // A real of a cell that the tree has not stays where it is.
     if me >= tree.cells() {
@@ -74,9 +75,11 @@ pub fn make_plan(me: u8, settings: &Settings, tree: &Tree, old: CellSet, pos: Po
     requires inside { IsInSpace tree.now pos }
     requires small { me < 16 }
     requires far { settings.now.ghost_distance + settings.now.ghost_hysteresis < 2 ^ 32 }
-    ensures home { (defs : List TypeDef) → result.home ≡ home_after (node_with defs me settings.now) tree.now pos }
+    ensures home { (defs : List TypeDef) → result.home ≡ home_after (node_with defs me settings.now)
+        tree.now pos }
     ensures haunts { (defs : List TypeDef) → let h = node_with defs me settings.now in
-        result.haunts ≡ haunts_at h tree.now pos (home_after h tree.now pos) (former me (home_after h tree.now pos) old) }
+        result.haunts ≡ haunts_at h tree.now pos (home_after h tree.now pos)
+        (former me (home_after h tree.now pos) old) }
 {
     let home = home_after(me, settings, tree, pos);
     let near = settings.ghost_distance;
@@ -87,8 +90,10 @@ pub fn make_plan(me: u8, settings: &Settings, tree: &Tree, old: CellSet, pos: Po
 
 // What the cell's own book takes.
 fn own_copy(t: &Telling, of: &Subject<'_>) -> Result<Option<GhostCopy>, AllocError>
-    ensures { (me : ℕ) (settings : AllSettings) → IfOk result (λ o. o ≡ copy_if (set.contains t.now.haunts t.now.me)
-        (copy_with (node_with of.now.defs.now me settings) of.now.ty of.now.version (state_of of.now))) }
+    ensures { (me : ℕ) (settings : AllSettings) → IfOk result (λ o. o
+        ≡ copy_if (set.contains t.now.haunts t.now.me)
+        (copy_with (node_with of.now.defs.now me settings) of.now.ty of.now.version
+        (state_of of.now))) }
 {
     if !t.haunts.holds(t.me) {
         return Ok(None);
@@ -104,8 +109,8 @@ fn tell_own(
     beat: u64,
     own: Option<GhostCopy>,
 ) -> Result<(), AllocError>
-    ensures ok { OnOk result (book.new.ghosts
-        ≡ set_at book.old.ghosts e (ghost_after (table.get book.old.ghosts e) (record { beat = beat; copy = own }))) }
+    ensures ok { OnOk result (book.new.ghosts ≡ set_at book.old.ghosts e
+        (ghost_after (table.get book.old.ghosts e) (record { beat = beat; copy = own }))) }
     ensures err { OnErr result (book.new.ghosts ≡ book.old.ghosts) }
 {
     match own {
@@ -138,7 +143,8 @@ pub fn leave(mut real: Real, begun: &Begun, nexts: &mut Table<Next>, out: &mut O
     requires entity { begun.now.telling.entity ≡ real.core.entity }
     requires goes { (begun.now.telling.home == begun.now.telling.me) ≡ false }
     requires room { HasRoomFor nexts.old.room out.old.spare begun.now.telling }
-    ensures { IsGone real.core begun.now nexts.old.items nexts.new.items out.old.items out.new.items }
+    ensures { IsGone real.core begun.now nexts.old.items nexts.new.items out.old.items
+        out.new.items }
 {
     let cell = begun.telling.home;
     let beat = real.beat() + 1;
@@ -178,9 +184,12 @@ fn tell_all(
     out: &mut Out<Msg>,
 ) -> Result<(), AllocError>
     ensures sent { (me : ℕ) (settings : AllSettings) → OnOk result (out.new.items ≡ out.old.items
-        ++ news t.now (copy_with (node_with of.now.defs.now me settings) of.now.ty of.now.version (state_of of.now)) 16) }
-    ensures ghosts { (me : ℕ) (settings : AllSettings) → OnOk result (places.new.copies.ghosts
-        ≡ heard t.now (copy_with (node_with of.now.defs.now me settings) of.now.ty of.now.version (state_of of.now)) places.old.copies.ghosts) }
+        ++ news t.now (copy_with (node_with of.now.defs.now me settings) of.now.ty
+        of.now.version (state_of of.now)) 16) }
+    ensures ghosts { (me : ℕ) (settings : AllSettings) →
+        OnOk result (places.new.copies.ghosts ≡ heard t.now
+        (copy_with (node_with of.now.defs.now me settings) of.now.ty of.now.version
+        (state_of of.now)) places.old.copies.ghosts) }
     ensures room { OnOk result (HasRoomFor places.new.nexts.room out.new.spare t.now) }
     ensures kept { take (length out.old.items) out.new.items ≡ out.old.items }
     ensures nexts { places.new.nexts.items ≡ places.old.nexts.items }
@@ -212,8 +221,9 @@ pub fn begin(
     requires legal { AreLegal known.now.settings }
     requires beat { real.now.core.beat < 2 ^ 62 }
     requires defs { of.now.defs.now ≡ known.now.defs }
-    ensures begun { (later : RealView) → IsLater real.now.core later → later.ty ≡ of.now.ty → later.public ≡ of.now.version →
-        later.state ≡ state_of of.now → IfOk result (HasBegun (here_in known.now) known.now.tree later changed
+    ensures begun { (later : RealView) → IsLater real.now.core later → later.ty ≡ of.now.ty →
+        later.public ≡ of.now.version → later.state ≡ state_of of.now →
+        IfOk result (HasBegun (here_in known.now) known.now.tree later changed
         (parts_of places.old out.old) (parts_of places.new out.new)) }
     ensures entity { IfOk result (λ b. b.telling.entity ≡ real.now.core.entity) }
     ensures room { IfOk result (λ b. HasRoomFor places.new.nexts.room out.new.spare b.telling) }
@@ -262,10 +272,10 @@ pub fn settle_real(
     requires generation { real.core.generation < 2 ^ 62 }
     requires entity { begun.telling.entity ≡ real.core.entity }
     requires room { HasRoomFor places.old.nexts.room out.old.spare begun.telling }
-    ensures done { (h : Here) (t : Division) (changed : Bool) (was : RealView) (before : PartsView) →
-        HasBegun h t real.core changed before (parts_of places.old out.old) begun →
-        IsDone (settled h t (slot_in before real.core.entity was) real.core changed) real.core.entity was
-        (option_map core_of result) before (parts_of places.new out.new) }
+    ensures done { (h : Here) (t : Division) (changed : Bool) (was : RealView) (before : PartsView)
+        → HasBegun h t real.core changed before (parts_of places.old out.old) begun →
+        IsDone (settled h t (slot_in before real.core.entity was) real.core changed)
+        real.core.entity was (option_map core_of result) before (parts_of places.new out.new) }
     ensures witness { IfSome result (λ q. q.core.witness ≡ real.core.witness) }
 {
     if begun.telling.home == begun.telling.me {

@@ -133,8 +133,8 @@ fn still_out(out: Option<u32>, e: u32) -> Option<u32>
 
 /// Notes that the entity is at the place, where a list is kept. Without memory for that the list is given up.
 pub fn note(spots: &mut Spots, e: u32, p: Location)
-    ensures { (before after : ℕ → Option AnyPlace) → AreKeptNoted spots.old before → IsChanged before after e (Some p) →
-        AreKeptNoted spots.new after }
+    ensures { (before after : ℕ → Option AnyPlace) → AreKeptNoted spots.old before →
+        IsChanged before after e (Some p) → AreKeptNoted spots.new after }
 {
     // In a cell in which nobody looks, as in most, none is kept.
     if spots.list.is_some() {
@@ -145,8 +145,8 @@ pub fn note(spots: &mut Spots, e: u32, p: Location)
 // The same where a list is kept.
 #[inline(never)]
 fn note_kept(spots: &mut Spots, e: u32, p: Location)
-    ensures { (before after : ℕ → Option AnyPlace) → AreKeptNoted spots.old before → IsChanged before after e (Some p) →
-        AreKeptNoted spots.new after }
+    ensures { (before after : ℕ → Option AnyPlace) → AreKeptNoted spots.old before →
+        IsChanged before after e (Some p) → AreKeptNoted spots.new after }
 {
     set(&mut spots.list, &mut spots.left, e, p);
     spots.out = still_out(spots.out, e);
@@ -154,8 +154,8 @@ fn note_kept(spots: &mut Spots, e: u32, p: Location)
 
 /// Notes that the entity is nowhere, where a list is kept.
 pub fn forget(spots: &mut Spots, e: u32)
-    ensures { (before after : ℕ → Option AnyPlace) → AreKeptNoted spots.old before → IsChanged before after e None →
-        AreKeptNoted spots.new after }
+    ensures { (before after : ℕ → Option AnyPlace) → AreKeptNoted spots.old before →
+        IsChanged before after e None → AreKeptNoted spots.new after }
 {
     if spots.list.is_some() {
         forget_kept(spots, e);
@@ -165,8 +165,8 @@ pub fn forget(spots: &mut Spots, e: u32)
 // The same where a list is kept.
 #[inline(never)]
 fn forget_kept(spots: &mut Spots, e: u32)
-    ensures { (before after : ℕ → Option AnyPlace) → AreKeptNoted spots.old before → IsChanged before after e None →
-        AreKeptNoted spots.new after }
+    ensures { (before after : ℕ → Option AnyPlace) → AreKeptNoted spots.old before →
+        IsChanged before after e None → AreKeptNoted spots.new after }
 {
     remove(&mut spots.list, &mut spots.left, e);
     spots.out = still_out(spots.out, e);
@@ -174,8 +174,8 @@ fn forget_kept(spots: &mut Spots, e: u32)
 
 /// Notes that the entity is taken out, to be put back. One alone is kept in the list meanwhile.
 pub fn let_out(spots: &mut Spots, e: u32)
-    ensures { (before after : ℕ → Option AnyPlace) → AreKeptNoted spots.old before → IsChanged before after e None →
-        AreKeptNoted spots.new after }
+    ensures { (before after : ℕ → Option AnyPlace) → AreKeptNoted spots.old before →
+        IsChanged before after e None → AreKeptNoted spots.new after }
 {
     if spots.list.is_none() {
         return;
@@ -190,7 +190,8 @@ pub fn let_out(spots: &mut Spots, e: u32)
 /// The places of all entities other than e, if they are kept.
 pub fn beside(spots: &Spots, e: u32) -> Option<&RangeList>
     ensures kept { is_some result ≡ (is_some spots.now.list && is_none_else_out spots.now.out e) }
-    ensures places { (place : ℕ → Option AnyPlace) → AreKeptNoted spots.now place → IfSome result (λ l. AreNoted l.now (Some e) place) }
+    ensures places { (place : ℕ → Option AnyPlace) → AreKeptNoted spots.now place →
+        IfSome result (λ l. AreNoted l.now (Some e) place) }
 {
     if !is_none_else_out(spots.out, e) {
         return None;

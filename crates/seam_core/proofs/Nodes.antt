@@ -96,7 +96,8 @@ module _ (k size : ℕ) (s : NodeView) (number : IsNumbered k s) (space : HasSpa
   space_joined es = (each_keeps attached (Knows k size) Any (knows_joined k size) es (any es) s knows).space
 
 -- the space after all of it
-pub space_after : (k size : ℕ) (s : NodeView) → IsNumbered k s → HasSpace size s → (cells : ℕ) (t : Division) (xs : List Create) (es : List ℕ) →
+pub space_after : (k size : ℕ) (s : NodeView) → IsNumbered k s → HasSpace size s →
+    (cells : ℕ) (t : Division) (xs : List Create) (es : List ℕ) →
     HasSpace size (each attached es (each (created_at t) xs (base_round cells s)))
 space_after k size s number space cells t xs es =
     let begun = base_round cells s in

@@ -57,10 +57,10 @@ pub data Lives (e : ℕ) (v : World) : Type 0 where
 
 -- What a phase leaves where it ends, in a quiet world v: it did all that it was to do, and v keeps the records again.
 pub record EndsPhases (v : World) : Type 0 where
-  -- all calls were executed, and everything is settled
+  -- all calls were executed, each place is a right one, and everything is settled
   pub settled : (f : Frame) (clients : ℕ → ClientReplica) (w : World) (b : Batch) → FromCalls f clients w b v → (e home : ℕ)
       (r : RealView) → real_in ((entity_flow e (loaded w b)).slot home) ≡ Some r → (k : ℕ) (q : RealView) →
-      real_in ((entity_flow e v).slot k) ≡ Some q → EndsRightly f b e k q v
+      real_in ((entity_flow e v).slot k) ≡ Some q → EndsRightly f b e home r k q v
   pub calls : (f : Frame) (clients : ℕ → ClientReplica) (w : World) (b : Batch) → FromCalls f clients w b v →
       KeepsRecordsWithin (framed f b) (clients_shown (framed f b) (clients_loaded f b clients) v) v
   -- nothing is left of the reaped

@@ -38,7 +38,8 @@ fn count_if(count: u32, more: bool) -> u32
 
 // The hand-overs of the entity on a link, added to a count.
 fn count_on_link(net: &Net<Node>, e: u32, from: u8, to: u8, so_far: u32) -> u32
-    ensures { result ≡ min (so_far + total (carried e to) (link net.now.rows from to)) (2 ^ 32 - 1) }
+    ensures { result ≡ min (so_far + total (carried e to) (link net.now.rows from to))
+        (2 ^ 32 - 1) }
 {
     let mut count = so_far;
     for i in 0..net.waiting(from, to) {
@@ -53,7 +54,8 @@ fn count_on_link(net: &Net<Node>, e: u32, from: u8, to: u8, so_far: u32) -> u32
 // The hand-overs of the entity on the links of a node, added to a count.
 fn count_from(net: &Net<Node>, e: u32, from: u8, so_far: u32) -> u32
     requires { from < length net.now.nodes }
-    ensures { result ≡ min (so_far + row_weight (carried e) (slice_index_or net.now.rows from [])) (2 ^ 32 - 1) }
+    ensures { result ≡ min (so_far + row_weight (carried e) (slice_index_or net.now.rows from []))
+        (2 ^ 32 - 1) }
 {
     let mut count = so_far;
     for to in 0..net.node_count() {

@@ -21,6 +21,6 @@ pub fn every_world_obeys_the_laws()
 
 /// A world that keeps the records between rounds may load each batch that it may be given by the rules.
 pub fn a_fitting_batch_may_be_loaded()
-    ensures { (f : Frame) (clients : ℕ → ClientReplica) (w : World) → KeepsRecords f clients w → (b : Batch) → MayBeGiven f w b →
-        MayLoad w b }
+    ensures { (f : Frame) (clients : ℕ → ClientReplica) (w : World) → KeepsRecords f clients w →
+        (b : Batch) → MayBeGiven f w b → MayLoad w b }
 {}

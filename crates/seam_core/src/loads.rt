@@ -89,7 +89,8 @@ impl Node {
 
     // The entities get clients.
     fn attach_all(&mut self, alloc: Global, clients: &[u32]) -> Result<(), AllocError>
-        requires unseen { AllByRecursion (λ e. passes has_client (has_of e self.old).base.part ≡ false) clients.now }
+        requires unseen { AllByRecursion (λ e. passes has_client (has_of e self.old).base.part
+            ≡ false) clients.now }
         requires one_each { IsDistinct eqb clients.now }
         ensures { OnOk result (self.new ≡ each attached clients.now self.old) }
     {
@@ -134,7 +135,8 @@ impl Node {
 
     // A base node is given an order.
     fn give(&mut self, order: Order) -> Result<(), AllocError>
-        ensures { (k : ℕ) → IsNumbered k self.old → OnOk result (self.new ≡ ordered_at (k, order) self.old) }
+        ensures { (k : ℕ) → IsNumbered k self.old → OnOk result (self.new
+            ≡ ordered_at (k, order) self.old) }
     {
         match &mut self.kind {
             Kind::Cell(_) => Ok(()),
@@ -157,7 +159,8 @@ fn give_in(base: &mut Base, order: Order) -> Result<(), AllocError>
 fn begin_at(net: &mut Net<Node>, alloc: Global, k: u8, batch: &Batch) -> Result<(), AllocError>
     requires there { k < length net.old.nodes }
     requires may { (s : NodeView) → slice_get net.old.nodes k ≡ Some s → MayBegin batch.now k s }
-    ensures { (s : NodeView) → slice_get net.old.nodes k ≡ Some s → OnOk result (net.new ≡ with_node net.old k (begun batch.now s)) }
+    ensures { (s : NodeView) → slice_get net.old.nodes k ≡ Some s →
+        OnOk result (net.new ≡ with_node net.old k (begun batch.now s)) }
 {
     let Some(node) = net.node_mut(k) else {
         unreachable!()

@@ -1,6 +1,11 @@
 //! A world, and its events.
+//!
+//! `opened`, `loaded`, `happens` and `count` bind the code: they say which world a call makes, and what it answers. `laws` binds none. It
+//! is what `every_world_obeys_the_laws` says of every net of nodes: wherever it comes from, by a load and events, it obeys the laws of
+//! that phase. A step that made another world would keep `laws` too, of that world, and break `happens`.
 
-ghost use Rattle.std.specs.Prelude.{◌≡◌, ◌++◌, ◌∷◌, ◌-◌, ◌^◌, [], ℕ, List, min, true, OnOk, OnErr, IfOk};
+ghost use Rattle.std.specs.Prelude.{◌≡◌, ◌<◌, ◌++◌, ◌∷◌, ◌-◌, ◌^◌, [], ℕ, List, length, min, true, OnOk, OnErr, IfOk};
+ghost use Rattle.std.specs.Prelude.{option_copied, slice_get};
 ghost use Rattle.seam_node_steps.specs.Prelude.{AreLegal, enabled, happens, Event as AnyEvent, World as AnyWorld, node_steps};
 ghost use Rattle.seam_node_steps.specs.Prelude.{node_has_work, opened, loaded, reaps_loaded, look_loaded, holders};
 ghost use Rattle.seam_law_rounds.specs.Prelude.{first_frame};
@@ -52,7 +57,8 @@ impl World {
         ensures opened { IfOk result (λ w. w ≡ opened defs.now settings) }
 
         // It keeps the records between rounds.
-        ensures records { IfOk result (λ w. (clients : ℕ → ClientReplica) → KeepsRecords (first_frame defs.now settings) clients w) }
+        ensures records { IfOk result (λ w. (clients : ℕ → ClientReplica) →
+            KeepsRecords (first_frame defs.now settings) clients w) }
     {
         seam_law_all::an_opened_world_keeps_the_records();
         defs.known();
@@ -127,7 +133,25 @@ impl World {
         let _ = &self.net;
     }
 
+    /// How many nodes there are: sixteen cells, and the base nodes after them.
+    pub fn node_count(&self) -> usize
+        ensures count { result ≡ length self.now.nodes }
+        ensures few { result < 256 }
+    {
+        self.net.node_count()
+    }
+
+    /// The node of that number.
+    pub fn node(&self, n: u8) -> Option<&Node>
+        ensures { option_copied result ≡ slice_get self.now.nodes n }
+    {
+        self.net.node(n)
+    }
+
     /// The nodes and the links.
+    ///
+    /// A crate that calls the methods of `Net` at `Node` proves anew how a node and all that it owns are let go. So `node` and `node_count`
+    /// are there for those who only look.
     pub fn net(&self) -> &Net<Node>
         ensures { result.now ≡ self.now }
     {
@@ -136,12 +160,13 @@ impl World {
 
     /// Lets one event happen, which has to be enabled. If allocation fails, nothing has changed.
     ///
-    /// A list of events that led here from a loaded world leads on with this one, and the world obeys the laws of its phase.
+    /// A list of events that led here from a loaded world leads on with this one (`leads`), so that the laws of its phase speak of the new
+    /// world (`laws`).
     pub fn step(&mut self, alloc: Global, event: Event) -> Result<(), AllocError>
         requires { enabled node_has_work self.old event ≡ true }
         ensures happens { OnOk result (self.new ≡ happens node_steps self.old event) }
-        ensures leads { OnOk result ((start : AnyWorld) (es : List AnyEvent) → Leads start es self.old
-            → Leads start (es ++ event ∷ []) self.new) }
+        ensures leads { OnOk result ((start : AnyWorld) (es : List AnyEvent) →
+            Leads start es self.old → Leads start (es ++ event ∷ []) self.new) }
         ensures laws { KeepsLaws self.new }
         ensures err { OnErr result (self.new ≡ self.old) }
     {
@@ -161,7 +186,7 @@ impl World {
         net
     }
 
-    /// Makes a world again of the net of one, to which events may have happened. It obeys the laws of its phase.
+    /// Makes a world again of the net of one, to which events may have happened. The laws of its phase speak of it.
     pub fn over(net: Net<Node>) -> World
         requires { IsWorld net }
         ensures world { result ≡ net }

@@ -1,5 +1,7 @@
 -- Lists of values some of which are left out.
-use Rattle.std.proofs.Common.{◌≡◌, ◌≢◌, ◌↔◌, ℕ, zero, suc, ◌+◌, ◌*◌, ◌^◌, ◌<◌, ◌≤◌, ◌/◌, ◌%◌, refl, sym, ap, ◌∙◌, List, [], ◌∷◌, ◌++◌, length, Bool, true, false, inl, inr, arith, take, drop, get_or, length-take, append_assoc, drop-cons, add-one, if◌then◌else◌}
+use Rattle.std.proofs.Common.{◌≡◌, ◌≢◌, ◌↔◌, ℕ, zero, suc, ◌+◌, ◌*◌, ◌^◌, ◌<◌, ◌≤◌, ◌/◌, ◌%◌, refl, sym, ap, ◌∙◌, List, [], ◌∷◌, ◌++◌}
+use Rattle.std.proofs.Common.{length, Bool, true, false, inl, inr, arith, take, drop, get_or, length-take, append_assoc, drop-cons, add-one}
+use Rattle.std.proofs.Common.{if◌then◌else◌}
 use Rattle.std.proofs.lemmas.Bool.{cases_Bool}
 use Rattle.std.proofs.Math.Nat.{pow-succ', mul_left_comm}
 use Rattle.std.specs.Prelude.{◌==◌}
@@ -36,7 +38,8 @@ kept-all (v ∷ values) = ap (λ l. v ∷ l) (kept-all values)
 doubled : (digit n : ℕ) → digit * 2 ^ suc n ≡ 2 * (digit * 2 ^ n)
 doubled digit n = ap (λ m. digit * m) (pow-succ' 2 n) ∙ mul_left_comm digit 2 (2 ^ n)
 
-rest : (marks digit n : ℕ) → marks < 2 ^ suc n → ((marks + digit * 2 ^ suc n) % 2 ≡ marks % 2) × ((marks + digit * 2 ^ suc n) / 2 ≡ marks / 2 + digit * 2 ^ n) × (marks / 2 < 2 ^ n)
+rest : (marks digit n : ℕ) → marks < 2 ^ suc n → ((marks + digit * 2 ^ suc n) % 2 ≡ marks % 2) ×
+    ((marks + digit * 2 ^ suc n) / 2 ≡ marks / 2 + digit * 2 ^ n) × (marks / 2 < 2 ^ n)
 rest marks digit n below =
     let twice = doubled digit n in
     let power = pow-succ' 2 n in
@@ -61,7 +64,8 @@ module _ (values : List Value) (i : ℕ) (v : Value) (within : i < length values
       kept (marks + digit * 2 ^ i) (take (i + 1) values) ≡ kept marks (take i values) ++ kept digit (v ∷ [])
   digit-more marks digit below =
       let long : length (take i values) ≡ i = omega (arith, length-take i values) in
-      let whole : take (i + 1) values ≡ take i values ++ v ∷ [] = take_more values i v within ∙ ap (λ w. take i values ++ w ∷ []) (sym here) in
+      let whole : take (i + 1) values ≡ take i values ++ v ∷ [] = take_more values i v within
+      ∙ ap (λ w. take i values ++ w ∷ []) (sym here) in
       let more = kept-more (take i values) marks digit v (rw long below) in
       ap (kept (marks + digit * 2 ^ i)) whole ∙ ap (λ n. kept (marks + digit * 2 ^ n) (take i values ++ v ∷ [])) (sym long) ∙ more
 
@@ -87,10 +91,12 @@ module _ (values : List Value) (i : ℕ) (v : Value) (within : i < length values
   marked g ps qs before marks false below next =
       let more = digit-more marks 1 below in
       let same : marks + 1 * 2 ^ i ≡ marks + 2 ^ i = omega arith in
-      rw (next, ← same, more) (ap (λ l. l ++ shown_of g qs (kept (before / 2) (drop (i + 1) values))) (append-nil (kept marks (take i values))))
+      rw (next, ← same, more)
+      (ap (λ l. l ++ shown_of g qs (kept (before / 2) (drop (i + 1) values))) (append-nil (kept marks (take i values))))
 
 -- the same where no value was left out before, and a property is the next
-pub marked-all : (values : List Value) (i : ℕ) (g : Group) (p : Property) (qs : List Property) (marks : ℕ) → i < length values → marks < 2 ^ i →
+pub marked-all : (values : List Value) (i : ℕ) (g : Group) (p : Property) (qs : List Property) (marks : ℕ) → i < length values →
+    marks < 2 ^ i →
     kept (if in_group p.flag g then marks else marks + 2 ^ i) (take (i + 1) values) ++ shown_of g qs (drop (i + 1) values)
     ≡ kept marks (take i values) ++ shown_of g (p ∷ qs) (drop i values)
 marked-all values i g p qs marks within below =
@@ -98,7 +104,11 @@ marked-all values i g p qs marks within below =
     let here : v ≡ get_or values i v = get_or_default values i (Number (pos 0)) v within in
     let next : shown_of g (p ∷ qs) (kept 0 (drop i values))
     ≡ (if in_group p.flag g then v ∷ shown_of g qs (kept 0 (drop (i + 1) values)) else shown_of g qs (kept 0 (drop (i + 1) values))) =
-    rw (kept-next values i v within here 0 refl) (elim (cases_Bool (in_group p.flag g)) [ inl seen ↦ rw seen refl | inr hidden ↦ rw hidden refl ]) in
+    rw (kept-next values i v within here 0 refl) (elim (cases_Bool (in_group p.flag g)) [
+      | inl seen ↦ rw seen refl
+      | inr hidden ↦
+          rw hidden refl
+    ]) in
     rw (kept-all (drop (i + 1) values), kept-all (drop i values)) at
     (marked values i v within here g (p ∷ qs) qs 0 marks (in_group p.flag g) below next)
 

@@ -134,6 +134,7 @@ changed_is t s new d c h e =
 
 pub later_changes : {E : Type 0} (t : TypeDef) (s : State) (d : Deed) (r : Result Later E) →
     IfOk r (λ l. with_later s l ≡ after t s d) →
-    IfOk r (λ l. (l.changed ≡ false) ↔ SameShown t.properties (part_of_deed t d) s (with_later s l)) → IfOk r (λ l. l.changed ≡ changes t s d)
+    IfOk r (λ l. (l.changed ≡ false) ↔ SameShown t.properties (part_of_deed t d) s (with_later s l)) →
+    IfOk r (λ l. l.changed ≡ changes t s d)
 later_changes t s d (Ok l) is same = changed_is t s (with_later s l) d l.changed same is
 later_changes t s d (Err x) is same = tt

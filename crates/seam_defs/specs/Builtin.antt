@@ -1,5 +1,7 @@
 -- The types of a world whose header defines none: an avatar and a chest.
 use Rattle.std.specs.Prelude.{ℕ, pos, Bool, true, false, List, [], ◌∷◌, codes}
+use Rattle.std.specs.List.{position_or_len}
+use Rattle.std.specs.Str.{bytes_eq}
 use Rattle.seam_value.specs.declared.types.ValueType.{ValueType}
 use Rattle.seam_value.specs.declared.types.ValueType.TheVariants as type
 use Rattle.seam_value.specs.declared.values.Value.{Value}
@@ -62,3 +64,7 @@ builtin =
     record { name = codes "Avatar"; properties = avatar_properties; methods = avatar_methods } ∷
     record { name = codes "Chest"; properties = chest_properties; methods = chest_methods } ∷
     []
+
+-- the number of the method with that name: methods are numbered by their places
+abbrev pub method_named : List ℕ → List Method → ℕ
+method_named name ms = position_or_len (λ m. bytes_eq m.name name) ms

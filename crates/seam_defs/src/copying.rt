@@ -10,7 +10,9 @@ impl Defs {
         ensures { IfOk result (λ defs. defs ≡ self.now) }
     {
         let types = copy_types(self.alloc, &self.types)?;
-        Ok(Defs::of_types(self.alloc, types))
+        let mut defs = Defs::of_types(self.alloc, types);
+        defs.set_hash_key(self.key);
+        Ok(defs)
     }
 }
 

@@ -70,8 +70,10 @@ impl TypeDef {
             ↔ SameShown self.now.properties (part_of_deed self.now deed.now) state.old state.new) }
         ensures test { IfOk result (λ c. c ≡ changes self.now state.old deed.now) }
         ensures err { OnErr result (state.new ≡ state.old) }
-        ensures kept { FitsDeed self.now deed.now → let group = held_by (part_of_deed self.now deed.now) in
-            IsOfGroup self.now.properties group state.old.props → IsOfGroup self.now.properties group state.new.props }
+        ensures kept { FitsDeed self.now deed.now →
+            let group = held_by (part_of_deed self.now deed.now) in
+            IsOfGroup self.now.properties group state.old.props →
+            IsOfGroup self.now.properties group state.new.props }
     {
         let later = self.perform(state, deed)?;
         let changed = later.changed;
@@ -82,7 +84,8 @@ impl TypeDef {
     /// What a deed leaves of a state, and whether what others may see of the part differs there; the state itself stays as it is.
     pub fn later(&self, state: &State, deed: &Deed) -> Result<Later, AllocError>
         requires { IsType self.now }
-        ensures after { IfOk result (λ l. with_later state.now l ≡ after self.now state.now deed.now) }
+        ensures after { IfOk result (λ l. with_later state.now l
+            ≡ after self.now state.now deed.now) }
         ensures changed { IfOk result (λ l. l.changed ≡ changes self.now state.now deed.now) }
     {
         self.perform(state, deed)
@@ -102,11 +105,15 @@ impl TypeDef {
     // What `later` gives, without its test.
     fn perform(&self, state: &State, deed: &Deed) -> Result<Later, AllocError>
         requires { IsType self.now }
-        ensures after { IfOk result (λ l. with_later state.now l ≡ after self.now state.now deed.now) }
-        ensures changed { IfOk result (λ l. (l.changed ≡ false)
-            ↔ SameShown self.now.properties (part_of_deed self.now deed.now) state.now (with_later state.now l)) }
-        ensures kept { IfOk result (λ l. FitsDeed self.now deed.now → let group = held_by (part_of_deed self.now deed.now) in
-            IsOfGroup self.now.properties group state.now.props → IsOfGroup self.now.properties group (with_later state.now l).props) }
+        ensures after { IfOk result (λ l. with_later state.now l
+            ≡ after self.now state.now deed.now) }
+        ensures changed { IfOk result (λ l. (l.changed ≡ false) ↔
+            SameShown self.now.properties (part_of_deed self.now deed.now) state.now
+            (with_later state.now l)) }
+        ensures kept { IfOk result (λ l. FitsDeed self.now deed.now →
+            let group = held_by (part_of_deed self.now deed.now) in
+            IsOfGroup self.now.properties group state.now.props →
+            IsOfGroup self.now.properties group (with_later state.now l).props) }
     {
         match deed {
             Deed::Move(to) => Ok(Later {
@@ -142,9 +149,11 @@ fn run(
     props: &Props,
 ) -> Result<(Props, bool), AllocError>
     requires { IsMethod properties.now method.now }
-    ensures kept { IfOk result (λ r. TakesArgs method.now.args args.now → IsOfGroup properties.now (held_by method.now.part) props.now →
+    ensures kept { IfOk result (λ r. TakesArgs method.now.args args.now →
+        IsOfGroup properties.now (held_by method.now.part) props.now →
         IsOfGroup properties.now (held_by method.now.part) r.0) }
-    ensures after { IfOk result (λ r. r.0 ≡ after_body properties.now (held_by method.now.part) args.now method.now.body props.now) }
+    ensures after { IfOk result (λ r. r.0 ≡ after_body properties.now (held_by method.now.part)
+        args.now method.now.body props.now) }
     ensures changed { IfOk result (λ r. (r.1 ≡ false)
         ↔ (projected properties.now (held_by method.now.part) (shown_by method.now.part) props.now
         ≡ projected properties.now (held_by method.now.part) (shown_by method.now.part) r.0)) }
@@ -162,7 +171,8 @@ fn operate_all(
     args: &[Value],
     values: &mut [Value],
 ) -> Result<(), AllocError>
-    ensures { OnOk result (values.new ≡ after_body properties.now (held_by method.now.part) args.now method.now.body values.old) }
+    ensures { OnOk result (values.new ≡ after_body properties.now (held_by method.now.part) args.now
+        method.now.body values.old) }
 {
     let alloc = *method.body.allocator();
     for operation in method.body.as_slice() {

@@ -4,6 +4,7 @@ ghost use Rattle.std.specs.Cmp.Lexicographic.{slice_cmp};
 ghost use Rattle.seam_defs.specs.Types.{AreDefs, IsType, type_of, names_of_types};
 
 use crate::{Listed, TypeDef};
+use seam_table::HashKey;
 use seam_value::ShortText;
 use std::alloc::Global;
 use std::cmp::Ordering;
@@ -16,6 +17,7 @@ use std::marker::Model;
 #[derive(Debug, Drop)]
 pub struct Defs {
     pub(crate) alloc: Global,
+    pub(crate) key: HashKey,
     pub(crate) types: Vec<TypeDef>,
     // The type of every other number.
     none: TypeDef,
@@ -44,7 +46,24 @@ impl Defs {
             properties: Listed::of(Vec::new(alloc)),
             methods: Listed::of(Vec::new(alloc)),
         };
-        Defs { alloc, types, none }
+        Defs {
+            alloc,
+            key: HashKey::new(0),
+            types,
+            none,
+        }
+    }
+
+    /// The key of the hash by which tables of a world of these types find entities: a known one, until `set_hash_key`.
+    pub fn hash_key(&self) -> HashKey {
+        self.key
+    }
+
+    /// Sets that key, and nothing that a contract sees. Copies keep it.
+    pub fn set_hash_key(&mut self, key: HashKey)
+        ensures { self.new ≡ self.old }
+    {
+        self.key = key;
     }
 
     /// Definitions are well formed.
@@ -57,7 +76,8 @@ impl Defs {
     /// The number of the type of this name: None exactly where none has it.
     pub fn find_type(&self, name: &[u8]) -> Option<u16>
         ensures found { IfSome result (λ k. slice_get (names_of_types self.now) k ≡ Some name.now) }
-        ensures all { (k : ℕ) → slice_get (names_of_types self.now) k ≡ Some name.now → result ≡ Some k }
+        ensures all { (k : ℕ) → slice_get (names_of_types self.now) k ≡ Some name.now →
+            result ≡ Some k }
     {
         match self.types.binary_search_by(|t| order(&t.name, name)) {
             Ok(place) => Some(place as u16),

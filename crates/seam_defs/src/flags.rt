@@ -52,7 +52,8 @@ const ARE_IN_GROUPS: [[bool; 8]; 6] = [
 impl Part {
     /// The part of this name: `cell` or `base`. `None` for every other text.
     pub fn named(name: &str) -> Option<Part>
-        ensures { MatchOption result ((p : Parts) → part_name p ≢ name.now) (λ p. part_name p ≡ name.now) }
+        ensures { MatchOption result ((p : Parts) → part_name p ≢ name.now) (λ p. part_name p
+            ≡ name.now) }
     {
         match name {
             "cell" => Some(Part::Cell),
@@ -65,7 +66,8 @@ impl Part {
 impl Flag {
     /// The flag of this name: `BASE` to `ALL_CLIENTS`. `None` for every other text.
     pub fn named(name: &str) -> Option<Flag>
-        ensures { MatchOption result ((f : Flags) → flag_name f ≢ name.now) (λ f. flag_name f ≡ name.now) }
+        ensures { MatchOption result ((f : Flags) → flag_name f ≢ name.now) (λ f. flag_name f
+            ≡ name.now) }
     {
         match name {
             "BASE" => Some(Flag::Base),

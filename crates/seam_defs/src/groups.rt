@@ -15,7 +15,8 @@ impl TypeDef {
     /// The values of a group that a new entity of the type has.
     pub fn start_props(&self, group: Group) -> Result<Props, AllocError>
         ensures value { IfOk result (λ props. props ≡ start_values self.now.properties group) }
-        ensures of_group { IsType self.now → IfOk result (λ props. IsOfGroup self.now.properties group props) }
+        ensures of_group { IsType self.now → IfOk result
+            (λ props. IsOfGroup self.now.properties group props) }
     {
         let mut values = Vec::with_capacity(*self.properties.allocator(), self.count_of(group))?;
         push_defaults(self.properties.as_slice(), group, &mut values)?;
@@ -37,7 +38,8 @@ impl TypeDef {
         props: &Props,
         group: Group,
     ) -> Result<Props, AllocError>
-        ensures { IfOk result (λ projection. projection ≡ projected self.now.properties held group props.now) }
+        ensures { IfOk result (λ projection. projection ≡ projected self.now.properties held group
+            props.now) }
     {
         props.project(self.properties.as_slice(), held, group)
     }
@@ -50,7 +52,8 @@ impl TypeDef {
         group: Group,
         projection: &Props,
     ) -> bool
-        ensures { IsTrue result ↔ projection.now ≡ projected self.now.properties held group props.now }
+        ensures { IsTrue result ↔ projection.now ≡ projected self.now.properties held group
+            props.now }
     {
         let of_held = OfGroup::new(self.properties.as_slice(), held);
         let mut copies = projection.values();
@@ -70,7 +73,8 @@ impl TypeDef {
         props: &Props,
         out: &mut Vec<u8>,
     ) -> Result<(), AllocError>
-        ensures ok { OnOk result (out.new.items ≡ out.old.items ++ values_text self.now.properties group props.now) }
+        ensures ok { OnOk result (out.new.items ≡ out.old.items ++ values_text self.now.properties
+            group props.now) }
         ensures err { OnErr result (out.new.items ≡ out.old.items) }
     {
         let mark = out.len();
@@ -149,7 +153,8 @@ fn push_group(
     props: &Props,
     out: &mut Vec<u8>,
 ) -> Result<(), AllocError>
-    ensures ok { OnOk result (out.new.items ≡ out.old.items ++ values_text properties.now group props.now) }
+    ensures ok { OnOk result (out.new.items ≡ out.old.items ++ values_text properties.now group
+        props.now) }
     ensures kept { take (length out.old.items) out.new.items ≡ out.old.items }
 {
     for (property, value) in OfGroup::new(properties, group).zip(props.values()) {
@@ -159,7 +164,10 @@ fn push_group(
 }
 
 fn push_property(property: &Property, value: &Value, out: &mut Vec<u8>) -> Result<(), AllocError>
-    ensures ok { OnOk result (out.new.items ≡ out.old.items ++ property_text (property.now, value.now)) }
+    ensures ok { OnOk result (out.new.items ≡ out.old.items ++ property_text (
+      property.now,
+      value.now,
+    )) }
     ensures kept { take (length out.old.items) out.new.items ≡ out.old.items }
 {
     out.extend_from_slice(property.name.label())?;

@@ -13,8 +13,10 @@ impl TypeDef {
     /// The number of the method of this name that the type has: None exactly where it has none.
     pub fn find_method(&self, name: &[u8]) -> Option<u16>
         requires { IsType self.now }
-        ensures found { IfSome result (λ k. slice_get (names_of_methods self.now.methods) k ≡ Some name.now) }
-        ensures all { (k : ℕ) → slice_get (names_of_methods self.now.methods) k ≡ Some name.now → result ≡ Some k }
+        ensures found { IfSome result (λ k. slice_get (names_of_methods self.now.methods) k
+            ≡ Some name.now) }
+        ensures all { (k : ℕ) → slice_get (names_of_methods self.now.methods) k ≡ Some name.now →
+            result ≡ Some k }
     {
         let methods = self.methods.as_slice();
         match methods.binary_search_by(|m| order(&m.name, name)) {
@@ -32,7 +34,8 @@ impl TypeDef {
 
     /// The method of this number: None exactly where the type has none.
     pub fn method(&self, number: u16) -> Option<&Method>
-        ensures found { IfSome result (λ m. (number < length self.now.methods) × (m.now ≡ method_of self.now number)) }
+        ensures found { IfSome result (λ m. (number < length self.now.methods) ×
+            (m.now ≡ method_of self.now number)) }
         ensures none { IfNone result (length self.now.methods ≤ number) }
         ensures no_method { IfNone result (method_of self.now number ≡ no_method) }
         ensures sound { IsType self.now → IfSome result (λ m. IsMethod self.now.properties m.now) }

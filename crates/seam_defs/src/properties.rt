@@ -9,8 +9,10 @@ impl TypeDef {
     /// The number of the property of this name that the type has: None exactly where it has none.
     pub fn find_property(&self, name: &[u8]) -> Option<u16>
         requires { IsType self.now }
-        ensures found { IfSome result (λ k. slice_get (names_of_properties self.now.properties) k ≡ Some name.now) }
-        ensures all { (k : ℕ) → slice_get (names_of_properties self.now.properties) k ≡ Some name.now → result ≡ Some k }
+        ensures found { IfSome result (λ k. slice_get (names_of_properties self.now.properties) k
+            ≡ Some name.now) }
+        ensures all { (k : ℕ) → slice_get (names_of_properties self.now.properties) k
+            ≡ Some name.now → result ≡ Some k }
     {
         let properties = self.properties.as_slice();
         match properties.binary_search_by(|p| order(p.name.text(), name)) {

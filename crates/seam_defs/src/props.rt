@@ -108,7 +108,8 @@ impl Props {
         held: Group,
         group: Group,
     ) -> Result<Props, AllocError>
-        ensures { IfOk result (λ projection. projection ≡ projected properties.now held group self.now) }
+        ensures { IfOk result (λ projection. projection ≡ projected properties.now held group
+            self.now) }
     {
         if self.values.len() > MOST_PROPERTIES {
             return Props::of(copy_shown(properties, held, group, self)?);
@@ -235,7 +236,8 @@ fn left_out_of_kept(
     before: u64,
 ) -> u64
     requires { length values.now ≤ MOST_PROPERTIES }
-    ensures { kept result values.now ≡ projected properties.now held group (kept before values.now) }
+    ensures { kept result values.now ≡ projected properties.now held group
+        (kept before values.now) }
 {
     let mut of_held = OfGroup::new(properties, held);
     let mut left_out = 0;
@@ -254,8 +256,10 @@ fn left_out_of_kept(
 
 // Whether there is a next property, and it is in the group too.
 fn is_next_in(properties: &mut OfGroup<'_>, group: Group) -> bool
-    ensures { (v : AnyValue) (values : List AnyValue) → shown_of group (properties_left properties.old) (v ∷ values)
-        ≡ (if result then v ∷ shown_of group (properties_left properties.new) values else shown_of group (properties_left properties.new) values) }
+    ensures { (v : AnyValue) (values : List AnyValue) →
+        shown_of group (properties_left properties.old) (v ∷ values)
+        ≡ (if result then v ∷ shown_of group (properties_left properties.new) values
+        else shown_of group (properties_left properties.new) values) }
 {
     match properties.next() {
         Some(property) => property.flag.in_group(group),

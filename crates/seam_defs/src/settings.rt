@@ -88,8 +88,8 @@ impl Settings {
     }
 
     fn has_view_distances(&self) -> bool
-        ensures { IsTrue result ↔ (IsDistance self.now.view_radius × IsDistance self.now.view_hysteresis
-            × IsDistance self.now.offload_hysteresis) }
+        ensures { IsTrue result ↔ (IsDistance self.now.view_radius ×
+            IsDistance self.now.view_hysteresis × IsDistance self.now.offload_hysteresis) }
     {
         self.view_radius <= LONGEST_DISTANCE
             && self.view_hysteresis <= LONGEST_DISTANCE
@@ -97,8 +97,8 @@ impl Settings {
     }
 
     fn has_other_distances(&self) -> bool
-        ensures { IsTrue result ↔ (IsDistance self.now.ghost_distance × IsDistance self.now.ghost_hysteresis
-            × IsDistance self.now.balance_shift) }
+        ensures { IsTrue result ↔ (IsDistance self.now.ghost_distance ×
+            IsDistance self.now.ghost_hysteresis × IsDistance self.now.balance_shift) }
     {
         self.ghost_distance <= LONGEST_DISTANCE
             && self.ghost_hysteresis <= LONGEST_DISTANCE

@@ -12,7 +12,7 @@ use Rattle.seam_order.specs.Held.{OrderView, item_at, with_item, without}
 use Rattle.seam_order.specs.Offers.{next_item, after_offer, after_taking, after_item}
 use Rattle.seam_call.specs.declared.call.Call.{Call}
 use Rattle.seam_entity.specs.Orders.{Orders, order_or}
-use Rattle.seam_entity.specs.Calls.{item_passes, order_passes, all_held}
+use Rattle.seam_entity.specs.ReadyCalls.{item_passes, order_passes, all_held}
 
 pub both : (a b : Bool) → (a && b) ≡ true → (a ≡ true) × (b ≡ true)
 both true b h = (refl, h)

@@ -14,8 +14,8 @@ use Rattle.seam_order.specs.Offers.{next_item, after_item, after_taking}
 use Rattle.seam_call.specs.declared.call.Call.{Call}
 use Rattle.seam_call.specs.Senders.{rank_of}
 use Rattle.seam_entity.specs.Orders.{Orders, is_new, shown, view_of}
-use Rattle.seam_entity.specs.Calls.{is_ready, order_is_ready, ready_order, has_ready, call_in, ready_call, after_order, after_ready}
-use Rattle.seam_entity.specs.Calls.{item_passes, order_passes, all_held}
+use Rattle.seam_entity.specs.ReadyCalls.{is_ready, order_is_ready, ready_order, has_ready, call_in, ready_call, after_order, after_ready}
+use Rattle.seam_entity.specs.ReadyCalls.{item_passes, order_passes, all_held}
 use Rattle.seam_entity.specs.SenderPlaces.{Entries, ranks, AreOrdered, IsAt, NoneReady, IsFirstReady}
 use Rattle.seam_entity.proofs.OrderLemmas.{Entry, new_of, not_new, written_read}
 

@@ -20,7 +20,7 @@ use Rattle.seam_entity.specs.Reals.{RealView}
 use Rattle.seam_entity.specs.Numbers.{may_rise}
 use Rattle.seam_entity.specs.Fitting.{is_inside, can_do}
 use Rattle.seam_entity.specs.Here.{Here, type_at, properties}
-use Rattle.seam_entity.specs.Calls.{may_offer, all_held}
+use Rattle.seam_entity.specs.ReadyCalls.{may_offer, all_held}
 
 -- a real that has done nothing
 abbrev pub created : Here → ℕ → ℕ → Pos → RealView

@@ -3,7 +3,7 @@ pub mod Reals
 pub mod Numbers
 pub mod Fitting
 pub mod Here
-pub mod Calls
+pub mod ReadyCalls
 pub mod Executing
 pub mod SenderPlaces
 pub mod Preparing

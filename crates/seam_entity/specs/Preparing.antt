@@ -13,7 +13,7 @@ use Rattle.seam_call.specs.Senders.{rank_of}
 use Rattle.seam_entity.specs.Orders.{order_of}
 use Rattle.seam_entity.specs.Reals.{RealView, RoomyReal}
 use Rattle.seam_entity.specs.Here.{Here}
-use Rattle.seam_entity.specs.Calls.{ready_order}
+use Rattle.seam_entity.specs.ReadyCalls.{ready_order}
 use Rattle.seam_entity.specs.Executing.{executed, with_offer, shows, public_after}
 use Rattle.seam_entity.specs.declared.real.Did.{Did}
 use Rattle.seam_entity.specs.declared.real.Did.TheVariants.{Done, Held, Stale}

@@ -7,7 +7,7 @@ use Rattle.seam_order.specs.Held.{OrderView}
 use Rattle.seam_call.specs.declared.sender.Sender.{Sender}
 use Rattle.seam_call.specs.declared.call.Call.{Call}
 use Rattle.seam_call.specs.Senders.{rank_of}
-use Rattle.seam_entity.specs.Calls.{is_ready}
+use Rattle.seam_entity.specs.ReadyCalls.{is_ready}
 
 abbrev pub Entries : Type 0
 Entries = List (Sender × OrderView Call)

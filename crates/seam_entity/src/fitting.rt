@@ -2,7 +2,7 @@
 
 ghost use Rattle.std.specs.Prelude.{◌≡◌, ℕ};
 ghost use Rattle.std.specs.List.{list_all};
-ghost use Rattle.seam_entity.specs.Calls.{item_passes};
+ghost use Rattle.seam_entity.specs.ReadyCalls.{item_passes};
 ghost use Rattle.seam_entity.specs.Fitting.{is_inside as is_in_space, stays_inside as stays_in_space, can_do as can_part_do};
 ghost use Rattle.seam_entity.specs.Executing.{fits_cell_part as call_fits, fits_copy as copy_fits};
 ghost use Rattle.seam_entity.specs.Preparing.{node_with};
@@ -38,7 +38,8 @@ pub fn can_do(size: u32, t: &TypeDef, part: Part, deed: &Deed) -> bool
 
 /// Whether the call is for the cell part of that entity, and fits that type.
 pub fn fits_cell_part(defs: &Defs, settings: &Settings, entity: u32, ty: u16, call: &Call) -> bool
-    ensures { (me : ℕ) → result ≡ call_fits (node_with defs.now me settings.now) entity ty call.now }
+    ensures { (me : ℕ) → result ≡ call_fits (node_with defs.now me settings.now) entity ty
+        call.now }
 {
     call.is_for(Part::Cell, entity)
         && can_do(settings.size, defs.type_at(ty), Part::Cell, &call.deed)
@@ -52,8 +53,8 @@ pub(crate) fn holds_fitting(
     entity: u32,
     ty: u16,
 ) -> bool
-    ensures { (me : ℕ) →
-        result ≡ list_all (item_passes (call_fits (node_with defs.now me settings.now) entity ty)) order.now.held }
+    ensures { (me : ℕ) → result ≡ list_all (item_passes
+        (call_fits (node_with defs.now me settings.now) entity ty)) order.now.held }
 {
     for (_, call) in order.iter() {
         if !fits_cell_part(defs, settings, entity, ty, call) {

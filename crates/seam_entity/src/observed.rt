@@ -38,7 +38,8 @@ impl Observed<'_> {
     /// What other clients are shown of it.
     pub fn copy_for_others(&self, defs: &Defs) -> Result<GhostCopy, AllocError>
         ensures { (me : ℕ) (settings : AllSettings) → IfOk result (λ c. c
-            ≡ shown_to_others (node_with defs.now me settings) self.now.held self.now.ty self.now.version self.now.state.now) }
+            ≡ shown_to_others (node_with defs.now me settings) self.now.held self.now.ty
+            self.now.version self.now.state.now) }
     {
         let props = defs
             .type_at(self.ty)

@@ -13,7 +13,7 @@ ghost use Rattle.seam_call.specs.Senders.{rank_of};
 ghost use Rattle.seam_entity.specs.Orders.{order_of, view_of};
 ghost use Rattle.seam_entity.specs.Executing.{fits_cell_part as call_fits};
 ghost use Rattle.seam_entity.specs.Preparing.{node_with};
-ghost use Rattle.seam_entity.specs.Calls.{has_ready, ready_call, after_ready, all_held};
+ghost use Rattle.seam_entity.specs.ReadyCalls.{has_ready, ready_call, after_ready, all_held};
 ghost use Rattle.seam_entity.specs.SenderPlaces.{AreOrdered, IsAt, IsGap, NoneReady, IsFirstReady};
 
 use crate::fitting::holds_fitting;
@@ -113,7 +113,8 @@ fn next_in(entries: &[(Sender, InOrder<Call>)], sender: Sender) -> u64
 // Whether the sender's call of that number is held.
 fn holds_in(entries: &[(Sender, InOrder<Call>)], sender: Sender, number: u64) -> bool
     requires { AreOrdered entries.now }
-    ensures { result ≡ is_some (item_at number (order_of (view_of entries.now).orders sender).held) }
+    ensures { result ≡ is_some (item_at number (order_of (view_of entries.now).orders
+        sender).held) }
 {
     match search(entries, sender.rank()) {
         Ok(at) => entries[at].1.holds(number),
@@ -125,7 +126,8 @@ fn holds_in(entries: &[(Sender, InOrder<Call>)], sender: Sender, number: u64) ->
 fn make_place(entries: &mut Vec<(Sender, InOrder<Call>)>, sender: &Sender) -> Result<(), AllocError>
     requires { AreOrdered entries.old.items }
     ensures same { (view_of entries.new.items).orders ≡ (view_of entries.old.items).orders }
-    ensures room { OnOk result (set.contains (view_of entries.new.items).senders (rank_of sender.now) ≡ true) }
+    ensures room { OnOk result (set.contains (view_of entries.new.items).senders
+        (rank_of sender.now) ≡ true) }
     ensures ordered { AreOrdered entries.new.items }
 {
     match search(entries, sender.rank()) {
@@ -144,7 +146,8 @@ fn insert_sender(
     requires ordered { AreOrdered entries.old.items }
     requires gap { IsGap entries.old.items (rank_of sender.now) at }
     ensures same { (view_of entries.new.items).orders ≡ (view_of entries.old.items).orders }
-    ensures room { OnOk result (set.contains (view_of entries.new.items).senders (rank_of sender.now) ≡ true) }
+    ensures room { OnOk result (set.contains (view_of entries.new.items).senders
+        (rank_of sender.now) ≡ true) }
     ensures ordered { AreOrdered entries.new.items }
 {
     let alloc = *entries.allocator();
@@ -160,16 +163,20 @@ fn offer_in(
     requires ordered { AreOrdered entries.old.items }
     requires from_one { 1 ≤ call.number }
     requires small { call.number < 2 ^ 62 }
-    requires not_held { is_some (item_at call.number (order_of (view_of entries.old.items).orders call.sender).held) ≡ false }
+    requires not_held { is_some (item_at call.number (order_of (view_of entries.old.items).orders
+        call.sender).held) ≡ false }
     requires room { set.contains (view_of entries.old.items).senders (rank_of call.sender) ≡ true }
     ensures answer { let o = order_of (view_of entries.old.items).orders call.sender in
         IfOk result (λ a. a ≡ offer_answer o.next call.number call) }
     ensures after { let o = order_of (view_of entries.old.items).orders call.sender in
         OnOk result ((view_of entries.new.items).orders
-        ≡ table.insert (view_of entries.old.items).orders (rank_of call.sender) (after_offer o call.number call)) }
-    ensures err { OnErr result ((view_of entries.new.items).orders ≡ (view_of entries.old.items).orders) }
+        ≡ table.insert (view_of entries.old.items).orders (rank_of call.sender)
+        (after_offer o call.number call)) }
+    ensures err { OnErr result ((view_of entries.new.items).orders
+        ≡ (view_of entries.old.items).orders) }
     ensures err_item { IfErr result (λ e. e.item ≡ call) }
-    ensures err_only_above { OnErr result ((order_of (view_of entries.old.items).orders call.sender).next < call.number) }
+    ensures err_only_above { OnErr result ((order_of (view_of entries.old.items).orders
+        call.sender).next < call.number) }
     ensures kept { AreOrdered entries.new.items }
 {
     let Ok(at) = search(entries, call.sender.rank()) else {
@@ -188,8 +195,8 @@ fn all_fit(
     ty: u16,
 ) -> bool
     requires { AreOrdered entries.now }
-    ensures { (me : ℕ) →
-        result ≡ all_held (call_fits (node_with defs.now me settings.now) entity ty) (view_of entries.now).orders }
+    ensures { (me : ℕ) → result ≡ all_held (call_fits (node_with defs.now me settings.now) entity
+        ty) (view_of entries.now).orders }
 {
     for entry in entries {
         if !holds_fitting(&entry.1, defs, settings, entity, ty) {
@@ -235,7 +242,8 @@ fn ready_in(entries: &[(Sender, InOrder<Call>)]) -> Option<&Call>
 fn take_ready_in(entries: &mut Vec<(Sender, InOrder<Call>)>) -> Option<Call>
     requires { AreOrdered entries.old.items }
     ensures call { result ≡ ready_call (view_of entries.old.items).orders }
-    ensures after { (view_of entries.new.items).orders ≡ after_ready (view_of entries.old.items).orders }
+    ensures after { (view_of entries.new.items).orders ≡ after_ready
+        (view_of entries.old.items).orders }
     ensures kept { AreOrdered entries.new.items }
 {
     let Some(at) = first_ready(entries) else {
@@ -284,23 +292,28 @@ impl Orders {
     pub fn offer(&mut self, call: Call) -> Result<Offer<Call>, NoMemoryFor<Call>>
         requires from_one { 1 ≤ call.number }
         requires small { call.number < 2 ^ 62 }
-        requires not_held { is_some (item_at call.number (order_of self.old.orders call.sender).held) ≡ false }
+        requires not_held { is_some (item_at call.number
+            (order_of self.old.orders call.sender).held) ≡ false }
         requires room { set.contains self.old.senders (rank_of call.sender) ≡ true }
-        ensures answer { IfOk result (λ a. a ≡ offer_answer (order_of self.old.orders call.sender).next call.number call) }
-        ensures after { OnOk result (self.new.orders ≡ table.insert self.old.orders (rank_of call.sender)
-            (after_offer (order_of self.old.orders call.sender) call.number call)) }
+        ensures answer { IfOk result (λ a. a ≡ offer_answer
+            (order_of self.old.orders call.sender).next call.number call) }
+        ensures after { OnOk result (self.new.orders ≡ table.insert self.old.orders
+            (rank_of call.sender) (after_offer (order_of self.old.orders call.sender)
+            call.number call)) }
 
         // If allocation fails, the call comes back and nothing has changed.
         ensures err { OnErr result (self.new.orders ≡ self.old.orders) }
         ensures err_item { IfErr result (λ e. e.item ≡ call) }
-        ensures err_only_above { OnErr result ((order_of self.old.orders call.sender).next < call.number) }
+        ensures err_only_above { OnErr result ((order_of self.old.orders call.sender).next
+            < call.number) }
     {
         offer_in(&mut self.entries, call)
     }
 
     /// Whether each call that is held is one for the cell part of that entity and fits that type.
     pub fn all_fit(&self, defs: &Defs, settings: &Settings, entity: u32, ty: u16) -> bool
-        ensures { (me : ℕ) → result ≡ all_held (call_fits (node_with defs.now me settings.now) entity ty) self.now.orders }
+        ensures { (me : ℕ) → result ≡ all_held (call_fits (node_with defs.now me settings.now)
+            entity ty) self.now.orders }
     {
         all_fit(&self.entries, defs, settings, entity, ty)
     }

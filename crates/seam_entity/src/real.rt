@@ -14,7 +14,7 @@ ghost use Rattle.seam_entity.specs.Executing.{real_begins};
 ghost use Rattle.seam_entity.specs.Executing.{created, copy_with, copy_of_real, with_deed, with_offer, executed, public_after, shows};
 ghost use Rattle.seam_entity.specs.Executing.{settled_to};
 ghost use Rattle.seam_entity.specs.Preparing.{node_with, advanced, with_after, met, offered as after_call, HasRoom, HasSpare, HasReady};
-ghost use Rattle.seam_entity.specs.Calls.{has_ready};
+ghost use Rattle.seam_entity.specs.ReadyCalls.{has_ready};
 ghost use Rattle.seam_entity.specs.Executing.{executed_ready, with_order, fits_real};
 ghost use Rattle.seam_defs.specs.declared.flags.Group.TheVariants as group;
 ghost use Rattle.seam_entity.specs.Witnesses.{witness_in};
@@ -119,8 +119,11 @@ pub fn ghost_copy(
     pos: Pos,
     props: &Props,
 ) -> Result<GhostCopy, AllocError>
-    ensures { (me : ℕ) (settings : AllSettings) →
-        IfOk result (λ c. c ≡ copy_with (node_with defs.now me settings) ty version (record { pos = pos; props = props.now })) }
+    ensures { (me : ℕ) (settings : AllSettings) → IfOk result (λ c. c
+        ≡ copy_with (node_with defs.now me settings) ty version (record {
+          pos = pos;
+          props = props.now;
+        })) }
 {
     let props = defs
         .type_at(ty)
@@ -134,8 +137,10 @@ pub fn ghost_copy(
 
 // What a deed will leave of a state.
 fn look_ahead(defs: &Defs, ty: u16, state: &State, deed: &Deed) -> Result<Later, AllocError>
-    ensures state { IfOk result (λ a. with_later state.now a ≡ after_deed (type_of defs.now ty) state.now deed.now) }
-    ensures changed { IfOk result (λ a. a.changed ≡ changes (type_of defs.now ty) state.now deed.now) }
+    ensures state { IfOk result (λ a. with_later state.now a
+        ≡ after_deed (type_of defs.now ty) state.now deed.now) }
+    ensures changed { IfOk result (λ a. a.changed ≡ changes (type_of defs.now ty) state.now
+        deed.now) }
 {
     defs.type_at(ty).later(state, deed)
 }
@@ -149,7 +154,8 @@ impl Real {
         ty: u16,
         pos: Pos,
     ) -> Result<Self, AllocError>
-        ensures { (me : ℕ) (settings : AllSettings) → IfOk result (λ r. r.core ≡ created (node_with defs.now me settings) entity ty pos) }
+        ensures { (me : ℕ) (settings : AllSettings) → IfOk result (λ r. r.core
+            ≡ created (node_with defs.now me settings) entity ty pos) }
     {
         let props = defs.type_at(ty).start_props(Group::Real)?;
         let body = Body {
@@ -332,8 +338,9 @@ impl Real {
 
     /// What its own client is shown of it.
     pub fn own_state(&self, defs: &Defs) -> Result<State, AllocError>
-        ensures { (me : ℕ) (settings : AllSettings) →
-            IfOk result (λ s. s ≡ own_of (properties (node_with defs.now me settings) self.now.core.ty) self.now.core.state) }
+        ensures { (me : ℕ) (settings : AllSettings) → IfOk result (λ s. s
+            ≡ own_of (properties (node_with defs.now me settings) self.now.core.ty)
+            self.now.core.state) }
     {
         let props = defs
             .type_at(self.body.ty)
@@ -363,9 +370,11 @@ impl Real {
     pub fn prepare(&mut self, defs: &Defs, call: &Call) -> Result<Later, AllocError>
         ensures same { self.new.core ≡ self.old.core }
         ensures state { (me : ℕ) (settings : AllSettings) →
-            IfOk result (λ a. with_later self.old.core.state a ≡ (with_deed (node_with defs.now me settings) self.old.core call.now).state) }
+            IfOk result (λ a. with_later self.old.core.state a
+            ≡ (with_deed (node_with defs.now me settings) self.old.core call.now).state) }
         ensures changed { (me : ℕ) (settings : AllSettings) →
-            IfOk result (λ a. a.changed ≡ shows (node_with defs.now me settings) self.old.core call.now) }
+            IfOk result (λ a. a.changed ≡ shows (node_with defs.now me settings) self.old.core
+            call.now) }
         ensures room { OnOk result (HasRoom self.new call.now) }
     {
         self.make_room(call)?;
@@ -386,7 +395,8 @@ impl Real {
         requires from_one { 1 ≤ call.number }
         requires small { call.number < 2 ^ 62 }
         requires version { self.old.core.version < 2 ^ 62 }
-        requires not_held { is_some (item_at call.number (order_of self.old.core.orders call.sender).held) ≡ false }
+        requires not_held { is_some (item_at call.number
+            (order_of self.old.core.orders call.sender).held) ≡ false }
         requires turn { call.number ≡ (order_of self.old.core.orders call.sender).next }
         requires room { HasRoom self.old call }
         ensures { self.new.core ≡ with_offer (with_after self.old.core after call) call }
@@ -421,11 +431,13 @@ impl Real {
         requires from_one { 1 ≤ call.number }
         requires small { call.number < 2 ^ 62 }
         requires version { self.old.core.version < 2 ^ 62 }
-        requires not_held { is_some (item_at call.number (order_of self.old.core.orders call.sender).held) ≡ false }
+        requires not_held { is_some (item_at call.number
+            (order_of self.old.core.orders call.sender).held) ≡ false }
         ensures answer { (me : ℕ) (settings : AllSettings) →
             IfOk result (λ d. d ≡ met (node_with defs.now me settings) self.old.core call) }
         ensures after { (me : ℕ) (settings : AllSettings) →
-            OnOk result (self.new.core ≡ after_call (node_with defs.now me settings) self.old.core call) }
+            OnOk result (self.new.core ≡ after_call (node_with defs.now me settings) self.old.core
+            call) }
 
         // If allocation fails, the call comes back and nothing has changed.
         ensures err { OnErr result (self.new.core ≡ self.old.core) }
@@ -442,12 +454,15 @@ impl Real {
         requires from_one { 1 ≤ call.number }
         requires small { call.number < 2 ^ 62 }
         requires version { self.old.core.version < 2 ^ 62 }
-        requires not_held { is_some (item_at call.number (order_of self.old.core.orders call.sender).held) ≡ false }
+        requires not_held { is_some (item_at call.number
+            (order_of self.old.core.orders call.sender).held) ≡ false }
         requires turn { call.number ≡ (order_of self.old.core.orders call.sender).next }
         ensures answer { (me : ℕ) (settings : AllSettings) →
-            IfOk result (λ d. d ≡ DidDone (shows (node_with defs.now me settings) self.old.core call)) }
+            IfOk result (λ d. d ≡ DidDone (shows (node_with defs.now me settings) self.old.core
+            call)) }
         ensures after { (me : ℕ) (settings : AllSettings) →
-            OnOk result (self.new.core ≡ executed (node_with defs.now me settings) self.old.core call) }
+            OnOk result (self.new.core ≡ executed (node_with defs.now me settings) self.old.core
+            call) }
         ensures err { OnErr result (self.new.core ≡ self.old.core) }
         ensures err_item { IfErr result (λ e. e.item ≡ call) }
     {
@@ -461,7 +476,8 @@ impl Real {
 
     /// Whether it is the call's turn.
     pub fn is_turn(&self, call: &Call) -> bool
-        ensures { result ≡ (call.now.number == (order_of self.now.core.orders call.now.sender).next) }
+        ensures { result ≡ (call.now.number == (order_of self.now.core.orders
+            call.now.sender).next) }
     {
         call.number == self.body.orders.next_number(call.sender)
     }
@@ -470,8 +486,10 @@ impl Real {
     fn put_off(&mut self, call: Call) -> Result<Did, NoMemoryFor<Call>>
         requires from_one { 1 ≤ call.number }
         requires small { call.number < 2 ^ 62 }
-        requires not_held { is_some (item_at call.number (order_of self.old.core.orders call.sender).held) ≡ false }
-        requires not_turn { (call.number == (order_of self.old.core.orders call.sender).next) ≡ false }
+        requires not_held { is_some (item_at call.number
+            (order_of self.old.core.orders call.sender).held) ≡ false }
+        requires not_turn { (call.number == (order_of self.old.core.orders call.sender).next)
+            ≡ false }
         ensures answer { (h : Here) → IfOk result (λ d. d ≡ met h self.old.core call) }
         ensures after { (h : Here) → OnOk result (self.new.core ≡ after_call h self.old.core call) }
         ensures err { OnErr result (self.new.core ≡ self.old.core) }
@@ -502,9 +520,12 @@ impl Real {
     pub fn prepare_ready(&mut self, defs: &Defs) -> Result<Later, AllocError>
         requires { has_ready self.old.core.orders ≡ true }
         ensures same { self.new.core ≡ self.old.core }
-        ensures state { (me : ℕ) (settings : AllSettings) (o : ℕ × OrderView CallData) (k : CallData) → HasReady self.old.core o k →
-            IfOk result (λ a. with_later self.old.core.state a ≡ (with_deed (node_with defs.now me settings) self.old.core k).state) }
-        ensures changed { (me : ℕ) (settings : AllSettings) (o : ℕ × OrderView CallData) (k : CallData) → HasReady self.old.core o k →
+        ensures state { (me : ℕ) (settings : AllSettings) (o : ℕ × OrderView CallData)
+            (k : CallData) → HasReady self.old.core o k →
+            IfOk result (λ a. with_later self.old.core.state a
+            ≡ (with_deed (node_with defs.now me settings) self.old.core k).state) }
+        ensures changed { (me : ℕ) (settings : AllSettings) (o : ℕ × OrderView CallData)
+            (k : CallData) → HasReady self.old.core o k →
             IfOk result (λ a. a.changed ≡ shows (node_with defs.now me settings) self.old.core k) }
         ensures room { OnOk result (HasSpare self.new) }
     {
@@ -534,10 +555,14 @@ impl Real {
     pub fn execute_ready(&mut self, defs: &Defs) -> Result<bool, AllocError>
         requires ready { has_ready self.old.core.orders ≡ true }
         requires version { self.old.core.version < 2 ^ 62 }
-        ensures answer { (me : ℕ) (settings : AllSettings) (o : ℕ × OrderView CallData) (k : CallData) → HasReady self.old.core o k →
-            IfOk result (λ changed. changed ≡ shows (node_with defs.now me settings) self.old.core k) }
-        ensures after { (me : ℕ) (settings : AllSettings) (o : ℕ × OrderView CallData) (k : CallData) → HasReady self.old.core o k →
-            OnOk result (self.new.core ≡ executed_ready (node_with defs.now me settings) self.old.core o k) }
+        ensures answer { (me : ℕ) (settings : AllSettings) (o : ℕ × OrderView CallData)
+            (k : CallData) → HasReady self.old.core o k →
+            IfOk result (λ changed. changed ≡ shows (node_with defs.now me settings) self.old.core
+            k) }
+        ensures after { (me : ℕ) (settings : AllSettings) (o : ℕ × OrderView CallData)
+            (k : CallData) → HasReady self.old.core o k →
+            OnOk result (self.new.core ≡ executed_ready (node_with defs.now me settings)
+            self.old.core o k) }
 
         // If allocation fails, nothing has changed.
         ensures err { OnErr result (self.new.core ≡ self.old.core) }

@@ -20,7 +20,8 @@ pub fn reserve_one<T>(items: &mut Vec<T>) -> Result<(), AllocError>
 /// Inserts the item at a place, counted from 0, in such room.
 pub(crate) fn insert<T: Drop>(items: &mut Vec<T>, at: usize, item: T) -> Result<(), AllocError>
     requires { at ≤ vec_len items.old }
-    ensures { items.new.items ≡ (if is_ok result then with_item_at items.old.items at item else items.old.items) }
+    ensures { items.new.items ≡ (if is_ok result then with_item_at items.old.items at item
+        else items.old.items) }
 {
     reserve_one(items)?;
     match items.insert(at, item) {

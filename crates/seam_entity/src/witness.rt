@@ -8,6 +8,7 @@ ghost use Rattle.seam_entity.specs.WitnessLooks.{new_witness, own_due, told_afte
 ghost use Rattle.seam_entity.specs.Witnesses.{witness_in};
 
 use seam_defs::Settings;
+use seam_table::HashKey;
 use seam_view::{Look, Seen, View};
 use std::alloc::{AllocError, Global};
 
@@ -21,12 +22,12 @@ pub struct Witness {
 }
 
 impl Witness {
-    /// A witness that has told nothing, in a box, since most reals have none.
-    pub fn new(alloc: Global, settings: &Settings) -> Result<Box<Witness>, AllocError>
+    /// A witness that has told nothing, in a box, since most reals have none. Its view finds entities by a hash with this key.
+    pub fn new(alloc: Global, key: HashKey, settings: &Settings) -> Result<Box<Witness>, AllocError>
         ensures { IfOk result (λ w. witness_in w ≡ new_witness settings.now) }
     {
         let witness = Witness {
-            view: View::new(alloc, settings.view_radius, settings.view_hysteresis),
+            view: View::new(alloc, key, settings.view_radius, settings.view_hysteresis),
             told: None,
             sent: 0,
         };
@@ -50,7 +51,8 @@ impl Witness {
         requires room { HasRoomFor self.old.view looks.now }
         requires small { self.old.sent + updates < 2 ^ 62 }
         ensures view { self.new.view.core ≡ after_looks known.now self.old.view.core looks.now }
-        ensures told { self.new.told ≡ told_after (own_due self.old.told version) version self.old.told }
+        ensures told { self.new.told ≡ told_after (own_due self.old.told version) version
+            self.old.told }
         ensures sent { self.new.sent ≡ self.old.sent + updates }
     {
         if self.is_own_due(version) {

@@ -17,7 +17,7 @@ ghost use Rattle.seam_ghosts.specs.Joined.{book_of, noted, IsBook};
 ghost use Rattle.seam_ghosts.specs.Book.{BookView, beat_of, copy_of, copies, answer, after_message, ghost_after};
 
 pub use seam_table::NoMemoryFor;
-use seam_table::Table;
+use seam_table::{HashKey, Table};
 use std::alloc::{AllocError, Global};
 use std::marker::Model;
 
@@ -69,13 +69,13 @@ impl<P> Model for GhostBook<P> {
 }
 
 impl<P: Drop> GhostBook<P> {
-    /// A book that knows of no entity.
-    pub fn new(alloc: Global) -> Self
+    /// A book that knows of no entity, and finds entities by a hash with this key.
+    pub fn new(alloc: Global, key: HashKey) -> Self
         ensures { result ≡ record { ghosts = map.empty } }
     {
         GhostBook {
-            beats: Table::new(alloc),
-            copies: Table::new(alloc),
+            beats: Table::new(alloc, key),
+            copies: Table::new(alloc, key),
         }
     }
 
@@ -99,7 +99,10 @@ impl<P: Drop> GhostBook<P> {
     /// Takes the entity's copy as it is at this beat. It is ignored exactly where the beat is not greater than `beat(e)`.
     pub fn set(&mut self, e: u32, beat: u64, copy: P) -> Result<Kept, NoMemoryFor<P>>
         ensures answer { IfOk result (λ k. k ≡ answer (beat_of self.old e) beat) }
-        ensures after { OnOk result (self.new ≡ after_message self.old e (record { beat = beat; copy = Some copy })) }
+        ensures after { OnOk result (self.new ≡ after_message self.old e (record {
+          beat = beat;
+          copy = Some copy;
+        })) }
 
         // Without memory the copy comes back and nothing has changed.
         ensures err { OnErr result (self.new ≡ self.old) }
@@ -112,7 +115,10 @@ impl<P: Drop> GhostBook<P> {
     /// greater than `beat(e)`.
     pub fn drop_copy(&mut self, e: u32, beat: u64) -> Result<Kept, AllocError>
         ensures answer { IfOk result (λ k. k ≡ answer (beat_of self.old e) beat) }
-        ensures after { OnOk result (self.new ≡ after_message self.old e (record { beat = beat; copy = None })) }
+        ensures after { OnOk result (self.new ≡ after_message self.old e (record {
+          beat = beat;
+          copy = None;
+        })) }
 
         // Without memory nothing has changed.
         ensures err { OnErr result (self.new ≡ self.old) }
@@ -137,8 +143,10 @@ fn write_over<P: Drop>(
     copy: P,
 ) -> Result<Kept, NoMemoryFor<P>>
     ensures answer { IfOk result (λ k. k ≡ answer known.old.beat beat) }
-    ensures known { OnOk result (known.new ≡ (if nat_lt known.old.beat beat then noted beat true else known.old)) }
-    ensures after { OnOk result (copies.new ≡ (if nat_lt known.old.beat beat then with_item copies.old e copy else copies.old)) }
+    ensures known { OnOk result (known.new ≡ (if nat_lt known.old.beat beat then noted beat true
+        else known.old)) }
+    ensures after { OnOk result (copies.new ≡ (if nat_lt known.old.beat beat
+        then with_item copies.old e copy else copies.old)) }
     ensures err { OnErr result ((known.new ≡ known.old) × (copies.new ≡ copies.old)) }
     ensures err_item { IfErr result (λ r. r.item ≡ copy) }
 {
@@ -165,7 +173,10 @@ fn write_first<P: Drop>(
     requires first { map.get beats.old.items e ≡ None }
     ensures answer { IfOk result (λ k. k ≡ answer 0 beat) }
     ensures after { OnOk result (book_of beats.new copies.new
-        ≡ after_message (book_of beats.old copies.old) e (record { beat = beat; copy = Some copy })) }
+        ≡ after_message (book_of beats.old copies.old) e (record {
+          beat = beat;
+          copy = Some copy;
+        })) }
     ensures book { IsBook beats.new copies.new }
     ensures err { OnErr result (book_of beats.new copies.new ≡ book_of beats.old copies.old) }
     ensures err_item { IfErr result (λ r. r.item ≡ copy) }
@@ -196,7 +207,10 @@ fn set_copy<P: Drop>(
     requires { IsBook beats.old copies.old }
     ensures answer { IfOk result (λ k. k ≡ answer (beat_of (book_of beats.old copies.old) e) beat) }
     ensures after { OnOk result (book_of beats.new copies.new
-        ≡ after_message (book_of beats.old copies.old) e (record { beat = beat; copy = Some copy })) }
+        ≡ after_message (book_of beats.old copies.old) e (record {
+          beat = beat;
+          copy = Some copy;
+        })) }
     ensures book { IsBook beats.new copies.new }
     ensures err { OnErr result (book_of beats.new copies.new ≡ book_of beats.old copies.old) }
     ensures err_item { IfErr result (λ r. r.item ≡ copy) }
@@ -211,8 +225,10 @@ fn set_copy<P: Drop>(
 fn drop_over<P: Drop>(known: &mut Heard, copies: &mut Table<P>, e: u32, beat: u64) -> Kept
     requires { map.contains_key copies.old.items e ≡ known.old.has_copy }
     ensures answer { result ≡ answer known.old.beat beat }
-    ensures known { known.new ≡ (if nat_lt known.old.beat beat then noted beat false else known.old) }
-    ensures after { copies.new.items ≡ (if nat_lt known.old.beat beat then map.remove copies.old.items e else copies.old.items) }
+    ensures known { known.new ≡ (if nat_lt known.old.beat beat then noted beat false
+        else known.old) }
+    ensures after { copies.new.items ≡ (if nat_lt known.old.beat beat
+        then map.remove copies.old.items e else copies.old.items) }
 {
     if known.beat >= beat {
         return Kept::Ignored;
@@ -230,7 +246,8 @@ fn drop_over<P: Drop>(known: &mut Heard, copies: &mut Table<P>, e: u32, beat: u6
 // Notes the beat where none is known, so that there is no copy.
 fn note_first(beats: &mut Table<Heard>, e: u32, beat: u64) -> Result<Kept, AllocError>
     ensures answer { IfOk result (λ k. k ≡ answer 0 beat) }
-    ensures after { OnOk result (beats.new ≡ (if nat_lt 0 beat then with_item beats.old e (noted beat false) else beats.old)) }
+    ensures after { OnOk result (beats.new ≡ (if nat_lt 0 beat
+        then with_item beats.old e (noted beat false) else beats.old)) }
     ensures err { OnErr result (beats.new ≡ beats.old) }
 {
     if beat == 0 {
@@ -269,10 +286,14 @@ fn drop_at<P: Drop>(
 /// The beat of an entity never falls: after a message it is the greater of the message's beat and the one known, and where the
 /// message's is greater, the copy is the message's. No other entity changes.
 pub fn beats_never_fall<P>()
-    ensures never_fall { (w : BookView P) (e : ℕ) (g : Ghost P) (q : ℕ) → beat_of w q ≤ beat_of (after_message w e g) q }
-    ensures greatest { (w : BookView P) (e : ℕ) (g : Ghost P) → beat_of (after_message w e g) e ≡ max (beat_of w e) g.beat }
-    ensures newest { (w : BookView P) (e : ℕ) (g : Ghost P) →
-        copy_of (after_message w e g) e ≡ (if nat_lt (beat_of w e) g.beat then g.copy else copy_of w e) }
-    ensures others { (w : BookView P) (e : ℕ) (g : Ghost P) (q : ℕ) → q ≢ e → map.get (after_message w e g).ghosts q ≡ map.get w.ghosts q }
-    ensures entry { (w : BookView P) (e : ℕ) (g : Ghost P) → map.get (after_message w e g).ghosts e ≡ ghost_after (map.get w.ghosts e) g }
+    ensures never_fall { (w : BookView P) (e : ℕ) (g : Ghost P) (q : ℕ) →
+        beat_of w q ≤ beat_of (after_message w e g) q }
+    ensures greatest { (w : BookView P) (e : ℕ) (g : Ghost P) → beat_of (after_message w e g) e
+        ≡ max (beat_of w e) g.beat }
+    ensures newest { (w : BookView P) (e : ℕ) (g : Ghost P) → copy_of (after_message w e g) e
+        ≡ (if nat_lt (beat_of w e) g.beat then g.copy else copy_of w e) }
+    ensures others { (w : BookView P) (e : ℕ) (g : Ghost P) (q : ℕ) → q ≢ e →
+        map.get (after_message w e g).ghosts q ≡ map.get w.ghosts q }
+    ensures entry { (w : BookView P) (e : ℕ) (g : Ghost P) → map.get (after_message w e g).ghosts e
+        ≡ ghost_after (map.get w.ghosts e) g }
 {}

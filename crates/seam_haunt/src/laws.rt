@@ -16,14 +16,17 @@ pub fn places_are_settled()
         → d.kept < distance_to_cell t was.home p → (settled d t was p).home ≡ leaf_at t p }
     ensures ghosts { (d : Distances) (t : Division) (was : Place) (p : Pos) (c : ℕ)
         → IsTrue (set.contains (settled d t was p).ghosts c) ↔ HasGhost d t was p c }
-    ensures again { (d : Distances) (t : Division) (was : Place) (p : Pos) → settled d t (settled d t was p) p ≡ settled d t was p }
-    ensures after { (d : Distances) (t : Division) (was : Place) (start : Pos) (path : List Pos) (after : Place)
-        → IsPlaceAfter d t was start path after → settled d t after (last_of start path) ≡ after }
+    ensures again { (d : Distances) (t : Division) (was : Place) (p : Pos) →
+        settled d t (settled d t was p) p ≡ settled d t was p }
+    ensures after { (d : Distances) (t : Division) (was : Place) (start : Pos) (path : List Pos)
+        (after : Place) → IsPlaceAfter d t was start path after →
+        settled d t after (last_of start path) ≡ after }
 {}
 
 /// A place stays as it is where it is settled exactly where it needs no settling.
 pub fn a_place_at_rest_stays()
-    ensures stays { (d : Distances) (t : Division) (place : Place) (p : Pos) → IsAtRest d t place p → settled d t place p ≡ place }
-    ensures rests { (d : Distances) (t : Division) (place : Place) (p : Pos) → IsTree t → IsInSpace t p → d.near ≤ d.far
-        → settled d t place p ≡ place → IsAtRest d t place p }
+    ensures stays { (d : Distances) (t : Division) (place : Place) (p : Pos) →
+        IsAtRest d t place p → settled d t place p ≡ place }
+    ensures rests { (d : Distances) (t : Division) (place : Place) (p : Pos) → IsTree t →
+        IsInSpace t p → d.near ≤ d.far → settled d t place p ≡ place → IsAtRest d t place p }
 {}

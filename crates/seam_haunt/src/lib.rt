@@ -29,11 +29,13 @@ pub use telling::{Telling, Told, word};
 /// of the former haunts `old`, again without the home, at distance at most `far`.
 pub fn haunts_after(pos: Pos, home: u8, old: CellSet, tree: &Tree, near: u32, far: u32) -> CellSet
     ensures value { result ≡ haunts_of pos home old tree.now near far }
-    ensures each { (c : ℕ) → IsTrue (set.contains result c) ↔ IsHaunt pos home old tree.now near far c }
+    ensures each { (c : ℕ) → IsTrue (set.contains result c) ↔
+        IsHaunt pos home old tree.now near far c }
     // the cells with a ghost of the settled place, whether the real came from another cell or stays
-    ensures place { (kept : ℕ) (was : Place) → home ≡ home_at kept tree.now was.home pos
-        → (old ≡ set.insert was.ghosts was.home) ⊎ ((home ≡ was.home) × (old ≡ was.ghosts))
-        → result ≡ (settled (record { kept = kept; near = near; far = far }) tree.now was pos).ghosts }
+    ensures place { (kept : ℕ) (was : Place) → home ≡ home_at kept tree.now was.home pos →
+        (old ≡ set.insert was.ghosts was.home) ⊎ ((home ≡ was.home) × (old ≡ was.ghosts)) →
+        result ≡ (settled (record { kept = kept; near = near; far = far }) tree.now was
+        pos).ghosts }
 {
     let mut haunts = CellSet::none();
     let cells = tree.cells();
@@ -57,7 +59,8 @@ pub fn haunts_after(pos: Pos, home: u8, old: CellSet, tree: &Tree, near: u32, fa
 
 // Whether all that lies within `reach` of the position is in the home's area, so that no other cell is that near.
 fn is_deep_inside(home: u8, tree: &Tree, pos: Pos, reach: u32) -> bool
-    ensures { IsTrue result ↔ ((home < cells_of tree.now) × ((p : Pos) → distance pos p ≤ reach → Holds (area tree.now home) p)) }
+    ensures { IsTrue result ↔ ((home < cells_of tree.now) × ((p : Pos) → distance pos p ≤ reach →
+        Holds (area tree.now home) p)) }
 {
     let Some(area) = tree.area(home) else {
         return false;

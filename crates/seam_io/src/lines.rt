@@ -92,7 +92,8 @@ fn read_at<S: Source>(
     requires fits { at + want ≤ length buffer.old }
     ensures bound { IfOk result (λ n. n ≤ want) }
     ensures kept { take at buffer.new ≡ take at buffer.old }
-    ensures bytes { ReadConsumes (S.state source.old).left (S.state source.new).left result (drop at buffer.new) }
+    ensures bytes { ReadConsumes (S.state source.old).left (S.state source.new).left result
+        (drop at buffer.new) }
     ensures end { CountsEnds (S.state source.old).ends (S.state source.new).ends result }
     ensures cause { HasCause (S.state source.old).faults (S.state source.new).faults result }
 {
@@ -114,7 +115,8 @@ fn refill<S: Source>(
     ensures bound { IfOk result (λ n. n ≤ want) }
     ensures len { vec_len buffer.new ≡ vec_len buffer.old }
     ensures kept { take (end - start) buffer.new.items ≡ slice_range buffer.old.items start end }
-    ensures bytes { ReadConsumes (S.state source.old).left (S.state source.new).left result (drop (end - start) buffer.new.items) }
+    ensures bytes { ReadConsumes (S.state source.old).left (S.state source.new).left result
+        (drop (end - start) buffer.new.items) }
     ensures end { CountsEnds (S.state source.old).ends (S.state source.new).ends result }
     ensures cause { HasCause (S.state source.old).faults (S.state source.new).faults result }
 {
@@ -145,7 +147,14 @@ impl Lines {
     /// The error is want of memory.
     pub fn new(alloc: Global, limit: u64) -> Result<Self, AllocError>
         ensures reads { IfOk result (λ r. (start : SourceState) → Reading start start r [] []) }
-        ensures fresh { IfOk result (λ r. r ≡ record { held = []; passing = false; ended = false; taken = 0; limit = limit; line = [] }) }
+        ensures fresh { IfOk result (λ r. r ≡ record {
+          held = [];
+          passing = false;
+          ended = false;
+          taken = 0;
+          limit = limit;
+          line = [];
+        }) }
     {
         Ok(Lines {
             buffer: vec![in alloc; 0; LONGEST_LINE + CHUNK]?,
@@ -195,18 +204,20 @@ impl Lines {
             (given ++ got) (read ++ lines_given result self.new.line)
             × IsExact result self.new (given ++ got) read
             × IsSparing got }
-        ensures fault { result ≡ Next.ReadFault → Rose (S.state source.old).faults (S.state source.new).faults }
+        ensures fault { result ≡ Next.ReadFault → Rose (S.state source.old).faults
+            (S.state source.new).faults }
         ensures later { (S.state source.old).faults ≤ (S.state source.new).faults }
 
         // No read is made where the next answer needs none, and the end is answered again.
-        ensures quiet { ¬ (NeedsMore self.old) → (source.new ≡ source.old) × (self.new.taken ≡ self.old.taken)
-            × (self.new.ended ≡ self.old.ended) }
+        ensures quiet { ¬ (NeedsMore self.old) → (source.new ≡ source.old) ×
+            (self.new.taken ≡ self.old.taken) × (self.new.ended ≡ self.old.ended) }
         ensures done { result ≡ Next.End → IsDone self.new }
         ensures again { IsDone self.old → result ≡ Next.End }
         ensures whole { ¬ (HasNoFeed self.old.held) → IsLine result }
 
         // Each line that is given lowers the budget.
-        ensures budget { length (lines_given result self.new.line) + budget self.new ≤ budget self.old }
+        ensures budget { length (lines_given result self.new.line) + budget self.new
+            ≤ budget self.old }
         ensures limit { self.new.limit ≡ self.old.limit }
         ensures line { result ≢ Next.Line → self.new.line ≡ [] }
     {
@@ -255,8 +266,13 @@ impl Lines {
     // Gives the line of the first `len` bytes that are held, and lets `skip` bytes after them go.
     fn give(&mut self, len: usize, skip: usize) -> Next
         requires { len + skip ≤ length self.old.held }
-        ensures rest { self.new ≡ record self.old { held = drop (len + skip) self.old.held; passing = false; line = self.new.line } }
-        ensures gave { lines_given result self.new.line ≡ (if self.old.passing then Long else line_of (take len self.old.held)) ∷ [] }
+        ensures rest { self.new ≡ record self.old {
+          held = drop (len + skip) self.old.held;
+          passing = false;
+          line = self.new.line;
+        } }
+        ensures gave { lines_given result self.new.line ≡ (if self.old.passing then Long
+            else line_of (take len self.old.held)) ∷ [] }
         ensures line { result ≢ Next.Line → self.new.line ≡ [] }
     {
         let text = self.start;
@@ -317,7 +333,8 @@ impl Lines {
         ensures budget { budget self.new ≤ budget self.old }
         ensures limit { self.new.limit ≡ self.old.limit }
         ensures line { self.new.line ≡ [] }
-        ensures falls { OnOk result ((self.old.taken < self.new.taken) ⊎ ((self.new.taken ≡ self.old.taken) × (self.new.ended ≡ true))) }
+        ensures falls { OnOk result ((self.old.taken < self.new.taken) ⊎
+            ((self.new.taken ≡ self.old.taken) × (self.new.ended ≡ true))) }
         ensures same { OnErr result (self.new ≡ self.old) }
     {
         let held = self.end - self.start;

@@ -46,7 +46,14 @@ impl MemSource {
     /// Its k-th read gives at most `cuts[k - 1]` bytes, where a cut of 0 counts as 1, and without such an entry as many
     /// as fit. The reads whose numbers are in `fails`, counted from 1, fail.
     pub fn new(bytes: Vec<u8>, cuts: Vec<u32>, fails: Vec<u64>) -> Self
-        ensures { result ≡ record { left = bytes.items; cuts = cuts.items; fails = fails.items; reads = 0; faults = 0; ends = 0 } }
+        ensures { result ≡ record {
+          left = bytes.items;
+          cuts = cuts.items;
+          fails = fails.items;
+          reads = 0;
+          faults = 0;
+          ends = 0;
+        } }
     {
         MemSource {
             bytes,
@@ -139,7 +146,13 @@ impl MemSink {
     /// A write takes what still fits. It fails where nothing fits, or where its number, counted from 1, is in
     /// `fails`. The error is want of memory.
     pub fn new(alloc: Global, limit: u32, fails: Vec<u64>) -> Result<Self, AllocError>
-        ensures { IfOk result (λ s. s ≡ record { bytes = []; limit = limit; fails = fails.items; writes = 0; faults = 0 }) }
+        ensures { IfOk result (λ s. s ≡ record {
+          bytes = [];
+          limit = limit;
+          fails = fails.items;
+          writes = 0;
+          faults = 0;
+        }) }
     {
         let limit = limit as usize;
         Ok(MemSink {
@@ -168,7 +181,8 @@ impl Sink for MemSink {
         ensures bytes { WriteAppends (Some self.old.bytes) (Some self.new.bytes) result piece.now }
         ensures cause { HasCause self.old.faults self.new.faults result }
         ensures number { self.new.writes ≡ next_count self.old.writes }
-        ensures fails { IsErr result ↔ ((self.old.limit ≡ length self.old.bytes) ⊎ Contains self.old.fails self.new.writes) }
+        ensures fails { IsErr result ↔ ((self.old.limit ≡ length self.old.bytes) ⊎
+            Contains self.old.fails self.new.writes) }
         ensures count { IfOk result (λ n. n ≡ fitting self.old (length piece.now)) }
         ensures kept { (self.new.limit ≡ self.old.limit) × (self.new.fails ≡ self.old.fails) }
     {

@@ -23,7 +23,8 @@ pub trait Sink {
     fn write(&mut self, piece: &[u8]) -> Result<usize, Failed>
         requires { 0 < length piece.now }
         ensures bound { IfOk result (λ n. (0 < n) × (n ≤ length piece.now)) }
-        ensures bytes { WriteAppends (state self.old).written (state self.new).written result piece.now }
+        ensures bytes { WriteAppends (state self.old).written (state self.new).written result
+            piece.now }
         ensures cause { HasCause (state self.old).faults (state self.new).faults result };
 }
 
@@ -82,7 +83,8 @@ pub struct WriteFault {
 ///
 /// `WriteFault` comes only where the sink's count of faults rose in this call.
 pub fn write_whole<K: Sink>(sink: &mut K, bytes: &[u8]) -> Result<(), WriteFault>
-    ensures ok { OnOk result (Appends (K.state sink.old).written (K.state sink.new).written bytes.now) }
+    ensures ok { OnOk result (Appends (K.state sink.old).written (K.state sink.new).written
+        bytes.now) }
     ensures err { IfErr result (λ e. (e.wrote < length bytes.now)
         × Appends (K.state sink.old).written (K.state sink.new).written (take e.wrote bytes.now)) }
     ensures cause { HasCause (K.state sink.old).faults (K.state sink.new).faults result }

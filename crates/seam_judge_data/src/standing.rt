@@ -63,7 +63,8 @@ pub struct Standing {
 impl Standing {
     /// The calls that a part of an entity executed, in their order.
     pub fn order_of(&self, alloc: Global, part: Part, entity: u32) -> Result<Vec<&Call>, AllocError>
-        ensures { IfOk result (λ order. map (λ c. c.now) order.items ≡ (standing_of self.now).orders part entity) }
+        ensures { IfOk result (λ order. map (λ c. c.now) order.items
+            ≡ (standing_of self.now).orders part entity) }
     {
         self.calls
             .iter()
@@ -86,7 +87,8 @@ impl Standing {
 
     /// The lines that the client of an entity was shown, in their order.
     pub fn told_to(&self, alloc: Global, entity: u32) -> Result<Vec<&Line>, AllocError>
-        ensures { IfOk result (λ lines. map (λ l. l.now) lines.items ≡ (standing_of self.now).told entity) }
+        ensures { IfOk result (λ lines. map (λ l. l.now) lines.items
+            ≡ (standing_of self.now).told entity) }
     {
         let mut lines = Vec::new(alloc);
         for line in &self.told {
@@ -102,8 +104,8 @@ fn add_line<'a>(
     line: &'a ClientLine,
     entity: u32,
 ) -> Result<(), AllocError>
-    ensures { OnOk result (map (λ l. l.now) lines.new.items
-        ≡ map (λ l. l.now) lines.old.items ++ map (λ l. l.line) (filter (λ l. l.entity == entity) (line.now ∷ []))) }
+    ensures { OnOk result (map (λ l. l.now) lines.new.items ≡ map (λ l. l.now) lines.old.items
+        ++ map (λ l. l.line) (filter (λ l. l.entity == entity) (line.now ∷ []))) }
 {
     if line.entity == entity {
         lines.push(&line.line)?;

@@ -90,7 +90,8 @@ live_numbers creates (e ∷ es) = cases (find (λ d. d.entity == e) creates) ref
         map (λ c. c.entity) (cons_option o (among_numbers creates es)) ≡ cond (is_some o) (e ∷ rest) rest
     cases None is again = again
     cases (Some c) is again =
-        ap (λ (k : ℕ). k ∷ map (λ c. c.entity) (among_numbers creates es)) (found_entity creates e c is) ∙ ap (λ (ks : List ℕ). e ∷ ks) again
+        ap (λ (k : ℕ). k ∷ map (λ c. c.entity) (among_numbers creates es)) (found_entity creates e c is)
+        ∙ ap (λ (ks : List ℕ). e ∷ ks) again
 
 -- the live entities of numbers that rise, among which are those of all that were created
 pub lists_live : (creates : List Create) (numbers : List ℕ) →

@@ -36,7 +36,8 @@ same_state_decides a b =
     )
 
 -- the numbers past one that pass a test, up to one more
-pub filtered_more : (test : ℕ → Bool) (from n : ℕ) (found more : List ℕ) → from ≤ n → found ≡ filter test (range_with_len (from + 1) (n - from)) →
+pub filtered_more : (test : ℕ → Bool) (from n : ℕ) (found more : List ℕ) → from ≤ n →
+    found ≡ filter test (range_with_len (from + 1) (n - from)) →
     more ≡ found ++ cond (test (n + 1)) ((n + 1) ∷ []) [] → more ≡ filter test (range_with_len (from + 1) (n + 1 - from))
 filtered_more test from n found more low was is =
     let long : n + 1 - from ≡ suc (n - from) = omega arith in

@@ -14,7 +14,8 @@ use std::alloc::{AllocError, Global};
 
 /// What was created up to now, in the order of the lines.
 pub fn created_in(alloc: Global, standing: &Standing) -> Result<Vec<Create>, AllocError>
-    ensures { IfOk result (λ creates. creates.items ≡ creates_of (entries (standing_of standing.now).book)) }
+    ensures { IfOk result (λ creates. creates.items ≡ creates_of
+        (entries (standing_of standing.now).book)) }
 {
     let mut creates = creates_of(alloc, &standing.past)?;
     let mut later = creates_of(alloc, &standing.current)?;
@@ -71,7 +72,8 @@ fn among_numbers(
 
 // Adds the entity of a number, where there is one.
 fn add_found(made: &mut Vec<Create>, creates: &[Create], number: u32) -> Result<(), AllocError>
-    ensures { OnOk result (made.new.items ≡ made.old.items ++ among_numbers creates.now (number ∷ [])) }
+    ensures { OnOk result (made.new.items ≡ made.old.items ++ among_numbers creates.now
+        (number ∷ [])) }
 {
     match created_as(creates, number) {
         Some(create) => {
@@ -104,8 +106,9 @@ pub fn live_among(
 
 // Those of the entities that no entry destroys.
 fn living(alloc: Global, standing: &Standing, made: &[Create]) -> Result<Vec<Create>, AllocError>
-    ensures { IfOk result (λ live. live.items
-        ≡ filter (λ c. not (list_any (destroys c.entity) (entries (standing_of standing.now).book))) made.now) }
+    ensures { IfOk result (λ live. live.items ≡ filter (λ c.
+        not (list_any (destroys c.entity) (entries (standing_of standing.now).book)))
+        made.now) }
 {
     let mut live = Vec::new(alloc);
     for create in made {

@@ -21,7 +21,8 @@ pub fn done_lines_of(
     made: &[Create],
     calls: &[Call],
 ) -> Result<Vec<DoneLine>, AllocError>
-    ensures { IfOk result (λ ls. ls.items ≡ done_lines (λ e. filter (is_for part e) calls.now) made.now) }
+    ensures { IfOk result (λ ls. ls.items ≡ done_lines (λ e. filter (is_for part e) calls.now)
+        made.now) }
 {
     let mut lines = Vec::new(alloc);
     for create in made {
@@ -37,8 +38,9 @@ fn push_done_of(
     create: Create,
     calls: &[Call],
 ) -> Result<(), AllocError>
-    ensures { OnOk result (lines.new.items
-        ≡ lines.old.items ++ map (λ x. record { ty = create.ty; call = x }) (filter (is_for part create.entity) calls.now)) }
+    ensures { OnOk result (lines.new.items ≡ lines.old.items
+        ++ map (λ x. record { ty = create.ty; call = x })
+        (filter (is_for part create.entity) calls.now)) }
 {
     for call in calls {
         if call.is_for(part, create.entity) {
@@ -78,7 +80,8 @@ pub fn homes_of(
     after: &Standing,
     live: &[Create],
 ) -> Result<Vec<HomeLine>, AllocError>
-    ensures { IfOk result (λ ls. ls.items ≡ map (home_line header.now (standing_of after.now)) live.now) }
+    ensures { IfOk result (λ ls. ls.items ≡ map (home_line header.now (standing_of after.now))
+        live.now) }
 {
     let mut homes = Vec::new(alloc);
     for create in live {
@@ -113,7 +116,8 @@ pub fn bases_of(
     after: &Standing,
     live: &[Create],
 ) -> Result<Vec<BaseLine>, AllocError>
-    ensures { IfOk result (λ ls. ls.items ≡ map (base_line header.now (standing_of after.now)) live.now) }
+    ensures { IfOk result (λ ls. ls.items ≡ map (base_line header.now (standing_of after.now))
+        live.now) }
 {
     let mut bases = Vec::new(alloc);
     for create in live {
@@ -129,7 +133,8 @@ pub fn public_version(
     after: &Standing,
     create: Create,
 ) -> Result<u64, AllocError>
-    ensures { IfOk result (λ v. let order = (standing_of after.now).orders part.Cell create.entity in
+    ensures { IfOk result (λ v. let order =
+        (standing_of after.now).orders part.Cell create.entity in
         v ≡ public_at header.now create order (length order)) }
 {
     let order = after.order_of(alloc, Part::Cell, create.entity)?;
@@ -142,7 +147,8 @@ fn add_ghost(
     cells: &CellSet,
     line: GhostLine,
 ) -> Result<(), AllocError>
-    ensures { OnOk result (ghosts.new.items ≡ ghosts.old.items ++ (if set.contains cells.now line.cell then line ∷ [] else [])) }
+    ensures { OnOk result (ghosts.new.items ≡ ghosts.old.items
+        ++ (if set.contains cells.now line.cell then line ∷ [] else [])) }
 {
     if cells.holds(line.cell) {
         ghosts.push(line)?;
@@ -184,7 +190,8 @@ fn push_ghosts_of(
     after: &Standing,
     create: Create,
 ) -> Result<(), AllocError>
-    ensures { OnOk result (ghosts.new.items ≡ ghosts.old.items ++ ghost_lines header.now tree.now (standing_of after.now) create) }
+    ensures { OnOk result (ghosts.new.items ≡ ghosts.old.items ++ ghost_lines header.now tree.now
+        (standing_of after.now) create) }
 {
     let version = public_version(*ghosts.allocator(), header, after, create)?;
     let place = after.place_of(create.entity);
@@ -199,7 +206,8 @@ pub fn ghosts_of(
     after: &Standing,
     live: &[Create],
 ) -> Result<Vec<GhostLine>, AllocError>
-    ensures { IfOk result (λ ls. ls.items ≡ flat_map (ghost_lines header.now tree.now (standing_of after.now)) live.now) }
+    ensures { IfOk result (λ ls. ls.items ≡ flat_map (ghost_lines header.now tree.now
+        (standing_of after.now)) live.now) }
 {
     let mut ghosts = Vec::new(alloc);
     for create in live {

@@ -32,7 +32,8 @@ fn cut_of(tree: &Tree, b: u8) -> (u8, Boundary)
 fn leaf_past(tree: &Tree, b: u8, leaf: u8, pos: Pos) -> u8
     requires { HasBoundary tree.now b }
     ensures value { let cut = cut_after tree.now (b - 1) in result
-        ≡ (if (cut.cell == leaf) && nat_le cut.boundary.at (place_along cut.boundary.axis pos) then b else leaf) }
+        ≡ (if (cut.cell == leaf) && nat_le cut.boundary.at (place_along cut.boundary.axis pos)
+        then b else leaf) }
     ensures most { leaf ≤ b → result ≤ b }
 {
     let (cell, boundary) = cut_of(tree, b);
@@ -109,7 +110,8 @@ pub fn position_of(
     order: &[&Call],
     version: usize,
 ) -> Result<Pos, AllocError>
-    ensures { IfOk result (λ p. p ≡ position_at header.now create (map (λ c. c.now) order.now) version) }
+    ensures { IfOk result (λ p. p ≡ position_at header.now create (map (λ c. c.now) order.now)
+        version) }
 {
     Ok(state_at(header, Part::Cell, create, order, version)?.pos)
 }
@@ -122,8 +124,9 @@ pub fn positions_past(
     order: &[&Call],
     version: usize,
 ) -> Result<Vec<Pos>, AllocError>
-    ensures { IfOk result (λ ps. ps.items
-        ≡ map (position_at header.now create (map (λ c. c.now) order.now)) (range_with_len (version + 1) (length order.now - version))) }
+    ensures { IfOk result (λ ps. ps.items ≡ map (position_at header.now create
+        (map (λ c. c.now) order.now)) (range_with_len (version + 1)
+        (length order.now - version))) }
 {
     let mut positions = Vec::new(alloc);
     for v in version..order.len() {
@@ -134,7 +137,8 @@ pub fn positions_past(
 
 /// Where an entity was held when the round began.
 pub fn place_before(before: &Standing, create: Create) -> Place
-    requires { ((standing_of before.now).places create.entity).home < cells_of (tree_of (standing_of before.now).book) }
+    requires { ((standing_of before.now).places create.entity).home
+        < cells_of (tree_of (standing_of before.now).book) }
     ensures value { result ≡ place_before (standing_of before.now) create }
     ensures cell { result.home < cells_of (tree_of (standing_of before.now).book) }
 {

@@ -19,7 +19,8 @@ pub fn state_at(
     order: &[&Call],
     version: usize,
 ) -> Result<State, AllocError>
-    ensures { IfOk result (λ s. s ≡ flat header.now part create (map (λ c. c.now) order.now) version) }
+    ensures { IfOk result (λ s. s ≡ flat header.now part create (map (λ c. c.now) order.now)
+        version) }
 {
     let props = header.defs.type_at(create.ty).start_props(part.held())?;
     let mut state = State {
@@ -38,7 +39,10 @@ pub fn state_at(
 
 /// A state with those values of a cell part that are in a group.
 pub fn state_shown(ty: &TypeDef, state: &State, to: Group) -> Result<State, AllocError>
-    ensures { IfOk result (λ s. s ≡ record { pos = state.now.pos; props = projected ty.now.properties group.Real to state.now.props }) }
+    ensures { IfOk result (λ s. s ≡ record {
+      pos = state.now.pos;
+      props = projected ty.now.properties group.Real to state.now.props;
+    }) }
 {
     Ok(State {
         pos: state.pos,
@@ -92,7 +96,8 @@ fn has_changed_at(
     version: usize,
 ) -> Result<bool, AllocError>
     requires { 1 ≤ version }
-    ensures { IfOk result (λ changed. changed ≡ has_changed_at header.now part create (map (λ c. c.now) order.now) version) }
+    ensures { IfOk result (λ changed. changed ≡ has_changed_at header.now part create
+        (map (λ c. c.now) order.now) version) }
 {
     let old = state_at(header, part, create, order, version - 1)?;
     let new = state_at(header, part, create, order, version)?;
@@ -107,7 +112,8 @@ pub fn public_at(
     order: &[&Call],
     version: usize,
 ) -> Result<usize, AllocError>
-    ensures value { IfOk result (λ v. v ≡ public_at header.now create (map (λ c. c.now) order.now) version) }
+    ensures value { IfOk result (λ v. v ≡ public_at header.now create (map (λ c. c.now) order.now)
+        version) }
     ensures at_most { IfOk result (λ v. v ≤ version) }
 {
     let mut public = version;
@@ -130,7 +136,8 @@ pub fn changes_past(
     order: &[&Call],
     version: usize,
 ) -> Result<Vec<usize>, AllocError>
-    ensures { IfOk result (λ vs. vs.items ≡ changes_past header.now part create (map (λ c. c.now) order.now) version (length order.now)) }
+    ensures { IfOk result (λ vs. vs.items ≡ changes_past header.now part create
+        (map (λ c. c.now) order.now) version (length order.now)) }
 {
     let mut changes = Vec::new(alloc);
     for v in version..order.len() {
@@ -142,7 +149,8 @@ pub fn changes_past(
 
 // Adds a version, if something changed at it.
 fn add_change(changes: &mut Vec<usize>, version: usize, changed: bool) -> Result<(), AllocError>
-    ensures { OnOk result (changes.new.items ≡ changes.old.items ++ (if changed then version ∷ [] else [])) }
+    ensures { OnOk result (changes.new.items ≡ changes.old.items ++ (if changed then version ∷ []
+        else [])) }
 {
     if changed {
         changes.push(version)?;

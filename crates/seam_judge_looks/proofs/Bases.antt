@@ -4,7 +4,8 @@ use Rattle.std.proofs.lemmas.List.{length-map}
 use Rattle.seam_defs.specs.declared.flags.Part.TheVariants as part
 use Rattle.seam_rule_rounds.specs.Prelude.{Call, Create, Header, is_new_client, changes_past, Standing, shows_base, base_versions}
 
-pub versions_are : (h : Header) (s t : Standing) (c : Create) (former calls : List (Bor Call)) (first : Bool) (none some changes all : List ℕ) →
+pub versions_are : (h : Header) (s t : Standing) (c : Create) (former calls : List (Bor Call)) (first : Bool)
+    (none some changes all : List ℕ) →
     map (λ x. x.now) former ≡ s.orders part.Base c.entity → map (λ x. x.now) calls ≡ t.orders part.Base c.entity →
     first ≡ (is_new_client s.book c.entity && shows_base h c) → none ≡ [] →
     some ≡ none ++ cond first (length former ∷ []) [] →

@@ -15,7 +15,8 @@ pub placed_last : (e v : ℕ) (es : List (ℕ × ℕ)) → IsNotAmong e es → e
 placed_last e v [] none = refl
 placed_last e v (p ∷ ps) none =
     let both = neither (nat_eq e p.0) (list_any (λ (q : ℕ × ℕ). nat_eq e q.0) ps) none in
-    ap (λ (qs : List (ℕ × ℕ)). p ∷ qs) (placed_last e v ps both.1) ∙ sym (ap (λ (b : Bool). cond b ((p.0, v) ∷ ps) (p ∷ placed e v ps)) both.0)
+    ap (λ (qs : List (ℕ × ℕ)). p ∷ qs) (placed_last e v ps both.1)
+    ∙ sym (ap (λ (b : Bool). cond b ((p.0, v) ∷ ps) (p ∷ placed e v ps)) both.0)
 
 pub without_none : (e : ℕ) (es : List (ℕ × ℕ)) → IsNotAmong e es → es ≡ without e es
 without_none e [] none = refl

@@ -4,7 +4,8 @@ use Rattle.std.proofs.Common.{IsTrue, ◌↔◌}
 use Rattle.seam_rule_rounds.specs.Prelude.{Shown, ClientReplica, after_shown, after_all_shown, MayShow, MayShowAll}
 
 -- one of all that may be shown may be shown when it is its turn
-turn_of : (me : ℕ) (c : ClientReplica) (xs : List (Bor Shown)) (i : ℕ) (d : Bor Shown) → i < length xs → MayShowAll me c (map (λ x. x.now) xs) →
+turn_of : (me : ℕ) (c : ClientReplica) (xs : List (Bor Shown)) (i : ℕ) (d : Bor Shown) → i < length xs →
+    MayShowAll me c (map (λ x. x.now) xs) →
     MayShow me (after_all_shown c (map (λ x. x.now) (take i xs))) (get_or xs i d).now
 turn_of me c [] i d within may = absurd (omega (arith, within))
 turn_of me c (x ∷ xs) zero d within may = may.0

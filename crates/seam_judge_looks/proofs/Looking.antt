@@ -51,7 +51,8 @@ module _ (c : ClientReplica) (own : Pos) (others : List Row) where
       (λ i p. cond (is_gone c.others own (seen_is others p.0 i)) (Some (Leave p.0)) None)
 
   sets_are : (es : List (ℕ × ℕ)) →
-      filter_map (shown_for others) (map (λ p. look.Set p.0) (filter (λ p. has_changed c.others own p.1 (seen_of p.0 (map seen others))) es))
+      filter_map (shown_for others)
+      (map (λ p. look.Set p.0) (filter (λ p. has_changed c.others own p.1 (seen_of p.0 (map seen others))) es))
       ≡ filter_map (set_of c own others) es
   sets_are es =
       made_of_passed (shown_for others) (λ (p : ℕ × ℕ). look.Set p.0) (λ p. has_changed c.others own p.1 (seen_of p.0 (map seen others))) es
@@ -91,7 +92,8 @@ pub assembled : (c : ClientReplica) (r : Row) (others : List Row) (own : Pos) (e
     first ≡ own_shown c r → left ≡ filter_map (leave_of c own others) es → set ≡ filter_map (set_of c own others) fs →
     entered ≡ filter_map (enter_of c own others) others → one ≡ first ++ left → two ≡ one ++ set → three ≡ two ++ entered →
     three ≡ look_at c r others
-assembled c r others own es fs first left set entered one two three at es_are fs_are own_is left_is set_is entered_is one_is two_is three_is =
+assembled c r others own es fs first left set entered one two three at es_are fs_are own_is left_is set_is entered_is one_is two_is three_is
+    =
     three_is ∙ ap (λ (xs : List Shown). xs ++ entered) (two_is ∙ ap (λ (xs : List Shown). xs ++ set) one_is)
     ∙ (λ i. ((own_is i ++ (left_is ∙ (λ j. filter_map (leave_of c (at j) others) (es_are j))) i)
     ++ (set_is ∙ (λ j. filter_map (set_of c (at j) others) (fs_are j))) i)

@@ -11,7 +11,8 @@ leave_of c own others p = if is_gone c.others own (option_map seen (row_of other
 -- it is set
 abbrev pub set_of : ClientReplica → Pos → List Row → ℕ × ℕ → Option Shown
 set_of c own others p =
-    if has_changed c.others own p.1 (option_map seen (row_of others p.0)) then option_map (λ r. Set p.0 r.other) (row_of others p.0) else None
+    if has_changed c.others own p.1 (option_map seen (row_of others p.0)) then option_map (λ r. Set p.0 r.other) (row_of others p.0)
+    else None
 
 -- an entity of the table enters
 abbrev pub enter_of : ClientReplica → Pos → List Row → Row → Option Shown

@@ -1,6 +1,6 @@
 // What the client of an entity is shown of its base part.
 ghost use Rattle.std.specs.Prelude.{◌≡◌, ◌&&◌, ◌++◌, ◌∷◌, [], if◌then◌else◌, IfOk, OnOk, map};
-ghost use Rattle.seam_rule_rounds.specs.Clients.{shows_base, base_shown, base_versions};
+ghost use Rattle.seam_rule_rounds.specs.ClientLines.{shows_base, base_shown, base_versions};
 ghost use Rattle.seam_judge_data.specs.Standings.{standing_of};
 
 use seam_call::{ClientText, Create};
@@ -29,7 +29,8 @@ pub fn base_text_at(
     create: Create,
     version: usize,
 ) -> Result<ClientText, AllocError>
-    ensures { IfOk result (λ text. text ≡ base_shown header.now (standing_of after.now) create version) }
+    ensures { IfOk result (λ text. text ≡ base_shown header.now (standing_of after.now) create
+        version) }
 {
     let order = after.order_of(alloc, Part::Base, create.entity)?;
     let state = state_at(header, Part::Base, create, &order, version)?;
@@ -45,7 +46,8 @@ fn both(a: bool, b: bool) -> bool
 
 // Adds a version, if it is shown.
 fn add_version(versions: &mut Vec<usize>, version: usize, shown: bool) -> Result<(), AllocError>
-    ensures { OnOk result (versions.new.items ≡ versions.old.items ++ (if shown then version ∷ [] else [])) }
+    ensures { OnOk result (versions.new.items ≡ versions.old.items ++ (if shown then version ∷ []
+        else [])) }
 {
     if shown {
         versions.push(version)?;
@@ -61,7 +63,8 @@ pub fn base_versions(
     after: &Standing,
     create: Create,
 ) -> Result<Vec<usize>, AllocError>
-    ensures { IfOk result (λ vs. vs.items ≡ base_versions header.now (standing_of before.now) (standing_of after.now) create) }
+    ensures { IfOk result (λ vs. vs.items ≡ base_versions header.now (standing_of before.now)
+        (standing_of after.now) create) }
 {
     let former = before.order_of(alloc, Part::Base, create.entity)?;
     let order = after.order_of(alloc, Part::Base, create.entity)?;
@@ -83,8 +86,9 @@ pub fn base_texts(
     after: &Standing,
     create: Create,
 ) -> Result<Vec<ClientText>, AllocError>
-    ensures { IfOk result (λ texts. texts.items ≡ map (base_shown header.now (standing_of after.now) create)
-        (base_versions header.now (standing_of before.now) (standing_of after.now) create)) }
+    ensures { IfOk result (λ texts. texts.items ≡ map (base_shown header.now (standing_of after.now)
+        create) (base_versions header.now (standing_of before.now) (standing_of after.now)
+        create)) }
 {
     let versions = base_versions(alloc, header, before, after, create)?;
     let mut texts = Vec::new(alloc);

@@ -34,7 +34,8 @@ impl<'a> Replica<'a> {
 
     // Whether one that is in view is gone.
     fn is_gone(&self, own: Pos, row: Option<&Row>) -> bool
-        ensures { result ≡ is_gone (client_of self.now).others own (option_map seen (option_copied row.entry)) }
+        ensures { result ≡ is_gone (client_of self.now).others own
+            (option_map seen (option_copied row.entry)) }
     {
         match row {
             Some(row) => self.is_far(own, row.other.get().state.pos),
@@ -44,7 +45,8 @@ impl<'a> Replica<'a> {
 
     // Whether one that is in view at a version stays, and has changed.
     fn has_changed(&self, own: Pos, version: u64, row: &Row) -> bool
-        ensures { result ≡ has_changed (client_of self.now).others own version (Some (seen row.now)) }
+        ensures { result ≡ has_changed (client_of self.now).others own version
+            (Some (seen row.now)) }
     {
         !self.is_far(own, row.other.get().state.pos) && version < row.other.get().version
     }
@@ -124,7 +126,8 @@ impl<'a> Replica<'a> {
         entries: &[(u32, u64)],
         others: &[Row],
     ) -> Result<Vec<Shown>, AllocError>
-        ensures { IfOk result (λ xs. xs.items ≡ filter_map (leave_of (client_of self.now) own others.now) entries.now) }
+        ensures { IfOk result (λ xs. xs.items ≡ filter_map (leave_of (client_of self.now) own
+            others.now) entries.now) }
     {
         let mut lines = Vec::new(alloc);
         for entry in entries {
@@ -141,7 +144,8 @@ impl<'a> Replica<'a> {
         entries: &[(u32, u64)],
         others: &[Row],
     ) -> Result<Vec<Shown>, AllocError>
-        ensures { IfOk result (λ xs. xs.items ≡ filter_map (set_of (client_of self.now) own others.now) entries.now) }
+        ensures { IfOk result (λ xs. xs.items ≡ filter_map (set_of (client_of self.now) own
+            others.now) entries.now) }
     {
         let mut lines = Vec::new(alloc);
         for entry in entries {

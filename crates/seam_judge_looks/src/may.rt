@@ -33,7 +33,8 @@ impl<'a> Replica<'a> {
 
     // Whether an entity is not shown older than it was.
     fn is_not_older(&self, entity: u32, version: u64) -> bool
-        ensures { IsTrue result ↔ ((v : ℕ) → table.get (client_of self.now).others.shown entity ≡ Some v → v ≤ version) }
+        ensures { IsTrue result ↔ ((v : ℕ) → table.get (client_of self.now).others.shown entity
+            ≡ Some v → v ≤ version) }
     {
         match self.version_shown(entity) {
             Some(last) => last <= version,
@@ -43,7 +44,8 @@ impl<'a> Replica<'a> {
 
     // Whether an entity is shown newer than it was.
     fn is_newer_copy(&self, entity: u32, version: u64) -> bool
-        ensures { IsTrue result ↔ ((v : ℕ) × (table.get (client_of self.now).others.shown entity ≡ Some v) × (v < version)) }
+        ensures { IsTrue result ↔ ((v : ℕ) × (table.get (client_of self.now).others.shown entity
+            ≡ Some v) × (v < version)) }
     {
         match self.version_shown(entity) {
             Some(last) => last < version,
@@ -124,7 +126,8 @@ impl<'a> Replica<'a> {
         me: u32,
         shown: &[&'a Shown],
     ) -> Result<bool, AllocError>
-        ensures { IfOk result (λ r. IsTrue r ↔ MayShowAll me (client_of self.old) (map (λ x. x.now) shown.now)) }
+        ensures { IfOk result (λ r. IsTrue r ↔ MayShowAll me (client_of self.old)
+            (map (λ x. x.now) shown.now)) }
     {
         for x in shown {
             let may = self.may_show(alloc, me, x)?;

@@ -21,7 +21,8 @@ pub struct Replica<'a> {
 
 // Adds what a line shows of cell parts.
 fn add_shown<'a>(shown: &mut Vec<&'a Shown>, line: &'a Line) -> Result<(), AllocError>
-    ensures { OnOk result (map (λ x. x.now) shown.new.items ≡ map (λ x. x.now) shown.old.items ++ shown_by_lines (line.now ∷ [])) }
+    ensures { OnOk result (map (λ x. x.now) shown.new.items ≡ map (λ x. x.now) shown.old.items
+        ++ shown_by_lines (line.now ∷ [])) }
 {
     match &line.text {
         ClientText::Shown(x) => shown.push(x)?,
@@ -32,7 +33,8 @@ fn add_shown<'a>(shown: &mut Vec<&'a Shown>, line: &'a Line) -> Result<(), Alloc
 
 /// What lines show of cell parts, in their order.
 pub fn shown_in<'a>(alloc: Global, lines: &[&'a Line]) -> Result<Vec<&'a Shown>, AllocError>
-    ensures { IfOk result (λ xs. map (λ x. x.now) xs.items ≡ shown_by_lines (map (λ l. l.now) lines.now)) }
+    ensures { IfOk result (λ xs. map (λ x. x.now) xs.items
+        ≡ shown_by_lines (map (λ l. l.now) lines.now)) }
 {
     let mut shown = Vec::new(alloc);
     for line in lines {
@@ -123,7 +125,8 @@ impl<'a> Replica<'a> {
         settings: &Settings,
         lines: &[&'a Line],
     ) -> Result<Replica<'a>, AllocError>
-        ensures { IfOk result (λ c. client_of c ≡ after_lines (new_client settings.now) (map (λ l. l.now) lines.now)) }
+        ensures { IfOk result (λ c. client_of c ≡ after_lines (new_client settings.now)
+            (map (λ l. l.now) lines.now)) }
     {
         Ok(Replica {
             radius: settings.view_radius,

@@ -37,7 +37,8 @@ pub fn own_at(
     order: &[&Call],
     version: usize,
 ) -> Result<State, AllocError>
-    ensures { IfOk result (λ s. s ≡ own_of (properties header.now create) (flat header.now part.Cell create (map (λ c. c.now) order.now) version)) }
+    ensures { IfOk result (λ s. s ≡ own_of (properties header.now create)
+        (flat header.now part.Cell create (map (λ c. c.now) order.now) version)) }
 {
     let state = state_at(header, Part::Cell, create, order, version)?;
     state_shown(header.defs.type_at(create.ty), &state, Group::Own)
@@ -50,7 +51,8 @@ pub fn other_at(
     order: &[&Call],
     version: usize,
 ) -> Result<GhostCopy, AllocError>
-    ensures { IfOk result (λ k. k ≡ other_at header.now create (map (λ c. c.now) order.now) version) }
+    ensures { IfOk result (λ k. k ≡ other_at header.now create (map (λ c. c.now) order.now)
+        version) }
 {
     let state = state_at(header, Part::Cell, create, order, version)?;
     let shown = state_shown(header.defs.type_at(create.ty), &state, Group::Other)?;
@@ -68,7 +70,8 @@ fn other_now(
     after: &Standing,
     create: Create,
 ) -> Result<GhostCopy, AllocError>
-    ensures { IfOk result (λ k. let order = (standing_of after.now).orders part.Cell create.entity in
+    ensures { IfOk result (λ k. let order =
+        (standing_of after.now).orders part.Cell create.entity in
         k ≡ other_at header.now create order (public_at header.now create order (length order))) }
 {
     let order = after.order_of(alloc, Part::Cell, create.entity)?;
@@ -83,7 +86,8 @@ pub fn row_after(
     after: &Standing,
     create: Create,
 ) -> Result<Row, AllocError>
-    ensures { IfOk result (λ r. r ≡ row_after header.now create ((standing_of after.now).orders part.Cell create.entity)) }
+    ensures { IfOk result (λ r. r ≡ row_after header.now create
+        ((standing_of after.now).orders part.Cell create.entity)) }
 {
     let other = other_now(alloc, header, after, create)?;
     let order = after.order_of(alloc, Part::Cell, create.entity)?;
@@ -103,7 +107,8 @@ pub fn rows_of(
     after: &Standing,
     live: &[Create],
 ) -> Result<Vec<Row>, AllocError>
-    ensures { IfOk result (λ rs. rs.items ≡ rows_of header.now (standing_of after.now).orders live.now) }
+    ensures { IfOk result (λ rs. rs.items ≡ rows_of header.now (standing_of after.now).orders
+        live.now) }
 {
     let mut rows = Vec::new(alloc);
     for create in live {

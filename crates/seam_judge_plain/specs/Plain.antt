@@ -9,7 +9,7 @@ use Rattle.seam_rule_rounds.specs.Prelude.{base_versions, home_line, base_line, 
 use Rattle.seam_defs.specs.declared.flags.Part.TheVariants as part
 use Rattle.seam_call.specs.declared.shown.ClientText.TheVariants as text
 use Rattle.seam_judge_rounds.specs.Bounds.{PrintsBounds}
-use Rattle.seam_judge_rounds.specs.Clients.{client_as}
+use Rattle.seam_judge_rounds.specs.RoundClients.{client_as}
 
 -- each part executes the calls of the open round in the order of the lines
 abbrev pub orders_after : Standing → Orders

@@ -38,8 +38,8 @@ fn texts_to(
     create: Create,
     rows: &[Row],
 ) -> Result<Vec<ClientText>, AllocError>
-    ensures { IfOk result (λ texts. texts.items
-        ≡ texts_of turn.now.header.now (standing_of turn.now.before.now) (standing_of turn.now.after.now) rows.now create) }
+    ensures { IfOk result (λ texts. texts.items ≡ texts_of turn.now.header.now
+        (standing_of turn.now.before.now) (standing_of turn.now.after.now) rows.now create) }
 {
     let told = turn.before.told_to(alloc, create.entity)?;
     let replica = Replica::after(alloc, &turn.header.settings, &told)?;
@@ -64,7 +64,8 @@ fn add_lines(
     former: u64,
     texts: &[ClientText],
 ) -> Result<(), AllocError>
-    ensures { OnOk result (lines.new.items ≡ lines.old.items ++ lines_from create former texts.now) }
+    ensures { OnOk result (lines.new.items ≡ lines.old.items ++ lines_from create former
+        texts.now) }
 {
     let mut number = former;
     for text in texts {
@@ -88,8 +89,8 @@ fn add_client(
     create: Create,
     rows: &[Row],
 ) -> Result<(), AllocError>
-    ensures { OnOk result (lines.new.items ≡ lines.old.items
-        ++ lines_of turn.now.header.now (standing_of turn.now.before.now) (standing_of turn.now.after.now) rows.now create) }
+    ensures { OnOk result (lines.new.items ≡ lines.old.items ++ lines_of turn.now.header.now
+        (standing_of turn.now.before.now) (standing_of turn.now.after.now) rows.now create) }
 {
     let alloc = *lines.allocator();
     let told = turn.before.told_to(alloc, create.entity)?;
@@ -105,8 +106,9 @@ fn lines_of(
     clients: &[Create],
     rows: &[Row],
 ) -> Result<Vec<ClientLine>, AllocError>
-    ensures { IfOk result (λ lines. lines.items
-        ≡ flat_map (lines_of turn.now.header.now (standing_of turn.now.before.now) (standing_of turn.now.after.now) rows.now) clients.now) }
+    ensures { IfOk result (λ lines. lines.items ≡ flat_map (lines_of turn.now.header.now
+        (standing_of turn.now.before.now) (standing_of turn.now.after.now) rows.now)
+        clients.now) }
 {
     let mut lines = Vec::new(alloc);
     for create in clients {
@@ -122,9 +124,10 @@ pub(crate) fn lines_to(
     clients: &[Create],
     live: &[Create],
 ) -> Result<Vec<ClientLine>, AllocError>
-    ensures { IfOk result (λ lines. lines.items
-        ≡ flat_map (lines_of turn.now.header.now (standing_of turn.now.before.now) (standing_of turn.now.after.now)
-        (rows_of turn.now.header.now (standing_of turn.now.after.now).orders live.now)) clients.now) }
+    ensures { IfOk result (λ lines. lines.items ≡ flat_map (lines_of turn.now.header.now
+        (standing_of turn.now.before.now) (standing_of turn.now.after.now)
+        (rows_of turn.now.header.now (standing_of turn.now.after.now).orders live.now))
+        clients.now) }
 {
     let rows = rows_of(alloc, turn.header, turn.after, live)?;
     lines_of(alloc, turn, clients, &rows)

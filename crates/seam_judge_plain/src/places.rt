@@ -24,9 +24,11 @@ fn path_of(
     after: &Standing,
     create: Create,
 ) -> Result<Vec<Pos>, AllocError>
-    ensures { IfOk result (λ ps. let order = (standing_of after.now).orders part.Cell create.entity in
+    ensures { IfOk result (λ ps. let order =
+        (standing_of after.now).orders part.Cell create.entity in
         let began = length ((standing_of before.now).orders part.Cell create.entity) in
-        ps.items ≡ position_at header.now create order began ∷ positions_past header.now create order began) }
+        ps.items ≡ position_at header.now create order began ∷
+        positions_past header.now create order began) }
 {
     let former = before.order_of(alloc, Part::Cell, create.entity)?;
     let order = after.order_of(alloc, Part::Cell, create.entity)?;
@@ -48,7 +50,8 @@ fn place_of(
 ) -> Result<Place, AllocError>
     requires homes { HaveHomes (standing_of before.now) }
     requires range { AreInRange header.now.settings }
-    ensures { IfOk result (λ place. place ≡ place_after header.now (standing_of before.now) (standing_of after.now).orders create) }
+    ensures { IfOk result (λ place. place ≡ place_after header.now (standing_of before.now)
+        (standing_of after.now).orders create) }
 {
     let path = path_of(alloc, header, before, after, create)?;
     let tree = tree_in(before);
@@ -67,7 +70,8 @@ fn places_of(
     requires homes { HaveHomes (standing_of before.now) }
     requires range { AreInRange header.now.settings }
     ensures { IfOk result (λ held. (e : ℕ) → place_among held.items e
-        ≡ places_after header.now (standing_of before.now) (standing_of after.now).orders live.now e) }
+        ≡ places_after header.now (standing_of before.now) (standing_of after.now).orders
+        live.now e) }
 {
     let mut places = Vec::new(alloc);
     for create in live {
@@ -82,7 +86,8 @@ fn places_of(
 
 // What was executed up to now, and then the calls of the open round, in the order of the lines.
 fn calls_after(alloc: Global, before: &Standing) -> Result<Vec<Call>, AllocError>
-    ensures { IfOk result (λ calls. calls.items ≡ before.now.calls.items ++ calls_of before.now.current.items) }
+    ensures { IfOk result (λ calls. calls.items ≡ before.now.calls.items
+        ++ calls_of before.now.current.items) }
 {
     let mut calls = copies_of(alloc, &before.calls)?;
     let mut brought = calls_of(alloc, &before.current)?;
@@ -92,7 +97,8 @@ fn calls_after(alloc: Global, before: &Standing) -> Result<Vec<Call>, AllocError
 
 // A standing in which these calls are executed, and in which nobody is held anywhere yet.
 fn with_calls(alloc: Global, before: &Standing) -> Result<Standing, AllocError>
-    ensures { IfOk result (λ after. (standing_of after).orders ≡ orders_after (standing_of before.now)) }
+    ensures { IfOk result (λ after. (standing_of after).orders
+        ≡ orders_after (standing_of before.now)) }
 {
     let calls = calls_after(alloc, before)?;
     Ok(Standing {
@@ -116,9 +122,11 @@ pub(crate) fn settle(
 ) -> Result<Standing, AllocError>
     requires homes { HaveHomes (standing_of before.now) }
     requires range { AreInRange header.now.settings }
-    ensures orders { IfOk result (λ after. (standing_of after).orders ≡ orders_after (standing_of before.now)) }
+    ensures orders { IfOk result (λ after. (standing_of after).orders
+        ≡ orders_after (standing_of before.now)) }
     ensures places { IfOk result (λ after. (standing_of after).places
-        ≡ places_after header.now (standing_of before.now) (orders_after (standing_of before.now)) live.now) }
+        ≡ places_after header.now (standing_of before.now)
+        (orders_after (standing_of before.now)) live.now) }
 {
     let mut after = with_calls(alloc, before)?;
     let places = places_of(alloc, header, before, &after, live)?;

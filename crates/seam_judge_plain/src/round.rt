@@ -4,7 +4,7 @@ ghost use Rattle.seam_rule_rounds.specs.Prelude.{AreInRange, created_as, live_as
 ghost use Rattle.seam_judge_data.specs.Standings.{standing_of};
 ghost use Rattle.seam_judge_rounds.specs.After.{after_round};
 ghost use Rattle.seam_judge_rounds.specs.Bounds.{PrintsBounds};
-ghost use Rattle.seam_judge_rounds.specs.Clients.{client_as};
+ghost use Rattle.seam_judge_rounds.specs.RoundClients.{client_as};
 ghost use Rattle.seam_judge_rounds.specs.HeldPlaces.{HaveHomes};
 ghost use Rattle.seam_judge_plain.specs.Plain.{IsPlain};
 
@@ -33,9 +33,12 @@ struct Entities {
 }
 
 fn entities_in(alloc: Global, before: &Standing) -> Result<Entities, AllocError>
-    ensures made { IfOk result (λ all. Lists (created_as (standing_of before.now).book) all.made.items) }
-    ensures live { IfOk result (λ all. Lists (live_as (standing_of before.now).book) all.live.items) }
-    ensures clients { IfOk result (λ all. Lists (client_as (standing_of before.now).book) all.clients.items) }
+    ensures made { IfOk result (λ all. Lists (created_as (standing_of before.now).book)
+        all.made.items) }
+    ensures live { IfOk result (λ all. Lists (live_as (standing_of before.now).book)
+        all.live.items) }
+    ensures clients { IfOk result (λ all. Lists (client_as (standing_of before.now).book)
+        all.clients.items) }
 {
     let made = made_in(alloc, before)?;
     let live = live_among(alloc, before, &made)?;
@@ -127,12 +130,15 @@ pub fn plain_round(
     before: &Standing,
 ) -> Result<Option<Round>, AllocError>
     requires { AreInRange header.now.settings }
-    ensures legal { IfOk result (λ found. IfSome found (λ round.
-        IsRound header.now (standing_of before.now) round (after_round (standing_of before.now) round))) }
-    ensures plain { IfOk result (λ found. IfSome found (IsPlain header.now (standing_of before.now))) }
-    ensures none { IfOk result (λ found. IfNone found (HaveHomes (standing_of before.now) → before.now.rounds + 1 < 2 ^ 64 →
-        (round : RoundData) × IsPlain header.now (standing_of before.now) round
-        × ¬ (IsRound header.now (standing_of before.now) round (after_round (standing_of before.now) round)))) }
+    ensures legal { IfOk result (λ found. IfSome found (λ round. IsRound header.now
+        (standing_of before.now) round (after_round (standing_of before.now) round))) }
+    ensures plain { IfOk result (λ found. IfSome found (IsPlain header.now
+        (standing_of before.now))) }
+    ensures none { IfOk result (λ found. IfNone found (HaveHomes (standing_of before.now) →
+        before.now.rounds + 1 < 2 ^ 64 → (round : RoundData) ×
+        IsPlain header.now (standing_of before.now) round ×
+        ¬ (IsRound header.now (standing_of before.now) round
+        (after_round (standing_of before.now) round)))) }
 {
     if !have_homes(before) {
         return Ok(None);

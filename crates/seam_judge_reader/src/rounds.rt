@@ -1,6 +1,6 @@
 // The text of a round as its data.
 ghost use Rattle.std.specs.Prelude.{◌≡◌, IfOk, IfSome};
-ghost use Rattle.seam_rule_rounds.specs.Texts.{round_text};
+ghost use Rattle.seam_rule_rounds.specs.RoundTexts.{round_text};
 
 use crate::context::LineContext;
 use crate::lines::{base_line, client_line, done_line, ghost_line, home_line};
@@ -21,7 +21,8 @@ pub fn read_round(
     standing: &Standing,
     text: &[u8],
 ) -> Result<Option<Round>, AllocError>
-    ensures { IfOk result (λ read. IfSome read (λ round. round_text header.now.defs round ≡ text.now)) }
+    ensures { IfOk result (λ read. IfSome read (λ round. round_text header.now.defs round
+        ≡ text.now)) }
 {
     let round = read_lines(alloc, header, standing, text)?;
     let mut written = Vec::new(alloc);
@@ -41,11 +42,7 @@ pub fn read_lines(
     standing: &Standing,
     text: &[u8],
 ) -> Result<Round, AllocError> {
-    let known = LineContext {
-        alloc,
-        header,
-        standing,
-    };
+    let known = LineContext::of(alloc, header, standing)?;
     let mut round = no_round(alloc, standing);
     for line in text.split(|byte| *byte == b'\n') {
         let words = Words::of(alloc, line)?;

@@ -10,7 +10,7 @@ use Rattle.seam_rule_rounds.specs.Prelude.{Part, is_for, is_from, same_part, sam
 use Rattle.seam_rule_rounds.specs.Prelude.{calls_of, created_as, DoneLine, Lists, ExtendsOrders, done_lines}
 use Rattle.seam_rule_lines.proofs.Lists.{contains_first, listed_is_one}
 use Rattle.seam_judge_expected.proofs.ListedLemmas.{in_filter}
-use Rattle.seam_judge_rounds.specs.Calls.{AgreesAt}
+use Rattle.seam_judge_rounds.specs.CallAgreement.{AgreesAt}
 
 -- ---- walks
 

@@ -85,7 +85,8 @@ of_lines {X} P xs ys b same decides = subst (λ (zs : List X). IsTrue b ↔ P zs
 
 -- ---- all points
 
-pub of_live : (s : Standing) (live : List Create) (b : Bool) (P : List Create → Type 0) → Lists (live_as s.book) live → (IsTrue b ↔ P live) →
+pub of_live : (s : Standing) (live : List Create) (b : Bool) (P : List Create → Type 0) → Lists (live_as s.book) live →
+    (IsTrue b ↔ P live) →
     (IsTrue b ↔ OfLive s P)
 of_live s live b P listed decides = (
   (λ so other listed_too. subst P (listed_is_one (live_as s.book) live other listed listed_too) (decides.0 so)),
@@ -171,7 +172,8 @@ module _ (h : Header) (s : Standing) (r : RoundData) (t : Standing) where
 
 -- ---- a round of another number
 
-pub wrong_number : (h : Header) (s : Standing) (r : RoundData) (t : Standing) (b : Bool) → b ≡ false → (IsTrue b ↔ (r.number ≡ s.rounds + 1)) →
+pub wrong_number : (h : Header) (s : Standing) (r : RoundData) (t : Standing) (b : Bool) → b ≡ false →
+    (IsTrue b ↔ (r.number ≡ s.rounds + 1)) →
     (p : Point) → Some point.Number ≡ Some p → ¬ (Holds h s r t p)
 wrong_number h s r t b fails decides p is holds =
     let same : p ≡ point.Number = sym (same_Some point.Number p is) in

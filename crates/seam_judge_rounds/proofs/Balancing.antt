@@ -10,7 +10,8 @@ use Rattle.seam_judge_rounds.specs.Bounds.{PrintsBounds}
 pub balanced_is : (positions all : List Pos) (shift : ℕ) (t u next other : Division) (r : Bool) → positions ≡ all → t ≡ u →
     IsBalanced positions shift t next → (IsTrue r ↔ (next ≡ other)) → (IsTrue r ↔ IsBalanced all shift u other)
 balanced_is positions all shift t u next other r same tree balanced is =
-    let here = subst (λ (ps : List Pos). IsBalanced ps shift u next) same (subst (λ (x : Division). IsBalanced positions shift x next) tree balanced)
+    let here = subst (λ (ps : List Pos). IsBalanced ps shift u next) same
+    (subst (λ (x : Division). IsBalanced positions shift x next) tree balanced)
     in (
       (λ so. subst (IsBalanced all shift u) (is.0 so) here),
       (λ too. is.1 (one_in_turn all shift (boundaries_from_root u) u next other here too)),
@@ -35,5 +36,6 @@ module _ (h : Header) (s : Standing) (homes : List HomeLine) where
         (λ found.
             let same : Some found.0 ≡ Some bounds = sym found.2 ∙ is in
             let one : found.0 ≡ bounds = cc in
-            decides.1 (subst (IsBalanced (map (λ (l : HomeLine). l.state.pos) homes) h.settings.balance_shift (tree_of s.book)) one found.1)),
+            decides.1 (subst (IsBalanced (map (λ (l : HomeLine). l.state.pos) homes) h.settings.balance_shift (tree_of s.book)) one
+            found.1)),
       )

@@ -9,7 +9,7 @@ use Rattle.seam_rule_rounds.specs.Prelude.{Create, Book, entries, creates_of, cr
 use Rattle.seam_rule_lines.proofs.Lists.{contains_first}
 use Rattle.seam_rule_lines.proofs.InOrderLemmas.{found_entity}
 use Rattle.seam_judge_expected.proofs.ListedLemmas.{lists_living, in_filter}
-use Rattle.seam_judge_rounds.specs.Clients.{client_as}
+use Rattle.seam_judge_rounds.specs.RoundClients.{client_as}
 
 flipped : (x : Bool) (o : Option Create) → cond (not x) None o ≡ cond x o None
 flipped true o = refl

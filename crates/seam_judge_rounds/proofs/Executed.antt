@@ -39,7 +39,8 @@ calls_again : (ty : ℕ) (xs : List Call) → calls_in (map (λ (x : Call). reco
 calls_again ty [] = refl
 calls_again ty (x ∷ xs) = ap (λ (ys : List Call). x ∷ ys) (calls_again ty xs)
 
-calls_of_lines : (done : ℕ → List Call) (made : List Create) → calls_in (done_lines done made) ≡ flat_map (λ (c : Create). done c.entity) made
+calls_of_lines : (done : ℕ → List Call) (made : List Create) →
+    calls_in (done_lines done made) ≡ flat_map (λ (c : Create). done c.entity) made
 calls_of_lines done [] = refl
 calls_of_lines done (c ∷ made) =
     map-append (λ (l : DoneLine). l.call) (map (λ (x : Call). record { ty = c.ty; call = x }) (done c.entity)) (done_lines done made)
@@ -119,7 +120,8 @@ module _ (b : Book) (p : Part) (before after : ℕ → List Call) (lines : List 
 module _ (b : Book) (cells cells_after bases bases_after : ℕ → List Call) (did dob : List DoneLine) (made : AreForMade b)
     (x : ExtendsOrders b part.Cell cells cells_after did) (y : ExtendsOrders b part.Base bases bases_after dob)
   where
-    split : (p : Part) (e : ℕ) → filter (is_for p e) (calls_in (did ++ dob)) ≡ filter (is_for p e) (calls_in did) ++ filter (is_for p e) (calls_in dob)
+    split : (p : Part) (e : ℕ) → filter (is_for p e) (calls_in (did ++ dob)) ≡ filter (is_for p e) (calls_in did)
+        ++ filter (is_for p e) (calls_in dob)
     split p e =
         ap (filter (is_for p e)) (map-append (λ (l : DoneLine). l.call) did dob) ∙ filter-append (is_for p e) (calls_in did) (calls_in dob)
 

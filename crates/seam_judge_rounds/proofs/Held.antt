@@ -48,7 +48,8 @@ listed_ghosts tree place below =
     set.same_set nat_cmp_total set.nat_cmp-IsAntisymmetric (set.from_list (ghost_cells tree place)) place.ghosts
     (λ c. contains_chosen (λ (n : ℕ). set.contains place.ghosts n) 0 (cells_of tree) c ∙ by c (set.contains place.ghosts c) refl)
   where
-    by : (c : ℕ) (b : Bool) → set.contains place.ghosts c ≡ b → ((nat_le 0 c && nat_lt c (0 + cells_of tree)) && set.contains place.ghosts c)
+    by : (c : ℕ) (b : Bool) → set.contains place.ghosts c ≡ b →
+        ((nat_le 0 c && nat_lt c (0 + cells_of tree)) && set.contains place.ghosts c)
         ≡ set.contains place.ghosts c
     by c true is =
         let low = below c is in
@@ -82,7 +83,8 @@ module _ (h : Header) (tree : Division) (t : Standing) (few : cells_of tree ≤ 
     version = public_at h c (t.orders part.Cell c.entity) (length (t.orders part.Cell c.entity));
   }
 
-  lines_at : (c : Create) (cells : List ℕ) (l : GhostLine) → Contains (map (line_at c) cells) l → Contains cells l.cell × (l.entity ≡ c.entity)
+  lines_at : (c : Create) (cells : List ℕ) (l : GhostLine) → Contains (map (line_at c) cells) l → Contains cells l.cell ×
+      (l.entity ≡ c.entity)
   lines_at c [] l (k, within, is) = absurd (omega (arith, within))
   lines_at c (x ∷ xs) l has = elim (contains_cases (line_at c x) l (map (line_at c) xs) has) [
     | inl same ↦ (
@@ -130,7 +132,8 @@ find_home h t c (x ∷ xs) same has =
     by true is again either =
         let entity : x.entity ≡ c.entity = grind (arith, nat_tests, is) in
         ap (λ (d : Create). Some (home_line h t d)) (same x (contains_first x xs) entity)
-    by false is again (inl one) = let here : x.entity ≡ c.entity = ap (λ (y : Create). y.entity) one in absurd (grind (arith, nat_tests, is, here))
+    by false is again (inl one) = let here : x.entity ≡ c.entity = ap (λ (y : Create). y.entity) one in
+        absurd (grind (arith, nat_tests, is, here))
     by false is again (inr there) = again there
 
 -- ---- places

@@ -12,7 +12,8 @@ use Rattle.seam_judge_data.specs.declared.standing.Held.{Held}
 at_first : (places : List Held) (n e : ℕ) → 0 < n → All (λ (h : Held). (place_among places h.entity).home < n) places →
     (rest : List Held) → All (λ (h : Held). (place_among places h.entity).home < n) rest → (place_among rest e ≡ place_among places e) →
     (place_among places e).home < n
-at_first places n e some all [] each same = let home : (place_among places e).home ≡ 0 = ap (λ p. p.home) (sym same) in omega (arith, home, some)
+at_first places n e some all [] each same = let home : (place_among places e).home ≡ 0 = ap (λ p. p.home) (sym same) in
+    omega (arith, home, some)
 at_first places n e some all (x ∷ xs) each same =
     by (x.entity == e) refl (at_first places n e some all xs (λ k d within. each (suc k) d (omega (arith, within)))) same
   where

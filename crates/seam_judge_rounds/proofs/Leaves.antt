@@ -65,7 +65,8 @@ flat_map_same f g (x ∷ xs) same =
     let others = flat_map_same f g xs (λ y has. same y (contains_later x y xs has)) in
     λ i. first i ++ others i
 
-module _ (h : Header) (s : Standing) (r : RoundData) (t : Standing) (made : AreForMade s.book) (few : cells_of (tree_of s.book) ≤ MOST_CELLS)
+module _ (h : Header) (s : Standing) (r : RoundData) (t : Standing) (made : AreForMade s.book) (few : cells_of (tree_of s.book)
+    ≤ MOST_CELLS)
     (x : IsRound h s r t)
   where
     abbrev pub held : Standing
@@ -130,9 +131,11 @@ module _ (h : Header) (s : Standing) (r : RoundData) (t : Standing) (made : AreF
 
     orders_left : (p : Part) (e : ℕ) → s.orders p e ++ filter (is_for p e) (map (λ l. l.call) (r.did ++ r.dob)) ≡ t.orders p e
     orders_left part.Cell e =
-        cells_executed s.book (s.orders part.Cell) (t.orders part.Cell) (s.orders part.Base) (t.orders part.Base) r.did r.dob made x.did x.dob e
+        cells_executed s.book (s.orders part.Cell) (t.orders part.Cell) (s.orders part.Base) (t.orders part.Base) r.did r.dob made x.did
+        x.dob e
     orders_left part.Base e =
-        bases_executed s.book (s.orders part.Cell) (t.orders part.Cell) (s.orders part.Base) (t.orders part.Base) r.did r.dob made x.did x.dob e
+        bases_executed s.book (s.orders part.Cell) (t.orders part.Cell) (s.orders part.Base) (t.orders part.Base) r.did r.dob made x.did
+        x.dob e
 
     left_is : held ≡ after_round s r
     left_is = λ i. record {

@@ -31,7 +31,8 @@ held_is r e (x ∷ xs) = by (x.entity == e) (held_is r e xs)
   where
     by : (b : Bool) →
         place_among (map (held_of r) xs) e ≡ unwrap_or (option_map (place_at r) (find (λ l. l.entity == e) xs)) in_first_cell →
-        unwrap_or (option_map (λ (h : Held). h.place) (cond b (Some (held_of r x)) (find (λ h. h.entity == e) (map (held_of r) xs)))) in_first_cell
+        unwrap_or (option_map (λ (h : Held). h.place) (cond b (Some (held_of r x)) (find (λ h. h.entity == e) (map (held_of r) xs))))
+        in_first_cell
         ≡ unwrap_or (option_map (place_at r) (cond b (Some x) (find (λ l. l.entity == e) xs))) in_first_cell
     by true again = refl
     by false again = again

@@ -88,7 +88,8 @@ piece_among {X} f c (x ∷ xs) rise has =
         absurd (omega (arith, up, here, equal))) in
         ap (λ (ys : List X). f x ++ ys) none ∙ append-nil (f x) ∙ ap f same
     by true is again (inr there) = let up = above c there in absurd (grind (arith, nat_tests, is, up))
-    by false is again (inl same) = let here : x.entity ≡ c.entity = ap (λ (y : Create). y.entity) same in absurd (grind (arith, nat_tests, is, here))
+    by false is again (inl same) = let here : x.entity ≡ c.entity = ap (λ (y : Create). y.entity) same in
+        absurd (grind (arith, nat_tests, is, here))
     by false is again (inr there) = again there
 
 -- the piece of an entity of a list in rising number

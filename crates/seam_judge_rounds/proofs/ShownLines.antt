@@ -12,14 +12,15 @@ use Rattle.seam_call.specs.declared.shown.Line.{Line}
 use Rattle.seam_call.specs.declared.shown.ClientText.TheVariants as text
 use Rattle.seam_judge_data.specs.Standings.{standing_of}
 use Rattle.seam_judge_data.specs.declared.standing.Standing as plain
-use Rattle.seam_judge_rounds.specs.Clients.{client_as, IsTold}
+use Rattle.seam_judge_rounds.specs.RoundClients.{client_as, IsTold}
 use Rattle.seam_judge_rounds.proofs.ClientLists.{each_client, told_each}
 use Rattle.seam_judge_rounds.proofs.Told.{all_now}
 
 -- ---- one client
 
 module _ (h : Header) (s : Standing) (r : RoundData) (t : Standing) (c : Create) (lines : List (Bor ClientLine)) (told : List (Bor Line))
-    (lines_are : map (λ l. l.now) lines ≡ lines_to r c.entity) (told_are : map (λ l. l.now) told ≡ map (λ l. l.line) (map (λ l. l.now) lines))
+    (lines_are : map (λ l. l.now) lines ≡ lines_to r c.entity) (told_are : map (λ l. l.now) told
+    ≡ map (λ l. l.line) (map (λ l. l.now) lines))
   where
     told_is : map (λ l. l.now) told ≡ told_in r c.entity
     told_is = told_are ∙ ap (map (λ (l : ClientLine). l.line)) lines_are
@@ -39,34 +40,35 @@ module _ (h : Header) (s : Standing) (r : RoundData) (t : Standing) (c : Create)
         (IsTrue bases ↔ (filter is_base (map (λ l. l.text) (map (λ l. l.now) told)) ≡ map (base_shown h t c) (base_versions h s t c))) →
         (IsTrue first ↔ (IsTrue typed × IsTrue numbered)) → (IsTrue second ↔ (IsTrue right × IsTrue bases)) →
         (IsTrue all ↔ (IsTrue first × IsTrue second)) → (IsTrue all ↔ ShowsClient h s r t c)
-    client_decided n numbers typed numbered right bases first second all former numbers_are at_typed at_numbered at_right at_bases at_first at_second at_all = (
-      (λ so.
-          let two = at_all.0 so in
-          let one = at_first.0 two.0 in
-          let other = at_second.0 two.1 in record {
-            types = subst (All (λ (l : ClientLine). l.ty ≡ c.ty)) lines_are
-                ((all_now (λ (l : ClientLine). l.ty ≡ c.ty) lines).0 (at_typed.0 one.0));
-            numbers = sym (numbers_is numbers numbers_are) ∙ at_numbered.0 one.1
-                ∙ (λ i. range_with_len (former i + 1) (long numbers numbers_are i));
-            right = subst
-                (λ (ls : List Line). ShowsRightly (truth_of h s t c) c.entity (replica_of h s c.entity) (shown_by_lines ls)) told_is
-                (at_right.0 other.0);
-            bases = ap (λ (ls : List Line). filter is_base (map (λ l. l.text) ls)) (sym told_is) ∙ at_bases.0 other.1;
-          }),
-      (λ shows. at_all.1 (
-        at_first.1 (
-          at_typed.1 ((all_now (λ (l : ClientLine). l.ty ≡ c.ty) lines).1
-              (subst (All (λ (l : ClientLine). l.ty ≡ c.ty)) (sym lines_are) shows.types)),
-          at_numbered.1 (numbers_is numbers numbers_are ∙ shows.numbers
-              ∙ (λ i. range_with_len (sym former i + 1) (sym (long numbers numbers_are) i))),
-        ),
-        at_second.1 (
-          at_right.1 (subst (λ (ls : List Line). ShowsRightly (truth_of h s t c) c.entity (replica_of h s c.entity) (shown_by_lines ls))
-              (sym told_is) shows.right),
-          at_bases.1 (ap (λ (ls : List Line). filter is_base (map (λ l. l.text) ls)) told_is ∙ shows.bases),
-        ),
-      )),
-    )
+    client_decided n numbers typed numbered right bases first second all former numbers_are at_typed at_numbered at_right at_bases at_first
+        at_second at_all = (
+          (λ so.
+              let two = at_all.0 so in
+              let one = at_first.0 two.0 in
+              let other = at_second.0 two.1 in record {
+                types = subst (All (λ (l : ClientLine). l.ty ≡ c.ty)) lines_are
+                    ((all_now (λ (l : ClientLine). l.ty ≡ c.ty) lines).0 (at_typed.0 one.0));
+                numbers = sym (numbers_is numbers numbers_are) ∙ at_numbered.0 one.1
+                    ∙ (λ i. range_with_len (former i + 1) (long numbers numbers_are i));
+                right = subst
+                    (λ (ls : List Line). ShowsRightly (truth_of h s t c) c.entity (replica_of h s c.entity) (shown_by_lines ls)) told_is
+                    (at_right.0 other.0);
+                bases = ap (λ (ls : List Line). filter is_base (map (λ l. l.text) ls)) (sym told_is) ∙ at_bases.0 other.1;
+              }),
+          (λ shows. at_all.1 (
+            at_first.1 (
+              at_typed.1 ((all_now (λ (l : ClientLine). l.ty ≡ c.ty) lines).1
+                  (subst (All (λ (l : ClientLine). l.ty ≡ c.ty)) (sym lines_are) shows.types)),
+              at_numbered.1 (numbers_is numbers numbers_are ∙ shows.numbers
+                  ∙ (λ i. range_with_len (sym former i + 1) (sym (long numbers numbers_are) i))),
+            ),
+            at_second.1 (
+              at_right.1 (subst (λ (ls : List Line). ShowsRightly (truth_of h s t c) c.entity (replica_of h s c.entity) (shown_by_lines ls))
+                  (sym told_is) shows.right),
+              at_bases.1 (ap (λ (ls : List Line). filter is_base (map (λ l. l.text) ls)) told_is ∙ shows.bases),
+            ),
+          )),
+        )
 
 -- the same of equal lists
 pub typed_of : (c : Create) (lines others : List (Bor ClientLine)) (b : Bool) → others ≡ lines →
@@ -126,27 +128,28 @@ module _ (s t : plain.Standing) (r : RoundData) (before after shown : List Clien
       (λ each. at_v.1 (at_x.1 (λ k d within. each _), at_w.1 (at_y.1 (λ k d within. each _), at_z.1 (λ k d within. each _)))),
     )
 
-module _ (h : Header) (s : Standing) (r : RoundData) (t : Standing) (clients : List Create) (listed : Lists (client_as s.book) clients) where
-  pub shown_decided : (rise only each told first second all : Bool) → (IsTrue rise ↔ IsNonDecreasing (map (λ l. l.entity) r.shown)) →
-      (IsTrue only ↔ All (λ (l : ClientLine). IsTrue (is_shown s.book l.entity)) r.shown) →
-      (IsTrue each ↔ All (ShowsClient h s r t) clients) → (IsTrue told ↔ ((e : ℕ) → IsTold s r t e)) →
-      (IsTrue first ↔ (IsTrue rise × IsTrue only)) → (IsTrue second ↔ (IsTrue each × IsTrue told)) →
-      (IsTrue all ↔ (IsTrue first × IsTrue second)) → (IsTrue all ↔ HasShown h s r t)
-  shown_decided rise only each told first second all at_rise at_only at_each at_told at_first at_second at_all = (
-    (λ so.
-        let two = at_all.0 so in
-        let one = at_first.0 two.0 in
-        let other = at_second.0 two.1 in record {
-          rising = at_rise.0 one.0;
-          only = at_only.0 one.1;
-          each = (each_client s.book clients listed (ShowsClient h s r t)).0 (at_each.0 other.0);
-          told = at_told.0 other.1;
-        }),
-    (λ shown. at_all.1 (
-      at_first.1 (at_rise.1 shown.rising, at_only.1 shown.only),
-      at_second.1 (at_each.1 ((each_client s.book clients listed (ShowsClient h s r t)).1 shown.each), at_told.1 shown.told),
-    )),
-  )
+module _ (h : Header) (s : Standing) (r : RoundData) (t : Standing) (clients : List Create) (listed : Lists (client_as s.book) clients)
+  where
+    pub shown_decided : (rise only each told first second all : Bool) → (IsTrue rise ↔ IsNonDecreasing (map (λ l. l.entity) r.shown)) →
+        (IsTrue only ↔ All (λ (l : ClientLine). IsTrue (is_shown s.book l.entity)) r.shown) →
+        (IsTrue each ↔ All (ShowsClient h s r t) clients) → (IsTrue told ↔ ((e : ℕ) → IsTold s r t e)) →
+        (IsTrue first ↔ (IsTrue rise × IsTrue only)) → (IsTrue second ↔ (IsTrue each × IsTrue told)) →
+        (IsTrue all ↔ (IsTrue first × IsTrue second)) → (IsTrue all ↔ HasShown h s r t)
+    shown_decided rise only each told first second all at_rise at_only at_each at_told at_first at_second at_all = (
+      (λ so.
+          let two = at_all.0 so in
+          let one = at_first.0 two.0 in
+          let other = at_second.0 two.1 in record {
+            rising = at_rise.0 one.0;
+            only = at_only.0 one.1;
+            each = (each_client s.book clients listed (ShowsClient h s r t)).0 (at_each.0 other.0);
+            told = at_told.0 other.1;
+          }),
+      (λ shown. at_all.1 (
+        at_first.1 (at_rise.1 shown.rising, at_only.1 shown.only),
+        at_second.1 (at_each.1 ((each_client s.book clients listed (ShowsClient h s r t)).1 shown.each), at_told.1 shown.told),
+      )),
+    )
 
 -- ---- looks
 

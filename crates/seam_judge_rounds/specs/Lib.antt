@@ -1,6 +1,6 @@
-pub mod Calls
+pub mod CallAgreement
 pub mod HeldPlaces
 pub mod Bounds
-pub mod Clients
+pub mod RoundClients
 pub mod After
 pub mod Points

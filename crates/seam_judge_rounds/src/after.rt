@@ -17,7 +17,8 @@ use std::alloc::{AllocError, Global};
 
 // These cells, and that of a line where it shows a ghost of the entity.
 fn with_ghost(cells: CellSet, line: &GhostLine, entity: u32) -> CellSet
-    ensures { result ≡ (if is_ghost_of entity line.now then set.insert cells line.now.cell else cells) }
+    ensures { result ≡ (if is_ghost_of entity line.now then set.insert cells line.now.cell
+        else cells) }
 {
     if line.entity == entity && usize::from(line.cell) < MOST_CELLS {
         cells.with(line.cell)
@@ -74,7 +75,8 @@ fn calls_in(alloc: Global, lines: &[DoneLine]) -> Result<Vec<Call>, AllocError>
 
 /// The calls that a round shows as executed, those of cell parts first.
 pub(crate) fn calls_done(alloc: Global, round: &Round) -> Result<Vec<Call>, AllocError>
-    ensures { IfOk result (λ calls. calls.items ≡ map (λ l. l.call) (round.now.did ++ round.now.dob)) }
+    ensures { IfOk result (λ calls. calls.items ≡ map (λ l. l.call) (round.now.did
+        ++ round.now.dob)) }
 {
     let mut calls = calls_in(alloc, &round.did)?;
     let mut further = calls_in(alloc, &round.dob)?;
@@ -94,7 +96,8 @@ fn entries_of(alloc: Global, before: &Standing) -> Result<Vec<Entry>, AllocError
 
 // What was executed up to the round's end.
 fn calls_after(alloc: Global, before: &Standing, round: &Round) -> Result<Vec<Call>, AllocError>
-    ensures { IfOk result (λ calls. calls.items ≡ before.now.calls.items ++ map (λ l. l.call) (round.now.did ++ round.now.dob)) }
+    ensures { IfOk result (λ calls. calls.items ≡ before.now.calls.items
+        ++ map (λ l. l.call) (round.now.did ++ round.now.dob)) }
 {
     let mut calls = copies_of(alloc, &before.calls)?;
     let mut further = calls_done(alloc, round)?;
@@ -134,7 +137,8 @@ pub fn standing_after(
     round: &Round,
 ) -> Result<Standing, AllocError>
     requires { round.now.number ≡ before.now.rounds + 1 }
-    ensures { IfOk result (λ after. standing_of after ≡ after_round (standing_of before.now) round.now) }
+    ensures { IfOk result (λ after. standing_of after ≡ after_round (standing_of before.now)
+        round.now) }
 {
     let past = entries_of(alloc, before)?;
     let calls = calls_after(alloc, before, round)?;

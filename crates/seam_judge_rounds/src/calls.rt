@@ -3,7 +3,7 @@ ghost use Rattle.std.specs.Prelude.{◌≡◌, ◌↔◌, ◌++◌, ℕ, IsTrue,
 ghost use Rattle.std.specs.List.{All};
 ghost use Rattle.seam_rule_rounds.specs.Prelude.{is_for, is_from, Sender as Senders, calls_of, created_as, entries, ExtendsOrders, Lists};
 ghost use Rattle.seam_judge_data.specs.Standings.{standing_of};
-ghost use Rattle.seam_judge_rounds.specs.Calls.{AgreesAt};
+ghost use Rattle.seam_judge_rounds.specs.CallAgreement.{AgreesAt};
 
 use seam_call::{Call, Create, Sender};
 use seam_defs::Part;
@@ -13,7 +13,8 @@ use std::alloc::{AllocError, Global};
 
 // What was accepted up to now, in the order of the lines.
 fn accepted_in(alloc: Global, standing: &Standing) -> Result<Vec<Call>, AllocError>
-    ensures { IfOk result (λ calls. calls.items ≡ calls_of (entries (standing_of standing.now).book)) }
+    ensures { IfOk result (λ calls. calls.items ≡ calls_of
+        (entries (standing_of standing.now).book)) }
 {
     let mut calls = calls_of(alloc, &standing.past)?;
     let mut later = calls_of(alloc, &standing.current)?;
@@ -79,7 +80,8 @@ fn agree_at_each(
     executed: &[Call],
     calls: &[Call],
 ) -> Result<bool, AllocError>
-    ensures { IfOk result (λ r. IsTrue r ↔ All (AgreesAt part accepted.now executed.now) calls.now) }
+    ensures { IfOk result (λ r. IsTrue r ↔ All (AgreesAt part accepted.now executed.now)
+        calls.now) }
 {
     for call in calls {
         let agrees = agrees_at(alloc, part, accepted, executed, call)?;
@@ -97,7 +99,8 @@ fn is_full(
     accepted: &[Call],
     executed: &[Call],
 ) -> Result<bool, AllocError>
-    ensures { IfOk result (λ r. IsTrue r ↔ ((e : ℕ) (s : Senders) → filter (is_from part e s) executed.now ≡ filter (is_from part e s) accepted.now)) }
+    ensures { IfOk result (λ r. IsTrue r ↔ ((e : ℕ) (s : Senders) →
+        filter (is_from part e s) executed.now ≡ filter (is_from part e s) accepted.now)) }
 {
     let of_accepted = agree_at_each(alloc, part, accepted, executed, accepted)?;
     let of_executed = agree_at_each(alloc, part, accepted, executed, executed)?;
@@ -115,8 +118,9 @@ pub fn extends_orders(
     lines: &[DoneLine],
 ) -> Result<bool, AllocError>
     requires { Lists (created_as (standing_of before.now).book) made.now }
-    ensures { IfOk result (λ r. IsTrue r ↔ ExtendsOrders (standing_of before.now).book part ((standing_of before.now).orders part)
-        (λ e. filter (is_for part e) (before.now.calls.items ++ done.now)) lines.now) }
+    ensures { IfOk result (λ r. IsTrue r ↔ ExtendsOrders (standing_of before.now).book part
+        ((standing_of before.now).orders part) (λ e. filter (is_for part e)
+        (before.now.calls.items ++ done.now)) lines.now) }
 {
     let expected = done_lines_of(alloc, part, made, done)?;
     let accepted = accepted_in(alloc, before)?;

@@ -2,7 +2,7 @@
 ghost use Rattle.std.specs.Prelude.{◌≡◌, ◌==◌, IfOk, find, filter, map, option_copied};
 ghost use Rattle.seam_rule_rounds.specs.Prelude.{created_as, is_shown, Lists, lines_to};
 ghost use Rattle.seam_judge_data.specs.Standings.{standing_of};
-ghost use Rattle.seam_judge_rounds.specs.Clients.{client_as};
+ghost use Rattle.seam_judge_rounds.specs.RoundClients.{client_as};
 
 use seam_call::{ClientText, Create, Line};
 use seam_judge_data::{ClientLine, Copied, Round, Standing};
@@ -54,7 +54,8 @@ pub fn clients_among(
     made: &[Create],
 ) -> Result<Vec<Create>, AllocError>
     requires { Lists (created_as (standing_of standing.now).book) made.now }
-    ensures { IfOk result (λ clients. Lists (client_as (standing_of standing.now).book) clients.items) }
+    ensures { IfOk result (λ clients. Lists (client_as (standing_of standing.now).book)
+        clients.items) }
 {
     shown_among(alloc, standing, made)
 }
@@ -64,7 +65,8 @@ fn shown_among(
     standing: &Standing,
     made: &[Create],
 ) -> Result<Vec<Create>, AllocError>
-    ensures { IfOk result (λ clients. clients.items ≡ filter (λ c. is_shown (standing_of standing.now).book c.entity) made.now) }
+    ensures { IfOk result (λ clients. clients.items ≡ filter
+        (λ c. is_shown (standing_of standing.now).book c.entity) made.now) }
 {
     let mut clients = Vec::new(alloc);
     for create in made {
@@ -96,7 +98,8 @@ pub(crate) fn told_by<'a>(
     alloc: Global,
     lines: &[&'a ClientLine],
 ) -> Result<Vec<&'a Line>, AllocError>
-    ensures { IfOk result (λ told. map (λ l. l.now) told.items ≡ map (λ l. l.line) (map (λ l. l.now) lines.now)) }
+    ensures { IfOk result (λ told. map (λ l. l.now) told.items
+        ≡ map (λ l. l.line) (map (λ l. l.now) lines.now)) }
 {
     let mut told = Vec::new(alloc);
     for line in lines {

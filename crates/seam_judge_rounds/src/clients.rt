@@ -4,7 +4,7 @@ ghost use Rattle.std.specs.List.{All, range_with_len};
 ghost use Rattle.std.specs.List.Sorted.{IsNonDecreasing};
 ghost use Rattle.seam_rule_rounds.specs.Prelude.{is_shown, Lists, is_base, base_shown, base_versions, ShowsClient, HasShown};
 ghost use Rattle.seam_judge_data.specs.Standings.{standing_of};
-ghost use Rattle.seam_judge_rounds.specs.Clients.{client_as, IsTold};
+ghost use Rattle.seam_judge_rounds.specs.RoundClients.{client_as, IsTold};
 
 use crate::calls::both;
 use crate::case::{Case, is_shown, lines_to, texts_of, told_by};
@@ -57,7 +57,8 @@ fn are_counted(numbers: &[u64], former: usize) -> bool
 
 // The numbers of lines.
 fn numbers_of(alloc: Global, lines: &[&Line]) -> Result<Vec<u64>, AllocError>
-    ensures { IfOk result (λ numbers. numbers.items ≡ map (λ l. l.number) (map (λ l. l.now) lines.now)) }
+    ensures { IfOk result (λ numbers. numbers.items ≡ map (λ l. l.number)
+        (map (λ l. l.now) lines.now)) }
 {
     let mut numbers = Vec::new(alloc);
     for line in lines {
@@ -92,10 +93,11 @@ fn show_base(
     create: Create,
     lines: &[&Line],
 ) -> Result<bool, AllocError>
-    ensures { IfOk result (λ r. IsTrue r
-        ↔ (filter is_base (map (λ l. l.text) (map (λ l. l.now) lines.now))
+    ensures { IfOk result (λ r. IsTrue r ↔ (filter is_base
+        (map (λ l. l.text) (map (λ l. l.now) lines.now))
         ≡ map (base_shown case.now.header.now (standing_of case.now.after.now) create)
-        (base_versions case.now.header.now (standing_of case.now.before.now) (standing_of case.now.after.now) create))) }
+        (base_versions case.now.header.now (standing_of case.now.before.now)
+        (standing_of case.now.after.now) create))) }
 {
     let texts = texts_of(alloc, lines)?;
     let bases = base_among(alloc, &texts)?;
@@ -105,8 +107,9 @@ fn show_base(
 
 // Whether the lines of an entity's client are right.
 fn shows_client(alloc: Global, case: &Case<'_>, create: Create) -> Result<bool, AllocError>
-    ensures { IfOk result (λ r. IsTrue r
-        ↔ ShowsClient case.now.header.now (standing_of case.now.before.now) case.now.round.now (standing_of case.now.after.now) create) }
+    ensures { IfOk result (λ r. IsTrue r ↔ ShowsClient case.now.header.now
+        (standing_of case.now.before.now) case.now.round.now (standing_of case.now.after.now)
+        create) }
 {
     let lines = lines_to(alloc, case.round, create.entity)?;
     let told = told_by(alloc, &lines)?;
@@ -121,8 +124,9 @@ fn shows_client(alloc: Global, case: &Case<'_>, create: Create) -> Result<bool, 
 
 // Whether those of each client are.
 fn show_each(alloc: Global, case: &Case<'_>, clients: &[Create]) -> Result<bool, AllocError>
-    ensures { IfOk result (λ r. IsTrue r
-        ↔ All (ShowsClient case.now.header.now (standing_of case.now.before.now) case.now.round.now (standing_of case.now.after.now)) clients.now) }
+    ensures { IfOk result (λ r. IsTrue r ↔ All (ShowsClient case.now.header.now
+        (standing_of case.now.before.now) case.now.round.now
+        (standing_of case.now.after.now)) clients.now) }
 {
     for create in clients {
         let right = shows_client(alloc, case, *create)?;
@@ -148,7 +152,8 @@ fn entities_of(alloc: Global, lines: &[ClientLine]) -> Result<Vec<u32>, AllocErr
 fn falls_at(numbers: &[u32], i: usize) -> bool
     requires some { 1 ≤ i }
     requires within { i < length numbers.now }
-    ensures { IsTrue result ↔ (slice_index_or numbers.now i 0 < slice_index_or numbers.now (i - 1) 0) }
+    ensures { IsTrue result ↔ (slice_index_or numbers.now i 0 < slice_index_or numbers.now (i - 1)
+        0) }
 {
     let former = numbers[i - 1];
     let number = numbers[i];
@@ -174,7 +179,8 @@ fn are_of_clients(
     standing: &Standing,
     lines: &[ClientLine],
 ) -> Result<bool, AllocError>
-    ensures { IfOk result (λ r. IsTrue r ↔ All (λ l. IsTrue (is_shown (standing_of standing.now).book l.entity)) lines.now) }
+    ensures { IfOk result (λ r. IsTrue r ↔ All (λ l. IsTrue
+        (is_shown (standing_of standing.now).book l.entity)) lines.now) }
 {
     for line in lines {
         let shown = is_shown(alloc, standing, line.entity)?;
@@ -198,7 +204,8 @@ fn copies_of_lines(alloc: Global, lines: &[&Line]) -> Result<Vec<Line>, AllocErr
 
 // Whether a client was told, up to the round's end, what it was told before the round and in it.
 fn is_told(alloc: Global, case: &Case<'_>, entity: u32) -> Result<bool, AllocError>
-    ensures { IfOk result (λ r. IsTrue r ↔ IsTold (standing_of case.now.before.now) case.now.round.now (standing_of case.now.after.now) entity) }
+    ensures { IfOk result (λ r. IsTrue r ↔ IsTold (standing_of case.now.before.now)
+        case.now.round.now (standing_of case.now.after.now) entity) }
 {
     let now = copies_of_lines(alloc, &case.after.told_to(alloc, entity)?)?;
     let mut expected = copies_of_lines(alloc, &case.before.told_to(alloc, entity)?)?;
@@ -210,8 +217,8 @@ fn is_told(alloc: Global, case: &Case<'_>, entity: u32) -> Result<bool, AllocErr
 
 // Whether that is so of the client of each of these lines.
 fn are_told(alloc: Global, case: &Case<'_>, lines: &[ClientLine]) -> Result<bool, AllocError>
-    ensures { IfOk result (λ r. IsTrue r
-        ↔ All (λ l. IsTold (standing_of case.now.before.now) case.now.round.now (standing_of case.now.after.now) l.entity) lines.now) }
+    ensures { IfOk result (λ r. IsTrue r ↔ All (λ l. IsTold (standing_of case.now.before.now)
+        case.now.round.now (standing_of case.now.after.now) l.entity) lines.now) }
 {
     for line in lines {
         let told = is_told(alloc, case, line.entity)?;
@@ -224,8 +231,8 @@ fn are_told(alloc: Global, case: &Case<'_>, lines: &[ClientLine]) -> Result<bool
 
 // Whether it is so of every client: of one without a line it is.
 fn is_each_told(alloc: Global, case: &Case<'_>) -> Result<bool, AllocError>
-    ensures { IfOk result (λ r. IsTrue r
-        ↔ ((e : ℕ) → IsTold (standing_of case.now.before.now) case.now.round.now (standing_of case.now.after.now) e)) }
+    ensures { IfOk result (λ r. IsTrue r ↔ ((e : ℕ) → IsTold (standing_of case.now.before.now)
+        case.now.round.now (standing_of case.now.after.now) e)) }
 {
     let (before, after, round) = (case.before, case.after, case.round);
     let of_former = are_told(alloc, case, &before.told)?;
@@ -238,8 +245,8 @@ fn is_each_told(alloc: Global, case: &Case<'_>) -> Result<bool, AllocError>
 /// to what each was told. `clients` are those of the round.
 pub fn has_shown(alloc: Global, case: &Case<'_>, clients: &[Create]) -> Result<bool, AllocError>
     requires { Lists (client_as (standing_of case.now.before.now).book) clients.now }
-    ensures { IfOk result (λ r. IsTrue r
-        ↔ HasShown case.now.header.now (standing_of case.now.before.now) case.now.round.now (standing_of case.now.after.now)) }
+    ensures { IfOk result (λ r. IsTrue r ↔ HasShown case.now.header.now
+        (standing_of case.now.before.now) case.now.round.now (standing_of case.now.after.now)) }
 {
     let round = case.round;
     let entities = entities_of(alloc, &round.shown)?;

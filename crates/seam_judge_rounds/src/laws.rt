@@ -6,6 +6,6 @@ ghost use Rattle.seam_judge_rounds.specs.After.{AreForMade, after_round};
 /// A round that is legal with some standing after it is so with the one that its lines show: a legal round leaves no other, but for where
 /// entities are held that do not live. It is said of books whose calls are for entities that were created, in a tree of a program's size.
 pub fn legal_rounds_leave_what_they_show()
-    ensures { (h : Header) (s t : Standing) (r : RoundData) → AreForMade s.book → cells_of (tree_of s.book) ≤ MOST_CELLS →
-        IsRound h s r t → IsRound h s r (after_round s r) }
+    ensures { (h : Header) (s t : Standing) (r : RoundData) → AreForMade s.book →
+        cells_of (tree_of s.book) ≤ MOST_CELLS → IsRound h s r t → IsRound h s r (after_round s r) }
 {}

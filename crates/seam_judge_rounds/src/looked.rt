@@ -4,7 +4,7 @@ ghost use Rattle.std.specs.List.{All};
 ghost use Rattle.seam_call.specs.declared.shown.ClientText.TheVariants as text;
 ghost use Rattle.seam_rule_rounds.specs.Prelude.{one_look, is_shown, Lists, rows_of, replica_of, texts_to, base_texts, HasLooked};
 ghost use Rattle.seam_judge_data.specs.Standings.{standing_of};
-ghost use Rattle.seam_judge_rounds.specs.Clients.{client_as};
+ghost use Rattle.seam_judge_rounds.specs.RoundClients.{client_as};
 
 use crate::calls::both;
 use crate::case::{Case, lines_to, texts_of, told_by};
@@ -24,7 +24,8 @@ fn look_of(
     entity: u32,
     rows: &[Row],
 ) -> Result<Vec<Shown>, AllocError>
-    ensures { IfOk result (λ xs. xs.items ≡ one_look (replica_of header.now (standing_of standing.now) entity) entity rows.now) }
+    ensures { IfOk result (λ xs. xs.items ≡ one_look (replica_of header.now
+        (standing_of standing.now) entity) entity rows.now) }
 {
     let told = standing.told_to(alloc, entity)?;
     let replica = Replica::after(alloc, &header.settings, &told)?;
@@ -48,7 +49,8 @@ fn shows_nothing(
     entity: u32,
     rows: &[Row],
 ) -> Result<bool, AllocError>
-    ensures { IfOk result (λ r. IsTrue r ↔ (one_look (replica_of header.now (standing_of standing.now) entity) entity rows.now ≡ [])) }
+    ensures { IfOk result (λ r. IsTrue r ↔ (one_look (replica_of header.now
+        (standing_of standing.now) entity) entity rows.now ≡ [])) }
 {
     let left = look_of(alloc, header, standing, entity, rows)?;
     Ok(is_none(&left))
@@ -62,8 +64,9 @@ fn show_nothing(
     clients: &[Create],
     rows: &[Row],
 ) -> Result<bool, AllocError>
-    ensures { IfOk result (λ r. IsTrue r
-        ↔ All (λ c. one_look (replica_of header.now (standing_of standing.now) c.entity) c.entity rows.now ≡ []) clients.now) }
+    ensures { IfOk result (λ r. IsTrue r ↔ All (λ c. one_look
+        (replica_of header.now (standing_of standing.now) c.entity) c.entity rows.now ≡ [])
+        clients.now) }
 {
     for create in clients {
         let nothing = shows_nothing(alloc, header, standing, create.entity, rows)?;
@@ -82,9 +85,11 @@ pub fn is_nothing_left(
     live: &[Create],
 ) -> Result<bool, AllocError>
     requires { Lists (client_as (standing_of case.now.before.now).book) clients.now }
-    ensures { IfOk result (λ r. IsTrue r ↔ ((e : ℕ) → IsTrue (is_shown (standing_of case.now.before.now).book e)
-        → one_look (replica_of case.now.header.now (standing_of case.now.after.now) e) e
-        (rows_of case.now.header.now (standing_of case.now.after.now).orders live.now) ≡ [])) }
+    ensures { IfOk result (λ r. IsTrue r ↔ ((e : ℕ) → IsTrue
+        (is_shown (standing_of case.now.before.now).book e) →
+        one_look (replica_of case.now.header.now (standing_of case.now.after.now) e) e
+        (rows_of case.now.header.now (standing_of case.now.after.now).orders live.now)
+        ≡ [])) }
 {
     let rows = rows_of(alloc, case.header, case.after, live)?;
     show_nothing(alloc, case.header, case.after, clients, &rows)
@@ -108,9 +113,10 @@ fn is_shown_one_look(
     entity: u32,
     rows: &[Row],
 ) -> Result<bool, AllocError>
-    ensures { IfOk result (λ r. IsTrue r
-        ↔ (texts_to case.now.round.now entity ≡ base_texts case.now.round.now entity
-        ++ map text.Shown (one_look (replica_of case.now.header.now (standing_of case.now.before.now) entity) entity rows.now))) }
+    ensures { IfOk result (λ r. IsTrue r ↔ (texts_to case.now.round.now entity
+        ≡ base_texts case.now.round.now entity ++ map text.Shown
+        (one_look (replica_of case.now.header.now (standing_of case.now.before.now) entity)
+        entity rows.now))) }
 {
     let lines = lines_to(alloc, case.round, entity)?;
     let told = told_by(alloc, &lines)?;
@@ -129,9 +135,10 @@ fn are_shown_one_look(
     clients: &[Create],
     rows: &[Row],
 ) -> Result<bool, AllocError>
-    ensures { IfOk result (λ r. IsTrue r
-        ↔ All (λ c. texts_to case.now.round.now c.entity ≡ base_texts case.now.round.now c.entity
-        ++ map text.Shown (one_look (replica_of case.now.header.now (standing_of case.now.before.now) c.entity) c.entity rows.now)) clients.now) }
+    ensures { IfOk result (λ r. IsTrue r ↔ All (λ c. texts_to case.now.round.now c.entity
+        ≡ base_texts case.now.round.now c.entity
+        ++ map text.Shown (one_look (replica_of case.now.header.now
+        (standing_of case.now.before.now) c.entity) c.entity rows.now)) clients.now) }
 {
     for create in clients {
         let shown = is_shown_one_look(alloc, case, create.entity, rows)?;
@@ -151,10 +158,12 @@ fn is_one_look_each(
     live: &[Create],
 ) -> Result<bool, AllocError>
     requires { Lists (client_as (standing_of case.now.before.now).book) clients.now }
-    ensures { IfOk result (λ r. IsTrue r ↔ ((e : ℕ) → IsTrue (is_shown (standing_of case.now.before.now).book e)
-        → texts_to case.now.round.now e ≡ base_texts case.now.round.now e
-        ++ map text.Shown (one_look (replica_of case.now.header.now (standing_of case.now.before.now) e) e
-        (rows_of case.now.header.now (standing_of case.now.after.now).orders live.now)))) }
+    ensures { IfOk result (λ r. IsTrue r ↔ ((e : ℕ) → IsTrue
+        (is_shown (standing_of case.now.before.now).book e) → texts_to case.now.round.now e
+        ≡ base_texts case.now.round.now e ++ map text.Shown
+        (one_look (replica_of case.now.header.now (standing_of case.now.before.now) e) e
+        (rows_of case.now.header.now (standing_of case.now.after.now).orders
+        live.now)))) }
 {
     let rows = rows_of(alloc, case.header, case.after, live)?;
     are_shown_one_look(alloc, case, clients, &rows)
@@ -175,8 +184,9 @@ pub fn has_looked(
     live: &[Create],
 ) -> Result<bool, AllocError>
     requires { Lists (client_as (standing_of case.now.before.now).book) clients.now }
-    ensures { IfOk result (λ r. IsTrue r
-        ↔ HasLooked case.now.header.now (standing_of case.now.before.now) case.now.round.now (standing_of case.now.after.now) live.now) }
+    ensures { IfOk result (λ r. IsTrue r ↔ HasLooked case.now.header.now
+        (standing_of case.now.before.now) case.now.round.now (standing_of case.now.after.now)
+        live.now) }
 {
     let nothing = is_nothing_left(alloc, case, clients, live)?;
     let one = is_one_look_each(alloc, case, clients, live)?;

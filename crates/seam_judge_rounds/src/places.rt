@@ -51,8 +51,10 @@ fn path_from(
     order: &[&Call],
     version: usize,
 ) -> Result<Vec<Pos>, AllocError>
-    ensures { IfOk result (λ ps. ps.items ≡ position_at header.now create (map (λ c. c.now) order.now) version
-        ∷ map (position_at header.now create (map (λ c. c.now) order.now)) (range_with_len (version + 1) (length order.now - version))) }
+    ensures { IfOk result (λ ps. ps.items ≡ position_at header.now create
+        (map (λ c. c.now) order.now) version ∷ map (position_at header.now create
+        (map (λ c. c.now) order.now)) (range_with_len (version + 1)
+        (length order.now - version))) }
 {
     let mut path = Vec::new(alloc);
     path.push(position_of(header, create, order, version)?)?;
@@ -71,7 +73,8 @@ fn has_place(
 ) -> Result<bool, AllocError>
     requires homes { HaveHomes (standing_of before.now) }
     requires range { AreInRange header.now.settings }
-    ensures { IfOk result (λ r. IsTrue r ↔ HasPlace header.now (standing_of before.now) (standing_of after.now) create) }
+    ensures { IfOk result (λ r. IsTrue r ↔ HasPlace header.now (standing_of before.now)
+        (standing_of after.now) create) }
 {
     let order = after.order_of(alloc, Part::Cell, create.entity)?;
     let former = before.order_of(alloc, Part::Cell, create.entity)?;
@@ -85,7 +88,8 @@ fn has_place(
 
 // Whether an entity has its home in a cell of the open round's tree.
 fn has_home(before: &Standing, entity: u32) -> bool
-    ensures { IsTrue result ↔ (((standing_of before.now).places entity).home < cells_of (tree_of (standing_of before.now).book)) }
+    ensures { IsTrue result ↔ (((standing_of before.now).places entity).home
+        < cells_of (tree_of (standing_of before.now).book)) }
 {
     let tree = tree_in(before);
     before.place_of(entity).home < tree.cells()
@@ -113,7 +117,8 @@ pub fn have_places(
 ) -> Result<bool, AllocError>
     requires homes { HaveHomes (standing_of before.now) }
     requires range { AreInRange header.now.settings }
-    ensures { IfOk result (λ r. IsTrue r ↔ All (HasPlace header.now (standing_of before.now) (standing_of after.now)) live.now) }
+    ensures { IfOk result (λ r. IsTrue r ↔ All (HasPlace header.now (standing_of before.now)
+        (standing_of after.now)) live.now) }
 {
     for create in live {
         let may_be = has_place(alloc, header, before, after, *create)?;

@@ -32,7 +32,8 @@ pub fn are_homes(
     live: &[Create],
     lines: &[HomeLine],
 ) -> Result<bool, AllocError>
-    ensures { IfOk result (λ r. IsTrue r ↔ (lines.now ≡ map (home_line header.now (standing_of after.now)) live.now)) }
+    ensures { IfOk result (λ r. IsTrue r ↔ (lines.now ≡
+        map (home_line header.now (standing_of after.now)) live.now)) }
 {
     Ok(are_same(lines, &homes_of(alloc, header, after, live)?))
 }
@@ -45,7 +46,8 @@ pub fn are_bases(
     live: &[Create],
     lines: &[BaseLine],
 ) -> Result<bool, AllocError>
-    ensures { IfOk result (λ r. IsTrue r ↔ (lines.now ≡ map (base_line header.now (standing_of after.now)) live.now)) }
+    ensures { IfOk result (λ r. IsTrue r ↔ (lines.now ≡
+        map (base_line header.now (standing_of after.now)) live.now)) }
 {
     Ok(are_same(lines, &bases_of(alloc, header, after, live)?))
 }
@@ -59,8 +61,9 @@ pub fn are_ghosts(
     live: &[Create],
     lines: &[GhostLine],
 ) -> Result<bool, AllocError>
-    ensures { IfOk result (λ r. IsTrue r
-        ↔ (lines.now ≡ flat_map (ghost_lines header.now (tree_of (standing_of before.now).book) (standing_of after.now)) live.now)) }
+    ensures { IfOk result (λ r. IsTrue r ↔ (lines.now ≡
+        flat_map (ghost_lines header.now (tree_of (standing_of before.now).book)
+        (standing_of after.now)) live.now)) }
 {
     Ok(are_same(
         lines,
@@ -87,8 +90,8 @@ fn is_balanced(
     homes: &[HomeLine],
     bounds: &Tree,
 ) -> Result<bool, AllocError>
-    ensures { IfOk result (λ r. IsTrue r ↔ IsBalanced (map (λ l. l.state.pos) homes.now) header.now.settings.balance_shift
-        (tree_of (standing_of before.now).book) bounds.now) }
+    ensures { IfOk result (λ r. IsTrue r ↔ IsBalanced (map (λ l. l.state.pos) homes.now)
+        header.now.settings.balance_shift (tree_of (standing_of before.now).book) bounds.now) }
 {
     let positions = positions_of(alloc, homes)?;
     let tree = tree_in(before);
@@ -104,7 +107,8 @@ fn may_print(
     homes: &[HomeLine],
     bounds: &Tree,
 ) -> Result<bool, AllocError>
-    ensures { IfOk result (λ r. IsTrue r ↔ PrintsBounds header.now (standing_of before.now) homes.now (Some bounds.now)) }
+    ensures { IfOk result (λ r. IsTrue r ↔ PrintsBounds header.now (standing_of before.now)
+        homes.now (Some bounds.now)) }
 {
     let balances = has_balance(&before.current);
     if !balances {
@@ -121,7 +125,8 @@ pub fn are_bounds(
     homes: &[HomeLine],
     bounds: Option<&Tree>,
 ) -> Result<bool, AllocError>
-    ensures { IfOk result (λ r. IsTrue r ↔ PrintsBounds header.now (standing_of before.now) homes.now (option_copied bounds.entry)) }
+    ensures { IfOk result (λ r. IsTrue r ↔ PrintsBounds header.now (standing_of before.now)
+        homes.now (option_copied bounds.entry)) }
 {
     match bounds {
         Some(bounds) => may_print(alloc, header, before, homes, bounds),

@@ -17,9 +17,11 @@ pub fn show_rightly(
     create: Create,
     lines: &[&Line],
 ) -> Result<bool, AllocError>
-    ensures { IfOk result (λ r. IsTrue r
-        ↔ ShowsRightly (truth_of case.now.header.now (standing_of case.now.before.now) (standing_of case.now.after.now) create) create.entity
-        (replica_of case.now.header.now (standing_of case.now.before.now) create.entity) (shown_by_lines (map (λ l. l.now) lines.now))) }
+    ensures { IfOk result (λ r. IsTrue r ↔ ShowsRightly
+        (truth_of case.now.header.now (standing_of case.now.before.now)
+        (standing_of case.now.after.now) create) create.entity
+        (replica_of case.now.header.now (standing_of case.now.before.now) create.entity)
+        (shown_by_lines (map (λ l. l.now) lines.now))) }
 {
     let former = case.before.told_to(alloc, create.entity)?;
     let mut replica = Replica::after(alloc, &case.header.settings, &former)?;

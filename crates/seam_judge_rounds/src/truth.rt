@@ -21,7 +21,9 @@ fn is_own(
     version: u64,
     state: &State,
 ) -> Result<bool, AllocError>
-    ensures { IfOk result (λ r. IsTrue r ↔ IsOwn case.now.header.now (standing_of case.now.before.now) (standing_of case.now.after.now) create version state.now) }
+    ensures { IfOk result (λ r. IsTrue r ↔ IsOwn case.now.header.now
+        (standing_of case.now.before.now) (standing_of case.now.after.now) create version
+        state.now) }
 {
     let former = case.before.order_of(alloc, Part::Cell, create.entity)?;
     let order = case.after.order_of(alloc, Part::Cell, create.entity)?;
@@ -45,8 +47,9 @@ fn is_copy_at(
     version: usize,
     copy: &GhostCopy,
 ) -> Result<bool, AllocError>
-    ensures { IfOk result (λ r. IsTrue r ↔ (copy.now ≡ other_at header.now create (map (λ c. c.now) order.now)
-        (public_at header.now create (map (λ c. c.now) order.now) version))) }
+    ensures { IfOk result (λ r. IsTrue r ↔ (copy.now ≡ other_at header.now create
+        (map (λ c. c.now) order.now) (public_at header.now create
+        (map (λ c. c.now) order.now) version))) }
 {
     let public = public_at(header, create, order, version)?;
     let other = other_at(header, create, order, public)?;
@@ -84,7 +87,8 @@ fn is_other(
     entity: u32,
     copy: &GhostCopy,
 ) -> Result<bool, AllocError>
-    ensures { IfOk result (λ r. IsTrue r ↔ IsOther case.now.header.now (standing_of case.now.before.now) (standing_of case.now.after.now) entity copy.now) }
+    ensures { IfOk result (λ r. IsTrue r ↔ IsOther case.now.header.now
+        (standing_of case.now.before.now) (standing_of case.now.after.now) entity copy.now) }
 {
     let Some(create) = created_as(alloc, case.before, entity)? else {
         return Ok(false);
@@ -100,8 +104,8 @@ fn is_other(
 
 // Whether what the client of an entity is shown is true.
 fn is_true(alloc: Global, case: &Case<'_>, create: Create, x: &Shown) -> Result<bool, AllocError>
-    ensures { IfOk result (λ r. IsTrue r
-        ↔ ShowsTruth (truth_of case.now.header.now (standing_of case.now.before.now) (standing_of case.now.after.now) create) x.now) }
+    ensures { IfOk result (λ r. IsTrue r ↔ ShowsTruth (truth_of case.now.header.now
+        (standing_of case.now.before.now) (standing_of case.now.after.now) create) x.now) }
 {
     match x {
         Shown::Own(version, state) => is_own(alloc, case, create, *version, state.get()),
@@ -119,8 +123,9 @@ pub fn are_true(
     create: Create,
     shown: &[&Shown],
 ) -> Result<bool, AllocError>
-    ensures { IfOk result (λ r. IsTrue r
-        ↔ All (λ x. ShowsTruth (truth_of case.now.header.now (standing_of case.now.before.now) (standing_of case.now.after.now) create) x.now) shown.now) }
+    ensures { IfOk result (λ r. IsTrue r ↔ All (λ x. ShowsTruth
+        (truth_of case.now.header.now (standing_of case.now.before.now)
+        (standing_of case.now.after.now) create) x.now) shown.now) }
 {
     for x in shown {
         let so = is_true(alloc, case, create, x)?;

@@ -50,7 +50,8 @@ pub enum Point {
 // This point where it does not hold, or else what comes of the later ones.
 fn unless(holds: bool, point: Point, later: Option<Point>) -> Option<Point>
     ensures none { (result ≡ None) ↔ (IsTrue holds × (later ≡ None)) }
-    ensures some { (p : Points) → result ≡ Some p → ((p ≡ point) × IsFalse holds) ⊎ (later ≡ Some p) }
+    ensures some { (p : Points) → result ≡ Some p → ((p ≡ point) × IsFalse holds) ⊎
+        (later ≡ Some p) }
 {
     if holds { later } else { Some(point) }
 }
@@ -64,9 +65,11 @@ fn executed_all(
     lines: &[DoneLine],
 ) -> Result<bool, AllocError>
     requires made { Lists (created_as (standing_of case.now.before.now).book) made.now }
-    requires after { standing_of case.now.after.now ≡ after_round (standing_of case.now.before.now) case.now.round.now }
+    requires after { standing_of case.now.after.now ≡ after_round (standing_of case.now.before.now)
+        case.now.round.now }
     ensures { IfOk result (λ r. IsTrue r ↔ ExtendsOrders (standing_of case.now.before.now).book part
-        ((standing_of case.now.before.now).orders part) ((standing_of case.now.after.now).orders part) lines.now) }
+        ((standing_of case.now.before.now).orders part) ((standing_of case.now.after.now).orders
+        part) lines.now) }
 {
     let calls = calls_done(alloc, case.round)?;
     extends_orders(alloc, part, case.before, &calls, made, lines)
@@ -74,8 +77,8 @@ fn executed_all(
 
 // Whether the boundaries are printed where they were balanced.
 fn are_printed(alloc: Global, case: &Case<'_>) -> Result<bool, AllocError>
-    ensures { IfOk result (λ r. IsTrue r
-        ↔ PrintsBounds case.now.header.now (standing_of case.now.before.now) case.now.round.now.homes case.now.round.now.bounds) }
+    ensures { IfOk result (λ r. IsTrue r ↔ PrintsBounds case.now.header.now
+        (standing_of case.now.before.now) case.now.round.now.homes case.now.round.now.bounds) }
 {
     let round = case.round;
     match &round.bounds {
@@ -96,11 +99,14 @@ fn judge_case(
     requires made { Lists (created_as (standing_of case.now.before.now).book) made.now }
     requires live { Lists (live_as (standing_of case.now.before.now).book) live.now }
     requires number { case.now.round.now.number ≡ case.now.before.now.rounds + 1 }
-    requires after { standing_of case.now.after.now ≡ after_round (standing_of case.now.before.now) case.now.round.now }
-    ensures legal { IfOk result (λ broken. (broken ≡ None)
-        ↔ IsRound case.now.header.now (standing_of case.now.before.now) case.now.round.now (standing_of case.now.after.now)) }
-    ensures point { IfOk result (λ broken. (p : Points) → broken ≡ Some p
-        → ¬ (Holds case.now.header.now (standing_of case.now.before.now) case.now.round.now (standing_of case.now.after.now) p)) }
+    requires after { standing_of case.now.after.now ≡ after_round (standing_of case.now.before.now)
+        case.now.round.now }
+    ensures legal { IfOk result (λ broken. (broken ≡ None) ↔
+        IsRound case.now.header.now (standing_of case.now.before.now) case.now.round.now
+        (standing_of case.now.after.now)) }
+    ensures point { IfOk result (λ broken. (p : Points) → broken ≡ Some p →
+        ¬ (Holds case.now.header.now (standing_of case.now.before.now) case.now.round.now
+        (standing_of case.now.after.now) p)) }
 {
     let (header, before, after, round) = (case.header, case.before, case.after, case.round);
     let clients = clients_among(alloc, before, made)?;
@@ -137,12 +143,15 @@ pub fn judge(
 ) -> Result<Option<Point>, AllocError>
     requires homes { HaveHomes (standing_of before.now) }
     requires range { AreInRange header.now.settings }
-    ensures legal { IfOk result (λ broken. (broken ≡ None)
-        ↔ IsRound header.now (standing_of before.now) round.now (after_round (standing_of before.now) round.now)) }
-    ensures point { IfOk result (λ broken. (p : Points) → broken ≡ Some p
-        → ¬ (Holds header.now (standing_of before.now) round.now (after_round (standing_of before.now) round.now) p)) }
-    ensures refused { IfOk result (λ broken. (p : Points) → broken ≡ Some p → AreForMade (standing_of before.now).book
-        → (t : Standings) → ¬ (IsRound header.now (standing_of before.now) round.now t)) }
+    ensures legal { IfOk result (λ broken. (broken ≡ None) ↔
+        IsRound header.now (standing_of before.now) round.now
+        (after_round (standing_of before.now) round.now)) }
+    ensures point { IfOk result (λ broken. (p : Points) → broken ≡ Some p →
+        ¬ (Holds header.now (standing_of before.now) round.now
+        (after_round (standing_of before.now) round.now) p)) }
+    ensures refused { IfOk result (λ broken. (p : Points) → broken ≡ Some p →
+        AreForMade (standing_of before.now).book → (t : Standings) →
+        ¬ (IsRound header.now (standing_of before.now) round.now t)) }
 {
     // A tree has sixteen cells at most, which this call's clause says.
     let _cells = tree_in(before).cells();

@@ -1,5 +1,5 @@
 pub mod Records
-pub mod Calls
+pub mod CallLaws
 pub mod Reaps
 pub mod LookLaws
 pub mod Prelude

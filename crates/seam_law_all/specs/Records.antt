@@ -2,7 +2,8 @@
 use Rattle.std.specs.Prelude.{ℕ}
 use Rattle.seam_node_steps.specs.Prelude.{GhostsReach, Batch, World}
 use Rattle.seam_law_calls.specs.Prelude.{Frame}
-use Rattle.seam_law_rounds.specs.Prelude.{IsBetweenRounds, IsFitting, HasPartsBetweenRounds, HasSmallNumbers, FitsParts}
+use Rattle.seam_law_rounds.specs.Prelude.{IsBetweenRounds, IsFitting, MayBegin, HasPartsBetweenRounds, HasSmallNumbers, FitsParts}
+use Rattle.seam_law_rounds.specs.Prelude.{MayBeLoaded}
 use Rattle.seam_law_ghosts.specs.Prelude.{ArePlaced, AreCopiesBetweenRounds}
 use Rattle.seam_law_clients.specs.Prelude.{ClientsFit}
 use Rattle.seam_rule_clients.specs.Clients.{ClientReplica}
@@ -34,3 +35,12 @@ pub record MayBeGiven (f : Frame) (w : World) (b : Batch) : Type 0 where
   pub reals : IsFitting f w b
   -- and its calls to base parts fit the parts
   pub parts : FitsParts f w b
+
+module _ {f : Frame} {clients : ℕ → ClientReplica} {w : World} {b : Batch} where
+  -- so a round may begin with the batch
+  abbrev pub may_begin : KeepsRecords f clients w → MayBeGiven f w b → MayBegin f w b
+  may_begin keeps given = record { between = keeps.reals; fits = given.reals }
+
+  -- and it may be loaded
+  abbrev pub may_load : KeepsRecords f clients w → MayBeGiven f w b → MayBeLoaded f w b
+  may_load keeps given = record { begin = may_begin keeps given; parts = keeps.parts; brings = given.parts }

@@ -1,6 +1,6 @@
 -- What calls make of a real's account is what the flat table has of its entity.
-use Rattle.std.proofs.Common.{◌≡◌, ℕ, zero, suc, ◌+◌, ◌-◌, ◌≤◌, Bool, true, false, cond, List, [], ◌∷◌, ◌++◌, length, fold}
-use Rattle.std.proofs.Common.{refl, sym, ap, ◌∙◌, subst, arith, length-append, append-nil, append_assoc}
+use Rattle.std.proofs.Common.{◌≡◌, ℕ, zero, suc, ◌+◌, ◌-◌, ◌≤◌, Bool, true, false, cond, List, [], ◌∷◌, ◌++◌, length, fold, refl, sym, ap}
+use Rattle.std.proofs.Common.{◌∙◌, subst, arith, length-append, append-nil, append_assoc}
 use Rattle.std.specs.Prelude.{not}
 use Rattle.std.specs.List.{AllByRecursion}
 use Rattle.std.proofs.lemmas.List.{take_all, take-append-le}
@@ -40,7 +40,8 @@ module _ (h : Header) (c : Create) where
 
   -- ---- further calls leave what was before
 
-  pub flat_before : (order more : List CallData) (v : ℕ) → v ≤ length order → flat h part.Cell c (order ++ more) v ≡ flat h part.Cell c order v
+  pub flat_before : (order more : List CallData) (v : ℕ) → v ≤ length order → flat h part.Cell c (order ++ more) v
+      ≡ flat h part.Cell c order v
   flat_before order more v le = ap (fold (done_deed its_type) (first_state h part.Cell c)) (take-append-le v order more le)
 
   abbrev differ : State → State → Bool

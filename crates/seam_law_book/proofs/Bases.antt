@@ -1,12 +1,12 @@
 -- What a base part became over a list of events in which its entity is not reaped, with or without a client.
-use Rattle.std.proofs.Common.{◌≡◌, ℕ, ◌+◌, true, List, [], ◌∷◌, ◌++◌, length, Option, Some, refl, sym, ap, ◌∙◌, subst, arith}
-use Rattle.std.proofs.Common.{append-nil, append_assoc, length-append}
+use Rattle.std.proofs.Common.{◌≡◌, ℕ, ◌+◌, true, List, [], ◌∷◌, ◌++◌, length, Option, Some, refl, sym, ap, ◌∙◌, subst, arith, append-nil}
+use Rattle.std.proofs.Common.{append_assoc, length-append}
 use Rattle.std.proofs.lemmas.List.Sums.{fold-append}
-use Rattle.seam_node_steps.specs.Prelude.{happens, enabled, LeadsTo, Event, after_taking, Call as CallData, Order, Msg, Here, PartView}
-use Rattle.seam_node_steps.specs.Prelude.{with_order, World, node_steps, node_has_work}
+use Rattle.seam_node_steps.specs.Prelude.{happens, enabled, Event, after_taking, Call as CallData, Order, Msg, Here, PartView, with_order}
+use Rattle.seam_node_steps.specs.Prelude.{World, node_steps, node_has_work}
 use Rattle.seam_law_flow.specs.Prelude.{comes}
 use Rattle.seam_law_calls.specs.Prelude.{Frame, here_at, IsInFrame, AtBase, entity_flow, IsSpared, Offered, now, early, late, PartMoves}
-use Rattle.seam_law_calls.specs.Prelude.{rests, refuses, offers, sends, serves, executes, misses, updates, shows, ends}
+use Rattle.seam_law_calls.specs.Prelude.{rests, refuses, offers, sends, serves, executes, misses, updates, shows, ends, RunsTo}
 use Rattle.seam_law_clients.specs.Prelude.{state_with, state_after}
 use Rattle.seam_machine.proofs.Occurring.{occurs}
 use Rattle.seam_net_runs.proofs.Runs.{leads_keeps}
@@ -118,7 +118,8 @@ module _ (f : Frame) (e : ℕ) (w : World) where
         frame = frame_happens f v o occur s.frame;
         spared = spared_happens f e v o occur s.frame s.spared;
         parts =
-            slots_kept (λ k b. (p : PartView) → ((entity_flow e w).slot k).base.part ≡ Some p → Became (here_at f k) p b.base.part) g s.parts
+            slots_kept (λ k b. (p : PartView) → ((entity_flow e w).slot k).base.part ≡ Some p → Became (here_at f k) p b.base.part) g
+            s.parts
             (λ p at.
             let so_far = s.parts g.k p at in
             goes_on (here_at f g.k) p from.base.part to.base.part so_far
@@ -126,7 +127,7 @@ module _ (f : Frame) (e : ℕ) (w : World) where
             so_far.is (part_moves f e g.k from (comes g.input) to g.moves.sent g.moves.moves)));
       }
 
-  pub part_leads : (v : World) (es : List Event) → IsInFrame f w → IsSpared e w → LeadsTo node_has_work node_steps w es v → (k : ℕ)
+  pub part_leads : (v : World) (es : List Event) → IsInFrame f w → IsSpared e w → RunsTo w es v → (k : ℕ)
       (p : PartView) → ((entity_flow e w).slot k).base.part ≡ Some p → Became (here_at f k) p ((entity_flow e v).slot k).base.part
   part_leads v es frame spared run =
       (leads_keeps node_has_work node_steps HaveBecome become_more w v es (record {

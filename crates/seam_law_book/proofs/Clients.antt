@@ -23,9 +23,8 @@ client_begun : (b : Book) (e : ℕ) (c : Create) → live_as (as_begun b) e ≡ 
 client_begun b e c lives = ap (λ o. is_some o && list_any (joins e) (entries (as_begun b))) lives ∙ any_begun b e (joins e)
 
 module _ (h : Header) (some : 1 ≤ h.settings.bases) (b : Book) (t : Division) (clients : ℕ → ClientReplica) (w : World)
-    (keeps : KeepsRecords (frame_of h t) clients w) (may : MayBeGiven (frame_of h t) w (batch_of h b))
-    (goes : GoesWith h (as_begun b) t w) (R : Brings h b)
-    (untouched : (e : ℕ) → created_as (as_begun b) e ≡ None → IsUntouched (as_begun b) e) (few : HasRoomForCalls b)
+    (keeps : KeepsRecords (frame_of h t) clients w) (may : MayBeGiven (frame_of h t) w (batch_of h b)) (goes : GoesWith h (as_begun b) t w)
+    (R : Brings h b) (untouched : (e : ℕ) → created_as (as_begun b) e ≡ None → IsUntouched (as_begun b) e) (few : HasRoomForCalls b)
     (present : (e : ℕ) (c : Create) → IsPresent b e c → holders (loaded w (batch_of h b)) e ≡ 1) (e : ℕ) (p : PartView)
     (here : ((entity_flow e (loaded w (batch_of h b))).slot (base_node h e)).base.part ≡ Some p) where
   abbrev B : Batch

@@ -1,16 +1,15 @@
 -- What a round leaves executed is what its lines brought, part by part.
-use Rattle.std.proofs.Common.{◌≡◌, ℕ, ◌≤◌, List, [], ◌∷◌, Some, None, refl, sym, ap, ◌∙◌, subst, arith, inl, inr, ◌⊎◌}
-use Rattle.std.proofs.Common.{Bool, true, false, cond}
+use Rattle.std.proofs.Common.{◌≡◌, ℕ, ◌≤◌, List, [], ◌∷◌, Some, None, refl, sym, ap, ◌∙◌, subst, arith, inl, inr, ◌⊎◌, Bool, true, false}
+use Rattle.std.proofs.Common.{cond}
 use Rattle.std.specs.Prelude.{◌==◌, ◌&&◌}
 use Rattle.std.specs.List.{AllByRecursion}
 use Rattle.std.proofs.lemmas.Bool.{eqb-true}
-use Rattle.seam_node_steps.specs.Prelude.{part_of_deed, type_of, is_for, same_part, rank_of, LeadsTo, Event, Division, Part}
-use Rattle.seam_node_steps.specs.Prelude.{Call as CallData, Create, Batch, cell_count, RealView, holders, World, node_steps, node_has_work}
-use Rattle.seam_node_steps.specs.Prelude.{loaded}
+use Rattle.seam_node_steps.specs.Prelude.{part_of_deed, type_of, is_for, same_part, rank_of, Event, Division, Part, Call as CallData}
+use Rattle.seam_node_steps.specs.Prelude.{Create, Batch, cell_count, RealView, holders, World, node_has_work, loaded}
 use Rattle.seam_rule_rounds.specs.Prelude.{Header, Book, calls_of, created_as, accepted, Orders, IsFull, ClientReplica}
 use Rattle.seam_law_flow.specs.Prelude.{letters_of}
-use Rattle.seam_law_calls.specs.Prelude.{mine, entity_flow, real_in, real_of, from_sender}
-use Rattle.seam_law_all.specs.Prelude.{ObeysLaws, EndsRightly, KeepsRecords, KeepsRecordsWithin, MayBeGiven}
+use Rattle.seam_law_calls.specs.Prelude.{mine, entity_flow, real_of, from_sender, RunsTo, real_at, real_in}
+use Rattle.seam_law_all.specs.Prelude.{ObeysLaws, EndsRightly, KeepsRecords, KeepsRecordsWithin, MayBeGiven, may_begin}
 use Rattle.seam_law_book.specs.Prelude.{as_begun, IsPresent, IsFitCall, calls_from, Brings, IsUntouched, frame_of, base_node, GoesWith}
 use Rattle.seam_law_book.specs.Prelude.{HasRoomForCalls, done_by_real, done_by_part, done_in, with_done, IsDoneOn}
 use Rattle.seam_machine.proofs.Quiet.{quiet_links}
@@ -29,7 +28,7 @@ use Rattle.seam_law_rounds.proofs.Shape.{Somewhere, Nowhere, search_real}
 use Rattle.seam_law_book.proofs.Numbering.{cell_calls, base_calls}
 use Rattle.seam_law_book.proofs.Fitting.{type_by}
 use Rattle.seam_law_book.proofs.Started.{nobody, no_part_there, real_comes}
-use Rattle.seam_law_book.proofs.Nowhere.{no_part_leads}
+use Rattle.seam_law_calls.proofs.Reaped.{part_stays_gone}
 use Rattle.seam_law_book.proofs.Executed.{letters_are_of_place, all_by_place, one_in, none_in, executes_all}
 
 part_by : (p q : Part) → same_part p q ≡ true → p ≡ q
@@ -50,10 +49,10 @@ module _ (h : Header) (some : 1 ≤ h.settings.bases) (b : Book) (t : Division) 
     (goes : GoesWith h (as_begun b) t w) (R : Brings h b)
     (untouched : (e : ℕ) → created_as (as_begun b) e ≡ None → IsUntouched (as_begun b) e) (few : HasRoomForCalls b)
     (present : (e : ℕ) (c : Create) → IsPresent b e c → holders (loaded w (batch_of h b)) e ≡ 1)
-    (v : World) (es : List Event) (run : LeadsTo node_has_work node_steps (loaded w (batch_of h b)) es v)
+    (v : World) (es : List Event) (run : RunsTo (loaded w (batch_of h b)) es v)
     (laws : ObeysLaws (frame_of h t) clients w (batch_of h b) v)
     (ends : (e home : ℕ) (r : RealView) → real_in ((entity_flow e (loaded w (batch_of h b))).slot home) ≡ Some r → (k : ℕ) (q : RealView) →
-    real_in ((entity_flow e v).slot k) ≡ Some q → EndsRightly (frame_of h t) (batch_of h b) e k q v) (then : ℕ → ClientReplica)
+    real_in ((entity_flow e v).slot k) ≡ Some q → EndsRightly (frame_of h t) (batch_of h b) e home r k q v) (then : ℕ → ClientReplica)
     (within : KeepsRecordsWithin (frame_of h (batch_of h b).tree) then v) where
   abbrev B : Batch
   B = batch_of h b
@@ -82,40 +81,41 @@ module _ (h : Header) (some : 1 ≤ h.settings.bases) (b : Book) (t : Division) 
     loaded_by (inr none) = none
     loaded_by (inl p) =
         absurd (not_there (one_holder (frame_of h B.tree) (loaded w B) e p.0 p.1
-        (settled_loaded (frame_of h t) w B keeps.reals may.reals e p.0 p.1 p.2) (no_mail (frame_of h t) w B keeps.reals may.reals e)))
+        (settled_loaded (frame_of h t) w B (may_begin keeps may) e p.0 p.1 p.2) (no_mail (frame_of h t) w B (may_begin keeps may) e)))
 
     no_part : ((entity_flow e v).slot (base_node h e)).base.part ≡ None
     no_part =
-        no_part_leads (frame_of h B.tree) e (loaded w B) v es (in_frame (frame_of h t) w B keeps.reals may.reals)
+        part_stays_gone (frame_of h B.tree) e (loaded w B) v es (in_frame (frame_of h t) w B (may_begin keeps may))
         (λ j. no_part_there h some b t clients w keeps may goes R untouched few present e (loaded_by (search_real e (loaded w B))) j
         ((entity_flow e (loaded w B)).slot j).base.part refl) run (base_node h e)
 
   -- the real that an entity had where it has one now
-  pub began_by : (e k : ℕ) (q : RealView) → real_in ((entity_flow e v).slot k) ≡ Some q → Somewhere e (loaded w B) ⊎ Nowhere e (loaded w B) →
+  pub began_by : (e k : ℕ) (q : RealView) → real_at e v k ≡ Some q → Somewhere e (loaded w B) ⊎ Nowhere e (loaded w B) →
       Somewhere e (loaded w B)
   began_by e k q at (inl p) = p
   began_by e k q at (inr n) =
       let none = counted_none v e (laws.no_other e (nobody h some b t clients w keeps may goes R untouched few present e n)) in
       absurd (let z = sym (none.slots k) ∙ at in cc)
 
-  ended : (e k : ℕ) (q : RealView) → real_in ((entity_flow e v).slot k) ≡ Some q → EndsRightly (frame_of h t) B e k q v
+  ended : (e k : ℕ) (q : RealView) (at : real_in ((entity_flow e v).slot k) ≡ Some q) →
+      let p = began_by e k q at (search_real e (loaded w B)) in EndsRightly (frame_of h t) B e p.0 p.1 k q v
   ended e k q at =
       let p = began_by e k q at (search_real e (loaded w B)) in
       ends e p.0 p.1 p.2 k q at
 
   -- ---- each part
 
-  pub done_cell : (e k : ℕ) (q : RealView) → real_in ((entity_flow e v).slot k) ≡ Some q → done_in h v part.Cell e ≡ q.done
+  pub done_cell : (e k : ℕ) (q : RealView) → real_at e v k ≡ Some q → done_in h v part.Cell e ≡ q.done
   done_cell e k q at =
       let settled = within.records.reals.settled e k q at in
       let home = settled.fits.home in
       let most = within.records.reals.frame.tree.cells_to in
-      one_in (λ j. done_by_real (real_in ((entity_flow e v).slot j))) k 0 cell_count (omega arith) (omega (arith, home, most))
+      one_in (λ j. done_by_real (real_at e v j)) k 0 cell_count (omega arith) (omega (arith, home, most))
       (λ j n. ap done_by_real (settled.others j n))
       ∙ ap done_by_real at
 
   none_done : (e : ℕ) → Nowhere e v → done_in h v part.Cell e ≡ []
-  none_done e n = none_in (λ j. done_by_real (real_in ((entity_flow e v).slot j))) 0 cell_count (λ j le. ap done_by_real (n j))
+  none_done e n = none_in (λ j. done_by_real (real_at e v j)) 0 cell_count (λ j le. ap done_by_real (n j))
 
   executed_cell : (e : ℕ) → Somewhere e v ⊎ Nowhere e v → (n : ℕ) →
       letters_of (from_sender n) (done_in h v part.Cell e) ≡ calls_from part.Cell e n (calls_of b.current)
@@ -137,43 +137,43 @@ module _ (h : Header) (some : 1 ≤ h.settings.bases) (b : Book) (t : Division) 
   executed part.Base e n = executed_base e (search_real e v) n
 
   -- what an entity's part executed was done on it
-  module _ (e k : ℕ) (q : RealView) (at : real_in ((entity_flow e v).slot k) ≡ Some q) (c : Create) (is_there : IsPresent b e c) (p : Part)
-    where
-      abbrev Its : CallData → Type 0
-      Its = IsDoneOn p (type_of h.defs c.ty)
+  module _ (e k : ℕ) (q : RealView) (at : real_at e v k ≡ Some q) (c : Create) (is_there : IsPresent b e c) (p : Part) where
+    abbrev Its : CallData → Type 0
+    Its = IsDoneOn p (type_of h.defs c.ty)
 
-      same_type : (m : Create) → IsPresent b e m → m.ty ≡ c.ty
-      same_type m also =
-          let was = began_by e k q at (search_real e (loaded w B)) in
-          let type = type_by h b t w keeps.reals goes R untouched e was.0 was.1
-          (real_comes h some b t clients w keeps may goes R untouched few present e was.0 was.1 was.2) in
-          sym (type m also) ∙ type c is_there
+    same_type : (m : Create) → IsPresent b e m → m.ty ≡ c.ty
+    same_type m also =
+        let was = began_by e k q at (search_real e (loaded w B)) in
+        let type = type_by h b t w keeps.reals goes R untouched e was.0 was.1
+        (real_comes h some b t clients w keeps may goes R untouched few present e was.0 was.1 was.2) in
+        sym (type m also) ∙ type c is_there
 
-      is_done_on : (x : CallData) → IsFitCall h b x → is_for p e x ≡ true → Its x
-      is_done_on x fit is =
-          let for_it = both (x.entity == e) (same_part x.part p) is in
-          let made = fit.made in
-          sym (part_by x.part p for_it.1) ∙ fit.part ∙ ap (λ y. part_of_deed (type_of h.defs y) x.deed)
-          (same_type made (subst (λ d. IsPresent b d made) (eqb-true x.entity e for_it.0) fit.present))
+    is_done_on : (x : CallData) → IsFitCall h b x → is_for p e x ≡ true → Its x
+    is_done_on x fit is =
+        let for_it = both (x.entity == e) (same_part x.part p) is in
+        let made = fit.made in
+        sym (part_by x.part p for_it.1) ∙ fit.part ∙ ap (λ y. part_of_deed (type_of h.defs y) x.deed)
+        (same_type made (subst (λ d. IsPresent b d made) (eqb-true x.entity e for_it.0) fit.present))
 
-      kept_call : (n : ℕ) (x : CallData) (cs : List CallData) (y : Bool) → (is_for p e x && (rank_of x.sender == n)) ≡ y → IsFitCall h b x →
-          AllByRecursion Its cs → AllByRecursion Its (cond y (x ∷ cs) cs)
-      kept_call n x cs true is fit all = (is_done_on x fit (both (is_for p e x) (rank_of x.sender == n) is).0, all)
-      kept_call n x cs false is fit all = all
+    kept_call : (n : ℕ) (x : CallData) (cs : List CallData) (y : Bool) → (is_for p e x && (rank_of x.sender == n)) ≡ y → IsFitCall h b x →
+        AllByRecursion Its cs → AllByRecursion Its (cond y (x ∷ cs) cs)
+    kept_call n x cs true is fit all = (is_done_on x fit (both (is_for p e x) (rank_of x.sender == n) is).0, all)
+    kept_call n x cs false is fit all = all
 
-      called_from : (n : ℕ) (cs : List CallData) → AllByRecursion (IsFitCall h b) cs → AllByRecursion Its (calls_from p e n cs)
-      called_from n [] all = tt
-      called_from n (x ∷ cs) all =
-          kept_call n x (calls_from p e n cs) (is_for p e x && (rank_of x.sender == n)) refl all.0 (called_from n cs all.1)
+    called_from : (n : ℕ) (cs : List CallData) → AllByRecursion (IsFitCall h b) cs → AllByRecursion Its (calls_from p e n cs)
+    called_from n [] all = tt
+    called_from n (x ∷ cs) all =
+        kept_call n x (calls_from p e n cs) (is_for p e x && (rank_of x.sender == n)) refl all.0 (called_from n cs all.1)
 
-      pub done_on : AllByRecursion Its (done_in h v p e)
-      done_on =
-          all_by_place Its (done_in h v p e)
-          (λ n. subst (AllByRecursion Its) (sym (sym (letters_are_of_place n (done_in h v p e)) ∙ executed p e n))
-          (called_from n (calls_of b.current) R.calls))
+    pub done_on : AllByRecursion Its (done_in h v p e)
+    done_on =
+        all_by_place Its (done_in h v p e)
+        (λ n. subst (AllByRecursion Its) (sym (sym (letters_are_of_place n (done_in h v p e)) ∙ executed p e n))
+        (called_from n (calls_of b.current) R.calls))
 
   pub all_executed : (orders : Orders) → ((p : Part) (e : ℕ) → IsFull (accepted (as_begun b) p e) (orders p e)) → (p : Part) (e : ℕ) →
       IsFull (accepted b p e) (with_done orders (done_in h v) p e)
   all_executed orders full p e =
-      executes_all b p e (all_turn (IsFitCall h b) IsFromSender (λ c fit. known_is_sender h c.sender fit.sender) (calls_of b.current) R.calls)
+      executes_all b p e (all_turn (IsFitCall h b) IsFromSender (λ c fit. known_is_sender h c.sender fit.sender) (calls_of b.current)
+      R.calls)
       (done_in h v p e) (executed p e) (orders p e) (full p e)

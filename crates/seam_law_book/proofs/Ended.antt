@@ -1,6 +1,6 @@
 -- Where a world went through the round of a book's open lines, the book with its round ended goes with it.
-use Rattle.std.proofs.Common.{◌≡◌, ℕ, ◌+◌, ◌≤◌, Bool, true, false, cond, eqb, List, [], ◌∷◌, length, Some, None}
-use Rattle.std.proofs.Common.{refl, sym, ap, ◌∙◌, subst, arith, inl, inr, append-nil, ◌⊎◌}
+use Rattle.std.proofs.Common.{◌≡◌, ℕ, ◌+◌, ◌≤◌, Bool, true, false, cond, eqb, List, [], ◌∷◌, length, Some, None, refl, sym, ap, ◌∙◌, subst}
+use Rattle.std.proofs.Common.{arith, inl, inr, append-nil, ◌⊎◌}
 use Rattle.std.specs.Prelude.{is_some, ◌==◌, ◌||◌, ◌&&◌}
 use Rattle.std.specs.List.{AllByRecursion, list_any, filter_map}
 use Rattle.std.specs.Option.{option_or}
@@ -10,10 +10,10 @@ use Rattle.seam_node_steps.specs.Prelude.{IsQuiet, Division, Part, Create, Batch
 use Rattle.seam_node_steps.specs.Prelude.{reaps_loaded, look_loaded, reap_ordered_at}
 use Rattle.seam_rule_rounds.specs.Prelude.{Header, Book, entries, creates_of, calls_of, created_as, live_as, destroys, joins, has_client}
 use Rattle.seam_rule_rounds.specs.Prelude.{with_round_ended, Entry, ClientReplica}
-use Rattle.seam_law_calls.specs.Prelude.{IsInFrame, order_about, entity_flow, real_in}
+use Rattle.seam_law_calls.specs.Prelude.{IsInFrame, order_about, entity_flow, real_in, real_at}
 use Rattle.seam_law_rounds.specs.Prelude.{IsNew, next_from, HasSettledPart, next_to}
 use Rattle.seam_law_ghosts.specs.Prelude.{GoesThroughRound}
-use Rattle.seam_law_all.specs.Prelude.{KeepsRecords, MayBeGiven}
+use Rattle.seam_law_all.specs.Prelude.{KeepsRecords, MayBeGiven, may_begin}
 use Rattle.seam_law_book.specs.Prelude.{as_begun, made_among, IsPresent, calls_from, last_number, Brings, IsUntouched, frame_of, base_node}
 use Rattle.seam_law_book.specs.Prelude.{IsHeld, Lives, GoesWith, HasRoomForCalls}
 use Rattle.seam_defs.specs.declared.flags.Part.TheVariants as part
@@ -21,8 +21,8 @@ use Rattle.seam_rule_lines.specs.declared.verdict.Entry.TheVariants as entry
 use Rattle.seam_rule_lines.proofs.BookEntries.{live_is_created}
 use Rattle.seam_accept.specs.Batches.{batch_of, destroyed}
 use Rattle.seam_law_book.proofs.Adding.{all_turn, counted}
-use Rattle.seam_law_book.proofs.Present.{any_split, any_begun, created_split, created_begun, live_is_present, uncreated, undestroyed}
-use Rattle.seam_law_book.proofs.Present.{alive, undestroyed_apart}
+use Rattle.seam_law_book.proofs.Present.{any_split, any_begun, created_split, created_begun, live_is_present, uncreated, undestroyed, alive}
+use Rattle.seam_law_book.proofs.Present.{undestroyed_apart}
 use Rattle.seam_law_calls.proofs.Counting.{counted_none}
 use Rattle.seam_law_rounds.proofs.Loading.{nodes_after}
 use Rattle.seam_law_rounds.proofs.Framing.{in_frame}
@@ -34,7 +34,8 @@ use Rattle.seam_law_book.proofs.Origins.{RealFrom, was, made}
 use Rattle.seam_law_book.proofs.Numbering.{cell_calls, base_calls}
 use Rattle.seam_law_book.proofs.Fitting.{new_number, type_by, next_by, next_to_by}
 use Rattle.seam_law_book.proofs.Started.{real_comes, part_comes, made_now, nobody, no_part_there}
-use Rattle.seam_law_book.proofs.Nowhere.{new_after_calls, new_after_reaps, new_after_looks, no_part_leads}
+use Rattle.seam_law_book.proofs.Nowhere.{new_after_calls, new_after_reaps, new_after_looks}
+use Rattle.seam_law_calls.proofs.Reaped.{part_stays_gone}
 use Rattle.seam_law_book.proofs.Parts.{tick, looked_parts, reaped_parts}
 use Rattle.seam_law_book.proofs.Clients.{client_given}
 use Rattle.seam_law_book.proofs.Playing.{Obeyed, loaded_home, one_at_end, end_home, was_reaped, was_called, type_at_end, next_at_end}
@@ -56,7 +57,8 @@ destroyed_by P e d true z at here rest h = subst P (eqb-true d e at) here
 destroyed_by P e d false z at here rest h = rest h
 
 -- what is true of each that entries destroy is true of one that they destroy
-of_destroyed : (P : ℕ → Type 0) (e : ℕ) (xs : List Entry) → AllByRecursion P (filter_map destroyed xs) → list_any (destroys e) xs ≡ true → P e
+of_destroyed : (P : ℕ → Type 0) (e : ℕ) (xs : List Entry) → AllByRecursion P (filter_map destroyed xs) → list_any (destroys e) xs ≡ true →
+    P e
 of_destroyed P e [] all is = absurd (let z = is in cc)
 of_destroyed P e (entry.Destroyed d ∷ xs) all is =
     destroyed_by P e d (d == e) (list_any (destroys e) xs) refl all.0 (of_destroyed P e xs all.1) is
@@ -86,11 +88,10 @@ module _ (b : Book) (e : ℕ) where
       ap (λ o. is_some o && list_any (joins e) (entries ended_book)) (live_ended ∙ lives) ∙ ap (list_any (joins e)) same_entries
 
 module _ (h : Header) (some : 1 ≤ h.settings.bases) (b : Book) (t : Division) (clients : ℕ → ClientReplica) (w : World)
-    (keeps : KeepsRecords (frame_of h t) clients w) (may : MayBeGiven (frame_of h t) w (batch_of h b))
-    (goes : GoesWith h (as_begun b) t w) (R : Brings h b)
-    (untouched : (e : ℕ) → created_as (as_begun b) e ≡ None → IsUntouched (as_begun b) e) (few : HasRoomForCalls b)
-    (present : (e : ℕ) (c : Create) → IsPresent b e c → holders (loaded w (batch_of h b)) e ≡ 1)
-    (v : World) (round : GoesThroughRound w (batch_of h b) v) (dies : round.gone ≡ (batch_of h b).destroys)
+    (keeps : KeepsRecords (frame_of h t) clients w) (may : MayBeGiven (frame_of h t) w (batch_of h b)) (goes : GoesWith h (as_begun b) t w)
+    (R : Brings h b) (untouched : (e : ℕ) → created_as (as_begun b) e ≡ None → IsUntouched (as_begun b) e) (few : HasRoomForCalls b)
+    (present : (e : ℕ) (c : Create) → IsPresent b e c → holders (loaded w (batch_of h b)) e ≡ 1) (v : World)
+    (round : GoesThroughRound w (batch_of h b) v) (dies : round.gone ≡ (batch_of h b).destroys)
     (laws : Obeyed (frame_of h t) clients w (batch_of h b) v round) (ends : IsQuiet node_has_work v) where
   abbrev B : Batch
   B = batch_of h b
@@ -103,12 +104,14 @@ module _ (h : Header) (some : 1 ≤ h.settings.bases) (b : Book) (t : Division) 
 
     absent_by : (k : ℕ) (r : RealView) → RealFrom w B.creates e k r → ⊥
     absent_by k r (was others q x at is) = let z = sym (ap real_in (new_before k)) ∙ at in cc
-    absent_by k r (made x i ty orders) = none-some x (sym (uncreated b e none).1 ∙ made_now h some b t clients w keeps may goes R untouched few present e x i)
+    absent_by k r (made x i ty orders) =
+        none-some x (sym (uncreated b e none).1 ∙ made_now h some b t clients w keeps may goes R untouched few present e x i)
 
     absent : holders (loaded w B) e ≡ 1 → ⊥
     absent one =
         let home = loaded_home (frame_of h t) clients w B keeps may v round laws e one in
-        absent_by home.node home.real (real_comes h some b t clients w keeps may goes R untouched few present e home.node home.real home.here)
+        absent_by home.node home.real (real_comes h some b t clients w keeps may goes R untouched few present e home.node home.real
+        home.here)
 
     absent_other : (q : ℕ) → holders (loaded w B) q ≡ 1 → q ≡ e → ⊥
     absent_other q one is = absent (subst (λ d. holders (loaded w B) d ≡ 1) is one)
@@ -123,7 +126,7 @@ module _ (h : Header) (some : 1 ≤ h.settings.bases) (b : Book) (t : Division) 
         new_after_calls (frame_of h B.tree) e w keeps.reals.quiet keeps.reals.nodes.sound.square new_before round.called round.call_events
         round.calls_done B (others_of e B.creates (uncreated b e none).1)
         (all_turn (λ o. (d : ℕ) → order_about o.1 ≡ Some d → holders (loaded w B) d ≡ 1) (λ o. order_about o.1 ≡ Some e → ⊥)
-        (λ o known is. absent (known e is)) B.orders may.reals.known) (in_frame (frame_of h t) w B keeps.reals may.reals) round.calls
+        (λ o known is. absent (known e is)) B.orders may.reals.known) (in_frame (frame_of h t) w B (may_begin keeps may)) round.calls
 
     new_reaped : IsNew round.reaped e
     new_reaped =
@@ -169,14 +172,16 @@ module _ (h : Header) (some : 1 ≤ h.settings.bases) (b : Book) (t : Division) 
     same_type : end.real.ty ≡ c.ty
     same_type =
         type_at_end (frame_of h t) clients w B keeps may v round laws e end.node end.real end.here began.node began.real began.here
-        ∙ type_by h b t w keeps.reals goes R untouched e began.node began.real (real_comes h some b t clients w keeps may goes R untouched few present e began.node began.real began.here) c
+        ∙ type_by h b t w keeps.reals goes R untouched e began.node began.real
+        (real_comes h some b t clients w keeps may goes R untouched few present e began.node began.real began.here) c
         (live_is_present b e c lives)
 
     next_cell : (s : ℕ) → next_from s end.real ≡ last_number (with_round_ended b) part.Cell e s + 1
     next_cell s =
         let first = next_by h b t w keeps.reals goes R untouched e began.node began.real
         (real_comes h some b t clients w keeps may goes R untouched few present e began.node began.real began.here) s in
-        let more = next_at_end (frame_of h t) clients w B keeps may v round laws e end.node end.real end.here began.node began.real began.here s in
+        let more = next_at_end (frame_of h t) clients w B keeps may v round laws e end.node end.real end.here began.node began.real
+        began.here s in
         let calls = ap length (cell_calls h some b R few t e s) in
         let all = counted b part.Cell e s in
         let same = last_ended b e part.Cell s in
@@ -236,12 +241,12 @@ module _ (h : Header) (some : 1 ≤ h.settings.bases) (b : Book) (t : Division) 
         x,
         created_by e x (list_any (destroys e) (entries b)) (any_split b e (destroys e) ∙ ap (λ y. y || list_any (destroys e) b.current)
             (sym (any_begun b e (destroys e)) ∙ (untouched e none).end) ∙ not)
-            (created_split b e ∙ ap (λ o. option_or o (made_among (creates_of b.current) e)) (sym (created_begun b e) ∙ none) ∙ made_now h some b t clients w keeps may goes R untouched few present e x i),
+            (created_split b e ∙ ap (λ o. option_or o (made_among (creates_of b.current) e)) (sym (created_begun b e) ∙ none)
+            ∙ made_now h some b t clients w keeps may goes R untouched few present e x i),
       )
 
   -- one that has a real at the end was not destroyed
-  not_destroyed : (e k : ℕ) (q : RealView) → real_in ((entity_flow e v).slot k) ≡ Some q → (x : Bool) →
-      list_any (destroys e) b.current ≡ x → x ≡ false
+  not_destroyed : (e k : ℕ) (q : RealView) → real_at e v k ≡ Some q → (x : Bool) → list_any (destroys e) b.current ≡ x → x ≡ false
   not_destroyed e k q at false is = refl
   not_destroyed e k q at true is =
       let there = was_reaped (frame_of h t) clients w B keeps may v round laws e k q at in
@@ -249,13 +254,14 @@ module _ (h : Header) (some : 1 ≤ h.settings.bases) (b : Book) (t : Division) 
       (subst (AllByRecursion (λ d. holders round.reaped d ≡ 0)) dies laws.gone.reals) is in
       absurd (let z = sym ((counted_none round.reaped e gone).slots k) ∙ there.here in cc)
 
-  real_lives_by : (e k : ℕ) (q : RealView) → real_in ((entity_flow e v).slot k) ≡ Some q →
-      Somewhere e (loaded w B) ⊎ Nowhere e (loaded w B) → Lives b e
+  real_lives_by : (e k : ℕ) (q : RealView) → real_at e v k ≡ Some q → Somewhere e (loaded w B) ⊎ Nowhere e (loaded w B) → Lives b e
   real_lives_by e k q at (inl p) =
-      lives_by e (not_destroyed e k q at (list_any (destroys e) b.current) refl) p.0 p.1 (real_comes h some b t clients w keeps may goes R untouched few present e p.0 p.1 p.2)
+      lives_by e (not_destroyed e k q at (list_any (destroys e) b.current) refl) p.0 p.1
+      (real_comes h some b t clients w keeps may goes R untouched few present e p.0 p.1 p.2)
   real_lives_by e k q at (inr n) =
       let there = was_called (frame_of h t) clients w B keeps may v round laws e k q at in
-      let none = counted_none round.called e (laws.calls.no_other e (nobody h some b t clients w keeps may goes R untouched few present e n)) in
+      let none = counted_none round.called e
+      (laws.calls.no_other e (nobody h some b t clients w keeps may goes R untouched few present e n)) in
       absurd (let z = sym (none.slots k) ∙ there.here in cc)
 
   abbrev Lives_ended : ℕ → Type 0
@@ -264,7 +270,7 @@ module _ (h : Header) (some : 1 ≤ h.settings.bases) (b : Book) (t : Division) 
   still_lives : (e : ℕ) → Lives b e → Lives_ended e
   still_lives e l = (l.0, live_ended b e ∙ l.1)
 
-  real_lives : (e k : ℕ) (q : RealView) → real_in ((entity_flow e v).slot k) ≡ Some q → Lives_ended e
+  real_lives : (e k : ℕ) (q : RealView) → real_at e v k ≡ Some q → Lives_ended e
   real_lives e k q at = still_lives e (real_lives_by e k q at (search_real e (loaded w B)))
 
   -- ---- base parts
@@ -274,31 +280,33 @@ module _ (h : Header) (some : 1 ≤ h.settings.bases) (b : Book) (t : Division) 
 
   none_after_looks : (e : ℕ) → HasNone e round.reaped → HasNone e v
   none_after_looks e none =
-      no_part_leads (frame_of h B.tree) e (look_loaded round.reaped) v round.look_events
+      part_stays_gone (frame_of h B.tree) e (look_loaded round.reaped) v round.look_events
       (look_framed (frame_of h B.tree) round.reaped laws.reaped.records.reals.nodes tick) (looked_parts e round.reaped none) round.looks
 
   none_after_reaps : (e : ℕ) → HasNone e round.called → HasNone e round.reaped
   none_after_reaps e none =
-      no_part_leads (frame_of h B.tree) e (reaps_loaded round.called round.gone) round.reaped round.reap_events
+      part_stays_gone (frame_of h B.tree) e (reaps_loaded round.called round.gone) round.reaped round.reap_events
       (subst (IsInFrame (frame_of h B.tree)) (sym (nodes_after reap_ordered_at round.called round.gone))
       (reaps_framed (frame_of h B.tree) round.called laws.called.records.reals.nodes round.gone))
       (reaped_parts e round.called none round.gone) round.reaps
 
   none_after_calls : (e : ℕ) → HasNone e (loaded w B) → HasNone e round.called
   none_after_calls e none =
-      no_part_leads (frame_of h B.tree) e (loaded w B) round.called round.call_events
-      (in_frame (frame_of h t) w B keeps.reals may.reals) none round.calls
+      part_stays_gone (frame_of h B.tree) e (loaded w B) round.called round.call_events
+      (in_frame (frame_of h t) w B (may_begin keeps may)) none round.calls
 
   part_lives_by : (e k : ℕ) (p : PartView) → ((entity_flow e v).slot k).base.part ≡ Some p →
       Somewhere e (loaded w B) ⊎ Nowhere e (loaded w B) → (x : Bool) → list_any (destroys e) b.current ≡ x → Lives b e
-  part_lives_by e k p at (inl there) false not = lives_by e not there.0 there.1 (real_comes h some b t clients w keeps may goes R untouched few present e there.0 there.1 there.2)
+  part_lives_by e k p at (inl there) false not =
+      lives_by e not there.0 there.1 (real_comes h some b t clients w keeps may goes R untouched few present e there.0 there.1 there.2)
   part_lives_by e k p at (inl there) true is =
       let gone = of_destroyed (λ d. HasNone d round.reaped) e b.current
       (subst (AllByRecursion (λ d. HasNone d round.reaped)) dies laws.gone.parts) is in
       absurd (let z = sym (none_after_looks e gone k) ∙ at in cc)
   part_lives_by e k p at (inr n) x is =
       let none = none_after_looks e (none_after_reaps e (none_after_calls e
-      (λ j. no_part_there h some b t clients w keeps may goes R untouched few present e n j ((entity_flow e (loaded w B)).slot j).base.part refl))) k in
+      (λ j. no_part_there h some b t clients w keeps may goes R untouched few present e n j ((entity_flow e (loaded w B)).slot j).base.part
+      refl))) k in
       absurd (let z = sym none ∙ at in cc)
 
   -- ---- all of it

@@ -1,6 +1,6 @@
 -- What the open round of a book brings may be given to a world that goes with the book as the round began.
-use Rattle.std.proofs.Common.{◌≡◌, ℕ, ◌+◌, ◌<◌, Bool, true, false, cond, List, [], ◌∷◌, ◌++◌, length, Option}
-use Rattle.std.proofs.Common.{Some, None, refl, sym, ap, ◌∙◌, subst, arith, inl, inr}
+use Rattle.std.proofs.Common.{◌≡◌, ℕ, ◌+◌, ◌<◌, Bool, true, false, cond, List, [], ◌∷◌, ◌++◌, length, Option, Some, None, refl, sym, ap}
+use Rattle.std.proofs.Common.{◌∙◌, subst, arith, inl, inr}
 use Rattle.std.specs.Prelude.{◌&&◌, nat_lt, is_some}
 use Rattle.std.specs.List.{AllByRecursion}
 use Rattle.std.specs.Ordering.{nat_cmp}
@@ -11,7 +11,7 @@ use Rattle.std.proofs.lemmas.Option.{none-some}
 use Rattle.seam_node_steps.specs.Prelude.{Division, Pos, FitsDeed, part_of_deed, method_of, fits_deed, fit_values, Part, TypeDef, Deed}
 use Rattle.seam_node_steps.specs.Prelude.{same_part, Create, order_or, RealView, is_inside, stays_inside, can_do, PartView, World}
 use Rattle.seam_rule_rounds.specs.Prelude.{Header, Book, creates_of, created_as, live_as, has_client}
-use Rattle.seam_law_calls.specs.Prelude.{entity_flow, real_in}
+use Rattle.seam_law_calls.specs.Prelude.{entity_flow, real_at}
 use Rattle.seam_law_rounds.specs.Prelude.{next_from, IsBetweenRounds, MayBeMade, next_to}
 use Rattle.seam_law_book.specs.Prelude.{as_begun, made_among, IsPresent, IsInside, IsNewEntity, StaysInside, last_number, Brings}
 use Rattle.seam_law_book.specs.Prelude.{IsUntouched, frame_of, base_node, IsHeld, GoesWith}
@@ -76,7 +76,8 @@ made_is e cs x c i is =
     let z = sym found ∙ is in
     cc
 
-module _ (h : Header) (b : Book) (t : Division) (w : World) (between : IsBetweenRounds (frame_of h t) w) (goes : GoesWith h (as_begun b) t w)
+module _ (h : Header) (b : Book) (t : Division) (w : World) (between : IsBetweenRounds (frame_of h t) w)
+    (goes : GoesWith h (as_begun b) t w)
     (R : Brings h b) (untouched : (e : ℕ) → created_as (as_begun b) e ≡ None → IsUntouched (as_begun b) e) where
   pub may_be_made : (x : Create) → IsNewEntity h b x → MayBeMade (frame_of h t) w x
   may_be_made x n = record { new = goes.known x.entity n.new; type = n.type; inside = inside_test h x.pos n.inside }
@@ -93,14 +94,13 @@ module _ (h : Header) (b : Book) (t : Division) (w : World) (between : IsBetween
   -- ---- reals
 
   -- the real that the world holds of a live entity is the one that is there
-  module _ (e k : ℕ) (q : RealView) (at : real_in ((entity_flow e w).slot k) ≡ Some q) (c : Create)
-      (lives : live_as (as_begun b) e ≡ Some c) where
+  module _ (e k : ℕ) (q : RealView) (at : real_at e w k ≡ Some q) (c : Create) (lives : live_as (as_begun b) e ≡ Some c) where
     pub held : IsHeld h (as_begun b) w e c
     held = goes.live e c lives
 
     pub held_is : held.real ≡ q
     held_is = elim (cases_eq held.cell k) [
-      | inl same ↦ (let z = sym held.here ∙ (ap (λ j. real_in ((entity_flow e w).slot j)) same ∙ at) in cc)
+      | inl same ↦ (let z = sym held.here ∙ (ap (λ j. real_at e w j) same ∙ at) in cc)
       | inr other ↦ absurd (let z = sym ((between.settled e k q at).others held.cell other) ∙ held.here in cc)
     ]
 
@@ -140,7 +140,8 @@ module _ (h : Header) (b : Book) (t : Division) (w : World) (between : IsBetween
 
   pub part_type_by : (e : ℕ) (p : PartView) → PartFrom (frame_of h t) w xs e (home e) p → (c : Create) → IsPresent b e c → p.ty ≡ c.ty
   part_type_by e p (had others q x at is) c (inl lives) =
-      sym (ap (λ (y : PartView). y.ty) is) ∙ sym (ap (λ (y : PartView). y.ty) (part_is e q at c lives)) ∙ (held_with e q at c lives).base_type
+      sym (ap (λ (y : PartView). y.ty) is) ∙ sym (ap (λ (y : PartView). y.ty) (part_is e q at c lives))
+      ∙ (held_with e q at c lives).base_type
   part_type_by e p (had others q x at is) c (inr now) = absurd (none-some c (sym (others_none e xs others) ∙ now))
   part_type_by e p (comes x i y is) c (inl lives) = absurd (not_lived e x c i lives)
   part_type_by e p (comes x i y is) c (inr now) =
@@ -162,8 +163,8 @@ module _ (h : Header) (b : Book) (t : Division) (w : World) (between : IsBetween
   no_witness None is = refl
   no_witness (Some x) is = absurd (let z = is in cc)
 
-  pub unseen_by : (e : ℕ) → has_client (as_begun b) e ≡ false → (k : ℕ) (r : RealView) → real_in ((entity_flow e w).slot k) ≡ Some r →
-      r.witness ≡ None
+  pub unseen_by : (e : ℕ) → has_client (as_begun b) e ≡ false → (k : ℕ) (r : RealView) → real_at e w k ≡ Some r → r.witness ≡ None
   unseen_by e alone k r at =
       let l = goes.reals e k r at in
-      no_witness r.witness (sym (ap (λ (y : RealView). is_some y.witness) (held_is e k r at l.0 l.1)) ∙ (held e k r at l.0 l.1).client ∙ alone)
+      no_witness r.witness (sym (ap (λ (y : RealView). is_some y.witness) (held_is e k r at l.0 l.1)) ∙ (held e k r at l.0 l.1).client
+      ∙ alone)

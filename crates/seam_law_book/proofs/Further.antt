@@ -3,9 +3,9 @@ use Rattle.std.proofs.Common.{◌≡◌, ℕ, List, true, Option, None, Some, re
 use Rattle.std.specs.Prelude.{is_some, IsTrue, not, ◌&&◌}
 use Rattle.std.specs.List.{list_any}
 use Rattle.std.proofs.lemmas.Bool.{cases_eq}
-use Rattle.seam_node_steps.specs.Prelude.{Division, LeadsTo, Event, RealView, WitnessView, World, node_steps, node_has_work, look_loaded}
+use Rattle.seam_node_steps.specs.Prelude.{Division, Event, RealView, WitnessView, World, look_loaded}
 use Rattle.seam_rule_rounds.specs.Prelude.{Header, Book, entries, created_as, joins, was_dead, is_shown, with_round_ended}
-use Rattle.seam_law_calls.specs.Prelude.{Frame, entity_flow, real_in}
+use Rattle.seam_law_calls.specs.Prelude.{Frame, RunsTo, real_at}
 use Rattle.seam_law_rounds.specs.Prelude.{IsBetweenRounds, HasPartsBetweenRounds}
 use Rattle.seam_law_ghosts.specs.Prelude.{WasThere}
 use Rattle.seam_law_book.specs.Prelude.{frame_of, GoesWith}
@@ -15,7 +15,7 @@ use Rattle.seam_law_book.proofs.Parts.{both_seen, looks_leave_part}
 
 -- the real of a live entity that has a client in the round has a witness at its end
 module _ (h : Header) (b : Book) (tree : Division) (v : World) (goes : GoesWith h (with_round_ended b) tree v)
-    (between : IsBetweenRounds (frame_of h tree) v) (e k : ℕ) (q : RealView) (at : real_in ((entity_flow e v).slot k) ≡ Some q)
+    (between : IsBetweenRounds (frame_of h tree) v) (e k : ℕ) (q : RealView) (at : real_at e v k ≡ Some q)
     (shown : IsTrue (is_shown b e)) where
   was_joined : list_any (joins e) (entries b) ≡ true
   was_joined =
@@ -27,15 +27,15 @@ module _ (h : Header) (b : Book) (tree : Division) (v : World) (goes : GoesWith 
       let l = goes.reals e k q at in
       let held = goes.live e l.0 l.1 in
       let same : held.real ≡ q = elim (cases_eq held.cell k) [
-        | inl is ↦ (let z = sym held.here ∙ (ap (λ j. real_in ((entity_flow e v).slot j)) is ∙ at) in cc)
+        | inl is ↦ (let z = sym held.here ∙ (ap (λ j. real_at e v j) is ∙ at) in cc)
         | inr other ↦ absurd (let z = sym ((between.settled e k q at).others held.cell other) ∙ held.here in cc)
       ] in
       sym (ap (λ (y : RealView). is_some y.witness) same) ∙ held.client ∙ client_of b e l.0 (sym (live_ended b e) ∙ l.1) ∙ was_joined
 
 -- and it had one before the look
 module _ (g : Frame) (u : World) (before : IsBetweenRounds g u) (parts : HasPartsBetweenRounds g u) (v : World) (es : List Event)
-    (run : LeadsTo node_has_work node_steps (look_loaded u) es v) (then : HasPartsBetweenRounds g v) (e k : ℕ) (q : RealView)
-    (at : real_in ((entity_flow e v).slot k) ≡ Some q) (was : WasThere e k q u) where
+    (run : RunsTo (look_loaded u) es v) (then : HasPartsBetweenRounds g v) (e k : ℕ) (q : RealView)
+    (at : real_at e v k ≡ Some q) (was : WasThere e k q u) where
   had_witness : is_some q.witness ≡ true → is_some was.real.witness ≡ true
   had_witness is =
       let left = parts.parts e k was.real was.here in

@@ -1,6 +1,6 @@
 -- The batch of a book's open round may be given to a world that goes with the book as the round began.
-use Rattle.std.proofs.Common.{◌≡◌, ℕ, ◌<◌, ◌≤◌, Bool, true, false, cond, eqb, List, [], ◌∷◌, length, Option}
-use Rattle.std.proofs.Common.{suc, Some, None, refl, sym, ap, ◌∙◌, subst, arith, inl, inr}
+use Rattle.std.proofs.Common.{◌≡◌, ℕ, ◌<◌, ◌≤◌, Bool, true, false, cond, eqb, List, [], ◌∷◌, length, Option, suc, Some, None, refl, sym, ap}
+use Rattle.std.proofs.Common.{◌∙◌, subst, arith, inl, inr}
 use Rattle.std.specs.Prelude.{◌==◌, ◌&&◌}
 use Rattle.std.specs.List.{AllByRecursion, IsDistinct, filter_map, cons_option}
 use Rattle.std.proofs.lemmas.Bool.{eqb-true, eq-eqb}
@@ -9,7 +9,7 @@ use Rattle.seam_node_steps.specs.Prelude.{type_of, Division, Part, is_for, same_
 use Rattle.seam_node_steps.specs.Prelude.{cell_count, can_do, limit, PartView, holders, World, node_has_work, loaded}
 use Rattle.seam_rule_rounds.specs.Prelude.{Header, Book, calls_of, created_as, Entry}
 use Rattle.seam_law_flow.specs.Prelude.{letters_of}
-use Rattle.seam_law_calls.specs.Prelude.{mine, order_about, entity_flow, real_in, reaped_by_order, most_entities}
+use Rattle.seam_law_calls.specs.Prelude.{mine, order_about, entity_flow, reaped_by_order, most_entities, real_at}
 use Rattle.seam_law_rounds.specs.Prelude.{next_from, IsBetweenRounds, MayBeMade, HasNoWitness, IsFitOrder, IsForReal, IsFitting, next_to}
 use Rattle.seam_law_rounds.specs.Prelude.{IsFitBaseOrder, IsForPart}
 use Rattle.seam_law_all.specs.Prelude.{MayBeGiven}
@@ -30,7 +30,8 @@ use Rattle.seam_law_book.proofs.Fitting.{both_true, same_self, can_test, may_be_
 -- ---- orders of entries
 
 -- what is true of each call of the entries, and of a tick, is true of each order
-each_order : (h : Header) (P : Order → Type 0) (Q : CallData → Type 0) → ((p : Part) (c : CallData) → p ≡ c.part → Q c → P (passes_to p c)) →
+each_order : (h : Header) (P : Order → Type 0) (Q : CallData → Type 0) →
+    ((p : Part) (c : CallData) → p ≡ c.part → Q c → P (passes_to p c)) →
     P order.Tick → (xs : List Entry) → AllByRecursion Q (calls_of xs) → AllByRecursion (λ o. P o.1) (filter_map (ordered h) xs)
 each_order h P Q turn tick [] all = tt
 each_order h P Q turn tick (entry.Called c ∷ xs) all = (turn c.part c refl all.0, each_order h P Q turn tick xs all.1)
@@ -133,12 +134,13 @@ module _ (h : Header) (some : 1 ≤ h.settings.bases) (b : Book) (t : Division) 
   present_one e c (inl lives) =
       let held = goes.live e c lives in
       let one = one_holder (frame_of h t) w e held.cell held.real (between.settled e held.cell held.real held.here) (quiet_mail e) in
-      same_made e ∙ holds_kept (frame_of h t) w (creating B) between fits_creating e one
+      same_made e ∙ holds_kept (frame_of h t) w (creating B) (record { between = between; fits = fits_creating }) e one
     where
       quiet_mail : (e x y : ℕ) → (entity_flow e w).mail x y ≡ []
       quiet_mail e x y = ap (letters_of (mine e)) (quiet_links node_has_work w between.nodes.sound.square between.quiet x y)
   present_one e c (inr now) =
-      same_made e ∙ made_one e c B.creates (holds_made (frame_of h t) w (creating B) between fits_creating) now
+      same_made e ∙ made_one e c B.creates (holds_made (frame_of h t) w (creating B) (record { between = between; fits = fits_creating }))
+      now
 
   -- ---- calls
 
@@ -163,7 +165,7 @@ module _ (h : Header) (some : 1 ≤ h.settings.bases) (b : Book) (t : Division) 
       λ at. fits_there ty part.Base c is fit (types fit.made (subst (λ d. IsPresent b d fit.made) at fit.present)) c.entity refl
   fit_base e ty types part.Cell c is fit = tt
 
-  for_real : (e k : ℕ) (r : RealView) → real_in ((entity_flow e (loaded w B)).slot k) ≡ Some r → IsForReal (frame_of h t) B e r
+  for_real : (e k : ℕ) (r : RealView) → real_at e (loaded w B) k ≡ Some r → IsForReal (frame_of h t) B e r
   for_real e k r here =
       let from = real_from (frame_of h t) w B between R.tree creates spares R.once e k r here in
       record {

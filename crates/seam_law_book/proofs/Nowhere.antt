@@ -1,6 +1,5 @@
 -- A number of which no node has anything stays so, over every list of events of a round that has nothing about it.
-use Rattle.std.proofs.Common.{◌≡◌, ℕ, Bool, true, false, cond, List, [], ◌∷◌, map, Option, None, Some, refl, sym, ap, ◌∙◌}
-use Rattle.std.proofs.Common.{subst, arith}
+use Rattle.std.proofs.Common.{◌≡◌, ℕ, Bool, true, false, cond, List, [], ◌∷◌, map, Option, None, Some, refl, sym, ap, ◌∙◌, subst, arith}
 use Rattle.std.specs.Prelude.{eqb, option_map, slice_get, ◌||◌, is_some}
 use Rattle.std.proofs.lemmas.Bool.{eqb-true}
 use Rattle.std.specs.List.{AllByRecursion, range_with_len}
@@ -9,34 +8,30 @@ use Rattle.std.specs.FinMap as table
 use Rattle.std.proofs.lemmas.Bool.Decides.{nat_tests}
 use Rattle.std.proofs.lemmas.List.Elements.{filter-append}
 use Rattle.std.proofs.lemmas.Option.{slice_get-map}
-use Rattle.seam_node_steps.specs.Prelude.{Division, leaf_at, cells_of, IsSquare, IsQuiet, happens, enabled, LeadsTo, Event, Create, Order}
-use Rattle.seam_node_steps.specs.Prelude.{Batch, cell_count, base_of, RealView, created, real_begins, Msg, Hand, Current}
-use Rattle.seam_node_steps.specs.Prelude.{GhostSet, GhostDrop, Tick, Update, Map, set_at, has_any, Slot, CellView, slot_of}
-use Rattle.seam_node_steps.specs.Prelude.{ready_entity, BaseView, PartView, tick_to, NodeView, World, node_steps, node_has_work, Cell, Base}
-use Rattle.seam_node_steps.specs.Prelude.{with_nodes, real_if, part_if, with_route, new_part, created_at, with_witness, with_proxy}
-use Rattle.seam_node_steps.specs.Prelude.{attached, cell_round, base_round, part_begins, order_if, ordered_at, reap_ordered_at, loaded}
-use Rattle.seam_node_steps.specs.Prelude.{reaps_loaded, look_loaded}
-use Rattle.seam_law_flow.specs.Prelude.{comes, letters_of, slot_at}
-use Rattle.seam_law_calls.specs.Prelude.{Frame, here_at, IsInFrame, Has, AtCell, AtBase, order_about, order_concerns, orders_of, times}
-use Rattle.seam_law_calls.specs.Prelude.{no_cell, no_base, has_of, has_none, mine, entity_flow, CellMoves, BaseMoves, updated, Moves}
-use Rattle.seam_law_calls.specs.Prelude.{at_a_cell, at_a_base}
+use Rattle.seam_node_steps.specs.Prelude.{Division, leaf_at, cells_of, IsSquare, IsQuiet, Event, Create, Order, Batch, cell_count, base_of}
+use Rattle.seam_node_steps.specs.Prelude.{RealView, created, real_begins, Msg, Hand, Current, GhostSet, GhostDrop, Tick, Update, Map}
+use Rattle.seam_node_steps.specs.Prelude.{set_at, has_any, Slot, CellView, slot_of, ready_entity, BaseView, PartView, tick_to, NodeView}
+use Rattle.seam_node_steps.specs.Prelude.{World, node_has_work, Cell, Base, with_nodes, real_if, part_if, with_route, new_part, created_at}
+use Rattle.seam_node_steps.specs.Prelude.{with_witness, with_proxy, attached, cell_round, base_round, part_begins, order_if, ordered_at}
+use Rattle.seam_node_steps.specs.Prelude.{reap_ordered_at, loaded, reaps_loaded, look_loaded}
+use Rattle.seam_law_flow.specs.Prelude.{letters_of, slot_at}
+use Rattle.seam_law_calls.specs.Prelude.{Frame, here_at, IsInFrame, Has, AtCell, order_about, order_concerns, orders_of, times, no_cell}
+use Rattle.seam_law_calls.specs.Prelude.{no_base, has_of, has_none, mine, entity_flow, CellMoves, BaseMoves, Moves, at_a_cell, at_a_base}
+use Rattle.seam_law_calls.specs.Prelude.{RunsTo}
 use Rattle.seam_law_rounds.specs.Prelude.{IsNew, each, node_loaded}
-use Rattle.seam_machine.proofs.Occurring.{occurs}
 use Rattle.seam_machine.proofs.Quiet.{quiet_links, quiet_tasks}
-use Rattle.seam_net_runs.proofs.Runs.{leads_keeps}
-use Rattle.seam_law_flow.proofs.Following.{all_append, slots_kept, letters_kept, came}
+use Rattle.seam_law_flow.proofs.Following.{all_append}
 use Rattle.seam_call.specs.declared.order.Order.TheVariants as order
 use Rattle.seam_entity.specs.declared.message.Msg.TheVariants.{Call}
 use Rattle.seam_node_steps.proofs.Slots.{get-set_at}
 use Rattle.seam_law_calls.specs.CellMoves as move
 use Rattle.seam_law_calls.specs.BaseMoves as base_move
-use Rattle.seam_law_calls.proofs.Classify.{event_moves, frame_happens}
 use Rattle.seam_law_calls.proofs.ExampleMet.{slots}
-use Rattle.seam_law_calls.proofs.Sparing.{items_all}
 use Rattle.seam_law_rounds.proofs.Loading.{each_keeps, Any, any, nodes_after, loaded_is, get-each_value}
 use Rattle.seam_law_calls.proofs.Quieting.{neither, none_left}
 use Rattle.seam_law_rounds.proofs.Staying.{other_set}
 use Rattle.seam_law_rounds.proofs.Making.{AreOthers}
+use Rattle.seam_law_calls.proofs.Keeping.{all_lead}
 
 -- ---- nothing but ticks
 
@@ -48,10 +43,8 @@ IsTick Tick = Unit {0}
 IsTick _ = ⊥
 
 abbrev IsTickOrder : Order → Type 0
-IsTickOrder (order.Cell c) = ⊥
-IsTickOrder (order.Base c) = ⊥
 IsTickOrder order.Tick = Unit {0}
-IsTickOrder (order.Reap e) = ⊥
+IsTickOrder _ = ⊥
 
 -- a node has nothing of the entity, and no order that is about it
 record IsBare (h : Has) : Type 0 where
@@ -151,29 +144,12 @@ module _ (f : Frame) (e k : ℕ) (s : Has) (i : Option Msg) (t : Has) (sent : Li
 -- ---- a list of events
 
 module _ (f : Frame) (e : ℕ) where
-  record Keeps (w : World) : Type 0 where
-    frame : IsInFrame f w
-    nowhere : IsNowhere e w
-
-  keeps_more : (w : World) (v : Event) → Keeps w → enabled node_has_work w v ≡ true → Keeps (happens node_steps w v)
-  keeps_more w v h on =
-      let o = occurs node_has_work w v on in
-      let g = event_moves f w v o h.frame e in
-      let n = h.nowhere in
-      let all = stays_bare f e g.k ((entity_flow e w).slot g.k) (comes g.input) ((entity_flow e (happens node_steps w v)).slot g.k)
-      g.moves.sent (n.nodes g.k) (λ m is. (came (λ a k m. IsTick m) g m is n.letters).1) g.moves.moves in
-      record {
-        frame = frame_happens f w v o h.frame;
-        nowhere = record {
-          nodes = slots_kept (λ k s. IsBare s) g n.nodes all.0;
-          letters = letters_kept (λ a k m. IsTick m) g n.letters (λ j.
-              subst (AllByRecursion IsTick) (sym (g.moves.items j)) (items_all IsTick j g.moves.sent all.1));
-        };
-      }
-
-  nowhere_leads : (w v : World) (es : List Event) → IsInFrame f w → IsNowhere e w → LeadsTo node_has_work node_steps w es v → IsNowhere e v
+  nowhere_leads : (w v : World) (es : List Event) → IsInFrame f w → IsNowhere e w → RunsTo w es v → IsNowhere e v
   nowhere_leads w v es frame here run =
-      (leads_keeps node_has_work node_steps Keeps keeps_more w v es (record { frame = frame; nowhere = here }) run).nowhere
+      let all = all_lead f e (λ k s. IsBare s) (λ a k m. IsTick m)
+      (λ k s i t sent here come m. stays_bare f e k s i t sent here (λ x is. (come x is).1) m) w v es frame run
+      (record { slots = here.nodes; letters = here.letters }) in
+      record { nodes = all.slots; letters = all.letters }
 
   -- where the world is quiet again, no node has anything of it
   node_none : (s : NodeView) → node_has_work s ≡ false → IsBare (has_of e s) → has_of e s ≡ has_none
@@ -344,71 +320,20 @@ module _ (e : ℕ) where
 module _ (f : Frame) (e : ℕ) (w : World) (quiet : IsQuiet node_has_work w) (square : IsSquare w) (new : IsNew w e) (v : World)
     (es : List Event) (ends : IsQuiet node_has_work v) where
   pub new_after_calls : (b : Batch) → AreOthers e b.creates → AllByRecursion (λ o. IsNotAbout e o.1) b.orders →
-      IsInFrame f (loaded w b) → LeadsTo node_has_work node_steps (loaded w b) es v → IsNew v e
+      IsInFrame f (loaded w b) → RunsTo (loaded w b) es v → IsNew v e
   new_after_calls b others not frame run =
       new_quiet f e v ends (nowhere_leads f e (loaded w b) v es frame
       (subst (IsNowhere e) (sym (loaded_is w b)) (nowhere_turned e w quiet square new (node_loaded b) (node_bare e b others not))) run)
 
   pub new_after_reaps : (gone : List ℕ) → AllByRecursion (λ q. q ≡ e → ⊥) gone → IsInFrame f (reaps_loaded w gone) →
-      LeadsTo node_has_work node_steps (reaps_loaded w gone) es v → IsNew v e
+      RunsTo (reaps_loaded w gone) es v → IsNew v e
   new_after_reaps gone others frame run =
       new_quiet f e v ends (nowhere_leads f e (reaps_loaded w gone) v es frame
       (subst (IsNowhere e) (sym (nodes_after reap_ordered_at w gone)) (nowhere_turned e w quiet square new (each reap_ordered_at gone)
       (λ s h. each_keeps reap_ordered_at (Bare e) (IsOther e) (reap_given e) gone others s h))) run)
 
-  pub new_after_looks : IsInFrame f (look_loaded w) → LeadsTo node_has_work node_steps (look_loaded w) es v → IsNew v e
+  pub new_after_looks : IsInFrame f (look_loaded w) → RunsTo (look_loaded w) es v → IsNew v e
   new_after_looks frame run =
       new_quiet f e v ends (nowhere_leads f e (look_loaded w) v es frame
-      (nowhere_turned e w quiet square new (ordered_at (cell_count, order.Tick)) (λ s h. given e (cell_count, order.Tick) s (λ is. cc) h)) run)
-
--- ---- an entity without a base part gets none
-
-module _ (f : Frame) (e : ℕ) where
-  module _ (k : ℕ) (s : Has) (i : Option Msg) (t : Has) (sent : List (ℕ × Msg)) (none : s.base.part ≡ None) where
-    has_part : (p : PartView) → s.base.part ≡ Some p → ⊥
-    has_part p has = let z = sym none ∙ has in cc
-
-    -- a base node that has the part as it was
-    same_part : (b : AtBase) → b.part ≡ s.base.part → t.base ≡ b → t.base.part ≡ None
-    same_part b part is = ap (λ x. x.part) is ∙ part ∙ none
-
-    none_base : (cells : ℕ) → BaseMoves (here_at f k) cells e s.base i t.base sent → t.base.part ≡ None
-    none_base cells (base_move.rests n a z) = same_part _ refl a
-    none_base cells (base_move.strays m n b a z) = same_part _ refl a
-    none_base cells (base_move.reroutes new r n has b a z) = same_part _ refl a
-    none_base cells (base_move.offers c p n own has may a z) = absurd (has_part p has)
-    none_base cells (base_move.updates u n own b a z) = ap (λ x. x.part) a ∙ ap (λ o. updated o u) none
-    none_base cells (base_move.orders_call c os r n at own has a z) = same_part _ refl a
-    none_base cells (base_move.orders_base_call c os n at own b a z) = same_part _ refl a
-    none_base cells (base_move.offers_own c os p n at own b has may a z) = absurd (has_part p has)
-    none_base cells (base_move.orders_tick os n at a z) = same_part _ refl a
-    none_base cells (base_move.orders_reap os r n at has a z) = ap (λ x. x.part) a
-    none_base cells (base_move.stuck_order o os n at b a z) = same_part _ refl a
-    none_base cells (base_move.executes p o c n has may at item a z) = absurd (has_part p has)
-    none_base cells (base_move.stuck_part p n has v may a z) = absurd (has_part p has)
-    none_base cells (base_move.shows p n has v may a z) = absurd (has_part p has)
-    none_base cells (base_move.stuck_client p n has v may a z) = absurd (has_part p has)
-
-    none_after : Moves f e k s i t sent → t.base.part ≡ None
-    none_after (at_a_cell low m base) = ap (λ x. x.part) base ∙ none
-    none_after (at_a_base high m cell) = none_base _ m
-
-  record KeepsNone (w : World) : Type 0 where
-    frame : IsInFrame f w
-    none : (k : ℕ) → ((entity_flow e w).slot k).base.part ≡ None
-
-  none_more : (w : World) (v : Event) → KeepsNone w → enabled node_has_work w v ≡ true → KeepsNone (happens node_steps w v)
-  none_more w v h on =
-      let o = occurs node_has_work w v on in
-      let g = event_moves f w v o h.frame e in
-      record {
-        frame = frame_happens f w v o h.frame;
-        none = slots_kept (λ k s. s.base.part ≡ None) g h.none
-            (none_after g.k ((entity_flow e w).slot g.k) (comes g.input) ((entity_flow e (happens node_steps w v)).slot g.k) g.moves.sent
-            (h.none g.k) g.moves.moves);
-      }
-
-  pub no_part_leads : (w v : World) (es : List Event) → IsInFrame f w → ((k : ℕ) → ((entity_flow e w).slot k).base.part ≡ None) →
-      LeadsTo node_has_work node_steps w es v → (k : ℕ) → ((entity_flow e v).slot k).base.part ≡ None
-  no_part_leads w v es frame none run =
-      (leads_keeps node_has_work node_steps KeepsNone none_more w v es (record { frame = frame; none = none }) run).none
+      (nowhere_turned e w quiet square new (ordered_at (cell_count, order.Tick)) (λ s h. given e (cell_count, order.Tick) s (λ is. cc) h))
+      run)

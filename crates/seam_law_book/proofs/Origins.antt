@@ -6,7 +6,7 @@ use Rattle.std.specs.FinMap as table
 use Rattle.seam_node_steps.specs.Prelude.{leaf_at, IsTree, Create, Batch, RealView, WitnessView, created, real_begins, PartView, ProxyView}
 use Rattle.seam_node_steps.specs.Prelude.{NodeView, World, new_part, part_begins, loaded}
 use Rattle.seam_law_flow.specs.Prelude.{slot_at}
-use Rattle.seam_law_calls.specs.Prelude.{Frame, here_at, has_of, has_none, entity_flow, real_in, reaped_by_order, home_of}
+use Rattle.seam_law_calls.specs.Prelude.{Frame, here_at, has_of, has_none, entity_flow, real_in, reaped_by_order, home_of, real_at}
 use Rattle.seam_law_rounds.specs.Prelude.{created_entity, MayBeMade, IsBetweenRounds, node_loaded}
 use Rattle.seam_law_rounds.proofs.Staying.{Kept}
 use Rattle.seam_law_rounds.proofs.Making.{AreOthers, Creation, nowhere, once, creation_of, middle, until, node_made, node_after}
@@ -24,7 +24,7 @@ pub record IsCreate (e : ℕ) (xs : List Create) (x : Create) : Type 0 where
 
 -- a real of a world into which a batch with these creates was loaded: it was there, or it is made
 pub data RealFrom (w : World) (xs : List Create) (e k : ℕ) (r : RealView) : Type 0 where
-  was : AreOthers e xs → (q : RealView) (x : Option WitnessView) → real_in ((entity_flow e w).slot k) ≡ Some q
+  was : AreOthers e xs → (q : RealView) (x : Option WitnessView) → real_at e w k ≡ Some q
       → record (real_begins q) { witness = x } ≡ r → RealFrom w xs e k r
   made : (x : Create) → IsCreate e xs x → r.ty ≡ x.ty → r.orders ≡ table.empty → RealFrom w xs e k r
 
@@ -69,19 +69,19 @@ module _ (f : Frame) (w : World) (b : Batch) (between : IsBetweenRounds f w) (tr
         new_by (eqb (leaf_at b.tree x.pos) k) (real_in (has_of x.entity (until f b tree x k first later is others more spares s)))
         (real_in (has_of x.entity (node_loaded b s))) made.real after.real r here
 
-  real_by : (e k : ℕ) (r : RealView) → Creation e b.creates → real_in ((entity_flow e (loaded w b)).slot k) ≡ Some r → RealFrom w b.creates e k r
+  real_by : (e k : ℕ) (r : RealView) → Creation e b.creates → real_at e (loaded w b) k ≡ Some r → RealFrom w b.creates e k r
   real_by e k r (nowhere others) here =
       let q = real_was w b e spares others k r here in
       was others q.0 q.1 q.2 q.3
   real_by e k r (once first x later is at others more) here =
       let o = subst (λ d. AreOthers d first) (sym at) others in
       let m = subst (λ d. AreOthers d later) (sym at) more in
-      let there = subst (λ d. real_in ((entity_flow d (loaded w b)).slot k) ≡ Some r) (sym at) here in
+      let there = subst (λ d. real_at d (loaded w b) k ≡ Some r) (sym at) here in
       let two = new_at x first later is o m k (slice_get w.nodes k) refl r (sym (ap real_in (slot_is w b x.entity k)) ∙ there) in
       made x (record { before = first; later = later; is = is; entity = at; first = others; last = more }) two.0 two.1
 
   pub real_from : IsDistinct eqb (map created_entity b.creates) → (e k : ℕ) (r : RealView) →
-      real_in ((entity_flow e (loaded w b)).slot k) ≡ Some r → RealFrom w b.creates e k r
+      real_at e (loaded w b) k ≡ Some r → RealFrom w b.creates e k r
   real_from one e k r here = real_by e k r (creation_of e b.creates one) here
 
   -- ---- base parts
@@ -97,11 +97,11 @@ module _ (f : Frame) (w : World) (b : Batch) (between : IsBetweenRounds f w) (tr
       (q : PartView) × ((slot_at (has_of e) has_none o).base.part ≡ Some q) × (x : Option ProxyView)
       × (record (part_begins q) { proxy = x } ≡ p)
   stays_at e k others None p here = absurd (let z = here in cc)
-  stays_at e k others (Some s) p here = part_by (has_of e s).base.part (has_of e (node_loaded b s)).base.part (part_stays e b others s) p here
+  stays_at e k others (Some s) p here = part_by (has_of e s).base.part (has_of e (node_loaded b s)).base.part (part_stays e b others s) p
+      here
 
-  new_part_by : (k : ℕ) (x : Create) (c : Bool) (p : Option PartView) →
-      SamePart (cond c (Some (new_part (here_at f k) x.ty)) None) p → (a : PartView) → p ≡ Some a →
-      (y : Option ProxyView) × (record (new_part (here_at f k) x.ty) { proxy = y } ≡ a)
+  new_part_by : (k : ℕ) (x : Create) (c : Bool) (p : Option PartView) → SamePart (cond c (Some (new_part (here_at f k) x.ty)) None) p →
+      (a : PartView) → p ≡ Some a → (y : Option ProxyView) × (record (new_part (here_at f k) x.ty) { proxy = y } ≡ a)
   new_part_by k x true p same a at = (same.0, let z = sym same.1 ∙ at in cc)
   new_part_by k x false p same a at = absurd (let z = sym same ∙ at in cc)
 
@@ -116,7 +116,8 @@ module _ (f : Frame) (w : World) (b : Batch) (between : IsBetweenRounds f w) (tr
       (part_comes f k x b first later is others more s (between.nodes.nodes k s at)
       (ap (λ h. h.base.part) (sym (ap (slot_at (has_of x.entity) has_none) at) ∙ may.new k))) p here
 
-  part_from_by : (e k : ℕ) (p : PartView) → Creation e b.creates → ((entity_flow e (loaded w b)).slot k).base.part ≡ Some p → PartFrom f w b.creates e k p
+  part_from_by : (e k : ℕ) (p : PartView) → Creation e b.creates → ((entity_flow e (loaded w b)).slot k).base.part ≡ Some p →
+      PartFrom f w b.creates e k p
   part_from_by e k p (nowhere others) here =
       let q = stays_at e k others (slice_get w.nodes k) p (sym (ap (λ h. h.base.part) (slot_is w b e k)) ∙ here) in
       had others q.0 q.2 q.1 q.3
@@ -124,7 +125,8 @@ module _ (f : Frame) (w : World) (b : Batch) (between : IsBetweenRounds f w) (tr
       let o = subst (λ d. AreOthers d first) (sym at) others in
       let m = subst (λ d. AreOthers d later) (sym at) more in
       let there = subst (λ d. ((entity_flow d (loaded w b)).slot k).base.part ≡ Some p) (sym at) here in
-      let two = comes_at k x first later is o m (slice_get w.nodes k) refl p (sym (ap (λ h. h.base.part) (slot_is w b x.entity k)) ∙ there) in
+      let two = comes_at k x first later is o m (slice_get w.nodes k) refl p (sym (ap (λ h. h.base.part) (slot_is w b x.entity k)) ∙ there)
+      in
       comes x (record { before = first; later = later; is = is; entity = at; first = others; last = more }) two.0 two.1
 
   pub part_from : IsDistinct eqb (map created_entity b.creates) → (e k : ℕ) (p : PartView) →

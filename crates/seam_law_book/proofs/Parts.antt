@@ -4,12 +4,12 @@ use Rattle.std.specs.Prelude.{is_some, option_map, slice_get, ◌||◌, ◌==◌
 use Rattle.std.specs.List.{list_any, filter_map}
 use Rattle.std.proofs.lemmas.Bool.{cases_eq}
 use Rattle.std.proofs.lemmas.Option.{slice_get-map}
-use Rattle.seam_node_steps.specs.Prelude.{LeadsTo, Event, Order, Batch, Here, cell_count, WitnessView, PartView, ProxyView, NodeView, World}
-use Rattle.seam_node_steps.specs.Prelude.{node_steps, node_has_work, with_nodes, proxy_begins, part_begins, with_proxy, ordered_at}
-use Rattle.seam_node_steps.specs.Prelude.{reap_ordered_at, loaded, reaps_loaded, look_loaded}
+use Rattle.seam_node_steps.specs.Prelude.{Event, Order, Batch, Here, cell_count, WitnessView, PartView, ProxyView, NodeView, World}
+use Rattle.seam_node_steps.specs.Prelude.{node_has_work, with_nodes, proxy_begins, part_begins, with_proxy, ordered_at, reap_ordered_at}
+use Rattle.seam_node_steps.specs.Prelude.{loaded, reaps_loaded, look_loaded}
 use Rattle.seam_rule_rounds.specs.Prelude.{joins, Entry}
 use Rattle.seam_law_flow.specs.Prelude.{slot_at}
-use Rattle.seam_law_calls.specs.Prelude.{Frame, here_at, IsInFrame, has_of, has_none, entity_flow, IsSpared, home_of}
+use Rattle.seam_law_calls.specs.Prelude.{Frame, here_at, IsInFrame, has_of, has_none, entity_flow, IsSpared, home_of, RunsTo}
 use Rattle.seam_law_rounds.specs.Prelude.{IsBetweenRounds, each, node_loaded, HasSettledPart, AreFor}
 use Rattle.seam_law_clients.specs.Prelude.{ShowsItsPart}
 use Rattle.seam_machine.proofs.Quiet.{quiet_tasks}
@@ -42,7 +42,7 @@ pub record IsButClient (p q : PartView) : Type 0 where
 -- ---- a client stays
 
 module _ (f : Frame) (e : ℕ) (w v : World) (es : List Event) (frame : IsInFrame f w) (spared : IsSpared e w)
-    (run : LeadsTo node_has_work node_steps w es v) (home : ℕ) (p : PartView) (here : ((entity_flow e w).slot home).base.part ≡ Some p)
+    (run : RunsTo w es v) (home : ℕ) (p : PartView) (here : ((entity_flow e w).slot home).base.part ≡ Some p)
     (others : (j : ℕ) → (j ≡ home → ⊥) → ((entity_flow e w).slot j).base.part ≡ None) (q : PartView)
     (there : ((entity_flow e v).slot home).base.part ≡ Some q) where
   only : p.proxy ≡ None → (j : ℕ) (a : PartView) → ((entity_flow e w).slot j).base.part ≡ Some a → a.proxy ≡ None
@@ -81,7 +81,8 @@ same_done (Some p) t same q is =
 
 -- where each node keeps its part, the world does
 module _ (e : ℕ) (u : World) (turn : NodeView → NodeView) (same : (s : NodeView) → part_at e (turn s) ≡ part_at e s) where
-  turned_by : (o : Option NodeView) → (slot_at (has_of e) has_none (option_map turn o)).base.part ≡ (slot_at (has_of e) has_none o).base.part
+  turned_by : (o : Option NodeView) → (slot_at (has_of e) has_none (option_map turn o)).base.part
+      ≡ (slot_at (has_of e) has_none o).base.part
   turned_by None = refl
   turned_by (Some s) = same s
 
@@ -99,7 +100,7 @@ module _ (e : ℕ) (u : World) (none : (j : ℕ) → ((entity_flow e u).slot j).
       ∙ turned_parts e u (each reap_ordered_at gone) (reaps_part e gone) j ∙ none j
 
 module _ (f : Frame) (u : World) (between : IsBetweenRounds f u) (v : World) (es : List Event)
-    (run : LeadsTo node_has_work node_steps (look_loaded u) es v) (e ty : ℕ) (h : HasSettledPart f e ty u) where
+    (run : RunsTo (look_loaded u) es v) (e ty : ℕ) (h : HasSettledPart f e ty u) where
   abbrev had : ℕ → Option PartView
   had j = ((entity_flow e u).slot j).base.part
 

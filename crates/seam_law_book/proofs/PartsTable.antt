@@ -1,6 +1,6 @@
 -- After a round each base part is what the flat table has of it.
-use Rattle.std.proofs.Common.{◌≡◌, ℕ, ◌≤◌, List, [], ◌∷◌, ◌++◌, length, fold, Some, None}
-use Rattle.std.proofs.Common.{sym, ap, ◌∙◌, subst, arith, inl, inr, length-append, ◌⊎◌}
+use Rattle.std.proofs.Common.{◌≡◌, ℕ, ◌≤◌, List, [], ◌∷◌, ◌++◌, length, fold, Some, None, sym, ap, ◌∙◌, subst, arith, inl, inr}
+use Rattle.std.proofs.Common.{length-append, ◌⊎◌}
 use Rattle.std.specs.List.{AllByRecursion}
 use Rattle.std.proofs.lemmas.Option.{none-some}
 use Rattle.seam_node_steps.specs.Prelude.{Division, Value, after, type_of, Part, State, Deed, TypeDef, Call as CallData, Create, Batch}
@@ -34,13 +34,12 @@ module _ (t : TypeDef) where
   same_after s u (k ∷ ks) same = same_after (done_deed t s k) (done_deed t u k) ks (same_props s u k.deed same)
 
 module _ (h : Header) (some : 1 ≤ h.settings.bases) (b : Book) (t : Division) (clients : ℕ → ClientReplica) (w : World)
-    (keeps : KeepsRecords (frame_of h t) clients w) (may : MayBeGiven (frame_of h t) w (batch_of h b))
-    (goes : GoesWith h (as_begun b) t w) (R : Brings h b)
-    (untouched : (e : ℕ) → created_as (as_begun b) e ≡ None → IsUntouched (as_begun b) e) (few : HasRoomForCalls b)
+    (keeps : KeepsRecords (frame_of h t) clients w) (may : MayBeGiven (frame_of h t) w (batch_of h b)) (goes : GoesWith h (as_begun b) t w)
+    (R : Brings h b) (untouched : (e : ℕ) → created_as (as_begun b) e ≡ None → IsUntouched (as_begun b) e) (few : HasRoomForCalls b)
     (present : (e : ℕ) (c : Create) → IsPresent b e c → holders (loaded w (batch_of h b)) e ≡ 1)
     (senders : AllByRecursion IsFromSender (calls_of (entries (as_begun b)))) (orders : Orders)
-    (full : (p : Part) (e : ℕ) → IsFull (accepted (as_begun b) p e) (orders p e)) (rows : ArePartsInTable h (as_begun b) orders w)
-    (e : ℕ) (c : Create) (there : IsPresent b e c) where
+    (full : (p : Part) (e : ℕ) → IsFull (accepted (as_begun b) p e) (orders p e)) (rows : ArePartsInTable h (as_begun b) orders w) (e : ℕ)
+    (c : Create) (there : IsPresent b e c) where
   abbrev B : Batch
   B = batch_of h b
 
@@ -86,7 +85,8 @@ module _ (h : Header) (some : 1 ≤ h.settings.bases) (b : Book) (t : Division) 
     begins_part = record { type = type; idle = idle_by origin; row = start_by origin there }
 
     -- what it became after the load
-    module _ (v : World) (became : Became (here_at (frame_of h B.tree) (base_node h e)) p ((entity_flow e v).slot (base_node h e)).base.part)
+    module _ (v : World)
+        (became : Became (here_at (frame_of h B.tree) (base_node h e)) p ((entity_flow e v).slot (base_node h e)).base.part)
         (q : PartView) (at : ((entity_flow e v).slot (base_node h e)).base.part ≡ Some q) where
       same : became.part ≡ q
       same = let z = sym became.is ∙ at in cc

@@ -1,6 +1,6 @@
 -- The places that a round leaves, by the flat table.
-use Rattle.std.proofs.Common.{◌≡◌, ℕ, ◌+◌, ◌-◌, ◌≤◌, Bool, true, false, cond, List, [], ◌∷◌, ◌++◌, map, length, fold}
-use Rattle.std.proofs.Common.{Option, Some, None, refl, sym, ap, ◌∙◌, subst, arith, inl, inr, length-append, append_assoc}
+use Rattle.std.proofs.Common.{◌≡◌, ℕ, ◌+◌, ◌-◌, ◌≤◌, Bool, true, false, cond, List, [], ◌∷◌, ◌++◌, map, length, fold, Option, Some, None}
+use Rattle.std.proofs.Common.{refl, sym, ap, ◌∙◌, subst, arith, inl, inr, length-append, append_assoc}
 use Rattle.std.specs.Prelude.{◌==◌, ◌||◌}
 use Rattle.std.specs.List.{AllByRecursion, list_any, range_with_len}
 use Rattle.std.proofs.Math.Seq.{take-length, take-append_seam}
@@ -9,20 +9,18 @@ use Rattle.seam_node_steps.specs.Prelude.{holders, World, loaded}
 use Rattle.seam_rule_rounds.specs.Prelude.{Header, creates_of, makes, tree_of, first_state, flat, Entry, entries, calls_of, created_as}
 use Rattle.seam_rule_rounds.specs.Prelude.{live_as, accepted, IsFull, ClientReplica, Standing, distances, place_before, HasPlace}
 use Rattle.seam_rule_rounds.specs.Prelude.{position_at, positions_past}
-use Rattle.seam_law_calls.specs.Prelude.{entity_flow, real_in}
+use Rattle.seam_law_calls.specs.Prelude.{real_at}
 use Rattle.seam_law_ghosts.specs.Prelude.{positions_after, path_of, place_of, first_place, made_real, IsRightPlace}
 use Rattle.seam_law_all.specs.Prelude.{KeepsRecords, MayBeGiven}
 use Rattle.seam_law_book.specs.Prelude.{as_begun, made_among, IsPresent, Brings, IsUntouched, frame_of, GoesWith, HasRoomForCalls}
 use Rattle.seam_law_book.specs.Prelude.{AreInTable, AreInPlace}
 use Rattle.seam_defs.specs.declared.flags.Part.TheVariants as part
 use Rattle.seam_rule_lines.specs.declared.verdict.Entry.TheVariants as entry
-use Rattle.seam_rule_lines.proofs.BookEntries.{differ}
-use Rattle.seam_law_rounds.proofs.Making.{AreOthers}
+use Rattle.seam_rule_lines.proofs.BookEntries.{differ, live_is_created}
+use Rattle.seam_law_rounds.proofs.Making.{AreOthers, middle}
 use Rattle.std.proofs.lemmas.Option.{none-some}
-use Rattle.seam_rule_lines.proofs.BookEntries.{live_is_created}
 use Rattle.seam_accept.specs.Batches.{batch_of}
 use Rattle.seam_law_book.proofs.Untouched.{IsFromSender}
-use Rattle.seam_law_rounds.proofs.Making.{middle}
 use Rattle.seam_law_book.proofs.Origins.{RealFrom, was, made}
 use Rattle.seam_law_book.proofs.Fitting.{others_none, made_is, new_number, type_by}
 use Rattle.seam_law_book.proofs.Accounts.{done_deed, one_more}
@@ -68,7 +66,8 @@ module _ (h : Header) (c : Create) where
       let same : next ++ ks ≡ before ++ k ∷ ks = append_assoc before (k ∷ []) ks in
       let longer : length next ≡ length before + 1 = length-append before (k ∷ []) in
       let head : (deed (began before) k).pos ≡ position_at h c (before ++ k ∷ ks) (length before + 1) =
-      ap (λ (s : State). s.pos) (sym (one_more h part.Cell c before k)) ∙ sym (began_is next ks) ∙ ap (λ l. position_at h c l (length next)) same
+      ap (λ (s : State). s.pos) (sym (one_more h part.Cell c before k)) ∙ sym (began_is next ks)
+      ∙ ap (λ l. position_at h c l (length next)) same
       ∙ ap (position_at h c (before ++ k ∷ ks)) longer in
       let rest : positions_after (type_of h.defs c.ty) (deed (began before) k) ks
       ≡ map (position_at h c (before ++ k ∷ ks)) (range_with_len (length before + 1 + 1) (length ks)) =
@@ -115,16 +114,15 @@ module _ (h : Header) (some : 1 ≤ h.settings.bases) (s : Standing) (tree : Div
     (untouched : (e : ℕ) → created_as (as_begun s.book) e ≡ None → IsUntouched (as_begun s.book) e) (few : HasRoomForCalls s.book)
     (present : (e : ℕ) (c : Create) → IsPresent s.book e c → holders (loaded w (batch_of h s.book)) e ≡ 1)
     (senders : AllByRecursion IsFromSender (calls_of (entries (as_begun s.book))))
-    (full : (p : Part) (e : ℕ) → IsFull (accepted (as_begun s.book) p e) (s.orders p e))
-    (rows : AreInTable h (as_begun s.book) s.orders w) (there : AreInPlace s.places w) (t : Standing) (k : ℕ) (q : RealView) (c : Create)
-    (lives : live_as s.book c.entity ≡ Some c)
+    (full : (p : Part) (e : ℕ) → IsFull (accepted (as_begun s.book) p e) (s.orders p e)) (rows : AreInTable h (as_begun s.book) s.orders w)
+    (there : AreInPlace s.places w) (t : Standing) (k : ℕ) (q : RealView) (c : Create) (lives : live_as s.book c.entity ≡ Some c)
     (order : t.orders part.Cell c.entity ≡ s.orders part.Cell c.entity ++ q.done) (left : t.places c.entity ≡ place_of k q) where
   abbrev B : Batch
   B = batch_of h s.book
 
   -- the rules' place for the real of the entity where the round began
   pub record Right : Type 0 where
-    pub kept : (home : ℕ) (r : RealView) → real_in ((entity_flow c.entity w).slot home) ≡ Some r →
+    pub kept : (home : ℕ) (r : RealView) → real_at c.entity w home ≡ Some r →
         IsRightPlace (frame_of h tree) B.tree (place_of home r) r k q
     pub made : AllByRecursion (λ x. x.entity ≡ c.entity → IsRightPlace (frame_of h tree) B.tree (first_place B.tree x)
         (made_real (frame_of h tree) B.tree x) k q) B.creates

@@ -1,6 +1,5 @@
 -- What a round leaves of an entity: its real and its base part executed what the batch brought, and nothing else of them changed.
-use Rattle.std.proofs.Common.{◌≡◌, ℕ, ◌+◌, length, Some, sym, ap}
-use Rattle.std.proofs.Common.{◌∙◌}
+use Rattle.std.proofs.Common.{◌≡◌, ℕ, ◌+◌, length, Some, sym, ap, ◌∙◌}
 use Rattle.std.specs.Prelude.{is_some}
 use Rattle.std.specs.List.{AllByRecursion}
 use Rattle.std.specs.FinMap as table
@@ -8,11 +7,11 @@ use Rattle.seam_node_steps.specs.Prelude.{Call as CallData, Batch, order_or, Rea
 use Rattle.seam_rule_rounds.specs.Prelude.{ClientReplica}
 use Rattle.seam_law_flow.specs.Prelude.{letters_of, TokenPlace, In, On, Desk, desk_of, parcel_of}
 use Rattle.seam_law_calls.specs.Prelude.{Frame, entity_flow, real_in, real_of, IsOne, desk_for, as_sender, real_desk, home_of}
-use Rattle.seam_law_calls.specs.Prelude.{as_base_sender, part_desk}
+use Rattle.seam_law_calls.specs.Prelude.{as_base_sender, part_desk, real_at}
 use Rattle.seam_law_rounds.specs.Prelude.{framed, calls_of, next_from, next_to, base_calls_of, HasSettledPart}
 use Rattle.seam_law_ghosts.specs.Prelude.{WasThere, GoesThroughRound}
 use Rattle.seam_law_all.specs.Prelude.{ObeysLaws, EndsRightly, ObeysLawsOfLooks, ObeysLawsOfReaps, AreGone, KeepsRecords}
-use Rattle.seam_law_all.specs.Prelude.{KeepsRecordsWithin, MayBeGiven}
+use Rattle.seam_law_all.specs.Prelude.{KeepsRecordsWithin, MayBeGiven, may_begin}
 use Rattle.seam_law_flow.proofs.TokenLemmas.{sole_here}
 use Rattle.seam_law_calls.proofs.Counting.{counted_one}
 use Rattle.seam_law_rounds.proofs.Framing.{in_frame}
@@ -23,20 +22,21 @@ use Rattle.seam_law_ghosts.proofs.Ends.{looks_leave, reaps_leave}
 use Rattle.seam_law_book.proofs.Parts.{IsButClient, looks_leave_part, client_stays, both_seen}
 
 -- what the laws of the three phases say of a round
-pub record Obeyed (f : Frame) (clients : ℕ → ClientReplica) (w : World) (b : Batch) (v : World) (round : GoesThroughRound w b v) : Type 0 where
-  pub ready : (e home : ℕ) (r : RealView) → real_in ((entity_flow e (loaded w b)).slot home) ≡ Some r →
-      HasSettledPart (framed f b) e r.ty (loaded w b)
-  pub calls : ObeysLaws f clients w b round.called
-  pub ends : (e home : ℕ) (r : RealView) → real_in ((entity_flow e (loaded w b)).slot home) ≡ Some r → (k : ℕ) (q : RealView) →
-      real_in ((entity_flow e round.called).slot k) ≡ Some q → EndsRightly f b e k q round.called
-  pub then : ℕ → ClientReplica
-  pub called : KeepsRecordsWithin (framed f b) then round.called
-  pub reaps : ObeysLawsOfReaps (framed f b) round.called round.gone round.reaped
-  pub gone : AreGone round.gone round.reaped
-  pub reaped : KeepsRecordsWithin (framed f b) then round.reaped
-  pub looks : ObeysLawsOfLooks (framed f b) then round.reaped v
-  pub last : ℕ → ClientReplica
-  pub records : KeepsRecords (framed f b) last v
+pub record Obeyed (f : Frame) (clients : ℕ → ClientReplica) (w : World) (b : Batch) (v : World) (round : GoesThroughRound w b v) : Type 0
+  where
+    pub ready : (e home : ℕ) (r : RealView) → real_at e (loaded w b) home ≡ Some r →
+        HasSettledPart (framed f b) e r.ty (loaded w b)
+    pub calls : ObeysLaws f clients w b round.called
+    pub ends : (e home : ℕ) (r : RealView) → real_in ((entity_flow e (loaded w b)).slot home) ≡ Some r → (k : ℕ) (q : RealView) →
+        real_in ((entity_flow e round.called).slot k) ≡ Some q → EndsRightly f b e home r k q round.called
+    pub then : ℕ → ClientReplica
+    pub called : KeepsRecordsWithin (framed f b) then round.called
+    pub reaps : ObeysLawsOfReaps (framed f b) round.called round.gone round.reaped
+    pub gone : AreGone round.gone round.reaped
+    pub reaped : KeepsRecordsWithin (framed f b) then round.reaped
+    pub looks : ObeysLawsOfLooks (framed f b) then round.reaped v
+    pub last : ℕ → ClientReplica
+    pub records : KeepsRecords (framed f b) last v
 
 module _ (f : Frame) (clients : ℕ → ClientReplica) (w : World) (b : Batch) (keeps : KeepsRecords f clients w) (may : MayBeGiven f w b)
     (v : World) (round : GoesThroughRound w b v) (laws : Obeyed f clients w b v round) where
@@ -48,7 +48,7 @@ module _ (f : Frame) (clients : ℕ → ClientReplica) (w : World) (b : Batch) (
   loaded_by : (e : ℕ) (p : TokenPlace) (r : RealView) → IsOne e (loaded w b) p r → Home (loaded w b) e
   loaded_by e (In k) r one = record { node = k; real = r; here = one.here }
   loaded_by e (On x y) r one =
-      let none = ap (letters_of real_of) (no_mail f w b keeps.reals may.reals e x y) in
+      let none = ap (letters_of real_of) (no_mail f w b (may_begin keeps may) e x y) in
       absurd (let z = sym none ∙ one.here in cc)
 
   -- the real of a loaded world that has a holder
@@ -64,7 +64,7 @@ module _ (f : Frame) (clients : ℕ → ClientReplica) (w : World) (b : Batch) (
 
   -- ---- its real
 
-  module _ (e k : ℕ) (q : RealView) (at : real_in ((entity_flow e v).slot k) ≡ Some q) where
+  module _ (e k : ℕ) (q : RealView) (at : real_at e v k ≡ Some q) where
     pub was_reaped : WasThere e k q round.reaped
     was_reaped = looks_leave g round.reaped laws.reaped.records.reals round.look_events v round.looks e k q at
 
@@ -82,11 +82,12 @@ module _ (f : Frame) (clients : ℕ → ClientReplica) (w : World) (b : Batch) (
     same_orders : q.orders ≡ before.orders
     same_orders = ap (λ (y : RealView). y.orders) was_reaped.same ∙ ap (λ (y : RealView). y.orders) was_called.same
 
-    module _ (home : ℕ) (r : RealView) (here : real_in ((entity_flow e (loaded w b)).slot home) ≡ Some r) where
+    module _ (home : ℕ) (r : RealView) (here : real_at e (loaded w b) home ≡ Some r) where
       pub type_at_end : q.ty ≡ r.ty
       type_at_end =
           let one = (laws.calls.each e home r here).replays in
-          let is = (sole_here real_in real_of (entity_flow e round.called) one.has.place one.has.real before k one.has.one was_called.here).1 in
+          let is = (sole_here real_in real_of (entity_flow e round.called) one.has.place one.has.real before k one.has.one
+          was_called.here).1 in
           same_type ∙ ap (λ (y : RealView). y.ty) is ∙ one.replays.type
 
       pub next_at_end : (s : ℕ) → next_from s q ≡ next_from s r + length (calls_of b e s)
@@ -134,5 +135,5 @@ module _ (f : Frame) (clients : ℕ → ClientReplica) (w : World) (b : Batch) (
       client_at_end =
           both_seen q.witness ended.part.proxy ended.part.version (laws.records.parts.clients e k q at ended.part ended.here)
           ∙ looked.client
-          ∙ client_stays g e (loaded w b) round.called round.call_events (in_frame f w b keeps.reals may.reals)
-          (spared_loaded f w b keeps.reals may.reals e home r here) round.calls (home_of f e) p.part p.here p.others left.part part_called
+          ∙ client_stays g e (loaded w b) round.called round.call_events (in_frame f w b (may_begin keeps may))
+          (spared_loaded f w b (may_begin keeps may) e home r here) round.calls (home_of f e) p.part p.here p.others left.part part_called

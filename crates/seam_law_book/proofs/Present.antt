@@ -1,6 +1,6 @@
 -- Who is there in the open round, and what the book knows of it by then.
-use Rattle.std.proofs.Common.{◌≡◌, ℕ, Bool, true, false, cond, List, [], ◌∷◌, map, Option, Some, None, refl, sym, ap, ◌∙◌}
-use Rattle.std.proofs.Common.{append-nil, inl, inr, ◌⊎◌}
+use Rattle.std.proofs.Common.{◌≡◌, ℕ, Bool, true, false, cond, List, [], ◌∷◌, map, Option, Some, None, refl, sym, ap, ◌∙◌, append-nil, inl}
+use Rattle.std.proofs.Common.{inr, ◌⊎◌}
 use Rattle.std.specs.Prelude.{eqb, find, ◌==◌, ◌||◌, ◌&&◌, is_some}
 use Rattle.std.specs.List.{AllByRecursion, list_any, filter_map}
 use Rattle.std.specs.Option.{option_or}
@@ -129,7 +129,8 @@ unmade_apart e (c ∷ cs) none =
     let two = apart_by e c (made_among cs e) (c.entity == e) refl none in
     (two.0, unmade_apart e cs two.1)
 
-pub unjoined_apart : (e : ℕ) (xs : List Entry) → list_any (joins e) xs ≡ false → AllByRecursion (λ n. eqb n e ≡ false) (filter_map joined xs)
+pub unjoined_apart : (e : ℕ) (xs : List Entry) → list_any (joins e) xs ≡ false →
+    AllByRecursion (λ n. eqb n e ≡ false) (filter_map joined xs)
 unjoined_apart e [] none = tt
 unjoined_apart e (entry.Joined d ∷ xs) none =
     let two = neither (d == e) (list_any (joins e) xs) none in

@@ -1,6 +1,6 @@
 -- What the open round of a book brings, entry by entry.
-use Rattle.std.proofs.Common.{◌≡◌, ℕ, ◌+◌, ◌≤◌, Bool, true, false, cond, [], ◌∷◌, ◌++◌, map, length}
-use Rattle.std.proofs.Common.{refl, sym, ap, ◌∙◌, subst, arith, append-nil}
+use Rattle.std.proofs.Common.{◌≡◌, ℕ, ◌+◌, ◌≤◌, Bool, true, false, cond, [], ◌∷◌, ◌++◌, map, length, refl, sym, ap, ◌∙◌, subst, arith}
+use Rattle.std.proofs.Common.{append-nil}
 use Rattle.std.specs.Prelude.{eqb, ◌==◌, ◌&&◌}
 use Rattle.std.specs.List.{AllByRecursion, IsDistinct, filter_map}
 use Rattle.std.proofs.lemmas.Bool.{eqb-true}
@@ -13,8 +13,8 @@ use Rattle.seam_accept.specs.Batches.{joined, destroyed}
 use Rattle.seam_accept.proofs.Books.{tree_with, same_part_is, both}
 use Rattle.seam_law_book.proofs.Proper.{IsProper, IsProperCall, accepted_is_proper}
 use Rattle.seam_law_book.proofs.Adding.{all_join, all_turn, distinct_more, numbered_more, brought_more, calls_from_more, counted}
-use Rattle.seam_law_book.proofs.Present.{uncreated, live_is_present, unjoined, undestroyed, alone_begun, present_more}
-use Rattle.seam_law_book.proofs.Present.{unmade_apart, unjoined_apart, undestroyed_apart}
+use Rattle.seam_law_book.proofs.Present.{uncreated, live_is_present, unjoined, undestroyed, alone_begun, present_more, unmade_apart}
+use Rattle.seam_law_book.proofs.Present.{unjoined_apart, undestroyed_apart}
 use Rattle.seam_law_book.proofs.Untouched.{IsOrderly, orderly, known_is_sender, accepted_by_place, map_more}
 
 -- a new round brings nothing
@@ -256,10 +256,8 @@ module _ (h : Header) (b : Book) (k : IsOrderly h b) (was : Brings h b) where
   more_of (entry.Created c) p = create_more c p
   more_of (entry.Called c) p = call_more c p
   more_of (entry.Joined e) p = client_more e p
-  more_of entry.Ticked p = quiet_more entry.Ticked refl refl refl refl
-  more_of (entry.Divided t) p = quiet_more (entry.Divided t) refl refl refl refl
-  more_of entry.Balanced p = quiet_more entry.Balanced refl refl refl refl
   more_of (entry.Destroyed e) p = destroy_more e p
+  more_of m p = quiet_more m refl refl refl refl
 
   -- ---- the tree grows
 
@@ -275,12 +273,7 @@ module _ (h : Header) (b : Book) (k : IsOrderly h b) (was : Brings h b) where
       let e = ap cells_of (tree_with b (entry.Divided t)) in
       let more = u.cells in
       omega (arith, e, more)
-  grows (entry.Created c) p = grows_same (entry.Created c) (tree_with b (entry.Created c))
-  grows (entry.Called c) p = grows_same (entry.Called c) (tree_with b (entry.Called c))
-  grows (entry.Joined e) p = grows_same (entry.Joined e) (tree_with b (entry.Joined e))
-  grows entry.Ticked p = grows_same entry.Ticked (tree_with b entry.Ticked)
-  grows entry.Balanced p = grows_same entry.Balanced (tree_with b entry.Balanced)
-  grows (entry.Destroyed e) p = grows_same (entry.Destroyed e) (tree_with b (entry.Destroyed e))
+  grows m p = grows_same m (tree_with b m)
 
   brings_more : (x : Entry) → IsProper h b x → IsOrderly h (with_entry b x) → Brings h (with_entry b x)
   brings_more x p after =

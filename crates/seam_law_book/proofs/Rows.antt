@@ -1,6 +1,6 @@
 -- The flat table of a world is that of the rules.
-use Rattle.std.proofs.Common.{◌≡◌, ℕ, zero, suc, ◌-◌, ◌⊎◌, Bool, true, false, cond, eqb, T, List, [], ◌∷◌, map, length, Some, None}
-use Rattle.std.proofs.Common.{refl, sym, ap, ◌∙◌, subst, arith, inl, inr}
+use Rattle.std.proofs.Common.{◌≡◌, ℕ, zero, suc, ◌-◌, ◌⊎◌, Bool, true, false, cond, eqb, T, List, [], ◌∷◌, map, length, Some, None, refl}
+use Rattle.std.proofs.Common.{sym, ap, ◌∙◌, subst, arith, inl, inr}
 use Rattle.std.specs.Prelude.{Contains, not, ◌&&◌}
 use Rattle.std.specs.List.{AllByRecursion, flat_map}
 use Rattle.std.specs.Ordering.{nat_cmp, eq_by_cmp, is_lt}
@@ -63,7 +63,8 @@ module _ (h : Header) (c : Create) (order : List CallData) where
   same_by n true is before = refl
   same_by n false is before =
       let less : suc n - 1 ≡ n = omega arith in
-      let test = not_false (same_shown (properties h c) part.Cell (flat h part.Cell c order (suc n - 1)) (flat h part.Cell c order (suc n))) is in
+      let test = not_false (same_shown (properties h c) part.Cell (flat h part.Cell c order (suc n - 1)) (flat h part.Cell c order (suc n)))
+      is in
       let same = state_is (ghost_at (suc n - 1)) (ghost_at (suc n)) test in
       sym same ∙ ap ghost_at less ∙ before
 

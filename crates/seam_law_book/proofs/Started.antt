@@ -3,8 +3,8 @@ use Rattle.std.proofs.Common.{◌≡◌, ℕ, ◌≤◌, Option, Some, None, ref
 use Rattle.seam_node_steps.specs.Prelude.{Division, Create, Batch, RealView, PartView, holders, World, loaded}
 use Rattle.seam_rule_rounds.specs.Prelude.{Header, Book, created_as, ClientReplica}
 use Rattle.seam_law_flow.specs.Prelude.{letters_of}
-use Rattle.seam_law_calls.specs.Prelude.{entity_flow, real_in, real_of}
-use Rattle.seam_law_all.specs.Prelude.{KeepsRecords, MayBeGiven}
+use Rattle.seam_law_calls.specs.Prelude.{entity_flow, real_of, real_at}
+use Rattle.seam_law_all.specs.Prelude.{KeepsRecords, MayBeGiven, may_begin}
 use Rattle.seam_law_book.specs.Prelude.{as_begun, made_among, IsPresent, Brings, IsUntouched, frame_of, GoesWith, HasRoomForCalls}
 use Rattle.seam_accept.specs.Batches.{batch_of}
 use Rattle.seam_law_calls.proofs.Counting.{none_counts}
@@ -14,17 +14,17 @@ use Rattle.seam_law_book.proofs.Origins.{RealFrom, real_from, PartFrom, had, com
 use Rattle.seam_law_book.proofs.Fitting.{found_by}
 
 module _ (h : Header) (some : 1 ≤ h.settings.bases) (b : Book) (t : Division) (clients : ℕ → ClientReplica) (w : World)
-    (keeps : KeepsRecords (frame_of h t) clients w) (may : MayBeGiven (frame_of h t) w (batch_of h b))
-    (goes : GoesWith h (as_begun b) t w) (R : Brings h b)
-    (untouched : (e : ℕ) → created_as (as_begun b) e ≡ None → IsUntouched (as_begun b) e) (few : HasRoomForCalls b)
+    (keeps : KeepsRecords (frame_of h t) clients w) (may : MayBeGiven (frame_of h t) w (batch_of h b)) (goes : GoesWith h (as_begun b) t w)
+    (R : Brings h b) (untouched : (e : ℕ) → created_as (as_begun b) e ≡ None → IsUntouched (as_begun b) e) (few : HasRoomForCalls b)
     (present : (e : ℕ) (c : Create) → IsPresent b e c → holders (loaded w (batch_of h b)) e ≡ 1) where
   abbrev pub B : Batch
   B = batch_of h b
 
-  pub real_comes : (e k : ℕ) (r : RealView) → real_in ((entity_flow e (loaded w B)).slot k) ≡ Some r → RealFrom w B.creates e k r
+  pub real_comes : (e k : ℕ) (r : RealView) → real_at e (loaded w B) k ≡ Some r → RealFrom w B.creates e k r
   real_comes = real_from (frame_of h t) w B keeps.reals may.reals.tree may.reals.creates may.reals.spares may.reals.once
 
-  pub part_comes : (e k : ℕ) (p : PartView) → ((entity_flow e (loaded w B)).slot k).base.part ≡ Some p → PartFrom (frame_of h t) w B.creates e k p
+  pub part_comes : (e k : ℕ) (p : PartView) → ((entity_flow e (loaded w B)).slot k).base.part ≡ Some p →
+      PartFrom (frame_of h t) w B.creates e k p
   part_comes = part_from (frame_of h t) w B keeps.reals may.reals.tree may.reals.creates may.reals.spares may.reals.once
 
   pub made_now : (e : ℕ) (x : Create) → IsCreate e B.creates x → made_among B.creates e ≡ Some x
@@ -33,7 +33,7 @@ module _ (h : Header) (some : 1 ≤ h.settings.bases) (b : Book) (t : Division) 
   pub nobody : (e : ℕ) → Nowhere e (loaded w B) → holders (loaded w B) e ≡ 0
   nobody e n = none_counts (loaded w B) e (record {
     slots = n;
-    mail = λ x y. ap (letters_of real_of) (no_mail (frame_of h t) w B keeps.reals may.reals e x y);
+    mail = λ x y. ap (letters_of real_of) (no_mail (frame_of h t) w B (may_begin keeps may) e x y);
   })
 
   pub no_one : (e : ℕ) → Nowhere e (loaded w B) → holders (loaded w B) e ≡ 1 → ⊥

@@ -1,6 +1,5 @@
 -- After a round each real is what the flat table has of its entity.
-use Rattle.std.proofs.Common.{◌≡◌, ℕ, ◌≤◌, true, cond, List, [], ◌∷◌, ◌++◌, length, Some, None}
-use Rattle.std.proofs.Common.{refl, sym, ap, ◌∙◌, subst, inl, inr, ◌⊎◌}
+use Rattle.std.proofs.Common.{◌≡◌, ℕ, ◌≤◌, true, cond, List, [], ◌∷◌, ◌++◌, length, Some, None, refl, sym, ap, ◌∙◌, subst, inl, inr, ◌⊎◌}
 use Rattle.std.specs.Prelude.{filter}
 use Rattle.std.proofs.lemmas.Bool.{cases_eq, eq-eqb}
 use Rattle.std.specs.List.{AllByRecursion}
@@ -10,9 +9,9 @@ use Rattle.seam_node_steps.specs.Prelude.{Division, leaf_at, type_of, Part, is_f
 use Rattle.seam_node_steps.specs.Prelude.{Call as CallData, Create, Batch, RealView, real_begins, World, loaded, holders}
 use Rattle.seam_rule_rounds.specs.Prelude.{Header, Book, entries, calls_of, created_as, accepted, flat, public_at, Orders, of_sender}
 use Rattle.seam_rule_rounds.specs.Prelude.{IsFull, ClientReplica}
-use Rattle.seam_law_calls.specs.Prelude.{entity_flow, real_in, real_of, OneFrom, Account, account_of, after_calls}
+use Rattle.seam_law_calls.specs.Prelude.{entity_flow, real_in, real_of, OneFrom, Account, account_of, after_calls, real_at}
 use Rattle.seam_law_ghosts.specs.Prelude.{made_real, BeginsAt}
-use Rattle.seam_law_all.specs.Prelude.{ObeysLaws, KeepsRecords, MayBeGiven}
+use Rattle.seam_law_all.specs.Prelude.{ObeysLaws, KeepsRecords, MayBeGiven, may_begin}
 use Rattle.seam_law_book.specs.Prelude.{as_begun, IsPresent, calls_from, Brings, IsUntouched, frame_of, GoesWith, HasRoomForCalls}
 use Rattle.seam_law_book.specs.Prelude.{IsInTable, AreInTable, BeginsReal, IsDoneOn}
 use Rattle.seam_defs.specs.declared.flags.Part.TheVariants as part
@@ -35,20 +34,21 @@ same_self : (s : Sender) → same_sender s s ≡ true
 same_self (sender.Base n) = eq-eqb n n refl
 same_self (sender.Client e) = eq-eqb e e refl
 
-module _ (p : Part) (e : ℕ) (cs : List CallData) (senders : AllByRecursion IsFromSender cs) (none : (n : ℕ) → calls_from p e n cs ≡ []) where
-  none_by : (n : ℕ) → IsSender (sender.Base n) ⊎ (IsSender (sender.Base n) → ⊥) → filter (is_from p e (sender.Base n)) cs ≡ []
-  none_by n (inl is) = accepted_by_place p e (sender.Base n) is cs senders ∙ none (rank_of (sender.Base n))
-  none_by n (inr not) = none_from n not p e cs senders
+module _ (p : Part) (e : ℕ) (cs : List CallData) (senders : AllByRecursion IsFromSender cs) (none : (n : ℕ) → calls_from p e n cs ≡ [])
+  where
+    none_by : (n : ℕ) → IsSender (sender.Base n) ⊎ (IsSender (sender.Base n) → ⊥) → filter (is_from p e (sender.Base n)) cs ≡ []
+    none_by n (inl is) = accepted_by_place p e (sender.Base n) is cs senders ∙ none (rank_of (sender.Base n))
+    none_by n (inr not) = none_from n not p e cs senders
 
-  none_accepted : (s : Sender) → filter (is_from p e s) cs ≡ []
-  none_accepted (sender.Base n) = none_by n (sender_or_not n)
-  none_accepted (sender.Client d) = accepted_by_place p e (sender.Client d) tt cs senders ∙ none (rank_of (sender.Client d))
+    none_accepted : (s : Sender) → filter (is_from p e s) cs ≡ []
+    none_accepted (sender.Base n) = none_by n (sender_or_not n)
+    none_accepted (sender.Client d) = accepted_by_place p e (sender.Client d) tt cs senders ∙ none (rank_of (sender.Client d))
 
-  pub none_ordered : (order : List CallData) → IsFull (λ s. filter (is_from p e s) cs) order → order ≡ []
-  none_ordered [] full = refl
-  none_ordered (c ∷ order) full =
-      let first = ap (λ x. cond x (c ∷ of_sender c.sender order) (of_sender c.sender order)) (same_self c.sender) in
-      absurd (let z = sym first ∙ full c.sender ∙ none_accepted c.sender in cc)
+    pub none_ordered : (order : List CallData) → IsFull (λ s. filter (is_from p e s) cs) order → order ≡ []
+    none_ordered [] full = refl
+    none_ordered (c ∷ order) full =
+        let first = ap (λ x. cond x (c ∷ of_sender c.sender order) (of_sender c.sender order)) (same_self c.sender) in
+        absurd (let z = sym first ∙ full c.sender ∙ none_accepted c.sender in cc)
 
 -- ---- a round
 
@@ -69,8 +69,7 @@ module _ (h : Header) (some : 1 ≤ h.settings.bases) (b : Book) (t : Division) 
 
   -- ---- as the batch is loaded
 
-  module _ (e : ℕ) (c : Create) (there : IsPresent b e c) (home : ℕ) (r : RealView)
-      (here : real_in ((entity_flow e (loaded w B)).slot home) ≡ Some r) where
+  module _ (e : ℕ) (c : Create) (there : IsPresent b e c) (home : ℕ) (r : RealView) (here : real_at e (loaded w B) home ≡ Some r) where
     abbrev Begins : Create → Type 0
     Begins x = BeginsAt w B x.entity (leaf_at B.tree x.pos) (made_real (frame_of h t) B.tree x)
 
@@ -82,13 +81,14 @@ module _ (h : Header) (some : 1 ≤ h.settings.bases) (b : Book) (t : Division) 
         record (real_begins (made_real (frame_of h t) B.tree x)) { witness = (begins_at x i).witness } ≡ r
     made_is_here x i =
         let leaf = leaf_at B.tree x.pos in
-        let settled = settled_loaded (frame_of h t) w B keeps.reals may.reals e home r here in
-        let there : real_in ((entity_flow e (loaded w B)).slot leaf)
+        let settled = settled_loaded (frame_of h t) w B (may_begin keeps may) e home r here in
+        let there : real_at e (loaded w B) leaf
         ≡ Some (record (real_begins (made_real (frame_of h t) B.tree x)) { witness = (begins_at x i).witness }) =
-        subst (λ d. real_in ((entity_flow d (loaded w B)).slot leaf)
-        ≡ Some (record (real_begins (made_real (frame_of h t) B.tree x)) { witness = (begins_at x i).witness })) i.entity (begins_at x i).here in
+        subst (λ d. real_at d (loaded w B) leaf
+        ≡ Some (record (real_begins (made_real (frame_of h t) B.tree x)) { witness = (begins_at x i).witness })) i.entity
+        (begins_at x i).here in
         elim (cases_eq leaf home) [
-          | inl is ↦ (let z = sym there ∙ (ap (λ j. real_in ((entity_flow e (loaded w B)).slot j)) is ∙ here) in cc)
+          | inl is ↦ (let z = sym there ∙ (ap (λ j. real_at e (loaded w B) j) is ∙ here) in cc)
           | inr n ↦ absurd (let z = sym (settled.others leaf n) ∙ there in cc)
         ]
 
@@ -114,7 +114,7 @@ module _ (h : Header) (some : 1 ≤ h.settings.bases) (b : Book) (t : Division) 
         subst (λ y. Start e y r) (made_is e B.creates x c i now) (new_started x i)
 
     idle : r.done ≡ []
-    idle = (real_loaded (frame_of h t) w B keeps.reals may.reals e home r here).idle
+    idle = (real_loaded (frame_of h t) w B (may_begin keeps may) e home r here).idle
 
     types : r.ty ≡ c.ty
     types =
@@ -130,8 +130,7 @@ module _ (h : Header) (some : 1 ≤ h.settings.bases) (b : Book) (t : Division) 
 
     -- ---- where the calls leave the world quiet
 
-    module _ (v : World) (laws : ObeysLaws (frame_of h t) clients w B v) (k : ℕ) (q : RealView)
-        (at : real_in ((entity_flow e v).slot k) ≡ Some q) where
+    module _ (v : World) (laws : ObeysLaws (frame_of h t) clients w B v) (k : ℕ) (q : RealView) (at : real_at e v k ≡ Some q) where
       abbrev its : OneFrom (frame_of h B.tree) e r.ty r v
       its = (laws.each e home r here).replays
 

@@ -1,6 +1,5 @@
 -- What holds of all entries of a book that lines made.
-use Rattle.std.proofs.Common.{◌≡◌, ℕ, Bool, false, cond, List, [], ◌∷◌, ◌++◌, map, Some, None}
-use Rattle.std.proofs.Common.{refl, sym, ap, ◌∙◌, subst, arith, append-nil}
+use Rattle.std.proofs.Common.{◌≡◌, ℕ, Bool, false, cond, List, [], ◌∷◌, ◌++◌, map, Some, None, refl, sym, ap, ◌∙◌, subst, arith, append-nil}
 use Rattle.std.specs.Prelude.{eqb, filter, ◌==◌, ◌&&◌, ◌||◌}
 use Rattle.std.specs.List.{AllByRecursion, IsDistinct, list_any}
 use Rattle.std.proofs.lemmas.Option.{none-some}
@@ -127,12 +126,7 @@ module _ (h : Header) (b : Book) (was : IsOrderly h b) where
       subst (IsDistinct eqb) (sym (ap (map entity_of) (creates_with_entry b (entry.Created c))
       ∙ map_more (creates_of (entries b)) (c ∷ [])))
       (distinct_more (map entity_of (creates_of (entries b))) c.entity (unmade_apart c.entity (creates_of (entries b)) k.new) was.once)
-  once_more (entry.Called c) k = once_by (entry.Called c) refl
-  once_more (entry.Joined d) k = once_by (entry.Joined d) refl
-  once_more entry.Ticked k = once_by entry.Ticked refl
-  once_more (entry.Divided t) k = once_by (entry.Divided t) refl
-  once_more entry.Balanced k = once_by entry.Balanced refl
-  once_more (entry.Destroyed d) k = once_by (entry.Destroyed d) refl
+  once_more m k = once_by m refl
 
   abbrev OfSpace : Division → Type 0
   OfSpace t = IsTree t × (t.size ≡ h.settings.size)
@@ -141,12 +135,7 @@ module _ (h : Header) (b : Book) (was : IsOrderly h b) where
   tree_more (entry.Divided t) k =
       let u = k was.tree in
       subst OfSpace (sym (tree_with b (entry.Divided t))) (u.tree, u.space ∙ was.space)
-  tree_more (entry.Created c) k = subst OfSpace (sym (tree_with b (entry.Created c))) (was.tree, was.space)
-  tree_more (entry.Called c) k = subst OfSpace (sym (tree_with b (entry.Called c))) (was.tree, was.space)
-  tree_more (entry.Joined d) k = subst OfSpace (sym (tree_with b (entry.Joined d))) (was.tree, was.space)
-  tree_more entry.Ticked k = subst OfSpace (sym (tree_with b entry.Ticked)) (was.tree, was.space)
-  tree_more entry.Balanced k = subst OfSpace (sym (tree_with b entry.Balanced)) (was.tree, was.space)
-  tree_more (entry.Destroyed d) k = subst OfSpace (sym (tree_with b (entry.Destroyed d))) (was.tree, was.space)
+  tree_more m k = subst OfSpace (sym (tree_with b m)) (was.tree, was.space)
 
   orderly_more : (x : Entry) → IsProper h b x → IsOrderly h (with_entry b x)
   orderly_more x k =

@@ -3,7 +3,7 @@ use Rattle.std.specs.Prelude.{◌≡◌, ℕ, length, List, [], ◌++◌, Option
 use Rattle.std.specs.List.{flat_map}
 use Rattle.seam_node_steps.specs.Prelude.{part_of_deed, Part, TypeDef, Call, Create, cell_numbers, RealView, PartView, World}
 use Rattle.seam_rule_rounds.specs.Prelude.{Header, Book, live_as, flat, Orders, public_at}
-use Rattle.seam_law_calls.specs.Prelude.{entity_flow, real_in}
+use Rattle.seam_law_calls.specs.Prelude.{entity_flow, real_at}
 use Rattle.seam_defs.specs.declared.flags.Part.TheVariants as part
 use Rattle.seam_law_book.specs.Going.{base_node}
 
@@ -18,7 +18,7 @@ done_by_part (Some p) = p.done
 
 -- what each part of each entity executed: its cell part in whichever cell the real is, its base part at the entity's base node
 abbrev pub done_in : Header → World → Orders
-done_in h w part.Cell e = flat_map (λ k. done_by_real (real_in ((entity_flow e w).slot k))) cell_numbers
+done_in h w part.Cell e = flat_map (λ k. done_by_real (real_at e w k)) cell_numbers
 done_in h w part.Base e = done_by_part ((entity_flow e w).slot (base_node h e)).base.part
 
 -- the orders of all rounds once these were executed too
@@ -45,7 +45,7 @@ pub record IsPartInTable (h : Header) (made : Create) (order : List Call) (p : P
 -- each real of an entity that lives in the book is that, by these orders
 abbrev pub AreInTable : Header → Book → Orders → World → Type 0
 AreInTable h b orders w =
-    (e k : ℕ) (r : RealView) (made : Create) → real_in ((entity_flow e w).slot k) ≡ Some r → live_as b e ≡ Some made →
+    (e k : ℕ) (r : RealView) (made : Create) → real_at e w k ≡ Some r → live_as b e ≡ Some made →
     IsInTable h made (orders part.Cell e) r
 
 -- and so is each base part

@@ -2,7 +2,7 @@
 use Rattle.std.specs.Prelude.{◌≡◌, ℕ, ◌+◌, ◌%◌, ◌^◌, ◌<◌, ◌≤◌, is_some, length, None, Some}
 use Rattle.seam_node_steps.specs.Prelude.{Division, cells_of, Create, cell_count, RealView, PartView, World}
 use Rattle.seam_rule_rounds.specs.Prelude.{Header, Book, entries, open_lines, created_as, live_as, has_client, tree_of, MOST_LINES}
-use Rattle.seam_law_calls.specs.Prelude.{Frame, entity_flow, real_in}
+use Rattle.seam_law_calls.specs.Prelude.{Frame, entity_flow, real_at}
 use Rattle.seam_law_rounds.specs.Prelude.{next_from, numbers_of, IsNew, next_to, lines_of}
 use Rattle.seam_defs.specs.declared.flags.Part.TheVariants as part
 use Rattle.seam_law_book.specs.Bringing.{last_number}
@@ -20,7 +20,7 @@ pub record IsHeld (h : Header) (b : Book) (w : World) (e : ℕ) (made : Create) 
   -- its real, in a cell
   pub cell : ℕ
   pub real : RealView
-  pub here : real_in ((entity_flow e w).slot cell) ≡ Some real
+  pub here : real_at e w cell ≡ Some real
   -- of its type
   pub type : real.ty ≡ made.ty
   -- with a witness exactly where it has a client
@@ -45,7 +45,7 @@ pub record GoesWith (h : Header) (b : Book) (t : Division) (w : World) : Type 0 
   -- each entity that lives in the book is there
   pub live : (e : ℕ) (made : Create) → live_as b e ≡ Some made → IsHeld h b w e made
   -- and no other has a real or a base part
-  pub reals : (e k : ℕ) (r : RealView) → real_in ((entity_flow e w).slot k) ≡ Some r → Lives b e
+  pub reals : (e k : ℕ) (r : RealView) → real_at e w k ≡ Some r → Lives b e
   pub parts : (e k : ℕ) (p : PartView) → ((entity_flow e w).slot k).base.part ≡ Some p → Lives b e
 
 -- The open round has no more lines than a round may have, and the book so few entries that calls have numbers.
@@ -55,6 +55,6 @@ pub record HasRoomForCalls (b : Book) : Type 0 where
 
 -- The numbers of the world have room for a round: those of each real, and those of its client.
 pub record HasRoomForRound (h : Header) (w : World) : Type 0 where
-  pub reals : (e k : ℕ) (r : RealView) → real_in ((entity_flow e w).slot k) ≡ Some r → numbers_of r < 2 ^ 61
-  pub clients : (e k : ℕ) (r : RealView) → real_in ((entity_flow e w).slot k) ≡ Some r → (p : PartView) →
+  pub reals : (e k : ℕ) (r : RealView) → real_at e w k ≡ Some r → numbers_of r < 2 ^ 61
+  pub clients : (e k : ℕ) (r : RealView) → real_at e w k ≡ Some r → (p : PartView) →
       ((entity_flow e w).slot (base_node h e)).base.part ≡ Some p → lines_of r p < 2 ^ 61

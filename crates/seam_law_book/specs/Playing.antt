@@ -3,7 +3,7 @@ use Rattle.std.specs.Prelude.{◌≡◌, ℕ, is_some, Some}
 use Rattle.std.specs.List.{list_any}
 use Rattle.seam_node_steps.specs.Prelude.{Division, AreLegal, Part, IsQuiet, RealView, PartView, loaded, World, node_has_work}
 use Rattle.seam_rule_rounds.specs.Prelude.{Header, Book, entries, joins, accepted, Orders, IsFull, ClientReplica}
-use Rattle.seam_law_calls.specs.Prelude.{entity_flow, real_in}
+use Rattle.seam_law_calls.specs.Prelude.{entity_flow, real_at}
 use Rattle.seam_law_ghosts.specs.Prelude.{GoesThroughRound}
 use Rattle.seam_law_all.specs.Prelude.{KeepsRecords}
 use Rattle.seam_accept.specs.Batches.{batch_of}
@@ -40,7 +40,7 @@ pub record HasEnded (h : Header) (b : Book) (w v : World) (round : GoesThroughRo
 pub record IsLoaded (h : Header) (b : Book) (w : World) (e : ℕ) : Type 0 where
   pub cell : ℕ
   pub real : RealView
-  pub here : real_in ((entity_flow e (loaded w (batch_of h b))).slot cell) ≡ Some real
+  pub here : real_at e (loaded w (batch_of h b)) cell ≡ Some real
   pub base : PartView
   pub base_here : ((entity_flow e (loaded w (batch_of h b))).slot (base_node h e)).base.part ≡ Some base
   pub client : is_some base.proxy ≡ list_any (joins e) (entries b)

@@ -22,5 +22,6 @@ pub fn lines_bring_what_fits()
 
 /// Nothing was accepted for a number that was not created.
 pub fn uncreated_numbers_are_untouched()
-    ensures { (h : Header) (b : Book) → AreLegal h.settings → IsOfLines h b → (e : ℕ) → created_as b e ≡ None → IsUntouched b e }
+    ensures { (h : Header) (b : Book) → AreLegal h.settings → IsOfLines h b → (e : ℕ) →
+        created_as b e ≡ None → IsUntouched b e }
 {}

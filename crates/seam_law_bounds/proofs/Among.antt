@@ -1,6 +1,5 @@
 -- Over every list of events cells know, and witnesses view, no other entities than those at the start.
-use Rattle.std.proofs.Common.{◌≡◌, ℕ, Bool, true, false, cond, List, [], ◌∷◌, drop, Option, None, Some, refl, sym, subst}
-use Rattle.std.proofs.Common.{arith}
+use Rattle.std.proofs.Common.{◌≡◌, ℕ, Bool, true, false, cond, List, [], ◌∷◌, drop, Option, None, Some, refl, sym, subst, arith}
 use Rattle.std.specs.Prelude.{not, slice_get}
 use Rattle.std.specs.List.{AllByRecursion, range_with_len}
 use Rattle.std.specs.Ordering.{nat_cmp, eq_by_cmp}
@@ -23,8 +22,7 @@ use Rattle.seam_net_runs.proofs.Runs.{leads_keeps}
 use Rattle.seam_law_flow.proofs.Following.{all_append}
 use Rattle.seam_call.specs.declared.order.Order.TheVariants as order
 use Rattle.seam_entity.specs.declared.message.Msg.TheVariants.{Call}
-use Rattle.seam_node_steps.specs.BaseCases.{unless_stray}
-use Rattle.seam_node_steps.specs.BaseCases.{is_stray, may_execute}
+use Rattle.seam_node_steps.specs.BaseCases.{unless_stray, is_stray, may_execute}
 use Rattle.seam_node_steps.proofs.Slots.{slot_stepped}
 use Rattle.seam_law_calls.proofs.Classify.{frame_happens}
 use Rattle.seam_law_bounds.proofs.AmongSlots.{SlotOk, LetterOk, SentOk, StepOk, unless_ok, message_ok, survey_ok, ready_ok, look_ok}
@@ -146,8 +144,7 @@ module _ (us ws : List ℕ) where
   node_state (Cell c) i is ok fed = (cell_ok c is ok i (fed_of i c is ok fed)).state
   node_state (Base b) i is ok fed = tt
 
-  node_sent : (s : NodeView) (i : Input Msg) → IsNode s → NodeOk s → FedOk i →
-      SentOk us ws (node_steps s i).sent
+  node_sent : (s : NodeView) (i : Input Msg) → IsNode s → NodeOk s → FedOk i → SentOk us ws (node_steps s i).sent
   node_sent (Cell c) i is ok fed = (cell_ok c is ok i (fed_of i c is ok fed)).sent
   node_sent (Base b) i is ok fed = base_sent b i
 

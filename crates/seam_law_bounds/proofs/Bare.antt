@@ -1,12 +1,11 @@
 -- Without looks, and without calls to an entity's base part, nothing comes to it: a part that holds nothing never holds anything.
 use Rattle.std.proofs.Common.{◌≡◌, ℕ, true, List, [], ◌∷◌, Option, None, Some, refl, sym, ap, ◌∙◌, subst, arith}
 use Rattle.std.specs.List.{AllByRecursion}
-use Rattle.seam_node_steps.specs.Prelude.{happens, enabled, LeadsTo, Event, Order, Msg, Tick}
-use Rattle.seam_node_steps.specs.Prelude.{Here, PartView, World, node_steps, node_has_work}
+use Rattle.seam_node_steps.specs.Prelude.{happens, enabled, Event, Order, Msg, Tick, Here, PartView, World, node_steps, node_has_work}
 use Rattle.seam_law_flow.specs.Prelude.{comes, letters_of, IsSilent, carried_in}
 use Rattle.seam_law_calls.specs.Prelude.{Frame, here_at, IsInFrame, Has, AtBase, entity_flow, Moves, at_a_cell, at_a_base, held_in, real_in}
 use Rattle.seam_law_calls.specs.Prelude.{base_call_in, update_in, base_call_of, calls_ordered, called, told, PartMoves, WitnessMoves}
-use Rattle.seam_law_calls.specs.Prelude.{HasNoBaseCalls, HasToldAtMost, HasNoLooks}
+use Rattle.seam_law_calls.specs.Prelude.{HasNoBaseCalls, HasToldAtMost, HasNoLooks, RunsTo}
 use Rattle.seam_law_bounds.specs.Prelude.{part_weight}
 use Rattle.seam_machine.proofs.Occurring.{occurs}
 use Rattle.seam_net_runs.specs.Sums.{weight_or}
@@ -112,7 +111,7 @@ module _ (f : Frame) (e n : ℕ) where
             (part_moves f e g.k s (comes g.input) t g.moves.sent g.moves.moves));
       }
 
-  pub bare_leads : (w v : World) (es : List Event) → IsBare w → LeadsTo node_has_work node_steps w es v → IsBare v
+  pub bare_leads : (w v : World) (es : List Event) → IsBare w → RunsTo w es v → IsBare v
   bare_leads w v es h run = leads_keeps node_has_work node_steps IsBare bare_more w v es h run
 
 -- ---- a part that holds no call, whatever its client does
@@ -162,17 +161,15 @@ module _ (f : Frame) (e : ℕ) where
             (h.calls.orders g.k) (part_moves f e g.k s (comes g.input) t g.moves.sent g.moves.moves));
       }
 
-  pub uncalled_leads : (w v : World) (es : List Event) → IsUncalled w → LeadsTo node_has_work node_steps w es v → IsUncalled v
+  pub uncalled_leads : (w v : World) (es : List Event) → IsUncalled w → RunsTo w es v → IsUncalled v
   uncalled_leads w v es h run = leads_keeps node_has_work node_steps IsUncalled uncalled_more w v es h run
 
 -- ---- an entity that is nowhere
 
 only_ticks : (os : List Order) → AllByRecursion IsTickOrder os → letters_of base_call_of os ≡ []
 only_ticks [] h = refl
-only_ticks (order.Cell c ∷ os) h = absurd h.0
-only_ticks (order.Base c ∷ os) h = absurd h.0
 only_ticks (order.Tick ∷ os) h = only_ticks os h.1
-only_ticks (order.Reap x ∷ os) h = absurd h.0
+only_ticks _ h = absurd h.0
 
 no_call_of : (m : Msg) → IsTick m → base_call_in m ≡ None
 no_call_of Tick h = refl
@@ -206,5 +203,5 @@ module _ (f : Frame) (e : ℕ) where
             (only_ticks s.base.orders (u.slots g.k).orders) (part_moves f e g.k s (comes g.input) t g.moves.sent g.moves.moves));
       }
 
-  pub idle_leads : (w v : World) (es : List Event) → IsIdle w → LeadsTo node_has_work node_steps w es v → IsIdle v
+  pub idle_leads : (w v : World) (es : List Event) → IsIdle w → RunsTo w es v → IsIdle v
   idle_leads w v es h run = leads_keeps node_has_work node_steps IsIdle idle_more w v es h run

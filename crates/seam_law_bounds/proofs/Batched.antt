@@ -1,27 +1,26 @@
 -- Each call to a cell part that is on its way in a round was ordered.
 use Rattle.std.proofs.Common.{◌≡◌, ℕ, Bool, true, false, cond, List, [], ◌∷◌, Option, None, Some, refl, sym, ap, subst}
 use Rattle.std.specs.Prelude.{slice_get}
-use Rattle.std.specs.List.{AllByRecursion, range_with_len}
+use Rattle.std.specs.List.{AllByRecursion}
 use Rattle.std.specs.FinSet as set
-use Rattle.seam_node_steps.specs.Prelude.{link, happens, enabled, LeadsTo, EachNode, Event, Call as CallData, Order, Msg}
-use Rattle.seam_node_steps.specs.Prelude.{base_numbers, base_of, haunts_at}
-use Rattle.seam_node_steps.specs.Prelude.{ghost_messages, current_to, tick_to, NodeView, World, node_steps, node_has_work, Cell, Base}
+use Rattle.seam_node_steps.specs.Prelude.{link, happens, enabled, EachNode, Event, Call as CallData, Order, Msg, base_numbers, base_of}
+use Rattle.seam_node_steps.specs.Prelude.{haunts_at, ghost_messages, current_to, NodeView, World, node_steps, node_has_work, Cell, Base}
 use Rattle.seam_law_flow.specs.Prelude.{comes, slot_at, letters_of, IsSilent}
 use Rattle.seam_law_calls.specs.Prelude.{Frame, here_at, IsInFrame, Has, mine, order_concerns, orders_of, has_of, has_none, entity_flow}
-use Rattle.seam_law_calls.specs.Prelude.{CellMoves, BaseMoves, Moves, at_a_cell, at_a_base}
+use Rattle.seam_law_calls.specs.Prelude.{CellMoves, BaseMoves, Moves, at_a_cell, at_a_base, RunsTo}
 use Rattle.seam_machine.proofs.Occurring.{occurs}
 use Rattle.seam_net_runs.proofs.Runs.{leads_by_one, leads_keeps}
 use Rattle.seam_law_flow.proofs.Following.{all_append, letters_kept, came}
 use Rattle.seam_call.specs.declared.order.Order.TheVariants as order
 use Rattle.seam_entity.specs.declared.message.Msg.TheVariants.{Call}
 use Rattle.seam_law_calls.specs.CellMoves as move
-use Rattle.seam_law_calls.specs.BaseMoves as base_move
 use Rattle.seam_law_calls.proofs.Classify.{event_moves, frame_happens}
 use Rattle.seam_law_calls.proofs.Plain.{SeesNoGhost, ghosts_silent, drops_silent, mapped_silent, numbered_silent}
 use Rattle.seam_law_calls.proofs.Sparing.{items_all}
 use Rattle.seam_law_ghosts.proofs.Strays.{seen_first}
 use Rattle.seam_law_calls.proofs.WayMoves.{call_in}
 use Rattle.seam_law_bounds.proofs.Ordered.{OrdersAre, orders_lead}
+use Rattle.seam_law_calls.proofs.BaseDeeds.{base_keeps}
 
 no_calls : SeesNoGhost call_in
 no_calls = record { sets = λ e n c. refl; drops = λ e n. refl }
@@ -30,9 +29,7 @@ no_calls = record { sets = λ e n c. refl; drops = λ e n. refl }
 module _ (P : CallData → Type 0) where
   abbrev pub OrderIs : Order → Type 0
   OrderIs (order.Cell c) = P c
-  OrderIs (order.Base c) = Unit {0}
-  OrderIs order.Tick = Unit {0}
-  OrderIs (order.Reap e) = Unit {0}
+  OrderIs _ = Unit {0}
 
   abbrev pub MessageIs : Msg → Type 0
   MessageIs (Call c) = P c
@@ -82,23 +79,8 @@ module _ (P : CallData → Type 0) where
     cell_sends (move.stuck r h has ready may d) = of [] d.sends tt
 
     base_sends : (cells : ℕ) → BaseMoves (here_at f k) cells e s.base i t.base sent → SentAre
-    base_sends cells (base_move.rests n a z) = of [] z tt
-    base_sends cells (base_move.strays m n b a z) = of [] z tt
-    base_sends cells (base_move.reroutes new r n has b a z) = of [] z tt
-    base_sends cells (base_move.offers c p n own has may a z) = of [] z tt
-    base_sends cells (base_move.updates u n own b a z) = of [] z tt
-    base_sends cells (base_move.orders_call c os r n at own has a z) =
-        let all : AllByRecursion OrderIs (order.Cell c ∷ os) = subst (AllByRecursion OrderIs) at stored in
-        subst (AllByRecursion (λ p. MessageIs p.1)) (sym z) (all.0, tt)
-    base_sends cells (base_move.orders_base_call c os n at own b a z) = of _ z (refl, tt)
-    base_sends cells (base_move.offers_own c os p n at own b has may a z) = of [] z tt
-    base_sends cells (base_move.orders_tick os n at a z) = of _ z (mapped_silent call_in tick_to (λ j. refl) (range_with_len 0 cells))
-    base_sends cells (base_move.orders_reap os r n at has a z) = of _ z (refl, tt)
-    base_sends cells (base_move.stuck_order o os n at b a z) = of [] z tt
-    base_sends cells (base_move.executes p o c n has may at item a z) = of [] z tt
-    base_sends cells (base_move.stuck_part p n has v may a z) = of [] z tt
-    base_sends cells (base_move.shows p n has v may a z) = of [] z tt
-    base_sends cells (base_move.stuck_client p n has v may a z) = of [] z tt
+    base_sends cells m = (base_keeps OrderIs (λ j x. MessageIs x) m
+        (record { calls = λ c r at is. is; base_calls = λ c is. tt; ticks = λ is j lt. tt; reaps = λ r at is. tt }) stored).1
 
     sends_are : Moves f e k s i t sent → SentAre
     sends_are (at_a_cell low m same) = cell_sends m
@@ -150,8 +132,7 @@ module _ (P : CallData → Type 0) where
   -- over every list of events, P is true of each call that is the first of its link, where it is of each that is ordered and none is on
   -- its way
   pub calls_are : (f : Frame) (w v : World) (es : List Event) → IsInFrame f w → EachNode (λ k s. OrdersAre OrderIs s) w.nodes →
-      ((a k : ℕ) → link w.rows a k ≡ []) → LeadsTo node_has_work node_steps w es v → (a k : ℕ) (c : CallData) (ms : List Msg) →
-      link v.rows a k ≡ Call c ∷ ms → P c
+      ((a k : ℕ) → link w.rows a k ≡ []) → RunsTo w es v → (a k : ℕ) (c : CallData) (ms : List Msg) → link v.rows a k ≡ Call c ∷ ms → P c
   calls_are f w v es q orders empty run a k c ms at =
       let start : AreBatched f c.entity w = record {
         frame = q;

@@ -1,19 +1,20 @@
 -- What each step sends of calls to the cell part: one that was ordered, one that is passed on, or none.
-use Rattle.std.proofs.Common.{◌≡◌, ℕ, ◌+◌, ◌<◌, ◌≤◌, ◌⊎◌, true, List, [], ◌∷◌, Option, None, Some, refl, sym, ap, ◌∙◌, subst}
-use Rattle.std.proofs.Common.{arith, inl, inr}
+use Rattle.std.proofs.Common.{◌≡◌, ℕ, ◌+◌, ◌<◌, ◌≤◌, ◌⊎◌, true, List, [], ◌∷◌, Option, None, Some, refl, sym, ap, ◌∙◌, subst, arith, inl}
+use Rattle.std.proofs.Common.{inr}
 use Rattle.std.specs.List.{range_with_len}
 use Rattle.std.specs.FinSet as set
 use Rattle.seam_node_steps.specs.Prelude.{Call as CallData, Order, RealView, Msg, Hand, cell_count, base_numbers, base_of, NextPlace}
 use Rattle.seam_node_steps.specs.Prelude.{haunts_at, ghost_messages, settled_to, stray_call, is_stray, current_to, RouteView, tick_to}
 use Rattle.seam_law_flow.specs.Prelude.{IsSilent}
-use Rattle.seam_law_calls.specs.Prelude.{Frame, here_at, Has, Does, CellMoves, BaseMoves, Moves, at_a_cell, at_a_base, real_in}
+use Rattle.seam_law_calls.specs.Prelude.{Frame, here_at, Has, CellMoves, Moves, at_a_cell, at_a_base, real_in}
 use Rattle.seam_law_flow.proofs.Following.{all_append}
 use Rattle.seam_call.specs.declared.order.Order.TheVariants as order
 use Rattle.seam_entity.specs.declared.message.Msg.TheVariants.{Call}
 use Rattle.seam_law_calls.specs.CellMoves as move
-use Rattle.seam_law_calls.specs.BaseMoves as base_move
+use Rattle.seam_law_calls.proofs.BaseDeeds as base
 use Rattle.seam_law_calls.proofs.Plain.{SeesNoGhost, ghosts_silent, drops_silent, mapped_silent, numbered_silent}
 use Rattle.seam_law_calls.proofs.WayMoves.{call_in}
+use Rattle.seam_law_calls.proofs.BaseDeeds.{base_deeds, BaseDeeds}
 
 no_calls : SeesNoGhost call_in
 no_calls = record { sets = λ e n c. refl; drops = λ e n. refl }
@@ -94,32 +95,15 @@ module _ (f : Frame) (e k : ℕ) (s : Has) (i : Option Msg) (t : Has) (sent : Li
     at_base : NonePasses
     at_base c is away n at = let low = cell c is in omega (arith, low, high)
 
-    gone : (o : Order) (os : List Order) → s.base.orders ≡ o ∷ os → t.base.orders ≡ os → FewerOrders
-    gone o os at now = inr (o, at ∙ ap (λ l. o ∷ l) (sym now))
-
-    base_sends : (cells : ℕ) → BaseMoves (here_at f k) cells e s.base i t.base sent → Sends
-    base_sends cells (base_move.rests n a z) = plain (silent_of [] z tt) at_base (inl (ap (λ b. b.orders) a))
-    base_sends cells (base_move.strays m n b a z) = plain (silent_of [] z tt) at_base (inl (ap (λ b. b.orders) a))
-    base_sends cells (base_move.reroutes new r n has b a z) = plain (silent_of [] z tt) at_base (inl (ap (λ b. b.orders) a))
-    base_sends cells (base_move.offers c p n own has may a z) = plain (silent_of [] z tt) at_base (inl (ap (λ b. b.orders) a))
-    base_sends cells (base_move.updates u n own b a z) = plain (silent_of [] z tt) at_base (inl (ap (λ b. b.orders) a))
-    base_sends cells (base_move.orders_call c os r n at own has a z) =
-        ordered c r n (at ∙ ap (λ l. order.Cell c ∷ l) (sym (ap (λ b. b.orders) a))) has z
-    base_sends cells (base_move.orders_base_call c os n at own b a z) =
-        plain (silent_of _ z (refl, tt)) at_base (gone _ os at (ap (λ b. b.orders) a))
-    base_sends cells (base_move.offers_own c os p n at own b has may a z) =
-        plain (silent_of [] z tt) at_base (gone _ os at (ap (λ b. b.orders) a))
-    base_sends cells (base_move.orders_tick os n at a z) =
-        plain (silent_of _ z (mapped_silent call_in tick_to (λ j. refl) (range_with_len 0 cells))) at_base
-        (gone _ os at (ap (λ b. b.orders) a))
-    base_sends cells (base_move.orders_reap os r n at has a z) =
-        plain (silent_of _ z (refl, tt)) at_base (gone _ os at (ap (λ b. b.orders) a))
-    base_sends cells (base_move.stuck_order o os n at b a z) = plain (silent_of [] z tt) at_base (inl (ap (λ b. b.orders) a))
-    base_sends cells (base_move.executes p o c n has may at item a z) = plain (silent_of [] z tt) at_base (inl (ap (λ b. b.orders) a))
-    base_sends cells (base_move.stuck_part p n has v may a z) = plain (silent_of [] z tt) at_base (inl (ap (λ b. b.orders) a))
-    base_sends cells (base_move.shows p n has v may a z) = plain (silent_of [] z tt) at_base (inl (ap (λ b. b.orders) a))
-    base_sends cells (base_move.stuck_client p n has v may a z) = plain (silent_of [] z tt) at_base (inl (ap (λ b. b.orders) a))
+    base_sends : (cells : ℕ) → BaseDeeds (here_at f k) cells e s.base i t.base sent → Sends
+    base_sends cells (base.stays same z) = plain (silent_of [] z tt) at_base (inl same)
+    base_sends cells (base.calls c r n at has z) = ordered c r n at has z
+    base_sends cells (base.base_calls c n at z) = plain (silent_of _ z (refl, tt)) at_base (inr (_, at))
+    base_sends cells (base.serves c n at z) = plain (silent_of [] z tt) at_base (inr (_, at))
+    base_sends cells (base.ticks n at z) =
+        plain (silent_of _ z (mapped_silent call_in tick_to (λ j. refl) (range_with_len 0 cells))) at_base (inr (_, at))
+    base_sends cells (base.reaps r n at has z) = plain (silent_of _ z (refl, tt)) at_base (inr (_, at))
 
   pub sends : ((c : CallData) → i ≡ Some (Call c) → k < cell_count) → Moves f e k s i t sent → Sends
   sends cell (at_a_cell low m is) = cell_sends is m
-  sends cell (at_a_base high m is) = base_sends high cell _ m
+  sends cell (at_a_base high m is) = base_sends high cell _ (base_deeds m)

@@ -3,19 +3,18 @@ use Rattle.std.proofs.Common.{◌≡◌, ℕ, suc, ◌+◌, ◌*◌, ◌≤◌, 
 use Rattle.std.proofs.Common.{find, arith}
 use Rattle.std.specs.Prelude.{◌||◌, is_some, if◌then◌else◌, option_map}
 use Rattle.std.specs.FinMap as table
-use Rattle.seam_node_steps.specs.Prelude.{Input, Task, From, RealView, has_ready, Msg, BaseCall, Hand, Current, GhostSet, GhostDrop, Tick}
-use Rattle.seam_node_steps.specs.Prelude.{Reap, Update, number_of, has_any, Slot, SlotStep, slot_after, about, slot_steps, CellView}
-use Rattle.seam_node_steps.specs.Prelude.{slot_of, after_slot, is_another, unlisted_by, stepped, known_to, surveys, calls_ready}
-use Rattle.seam_node_steps.specs.Prelude.{looks_around, real_is_ready, ready_entity, look_next, ready_next, cell_task, tick, cell_hears}
-use Rattle.seam_node_steps.specs.Prelude.{cell_steps, cell_has_work, Cell}
+use Rattle.seam_node_steps.specs.Prelude.{Input, Task, From, RealView, has_ready, Msg, Tick, number_of, has_any, Slot, SlotStep, slot_after}
+use Rattle.seam_node_steps.specs.Prelude.{about, slot_steps, CellView, slot_of, after_slot, is_another, unlisted_by, stepped, known_to}
+use Rattle.seam_node_steps.specs.Prelude.{surveys, calls_ready, looks_around, real_is_ready, ready_entity, look_next, ready_next, cell_task}
+use Rattle.seam_node_steps.specs.Prelude.{tick, cell_hears, cell_steps, cell_has_work, Cell}
 use Rattle.seam_law_bounds.specs.Prelude.{Sizes, settling, look_weight, tick_weight, real_weight, letter_weight, cell_passes, node_passes}
 use Rattle.seam_net_runs.specs.Weights.{sent_weight, input_weight}
 use Rattle.seam_table.proofs.Found.{found}
-use Rattle.seam_entity.specs.declared.message.Msg.TheVariants.{Call}
 use Rattle.seam_law_bounds.specs.Weights.{cell_weight}
 use Rattle.seam_law_bounds.specs.Events.{CellCan}
 use Rattle.seam_law_bounds.proofs.Counts.{times_grows, one_more, filter_shortens, total_of_set_at}
 use Rattle.seam_law_bounds.proofs.SlotWeights.{slot_weight, step_weight, passed, message_weighs, survey_weighs, ready_weighs, look_weighs}
+use Rattle.seam_law_calls.specs.Prelude.{entity_of}
 
 -- a list with one more weighs that much more
 first_weighs : (xs ys : List ℕ) (e c : ℕ) → xs ≡ e ∷ ys → length xs * c ≡ length ys * c + c
@@ -41,9 +40,8 @@ module _ (z : Sizes) where
   unlisted_weighs false c e = omega arith
 
   -- what a cell weighs changes as the slot does
-  stepped_weighs : (c : CellView) (e : ℕ) (t : SlotStep) →
-      cell_weight z (stepped c e t).state + sent_weight g (stepped c e t).sent + slot_weight z (slot_of c e)
-      ≤ cell_weight z c + step_weight z (slot_of c e) t
+  stepped_weighs : (c : CellView) (e : ℕ) (t : SlotStep) → cell_weight z (stepped c e t).state + sent_weight g (stepped c e t).sent +
+      slot_weight z (slot_of c e) ≤ cell_weight z c + step_weight z (slot_of c e) t
   stepped_weighs c e t =
       let one = slots_weigh c e t.slot in
       let two = unlisted_weighs t.unlisted (after_slot c e t.slot) e in
@@ -95,8 +93,7 @@ module _ (z : Sizes) where
       let three = first_weighs c.survey es e (settling z) l in
       omega (arith, one, two, three)
 
-  task_weighs : (c : CellView) (es : List ℕ) → CellCan z c Task → c.survey ≡ es →
-      (es ≡ [] → ready_entity c ≡ None → c.looks ≡ [] → ⊥) →
+  task_weighs : (c : CellView) (es : List ℕ) → CellCan z c Task → c.survey ≡ es → (es ≡ [] → ready_entity c ≡ None → c.looks ≡ [] → ⊥) →
       cell_weight z (cell_task c es).state + sent_weight g (cell_task c es).sent + 1 ≤ cell_weight z c
   task_weighs c [] can e some = ready_task_weighs c (ready_entity c) can refl (some refl)
   task_weighs c (e ∷ es) can l some = survey_task_weighs c e es l
@@ -121,15 +118,8 @@ module _ (z : Sizes) where
   hears_weighs : (c : CellView) (a : ℕ) (m : Msg) → CellCan z c (From a m) →
       cell_weight z (cell_hears c m (about m)).state + sent_weight g (cell_hears c m (about m)).sent + 1
       ≤ cell_weight z c + g c.here.me m + one_if (cell_passes c m)
-  hears_weighs c a (Call k) can = about_weighs c (From a (Call k)) (Call k) k.entity can
-  hears_weighs c a (BaseCall k) can = about_weighs c (From a (BaseCall k)) (BaseCall k) k.entity can
-  hears_weighs c a (Hand r) can = about_weighs c (From a (Hand r)) (Hand r) r.entity can
-  hears_weighs c a (Current e j n) can = about_weighs c (From a (Current e j n)) (Current e j n) e can
-  hears_weighs c a (GhostSet e n x) can = about_weighs c (From a (GhostSet e n x)) (GhostSet e n x) e can
-  hears_weighs c a (GhostDrop e n) can = about_weighs c (From a (GhostDrop e n)) (GhostDrop e n) e can
   hears_weighs c a Tick can = let one = tick_weighs c a can in omega (arith, one)
-  hears_weighs c a (Reap e) can = about_weighs c (From a (Reap e)) (Reap e) e can
-  hears_weighs c a (Update u) can = about_weighs c (From a (Update u)) (Update u) u.entity can
+  hears_weighs c a m can = about_weighs c (From a m) m (entity_of m) can
 
   -- ---- a step of a cell
 

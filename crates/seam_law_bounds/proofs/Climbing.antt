@@ -1,11 +1,11 @@
 -- In a round each call that is passed on climbs.
 use Rattle.std.proofs.Common.{◌≡◌, ℕ, ◌+◌, ◌≤◌, true, List, Option, None, Some, refl, sym, ap, ◌∙◌, arith, inl, inr}
 use Rattle.std.proofs.lemmas.Bool.{cases_eq}
-use Rattle.seam_node_steps.specs.Prelude.{happens, enabled, LeadsTo, Event, Batch, RealView, Msg, NextPlace, World, node_steps}
-use Rattle.seam_node_steps.specs.Prelude.{node_has_work, loaded}
+use Rattle.seam_node_steps.specs.Prelude.{happens, enabled, Event, Batch, RealView, Msg, NextPlace, World, node_steps, node_has_work}
+use Rattle.seam_node_steps.specs.Prelude.{loaded}
 use Rattle.seam_law_flow.specs.Prelude.{Flow}
-use Rattle.seam_law_calls.specs.Prelude.{Frame, Has, entity_flow, real_in}
-use Rattle.seam_law_rounds.specs.Prelude.{IsBetweenRounds, IsFitting, framed}
+use Rattle.seam_law_calls.specs.Prelude.{Frame, Has, entity_flow, real_in, RunsTo, real_at}
+use Rattle.seam_law_rounds.specs.Prelude.{framed, MayBegin}
 use Rattle.seam_law_bounds.specs.Prelude.{rank_of, ComesTo, AreRanked, Climbs}
 use Rattle.seam_law_rounds.proofs.Going.{frame_loaded, settled_loaded, its, one_loaded, spared_loaded}
 use Rattle.seam_law_rounds.proofs.CallsEnd.{routed_loaded}
@@ -19,13 +19,13 @@ passed_climbs w top a k n away at =
     let rank = rank_next (w.slot k) n away at in
     (omega (arith, low, rank), a.climb k n at)
 
-module _ (f : Frame) (w : World) (b : Batch) (between : IsBetweenRounds f w) (fits : IsFitting f w b) (e home : ℕ) (r : RealView)
-    (here : real_in ((entity_flow e (loaded w b)).slot home) ≡ Some r) where
+module _ (f : Frame) (w : World) (b : Batch) (begin : MayBegin f w b) (e home : ℕ) (r : RealView)
+    (here : real_at e (loaded w b) home ≡ Some r) where
   abbrev start : Flow Has Msg
   start = entity_flow e (loaded w b)
 
   pub no_next : (k : ℕ) → (start.slot k).cell.slot.next ≡ None
-  no_next = (its f w b between fits e home r here).nexts
+  no_next = (its f w b begin e home r here).nexts
 
   high_by : (k : ℕ) (o : Option RealView) → real_in (start.slot k) ≡ o → rank_of (start.slot k) ≤ r.generation
   high_by k None at = let none = rank_none (start.slot k) at (no_next k) in omega (arith, none)
@@ -35,15 +35,14 @@ module _ (f : Frame) (w : World) (b : Batch) (between : IsBetweenRounds f w) (fi
         let rank = rank_real (start.slot k) q at in
         let gen = ap (λ (x : RealView). x.generation) same in
         omega (arith, rank, gen)
-    | inr n ↦ absurd (let z = sym ((settled_loaded f w b between fits e home r here).others k n) ∙ at in cc)
+    | inr n ↦ absurd (let z = sym ((settled_loaded f w b begin e home r here).others k n) ∙ at in cc)
   ]
 
-  pub ranked_loaded : Ranked (framed f b) (frame_loaded f w b between fits) e r.ty (settled_loaded f w b between fits e home r here).type
-      (loaded w b)
+  pub ranked_loaded : Ranked (framed f b) (frame_loaded f w b begin) e r.ty (settled_loaded f w b begin e home r here).type (loaded w b)
   ranked_loaded = record {
-    has = one_loaded f w b between fits e home r here;
-    spared = spared_loaded f w b between fits e home r here;
-    routed = routed_loaded f w b between fits e home r here;
+    has = one_loaded f w b begin e home r here;
+    spared = spared_loaded f w b begin e home r here;
+    routed = routed_loaded f w b begin e home r here;
     ranks = record {
       highest = λ k. high_by k (real_in (start.slot k)) refl;
       nexts = λ k n at. absurd (let z = sym (no_next k) ∙ at in cc);
@@ -51,10 +50,10 @@ module _ (f : Frame) (w : World) (b : Batch) (between : IsBetweenRounds f w) (fi
     };
   }
 
-  module _ (v : World) (es : List Event) (run : LeadsTo node_has_work node_steps (loaded w b) es v) where
+  module _ (v : World) (es : List Event) (run : RunsTo (loaded w b) es v) where
     pub each_event_climbs : (x : Event) → enabled node_has_work v x ≡ true → Climbs e v (happens node_steps v x)
     each_event_climbs x on =
-        climbs (framed f b) (frame_loaded f w b between fits) e r.ty (settled_loaded f w b between fits e home r here).type v x
-        (ranked_leads (framed f b) (frame_loaded f w b between fits) e r.ty (settled_loaded f w b between fits e home r here).type
+        climbs (framed f b) (frame_loaded f w b begin) e r.ty (settled_loaded f w b begin e home r here).type v x
+        (ranked_leads (framed f b) (frame_loaded f w b begin) e r.ty (settled_loaded f w b begin e home r here).type
         (loaded w b) v
         es ranked_loaded run) on

@@ -1,6 +1,6 @@
 -- What a load of orders adds to the weight of a world.
-use Rattle.std.proofs.Common.{◌≡◌, ℕ, suc, ◌+◌, ◌*◌, ◌≤◌, Bool, true, false, cond, eqb, nat_lt, List, [], ◌∷◌, length, map}
-use Rattle.std.proofs.Common.{Some, refl, sym, ap, ◌∙◌, subst, arith, inl, inr}
+use Rattle.std.proofs.Common.{◌≡◌, ℕ, suc, ◌+◌, ◌*◌, ◌≤◌, Bool, true, false, cond, eqb, nat_lt, List, [], ◌∷◌, length, map, Some, refl, sym}
+use Rattle.std.proofs.Common.{ap, ◌∙◌, subst, arith, inl, inr}
 use Rattle.std.specs.Prelude.{slice_get}
 use Rattle.std.proofs.lemmas.Bool.{cases_eq, eq-eqb, ne_eqb}
 use Rattle.std.proofs.lemmas.Bool.Decides.{nat_tests}
@@ -26,8 +26,7 @@ module _ {N : Type 0} (g h : N → ℕ) (home a : ℕ) where
   sum_by i x y m n false false true h p l at more = absurd (grind (arith, nat_tests, h, p, l))
   sum_by i x y m n false false false h p l at more = omega (arith, at, more)
 
-  sum_from : (i : ℕ) (ns : List N) →
-      ((j : ℕ) (s : N) → slice_get ns j ≡ Some s → g s ≤ h s + cond {A = ℕ} (eqb (j + i) home) a 0) →
+  sum_from : (i : ℕ) (ns : List N) → ((j : ℕ) (s : N) → slice_get ns j ≡ Some s → g s ≤ h s + cond {A = ℕ} (eqb (j + i) home) a 0) →
       total g ns ≤ total h ns + cond {A = ℕ} (nat_lt home i) 0 a
   sum_from i [] each = omega arith
   sum_from i (s ∷ ns) each =
@@ -59,8 +58,7 @@ total_mapped g turn (s ∷ ns) = let more = total_mapped g turn ns in omega (ari
 
 -- where only the node `home` weighs more after a change, and at most a, so do all together
 pub sum_adds : {N : Type 0} (g : N → ℕ) (turn : N → N) (home a : ℕ) (ns : List N) →
-    ((j : ℕ) (s : N) → slice_get ns j ≡ Some s → g (turn s) ≤ g s + cond {A = ℕ} (eqb j home) a 0) →
-    total g (map turn ns) ≤ total g ns + a
+    ((j : ℕ) (s : N) → slice_get ns j ≡ Some s → g (turn s) ≤ g s + cond {A = ℕ} (eqb j home) a 0) → total g (map turn ns) ≤ total g ns + a
 sum_adds g turn home a ns each =
     let all = sum_exceeds (λ s. g (turn s)) g home a ns each in
     let same = total_mapped g turn ns in

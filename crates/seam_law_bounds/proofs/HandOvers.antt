@@ -1,17 +1,15 @@
 -- A real is handed over at most once for each of its calls, and once more.
-use Rattle.std.proofs.Common.{◌≡◌, ℕ, ◌+◌, ◌≤◌, Bool, true, false, cond, ◌&&◌, List, [], ◌∷◌, map, Option, None, Some, refl, ap}
-use Rattle.std.proofs.Common.{◌∙◌, arith}
+use Rattle.std.proofs.Common.{◌≡◌, ℕ, ◌+◌, ◌≤◌, Bool, true, false, cond, ◌&&◌, List, [], ◌∷◌, map, Option, None, Some, refl, ap, ◌∙◌, arith}
 use Rattle.std.specs.Prelude.{is_some, is_none}
 use Rattle.std.specs.List.{range_with_len}
 use Rattle.std.specs.FinSet as set
-use Rattle.seam_node_steps.specs.Prelude.{happens, AllEnabled, Occurs, total, Event, rank_of, RealView, Msg, Hand}
-use Rattle.seam_node_steps.specs.Prelude.{Reap, base_numbers, base_of, settled_to, SlotStep, slot_after}
-use Rattle.seam_node_steps.specs.Prelude.{haunts_at, ghost_messages, current_to, shown_of, looks_with, tick_to, NodeView, World, node_steps}
-use Rattle.seam_node_steps.specs.Prelude.{node_has_work}
+use Rattle.seam_node_steps.specs.Prelude.{happens, AllEnabled, Occurs, total, Event, rank_of, RealView, Msg, Hand, Reap, base_numbers}
+use Rattle.seam_node_steps.specs.Prelude.{base_of, settled_to, SlotStep, slot_after, haunts_at, ghost_messages, current_to, shown_of}
+use Rattle.seam_node_steps.specs.Prelude.{looks_with, tick_to, NodeView, World, node_steps, node_has_work}
 use Rattle.seam_law_flow.specs.Prelude.{letter_in, slot_at, IsSilent}
-use Rattle.seam_law_calls.specs.Prelude.{Frame, here_at, IsInFrame, Has, AtCell, AtBase, mine, concerning, has_of, has_none, entity_flow}
-use Rattle.seam_law_calls.specs.Prelude.{unlisted_if, Does, Acts, surveys, calls, readies, CellMoves, BaseMoves, Moves, at_a_cell}
-use Rattle.seam_law_calls.specs.Prelude.{at_a_base, held_in, real_in, IsSpared}
+use Rattle.seam_law_calls.specs.Prelude.{Frame, here_at, IsInFrame, Has, AtCell, AtBase, mine, concerning, has_of, has_none, unlisted_if}
+use Rattle.seam_law_calls.specs.Prelude.{Does, Acts, surveys, calls, readies, CellMoves, BaseMoves, Moves, at_a_cell, at_a_base, held_in}
+use Rattle.seam_law_calls.specs.Prelude.{real_in, IsSpared, real_at}
 use Rattle.seam_law_bounds.specs.Prelude.{hands_over, hand_overs, one_if_cell}
 use Rattle.seam_machine.proofs.Occurring.{occurs, node_here}
 use Rattle.seam_machine.proofs.Totals.{total-push}
@@ -137,9 +135,8 @@ module _ (f : Frame) (e k : ℕ) (s : Has) (i : Option Msg) (t : Has) (sent : Li
       let g = ap (gone_by (real_in s)) (now x u d ∙ same) ∙ gone_same (real_in s) in
       omega (arith, a, b, c, z, g, less)
 
-  stays_lowers : (u : AtCell) (r q : RealView) (changed : Bool) → s.cell.slot.real ≡ Some r →
-      Acts (here_at f k) e s.cell i r u q changed → Does u (settle.stays (here_at f k) f.tree s.cell.slot q changed) t.cell sent →
-      t.base ≡ s.base → Lowers
+  stays_lowers : (u : AtCell) (r q : RealView) (changed : Bool) → s.cell.slot.real ≡ Some r → Acts (here_at f k) e s.cell i r u q changed →
+      Does u (settle.stays (here_at f k) f.tree s.cell.slot q changed) t.cell sent → t.base ≡ s.base → Lowers
   stays_lowers u r q changed has acts d base =
       let x = settle.stays (here_at f k) f.tree s.cell.slot q changed in
       let haunts = haunts_at (here_at f k) f.tree q.state.pos k q.haunts in
@@ -278,7 +275,7 @@ module _ (e : ℕ) where
       (node_moves f e v.node o.node o.input (q.sound.states v.node o.node o.is_node) (q.nodes v.node o.node o.is_node)) in
       let was = ap (λ x. real_in (slot_at (has_of e) has_none x)) o.is_node in
       let now = ap (λ x. real_in (slot_at (has_of e) has_none x)) (node_here node_steps w v o) in
-      let g = ap (λ x. gone_by x (real_in ((entity_flow e (happens node_steps w v)).slot v.node))) was
+      let g = ap (λ x. gone_by x (real_at e (happens node_steps w v) v.node)) was
       ∙ ap (gone_by (real_in (has_of e o.node))) now in
       omega (arith, a, b, c, low, g)
 

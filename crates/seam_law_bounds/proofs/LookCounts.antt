@@ -245,8 +245,7 @@ module _ (us : List ℕ) (c : CellView) (reals : (e : ℕ) (r : RealView) → ta
       by None is = refl
       by (Some x) is = copies k x (ap copy_in at ∙ is)
 
-  copied_named : (gs : List (ℕ × Ghost GhostCopy)) → AllByRecursion (λ p. names_copy p ≡ true) gs →
-      AllAmong us (map (λ p. p.0) (copied gs))
+  copied_named : (gs : List (ℕ × Ghost GhostCopy)) → AllByRecursion (λ p. names_copy p ≡ true) gs → AllAmong us (map (λ p. p.0) (copied gs))
   copied_named [] h = tt
   copied_named (g ∷ gs) h = by g.1.copy h.0 (copied_named gs h.1)
     where
@@ -315,8 +314,7 @@ module _ (ws : List ℕ) (c : CellView)
   no_stranger None at = refl
   no_stranger (Some p) at = let two = found stranger c.reals p at in absurd (not_stranger p two.0 two.1)
 
-  all_witnesses : (es : List (ℕ × RealView)) → find stranger es ≡ None →
-      AllAmong ws (map number_of (filter has_witness es))
+  all_witnesses : (es : List (ℕ × RealView)) → find stranger es ≡ None → AllAmong ws (map number_of (filter has_witness es))
   all_witnesses [] h = tt
   all_witnesses (p ∷ ps) h = by (has_witness p) (is_among ws p.0) refl h (all_witnesses ps)
     where

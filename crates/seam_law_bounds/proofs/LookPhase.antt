@@ -1,17 +1,16 @@
 -- The phase of looks ends.
 use Rattle.std.proofs.Common.{◌≡◌, ℕ, zero, suc, ◌+◌, ◌*◌, ◌≤◌, Bool, true, false, cond, List, [], ◌∷◌, length, Option, None, Some, refl}
-use Rattle.std.proofs.Common.{sym}
-use Rattle.std.proofs.Common.{ap, ◌∙◌, subst, arith}
+use Rattle.std.proofs.Common.{sym, ap, ◌∙◌, subst, arith}
 use Rattle.std.specs.Prelude.{not, slice_get}
 use Rattle.std.specs.List.{AllByRecursion, range_with_len}
 use Rattle.std.specs.FinMap as table
 use Rattle.std.proofs.lemmas.Option.{slice_get-map}
-use Rattle.seam_node_steps.specs.Prelude.{link, LeadsTo, EachNode, total, Event, Call as CallData, Order, RealView, has_ready, may_execute}
-use Rattle.seam_node_steps.specs.Prelude.{cell_count, Msg, CellView, BaseView, PartView, stray_order, NodeView, World, node_steps}
-use Rattle.seam_node_steps.specs.Prelude.{node_has_work, Cell, Base, ordered_at, look_loaded}
+use Rattle.seam_node_steps.specs.Prelude.{link, EachNode, total, Event, Call as CallData, Order, RealView, has_ready, may_execute}
+use Rattle.seam_node_steps.specs.Prelude.{cell_count, Msg, CellView, BaseView, PartView, stray_order, NodeView, World, node_has_work, Cell}
+use Rattle.seam_node_steps.specs.Prelude.{Base, ordered_at, look_loaded}
 use Rattle.seam_law_flow.specs.Prelude.{slot_at, letters_of, more_letter}
 use Rattle.seam_law_calls.specs.Prelude.{Frame, IsInFrame, mine, order_concerns, orders_of, has_of, has_none, entity_flow, base_call_in}
-use Rattle.seam_law_calls.specs.Prelude.{base_call_of, calls_ordered}
+use Rattle.seam_law_calls.specs.Prelude.{base_call_of, calls_ordered, RunsTo}
 use Rattle.seam_law_rounds.specs.Prelude.{IsBetweenRounds}
 use Rattle.seam_law_bounds.specs.Prelude.{Sizes, look_weight, tick_weight, part_weight, world_weight, BaseCan, AllCan, is_pass, LooksFit}
 use Rattle.seam_law_bounds.specs.Prelude.{ClientsKeepRoom, Always, HoldsNothing, events_of_looks}
@@ -59,22 +58,16 @@ ticks_sum z from (suc len) =
     step a b c n r h = grind (arith, h)
 
 tick_is_free : (b : BaseView) (o : Order) → IsTickOrder o → stray_order b o ≡ false
-tick_is_free b (order.Cell c) h = absurd h
-tick_is_free b (order.Base c) h = absurd h
 tick_is_free b order.Tick h = refl
-tick_is_free b (order.Reap e) h = absurd h
+tick_is_free b _ h = absurd h
 
 tick_calls : (o : Order) → IsTickOrder o → OrderIs (λ c. ⊥) o
 tick_calls (order.Cell c) h = absurd h
-tick_calls (order.Base c) h = tt
-tick_calls order.Tick h = tt
-tick_calls (order.Reap e) h = tt
+tick_calls _ h = tt
 
 tick_is_none : (o : Order) → IsTickOrder o → base_call_of o ≡ None
-tick_is_none (order.Cell c) h = refl
 tick_is_none (order.Base c) h = absurd h
-tick_is_none order.Tick h = refl
-tick_is_none (order.Reap e) h = refl
+tick_is_none _ h = refl
 
 calls_by : (e : ℕ) (o : Order) (os : List Order) (d : Bool) → IsTickOrder o → letters_of base_call_of os ≡ [] →
     letters_of base_call_of (cond d (o ∷ os) os) ≡ []
@@ -134,7 +127,7 @@ module _ (f : Frame) (u : World) (between : IsBetweenRounds f u) (none : HoldsNo
     parts = λ k. none_held ((entity_flow e start).slot k).base.part (parts_none IsTickOrder start plain_start e k);
   }
 
-  module _ (vs : List Event) (v : World) (run : LeadsTo node_has_work node_steps start vs v) where
+  module _ (vs : List Event) (v : World) (run : RunsTo start vs v) where
     frame_then : IsInFrame f v
     frame_then = frame_leads f start v vs frame_start run
 
@@ -196,7 +189,7 @@ module _ (f : Frame) (u : World) (between : IsBetweenRounds f u) (none : HoldsNo
           can_look z f v (omega arith) (frame_then vs v run) (few v vs run) (cell_then vs v run)
           (base_then vs v run (shows v vs run)) x.node o.node o.input o.is_node
 
-      pub looks_end : (vs : List Event) (v : World) → LeadsTo node_has_work node_steps start vs v → length vs ≤ most
+      pub looks_end : (vs : List Event) (v : World) → RunsTo start vs v → length vs ≤ most
       looks_end vs v run =
           let long = run_ends z f start frame_start can v vs run in
           let passed = passes_none start (λ x ds on. no_pass ds x on) vs run.each in

@@ -4,10 +4,10 @@ use Rattle.std.specs.Prelude.{slice_get}
 use Rattle.std.specs.List.{range_with_len}
 use Rattle.std.specs.FinMap as table
 use Rattle.std.proofs.lemmas.Bool.{cases_eq}
-use Rattle.seam_node_steps.specs.Prelude.{LeadsTo, total, Event, cell_count, RealView, BaseView, PartView, proxy_is_ready, may_show, World}
-use Rattle.seam_node_steps.specs.Prelude.{node_steps, node_has_work, Base, look_loaded}
+use Rattle.seam_node_steps.specs.Prelude.{total, Event, cell_count, RealView, BaseView, PartView, proxy_is_ready, may_show, World, Base}
+use Rattle.seam_node_steps.specs.Prelude.{look_loaded}
 use Rattle.seam_law_flow.specs.Prelude.{slot_at}
-use Rattle.seam_law_calls.specs.Prelude.{Frame, has_of, has_none, entity_flow, real_in, home_of, sent_by}
+use Rattle.seam_law_calls.specs.Prelude.{Frame, has_of, has_none, entity_flow, home_of, sent_by, RunsTo, real_at}
 use Rattle.seam_law_rounds.specs.Prelude.{IsBetweenRounds, HasPartsBetweenRounds, HasSmallNumbers, IsServed, bare, served}
 use Rattle.seam_law_bounds.specs.Prelude.{part_weight, Always, LooksAmong, ClientsKeepRoom, HoldsNothing, events_of_looks}
 use Rattle.seam_net_runs.specs.Sums.{weight_or}
@@ -24,13 +24,13 @@ use Rattle.seam_law_bounds.proofs.Nothing.{idle_in_looks}
 
 module _ (f : Frame) (u : World) (between : IsBetweenRounds f u) (parts : HasPartsBetweenRounds f u) (small : HasSmallNumbers f u)
     (none : HoldsNothing u) where
-  module _ (v : World) (vs : List Event) (run : LeadsTo node_has_work node_steps (look_loaded u) vs v) (k : ℕ) (b : BaseView)
+  module _ (v : World) (vs : List Event) (run : RunsTo (look_loaded u) vs v) (k : ℕ) (b : BaseView)
       (node : slice_get v.nodes k ≡ Some (Base b)) (e : ℕ) (p : PartView) (at : table.get b.parts e ≡ Some p) where
     has : ((entity_flow e v).slot k).base.part ≡ Some p
     has = ap (λ o. (slot_at (has_of e) has_none o).base.part) node ∙ at
 
     -- the client of an entity that is there has numbers
-    module _ (home : ℕ) (r : RealView) (here : real_in ((entity_flow e u).slot home) ≡ Some r) where
+    module _ (home : ℕ) (r : RealView) (here : real_at e u home ≡ Some r) where
       at_home : ((entity_flow e v).slot (home_of f e)).base.part ≡ Some p
       at_home = elim (cases_eq k (home_of f e)) [
         | inl is ↦ ap (λ i. ((entity_flow e v).slot i).base.part) (sym is) ∙ has
@@ -61,8 +61,7 @@ module _ (f : Frame) (u : World) (between : IsBetweenRounds f u) (parts : HasPar
   clients_keep_room v vs run k b node e p at = shows_by v vs run k b node e p at (search_real e u)
 
   pub looks_are_bounded : (us : List ℕ) (ws : ℕ → List ℕ) → LooksAmong us ws u → (vs : List Event) (v : World) →
-      LeadsTo node_has_work node_steps (look_loaded u) vs v →
-      length vs ≤ events_of_looks (length us) (total (λ k. length (ws k)) (range_with_len 0 cell_count))
+      RunsTo (look_loaded u) vs v → length vs ≤ events_of_looks (length us) (total (λ k. length (ws k)) (range_with_len 0 cell_count))
   looks_are_bounded us ws among vs v run =
       looks_end f u between none (length us) (λ k. length (ws k))
       (λ x ds on. looks_fit us ws f.settings.bases x (looks_among f u between none us ws among x ds on)) clients_keep_room vs v run

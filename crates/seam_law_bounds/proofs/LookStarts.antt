@@ -1,6 +1,5 @@
 -- The bounds of a round with ticks and of looks, by what there is to look at where they begin.
-use Rattle.std.proofs.Common.{[], ◌∷◌, ◌≡◌, ℕ, ◌≤◌, ◌⊎◌, List, length, Option, None, Some, refl, sym}
-use Rattle.std.proofs.Common.{ap, ◌∙◌, subst, arith, inl, inr}
+use Rattle.std.proofs.Common.{[], ◌∷◌, ◌≡◌, ℕ, ◌≤◌, ◌⊎◌, List, length, Option, None, Some, refl, sym, ap, ◌∙◌, subst, arith, inl, inr}
 use Rattle.std.specs.Prelude.{Bool, true, false, slice_get}
 use Rattle.std.specs.List.{AllByRecursion}
 use Rattle.std.specs.FinMap as table
@@ -8,17 +7,13 @@ use Rattle.std.proofs.lemmas.Bool.{cases_eq}
 use Rattle.std.proofs.lemmas.Option.{slice_get-map}
 use Rattle.seam_machine.proofs.Quiet.{quiet_links}
 use Rattle.seam_law_calls.proofs.Counting.{counted_none, none_counts}
-use Rattle.seam_node_steps.specs.Prelude.{happens, enabled, LeadsTo, Event, Batch, RealView, WitnessView, CellView, NodeView, World}
-use Rattle.seam_node_steps.specs.Prelude.{node_steps, node_has_work, Cell, Base, order_if, ordered_at, loaded, look_loaded, reap_ordered_at}
-use Rattle.seam_node_steps.specs.Prelude.{reaps_loaded}
+use Rattle.seam_node_steps.specs.Prelude.{Event, Batch, RealView, WitnessView, CellView, NodeView, World, node_has_work, Cell, Base}
+use Rattle.seam_node_steps.specs.Prelude.{order_if, ordered_at, loaded, look_loaded, reap_ordered_at, reaps_loaded}
 use Rattle.seam_law_flow.specs.Prelude.{slot_at, letters_of}
-use Rattle.seam_law_calls.specs.Prelude.{Frame, IsInFrame, mine, has_of, has_none, entity_flow, real_in, real_of, EachReal}
+use Rattle.seam_law_calls.specs.Prelude.{Frame, mine, has_of, has_none, real_in, real_of, EachReal, RunsTo, real_at}
 use Rattle.seam_law_rounds.specs.Prelude.{IsBetweenRounds, each, AreReapable, MayBeLoaded}
 use Rattle.seam_law_bounds.specs.Prelude.{LooksFit, Always, is_among, LooksAmong, HoldsNothing, entities, cell_orders, base_orders}
 use Rattle.seam_law_bounds.specs.Prelude.{tick_orders, events_of_round}
-use Rattle.seam_machine.proofs.Occurring.{occurs}
-use Rattle.seam_net_runs.proofs.Runs.{leads_keeps}
-use Rattle.seam_law_calls.proofs.Classify.{frame_happens}
 use Rattle.seam_law_rounds.proofs.Loading.{node_there}
 use Rattle.seam_law_bounds.proofs.ReapPhase as reap
 use Rattle.seam_law_rounds.proofs.Shape.{Somewhere, Nowhere, search_real}
@@ -34,6 +29,7 @@ use Rattle.seam_law_bounds.proofs.LookPhase.{frame_start, empty_start}
 use Rattle.seam_law_bounds.proofs.RoundPhase.{g}
 use Rattle.seam_law_bounds.proofs.RoundPhase as round
 use Rattle.seam_law_bounds.proofs.RoundTicks.{sizes_of_round, round_ends}
+use Rattle.seam_law_calls.proofs.Keeping.{run_keeps}
 
 -- with more lines allowed it fits as well
 more_lines : (bases lines most : ℕ) (ws : ℕ → ℕ) (w : World) → lines ≤ most →
@@ -56,17 +52,15 @@ module _ (f : Frame) (w : World) (b : Batch) (may : MayBeLoaded f w b) (none : H
       (round.empty_start f w b may none)
       among v es run))
 
-  pub round_is_bounded : (v : World) (es : List Event) → LeadsTo node_has_work node_steps (loaded w b) es v →
-      length es
-      ≤ events_of_round f.settings.bases (cell_orders b) (base_orders b) (tick_orders b) (entities (loaded w b)) (length ws)
+  pub round_is_bounded : (v : World) (es : List Event) → RunsTo (loaded w b) es v →
+      length es ≤ events_of_round f.settings.bases (cell_orders b) (base_orders b) (tick_orders b) (entities (loaded w b)) (length ws)
   round_is_bounded v es run = round_ends f w b may none (length ws) round_fits v es run
 
 -- ---- looks
 
 -- an entity that is nowhere stays so
-no_real_then : (f : Frame) (u : World) → IsBetweenRounds f u → (v : World) (vs : List Event) →
-    LeadsTo node_has_work node_steps (look_loaded u) vs v → (e : ℕ) → Nowhere e u → (k : ℕ) (q : RealView) →
-    real_in ((entity_flow e v).slot k) ≡ Some q → ⊥
+no_real_then : (f : Frame) (u : World) → IsBetweenRounds f u → (v : World) (vs : List Event) → RunsTo (look_loaded u) vs v → (e : ℕ) →
+    Nowhere e u → (k : ℕ) (q : RealView) → real_at e v k ≡ Some q → ⊥
 no_real_then f u between v vs run e n k q at =
     let none = none_counts u e (record {
       slots = n;
@@ -78,7 +72,7 @@ no_real_then f u between v vs run e n k q at =
     cc
 
 -- a real that an entity's flow shows is in the cell
-pub in_cell : (w : World) (e k : ℕ) (r : RealView) → real_in ((entity_flow e w).slot k) ≡ Some r →
+pub in_cell : (w : World) (e k : ℕ) (r : RealView) → real_at e w k ≡ Some r →
     (c : CellView) × (slice_get w.nodes k ≡ Some (Cell c)) × (table.get c.reals e ≡ Some r)
 in_cell w e k r at = by (slice_get w.nodes k) refl at
   where
@@ -119,12 +113,12 @@ module _ (f : Frame) (u : World) (between : IsBetweenRounds f u) (none : HoldsNo
     witnesses = λ k c at e r x there has. among.reals k c (cell_same k c at) e r there;
   }
 
-  stay : (e k : ℕ) → real_in ((entity_flow e start).slot k) ≡ real_in ((entity_flow e u).slot k)
+  stay : (e k : ℕ) → real_at e start k ≡ real_at e u k
   stay e k = reals_stay e (ordered_at tick) (look_cell e tick) u k
 
   -- ---- an entity without a witness gets none
 
-  module _ (e home : ℕ) (r : RealView) (here : real_in ((entity_flow e u).slot home) ≡ Some r) where
+  module _ (e home : ℕ) (r : RealView) (here : real_at e u home ≡ Some r) where
     unseeing_start : HasNoWitness r → EachReal e HasNoWitness start
     unseeing_start no_one = record {
       cells = λ k q at. by k q at (cases_eq k home);
@@ -133,30 +127,16 @@ module _ (f : Frame) (u : World) (between : IsBetweenRounds f u) (none : HoldsNo
           (sym (ap (letters_of (mine e)) (empty_start f u between none a k))) tt;
     }
       where
-        by : (k : ℕ) (q : RealView) → real_in ((entity_flow e start).slot k) ≡ Some q → (k ≡ home) ⊎ (k ≡ home → ⊥) → HasNoWitness q
+        by : (k : ℕ) (q : RealView) → real_at e start k ≡ Some q → (k ≡ home) ⊎ (k ≡ home → ⊥) → HasNoWitness q
         by k q at (inl is) =
-            let both = sym at ∙ (stay e k ∙ (ap (λ j. real_in ((entity_flow e u).slot j)) is ∙ here)) in
+            let both = sym at ∙ (stay e k ∙ (ap (λ j. real_at e u j) is ∙ here)) in
             let same : r ≡ q = cc in
             subst HasNoWitness same no_one
         by k q at (inr n) =
             absurd (let z = sym (stay e k ∙ (between.settled e home r here).others k n) ∙ at in cc)
 
-    record Unseeing (w : World) : Type 0 where
-      frame : IsInFrame f w
-      each : EachReal e HasNoWitness w
-
-    unseeing_more : (w : World) (x : Event) → Unseeing w → enabled node_has_work w x ≡ true → Unseeing (happens node_steps w x)
-    unseeing_more w x h on =
-        let o = occurs node_has_work w x on in
-        record {
-          frame = frame_happens f w x o h.frame;
-          each =
-              each_happens HasNoWitness (λ a q same is. same ∙ is) f e w x o h.frame
-              (λ k n a q y z shown at wit wit2 sum is. absurd (let no = sym wit ∙ is in cc)) h.each;
-        }
-
-    module _ (v : World) (vs : List Event) (run : LeadsTo node_has_work node_steps start vs v) (k : ℕ) (q : RealView) (x : WitnessView)
-        (at : real_in ((entity_flow e v).slot k) ≡ Some q) (has : q.witness ≡ Some x) where
+    module _ (v : World) (vs : List Event) (run : RunsTo start vs v) (k : ℕ) (q : RealView) (x : WitnessView)
+        (at : real_at e v k ≡ Some q) (has : q.witness ≡ Some x) where
       calm : IsCalm f e home r u false v
       calm =
           calm_leads f between.frame u between e home r here false (looking.small f u between r) start v vs
@@ -166,9 +146,10 @@ module _ (f : Frame) (u : World) (between : IsBetweenRounds f u) (none : HoldsNo
       was_seeing (Some y) is = (y, is)
       was_seeing None is =
           let then =
-          leads_keeps node_has_work node_steps Unseeing unseeing_more start v vs
-          (record { frame = frame_start f u between none; each = unseeing_start is }) run in
-          absurd (let z = sym (then.each.cells k q at) ∙ has in cc)
+          run_keeps f (EachReal e HasNoWitness) (λ w y o q all. each_happens HasNoWitness (λ a q same is. same ∙ is) f e w y o q
+          (λ k n a q z z2 shown at wit wit2 sum is. absurd (let no = sym wit ∙ is in cc)) all) start v vs (frame_start f u between none) run
+          (unseeing_start is) in
+          absurd (let z = sym (then.cells k q at) ∙ has in cc)
 
       is_home : k ≡ home
       is_home = ((calm.nodes k).real q at).0
@@ -179,9 +160,8 @@ module _ (f : Frame) (u : World) (between : IsBetweenRounds f u) (none : HoldsNo
           let cell = in_cell u e home r here in
           subst (λ j. is_among (ws j) e ≡ true) (sym is_home) (among.witnesses home cell.0 cell.1 e r y.0 cell.2 y.1)
 
-  among_then : (v : World) (vs : List Event) (run : LeadsTo node_has_work node_steps start vs v) (k e : ℕ) (q : RealView)
-      (x : WitnessView) → real_in ((entity_flow e v).slot k) ≡ Some q → q.witness ≡ Some x → Somewhere e u ⊎ Nowhere e u →
-      is_among (ws k) e ≡ true
+  among_then : (v : World) (vs : List Event) (run : RunsTo start vs v) (k e : ℕ) (q : RealView) (x : WitnessView) → real_at e v k ≡ Some q →
+      q.witness ≡ Some x → Somewhere e u ⊎ Nowhere e u → is_among (ws k) e ≡ true
   among_then v vs run k e q x at has (inl p) = seeing_among e p.0 p.1 p.2 v vs run k q x at has
   among_then v vs run k e q x at has (inr n) = absurd (gone_by n)
     where

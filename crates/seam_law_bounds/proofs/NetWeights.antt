@@ -2,9 +2,9 @@
 use Rattle.std.proofs.Common.{◌≡◌, ℕ, ◌+◌, ◌≤◌, Bool, true, false, List, [], ◌∷◌, ◌++◌, length, Some, refl, ap, ◌∙◌, arith}
 use Rattle.std.proofs.lemmas.List.{length-append}
 use Rattle.std.specs.Prelude.{if◌then◌else◌}
-use Rattle.seam_node_steps.specs.Prelude.{input_from, happens, enabled, IsQuiet, LeadsTo, Occurs, Event, Input, Task, Msg, NodeView, World}
+use Rattle.seam_node_steps.specs.Prelude.{input_from, happens, enabled, IsQuiet, Occurs, Event, Input, Task, Msg, NodeView, World}
 use Rattle.seam_node_steps.specs.Prelude.{node_steps, node_has_work, Cell, Base, IsNode}
-use Rattle.seam_law_calls.specs.Prelude.{Frame, IsAt, IsInFrame}
+use Rattle.seam_law_calls.specs.Prelude.{Frame, IsAt, IsInFrame, RunsTo}
 use Rattle.seam_law_bounds.specs.Prelude.{Sizes, node_weight, letter_weight, world_weight, node_passes, passes_by, is_pass, NodeCan, AllCan}
 use Rattle.seam_law_bounds.specs.Prelude.{all_passes}
 use Rattle.seam_machine.proofs.Occurring.{occurs, occurs_works}
@@ -54,7 +54,7 @@ module _ (z : Sizes) where
   module _ (f : Frame) (w : World) (q : IsInFrame f w) (can : AllCan z w) where
     record Reached (v : World) : Type 0 where
       events : List Event
-      run : LeadsTo node_has_work node_steps w events v
+      run : RunsTo w events v
 
     lowers_more : (v : World) (x : Event) → Reached v → enabled node_has_work v x ≡ true →
         Reached (happens node_steps v x) × Lowers node_steps is_pass (world_weight z) v x
@@ -67,16 +67,14 @@ module _ (z : Sizes) where
           event_lowers f v x o (frame_leads f w v r.events q r.run) (can v r.events r.run x o) on,
         )
 
-    pub run_ends : (v : World) (es : List Event) → LeadsTo node_has_work node_steps w es v →
-        length es + world_weight z v ≤ world_weight z w + all_passes w es
+    pub run_ends : (v : World) (es : List Event) → RunsTo w es v → length es + world_weight z v ≤ world_weight z w + all_passes w es
     run_ends v es run =
         leads_end node_has_work node_steps is_pass (world_weight z) Reached lowers_more w v es
         (record { events = []; run = leads_nowhere node_has_work node_steps w }) run
 
 -- where no list of enabled events is longer than n, one of n leaves the world quiet
-pub longest_is_quiet : (w v : World) (es : List Event) (n : ℕ) →
-    ((u : World) (ds : List Event) → LeadsTo node_has_work node_steps w ds u → length ds ≤ n) →
-    LeadsTo node_has_work node_steps w es v → n ≤ length es → IsQuiet node_has_work v
+pub longest_is_quiet : (w v : World) (es : List Event) (n : ℕ) → ((u : World) (ds : List Event) → RunsTo w ds u → length ds ≤ n) →
+    RunsTo w es v → n ≤ length es → IsQuiet node_has_work v
 longest_is_quiet w v es n most run long x = by (enabled node_has_work v x) refl
   where
     by : (b : Bool) → enabled node_has_work v x ≡ b → b ≡ false

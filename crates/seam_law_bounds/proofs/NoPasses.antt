@@ -1,13 +1,13 @@
 -- Where no call comes to a cell, none is passed on.
 use Rattle.std.proofs.Common.{◌≡◌, ℕ, false, cond, List, [], ◌∷◌, Option, None, Some, refl, ap, arith}
 use Rattle.std.specs.Prelude.{slice_get}
-use Rattle.seam_node_steps.specs.Prelude.{link, input_from, happens, AllEnabled, LeadsTo, Event, Input, Task, From, Call as CallData, Msg}
-use Rattle.seam_node_steps.specs.Prelude.{CellView, NodeView, World}
-use Rattle.seam_node_steps.specs.Prelude.{node_steps, node_has_work, Cell, Base}
+use Rattle.seam_node_steps.specs.Prelude.{link, input_from, happens, AllEnabled, Event, Input, Task, From, Call as CallData, Msg, CellView}
+use Rattle.seam_node_steps.specs.Prelude.{NodeView, World, node_steps, node_has_work, Cell, Base}
 use Rattle.seam_law_bounds.specs.Prelude.{cell_passes, node_passes, passes_by, is_pass, all_passes}
 use Rattle.seam_net_runs.proofs.Runs.{leads_nowhere, leads_by_one, leads_join}
 use Rattle.seam_entity.specs.declared.message.Msg.TheVariants.{Call}
 use Rattle.seam_law_bounds.proofs.Cans.{fed_by}
+use Rattle.seam_law_calls.specs.Prelude.{RunsTo}
 
 message_passes : (c : CellView) (m : Msg) → ((k : CallData) → m ≡ Call k → ⊥) → cell_passes c m ≡ false
 message_passes c (Call k) never = absurd (never k refl)
@@ -35,8 +35,7 @@ module _ (v : World) (x : Event) (never : (a : ℕ) (c : CallData) (ms : List Ms
   no_pass_by = fed_passes (slice_get v.nodes x.node) (input_from v.rows x.node x.from) (not_fed x.from)
 
 -- where no event that can be reached passes one on, none is
-pub passes_none : (w : World) →
-    ((v : World) (ds : List Event) → LeadsTo node_has_work node_steps w ds v → (x : Event) → is_pass v x ≡ false) → (es : List Event) →
+pub passes_none : (w : World) → ((v : World) (ds : List Event) → RunsTo w ds v → (x : Event) → is_pass v x ≡ false) → (es : List Event) →
     AllEnabled node_has_work node_steps w es → all_passes w es ≡ 0
 passes_none w none [] on = refl
 passes_none w none (x ∷ es) on =

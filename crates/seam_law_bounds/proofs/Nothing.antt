@@ -2,10 +2,10 @@
 use Rattle.std.proofs.Common.{◌≡◌, ℕ, ◌⊎◌, List, [], length, Option, None, Some, refl, sym, ap, ◌∙◌, subst, arith, inl, inr}
 use Rattle.std.specs.FinMap as table
 use Rattle.std.proofs.lemmas.Bool.{cases_eq}
-use Rattle.seam_node_steps.specs.Prelude.{IsQuiet, LeadsTo, Event, Batch, order_or, RealView, WitnessView, holders, PartView, ProxyView}
-use Rattle.seam_node_steps.specs.Prelude.{World, node_steps, node_has_work, loaded, look_loaded}
+use Rattle.seam_node_steps.specs.Prelude.{IsQuiet, Event, Batch, order_or, RealView, WitnessView, holders, PartView, ProxyView, World}
+use Rattle.seam_node_steps.specs.Prelude.{node_has_work, loaded, look_loaded}
 use Rattle.seam_law_flow.specs.Prelude.{slot_at, letters_of}
-use Rattle.seam_law_calls.specs.Prelude.{Frame, mine, has_of, has_none, entity_flow, real_in, home_of}
+use Rattle.seam_law_calls.specs.Prelude.{Frame, mine, has_of, has_none, entity_flow, home_of, RunsTo, real_at}
 use Rattle.seam_law_rounds.specs.Prelude.{framed, IsBetweenRounds, HasPartsBetweenRounds, HasSmallNumbers, MayBeLoaded, AreFor}
 use Rattle.seam_law_bounds.specs.Prelude.{proxy_weight, part_weight, HoldsNothing}
 use Rattle.seam_net_runs.specs.Sums.{weight_or}
@@ -33,7 +33,7 @@ client_none (Some w) (Some x) version h = ap length h.none_held
 
 module _ (f : Frame) (v : World) (parts : HasPartsBetweenRounds f v) where
   -- the part of an entity that is there holds nothing
-  there_none : (e k : ℕ) (r : RealView) → real_in ((entity_flow e v).slot k) ≡ Some r → (j : ℕ) (p : PartView) →
+  there_none : (e k : ℕ) (r : RealView) → real_at e v k ≡ Some r → (j : ℕ) (p : PartView) →
       ((entity_flow e v).slot j).base.part ≡ Some p → part_weight p ≡ 0
   there_none e k r at j p has = elim (cases_eq j (home_of f e)) [
     | inl is ↦
@@ -66,12 +66,12 @@ module _ (f : Frame) (v : World) (between : IsBetweenRounds f v) where
 -- ---- after a round's calls
 
 module _ (f : Frame) (w : World) (b : Batch) (may : MayBeLoaded f w b) (none : HoldsNothing w) (v : World) (es : List Event)
-    (run : LeadsTo node_has_work node_steps (loaded w b) es v) (quiet : IsQuiet node_has_work v) where
+    (run : RunsTo (loaded w b) es v) (quiet : IsQuiet node_has_work v) where
   calls_gone : (e : ℕ) → Nowhere e v → Somewhere e (loaded w b) ⊎ Nowhere e (loaded w b) → (k : ℕ) →
       HoldsNone ((entity_flow e v).slot k).base
   calls_gone e n (inl p) k =
-      absurd (not_nowhere (framed f b) v (calls_end_between f w b may.between may.fits v es run quiet) e
-      (one_after f w b may.between may.fits e p.0 p.1 p.2 v es run) n)
+      absurd (not_nowhere (framed f b) v (calls_end_between f w b may.begin v es run quiet) e
+      (one_after f w b may.begin e p.0 p.1 p.2 v es run) n)
   calls_gone e n (inr m) k = (idle_then f w b may none v es run e m).parts k
 
   pub calls_end_nothing : HoldsNothing v
@@ -81,14 +81,13 @@ module _ (f : Frame) (w : World) (b : Batch) (may : MayBeLoaded f w b) (none : H
 -- ---- after looks
 
 pub idle_in_looks : (f : Frame) (u : World) (between : IsBetweenRounds f u) → HoldsNothing u → (vs : List Event) (v : World) →
-    LeadsTo node_has_work node_steps (look_loaded u) vs v → (e : ℕ) → Nowhere e u → IsIdle f e v
+    RunsTo (look_loaded u) vs v → (e : ℕ) → Nowhere e u → IsIdle f e v
 idle_in_looks f u between none vs v run e n =
     idle_leads f e (look_loaded u) v vs
     (record { unknown = unknown_look f u between e n; parts = parts_none IsTickOrder (look_loaded u) (plain_start f u between none) e }) run
 
 module _ (f : Frame) (u : World) (between : IsBetweenRounds f u) (parts : HasPartsBetweenRounds f u) (small : HasSmallNumbers f u)
-    (none : HoldsNothing u) (vs : List Event) (v : World) (run : LeadsTo node_has_work node_steps (look_loaded u) vs v)
-    (quiet : IsQuiet node_has_work v) where
+    (none : HoldsNothing u) (vs : List Event) (v : World) (run : RunsTo (look_loaded u) vs v) (quiet : IsQuiet node_has_work v) where
   still : (e x y : ℕ) → (entity_flow e u).mail x y ≡ []
   still e x y = ap (letters_of (mine e)) (quiet_links node_has_work u between.nodes.sound.square between.quiet x y)
 

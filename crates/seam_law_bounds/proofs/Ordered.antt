@@ -3,18 +3,18 @@ use Rattle.std.proofs.Common.{◌≡◌, ℕ, Bool, true, false, List, [], ◌�
 use Rattle.std.specs.Prelude.{not}
 use Rattle.std.specs.List.{AllByRecursion}
 use Rattle.std.specs.FinMap as table
-use Rattle.seam_node_steps.specs.Prelude.{Stepped, LeadsTo, EachNode, Event, Input, Task, From, Call as CallData, Order, Msg, BaseCall}
-use Rattle.seam_node_steps.specs.Prelude.{Current, Update, BaseView, PartView, ProxyView, RouteView}
-use Rattle.seam_node_steps.specs.Prelude.{part_called, base_order, is_base_node_of, order_of_node, stray_order, ready_part, ready_proxy}
-use Rattle.seam_node_steps.specs.Prelude.{proxy_task, task_without_orders, base_task, newer_route, current, updated_proxy, update, case_of}
-use Rattle.seam_node_steps.specs.Prelude.{base_steps, may_show, NodeView, World, node_steps, node_has_work, Cell, Base}
+use Rattle.seam_node_steps.specs.Prelude.{Stepped, EachNode, Event, Input, Task, From, Call as CallData, Order, Msg, BaseCall, Current}
+use Rattle.seam_node_steps.specs.Prelude.{Update, BaseView, PartView, ProxyView, RouteView, part_called, base_order, is_base_node_of}
+use Rattle.seam_node_steps.specs.Prelude.{order_of_node, stray_order, ready_part, ready_proxy, proxy_task, task_without_orders, base_task}
+use Rattle.seam_node_steps.specs.Prelude.{newer_route, current, updated_proxy, update, case_of, base_steps, may_show, NodeView, World}
+use Rattle.seam_node_steps.specs.Prelude.{node_steps, node_has_work, Cell, Base}
 use Rattle.seam_machine.proofs.Occurring.{occurs}
 use Rattle.seam_net_runs.proofs.Keeping.{each_node}
 use Rattle.seam_net_runs.proofs.Runs.{leads_keeps}
 use Rattle.seam_call.specs.declared.order.Order.TheVariants as order
 use Rattle.seam_call.specs.declared.shown.Update.{Update as UpdateData}
-use Rattle.seam_node_steps.specs.BaseCases.{unless_stray}
-use Rattle.seam_node_steps.specs.BaseCases.{is_stray, may_execute}
+use Rattle.seam_node_steps.specs.BaseCases.{unless_stray, is_stray, may_execute}
+use Rattle.seam_law_calls.specs.Prelude.{RunsTo}
 
 -- ---- a step keeps the orders, or takes the first
 
@@ -58,10 +58,8 @@ module _ (Ok : Order → Type 0) where
   order_ok false b k h = h
 
   node_order_ok : (b : BaseView) (o : Order) → AllOk b.orders → AllOk (order_of_node b o).state.orders
-  node_order_ok b (order.Cell k) h = h
   node_order_ok b (order.Base k) h = order_ok (is_base_node_of b.here k.entity) b k h
-  node_order_ok b order.Tick h = h
-  node_order_ok b (order.Reap e) h = h
+  node_order_ok b _ h = h
 
   proxy_ok : (b : BaseView) (o : Option (ℕ × PartView)) → AllOk b.orders → AllOk (proxy_task b o).state.orders
   proxy_ok b None h = h
@@ -90,7 +88,7 @@ module _ (Ok : Order → Type 0) where
 
   -- every list of events
   pub orders_lead : (w v : World) (es : List Event) → EachNode (λ k s. OrdersAre s) w.nodes →
-      LeadsTo node_has_work node_steps w es v → EachNode (λ k s. OrdersAre s) v.nodes
+      RunsTo w es v → EachNode (λ k s. OrdersAre s) v.nodes
   orders_lead w v es h run =
       leads_keeps node_has_work node_steps (λ x. EachNode (λ k s. OrdersAre s) x.nodes)
       (λ x a each on.

@@ -1,14 +1,13 @@
 -- The calls that are passed on, order by order.
-use Rattle.std.proofs.Common.{◌≡◌, ℕ, ◌+◌, ◌*◌, ◌≤◌, ◌⊎◌, Bool, true, false, cond, eqb, List, [], ◌∷◌, Option, None, Some, refl}
-use Rattle.std.proofs.Common.{ap, ◌∙◌, arith, inl, inr}
+use Rattle.std.proofs.Common.{◌≡◌, ℕ, ◌+◌, ◌*◌, ◌≤◌, ◌⊎◌, Bool, true, false, cond, eqb, List, [], ◌∷◌, Option, None, Some, refl, ap, ◌∙◌}
+use Rattle.std.proofs.Common.{arith, inl, inr}
 use Rattle.std.specs.Prelude.{slice_get}
 use Rattle.std.specs.List.{AllByRecursion}
 use Rattle.std.proofs.lemmas.Bool.{eq-eqb}
-use Rattle.seam_node_steps.specs.Prelude.{link, input_from, happens, AllEnabled, LeadsTo, total, Event, Input, From, Call as CallData}
-use Rattle.seam_node_steps.specs.Prelude.{Order, rank_of, Msg, CellView}
-use Rattle.seam_node_steps.specs.Prelude.{slot_of, NodeView, World, node_steps, node_has_work, Cell, Base}
+use Rattle.seam_node_steps.specs.Prelude.{link, input_from, happens, AllEnabled, total, Event, Input, From, Call as CallData, Order}
+use Rattle.seam_node_steps.specs.Prelude.{rank_of, Msg, CellView, slot_of, NodeView, World, node_steps, node_has_work, Cell, Base}
 use Rattle.seam_law_flow.specs.Prelude.{slot_at}
-use Rattle.seam_law_calls.specs.Prelude.{has_of, has_none, entity_flow}
+use Rattle.seam_law_calls.specs.Prelude.{has_of, has_none, entity_flow, RunsTo}
 use Rattle.seam_law_bounds.specs.Prelude.{brings_call, was_left, passes_on, passes, is_left, passes_by, is_pass, all_passes, one_if_cell}
 use Rattle.seam_net_runs.proofs.Runs.{leads_nowhere, leads_by_one, leads_join}
 use Rattle.seam_call.specs.declared.order.Order.TheVariants as order
@@ -24,16 +23,12 @@ IsIn (o ∷ os) c = (o.1 ≡ order.Cell c) ⊎ IsIn os c
 -- 1 where the event passes on the call that the order is
 abbrev pub passed_now : World → Event → Order → ℕ
 passed_now v x (order.Cell c) = cond {A = ℕ} (passes_on c.entity (rank_of c.sender) c.number v x) 1 0
-passed_now v x (order.Base c) = 0
-passed_now v x order.Tick = 0
-passed_now v x (order.Reap e) = 0
+passed_now v x _ = 0
 
 -- how often the events do
 abbrev pub passed_in : World → List Event → Order → ℕ
 passed_in w es (order.Cell c) = passes c.entity (rank_of c.sender) c.number w es
-passed_in w es (order.Base c) = 0
-passed_in w es order.Tick = 0
-passed_in w es (order.Reap e) = 0
+passed_in w es _ = 0
 
 -- ---- sums
 
@@ -70,8 +65,7 @@ module _ (v : World) (x : Event) where
       omega (arith, a, b)
   in_counts (o ∷ os) c (inr h) on = let rest = in_counts os c h on in omega (arith, rest)
 
-  module _ (os : List (ℕ × Order))
-      (calls : (a : ℕ) (c : CallData) (ms : List Msg) → link v.rows a x.node ≡ Call c ∷ ms → IsIn os c) where
+  module _ (os : List (ℕ × Order)) (calls : (a : ℕ) (c : CallData) (ms : List Msg) → link v.rows a x.node ≡ Call c ∷ ms → IsIn os c) where
     abbrev Counts : Type 0
     Counts = 1 ≤ total (λ o. passed_now v x o.1) os
 
@@ -118,8 +112,7 @@ one_more w x es (order.Cell c) = omega arith
 one_more w x es _ = omega arith
 
 pub passes_are_ordered : (os : List (ℕ × Order)) (w : World) →
-    ((v : World) (ds : List Event) → LeadsTo node_has_work node_steps w ds v → (a k : ℕ) (c : CallData) (ms : List Msg) →
-    link v.rows a k ≡ Call c ∷ ms → IsIn os c) →
+    ((v : World) (ds : List Event) → RunsTo w ds v → (a k : ℕ) (c : CallData) (ms : List Msg) → link v.rows a k ≡ Call c ∷ ms → IsIn os c) →
     (es : List Event) → AllEnabled node_has_work node_steps w es → all_passes w es ≤ total (λ o. passed_in w es o.1) os
 passes_are_ordered os w calls [] on = omega arith
 passes_are_ordered os w calls (x ∷ es) on =

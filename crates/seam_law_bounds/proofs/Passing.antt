@@ -48,18 +48,10 @@ module _ (s n : ℕ) where
   -- the input that brings the call brings it to the entity's flow
   brought : (e : ℕ) (i : Input Msg) → brings_call e s n (Some i) ≡ true →
       (c : CallData) × (is_numbered s n (Call c) ≡ true) × (letter_in (mine e) i ≡ Some (Call c))
-  brought e Task h = cc
   brought e (From a (Call c)) h =
       let p = both (is_to e (Call c)) (is_numbered s n (Call c)) h in
       (c, p.1, ap (λ b. kept_if b (Call c)) p.0)
-  brought e (From a (BaseCall c)) h = cc
-  brought e (From a (Hand r)) h = cc
-  brought e (From a (Current x j g)) h = cc
-  brought e (From a (GhostSet x b c)) h = cc
-  brought e (From a (GhostDrop x b)) h = cc
-  brought e (From a Tick) h = cc
-  brought e (From a (Reap x)) h = cc
-  brought e (From a (Update u)) h = cc
+  brought e _ h = cc
 
 left_of : (r : Option RealView) (q : Option NextPlace) → (is_none r && is_some q) ≡ true → (r ≡ None) × (y : NextPlace) × (q ≡ Some y)
 left_of None (Some q) h = (refl, q, refl)
@@ -120,8 +112,7 @@ module _ (f : Frame) (frame : IsFrame f) (e ty : ℕ) (known : ty < length f.def
         follows = subst (λ x. FollowsFrom x v) same (λ x y. there alone x y (cases_eq x k) (cases_eq y j));
       }
     where
-      last_by : ComesTo (entity_flow e v) k j m →
-          (m ≤ rank_of ((entity_flow e v).slot j)) ⊎ (has_hand_from m l ≡ true)
+      last_by : ComesTo (entity_flow e v) k j m → (m ≤ rank_of ((entity_flow e v).slot j)) ⊎ (has_hand_from m l ≡ true)
       last_by (inl a) = inl a
       last_by (inr a) = inr (has_before m l c (sym (ap (has_hand_from m) at) ∙ a))
 

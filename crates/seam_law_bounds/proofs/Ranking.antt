@@ -1,14 +1,13 @@
 -- No event lowers a rank, and each next place has a higher one.
-use Rattle.std.proofs.Common.{◌≡◌, ℕ, ◌+◌, ◌-◌, ◌<◌, ◌≤◌, ◌⊎◌, Bool, true, false, cond, ◌||◌, nat_le, List, [], ◌∷◌, ◌++◌, length}
-use Rattle.std.proofs.Common.{Option, None, Some}
-use Rattle.std.proofs.Common.{refl, sym, ap, ◌∙◌, subst, arith, inl, inr}
+use Rattle.std.proofs.Common.{◌≡◌, ℕ, ◌+◌, ◌-◌, ◌<◌, ◌≤◌, ◌⊎◌, Bool, true, false, cond, ◌||◌, nat_le, List, [], ◌∷◌, ◌++◌, length, Option}
+use Rattle.std.proofs.Common.{None, Some, refl, sym, ap, ◌∙◌, subst, arith, inl, inr}
 use Rattle.std.specs.Prelude.{option_map}
 use Rattle.std.proofs.lemmas.Bool.{cases_eq}
 use Rattle.std.proofs.lemmas.Bool.Decides.{nat_tests}
-use Rattle.seam_node_steps.specs.Prelude.{happens, enabled, LeadsTo, items_to, Event, RealView, Msg, Hand}
-use Rattle.seam_node_steps.specs.Prelude.{NextPlace, World, node_steps, node_has_work}
+use Rattle.seam_node_steps.specs.Prelude.{happens, enabled, items_to, Event, RealView, Msg, Hand, NextPlace, World, node_steps}
+use Rattle.seam_node_steps.specs.Prelude.{node_has_work}
 use Rattle.seam_law_flow.specs.Prelude.{Flow, Goes, comes, carried_in, TokenPlace, In, On}
-use Rattle.seam_law_calls.specs.Prelude.{Frame, Has, entity_flow, MovesTo, real_in, real_of, IsSpared, IsFrame, HasOne}
+use Rattle.seam_law_calls.specs.Prelude.{Frame, Has, entity_flow, MovesTo, real_in, real_of, IsSpared, IsFrame, HasOne, RunsTo}
 use Rattle.seam_law_bounds.specs.Prelude.{rank_of, is_hand_from, has_hand_from, ComesTo, AreRanked, is_handed_over, Climbs}
 use Rattle.seam_machine.proofs.Occurring.{occurs}
 use Rattle.seam_machine.proofs.SendLemmas.{items_to-append}
@@ -134,8 +133,7 @@ module _ (f : Frame) (e : ℕ) (w v : World)
 
   not_less : (x : RoadsOf) → h.real.generation ≤ top x
   not_less (plain no_hand gen next silent) = omega arith
-  not_less (arrives r is low free at next z) = omega arith
-  not_less (departs r q j first no_hand was gone gen next silent z) = omega arith
+  not_less _ = omega arith
 
   own_high : (x : RoadsOf) → rank_of (after.slot g.k) ≤ top x
   own_high (plain no_hand gen next silent) =
@@ -279,8 +277,7 @@ module _ (f : Frame) (e : ℕ) (w v : World)
     (room : (r : RealView) → comes g.input ≡ Some (Hand r) → FindsRoom f g.k ((entity_flow e w).slot g.k) r) (h : IsRouted f e w)
     (a : AreRanked (entity_flow e w) h.real.generation) where
   pub handed_by : (x : Roads f e g.k ((entity_flow e w).slot g.k) (comes g.input) ((entity_flow e v).slot g.k) g.moves.0.sent) →
-      grown f e w v g room h x
-      ≡ h.real.generation + cond {A = ℕ} (is_handed_over h.place (place_then f e w v g room h x)) 1 0
+      grown f e w v g room h x ≡ h.real.generation + cond {A = ℕ} (is_handed_over h.place (place_then f e w v g room h x)) 1 0
   handed_by (plain no_hand gen next silent) = same_place h.place h.real.generation
   handed_by (arrives r is low free at next z) =
       let from = sole_came real_in real_of g h.place h.real r h.one (ap (carried_in real_of) is) in
@@ -349,5 +346,5 @@ module _ (f : Frame) (frame : IsFrame f) (e ty : ℕ) (known : ty < length f.def
   ranked_more : (w : World) (v : Event) → Ranked w → enabled node_has_work w v ≡ true → Ranked (happens node_steps w v)
   ranked_more w v h on = (raises w v h on).after
 
-  pub ranked_leads : (w v : World) (es : List Event) → Ranked w → LeadsTo node_has_work node_steps w es v → Ranked v
+  pub ranked_leads : (w v : World) (es : List Event) → Ranked w → RunsTo w es v → Ranked v
   ranked_leads w v es h run = leads_keeps node_has_work node_steps Ranked ranked_more w v es h run

@@ -1,16 +1,16 @@
 -- The phase of reaps ends.
-use Rattle.std.proofs.Common.{◌≡◌, ℕ, ◌+◌, ◌*◌, ◌<◌, ◌≤◌, Bool, true, false, eqb, List, [], ◌∷◌, length, Option, None, Some, refl}
-use Rattle.std.proofs.Common.{not, sym, ap, ◌∙◌, subst, arith, inl}
+use Rattle.std.proofs.Common.{◌≡◌, ℕ, ◌+◌, ◌*◌, ◌<◌, ◌≤◌, Bool, true, false, eqb, List, [], ◌∷◌, length, Option, None, Some, refl, not, sym}
+use Rattle.std.proofs.Common.{ap, ◌∙◌, subst, arith, inl}
 use Rattle.std.specs.Prelude.{is_none, slice_get}
 use Rattle.std.specs.List.{AllByRecursion}
 use Rattle.std.specs.FinMap as table
 use Rattle.std.proofs.lemmas.List.{length-map}
 use Rattle.std.proofs.lemmas.Option.{slice_get-map, slice_get_within}
-use Rattle.seam_node_steps.specs.Prelude.{link, LeadsTo, Occurs, EachNode, Event, Call as CallData, Order, RealView, has_ready, may_execute}
+use Rattle.seam_node_steps.specs.Prelude.{link, Occurs, EachNode, Event, Call as CallData, Order, RealView, has_ready, may_execute}
 use Rattle.seam_node_steps.specs.Prelude.{cell_count, base_of, Msg, holders, CellView, BaseView, PartView, RouteView, stray_order, NodeView}
-use Rattle.seam_node_steps.specs.Prelude.{World, node_steps, node_has_work, Cell, Base, order_if, with_nodes, reap_ordered_at, reaps_loaded}
+use Rattle.seam_node_steps.specs.Prelude.{World, node_has_work, Cell, Base, order_if, with_nodes, reap_ordered_at, reaps_loaded}
 use Rattle.seam_law_flow.specs.Prelude.{slot_at}
-use Rattle.seam_law_calls.specs.Prelude.{Frame, IsInFrame, has_of, has_none, entity_flow, base_call_of, is_tick_order}
+use Rattle.seam_law_calls.specs.Prelude.{Frame, IsInFrame, has_of, has_none, entity_flow, base_call_of, is_tick_order, RunsTo}
 use Rattle.seam_law_rounds.specs.Prelude.{IsBetweenRounds, each, AreReapable}
 use Rattle.seam_law_bounds.specs.Prelude.{Sizes, part_weight, BaseCan, NodeCan, is_pass, all_passes, HoldsNothing}
 use Rattle.seam_machine.proofs.Quiet.{quiet_tasks}
@@ -43,22 +43,16 @@ no_sizes = record { bases = 0; lines = 0; witnesses = λ k. 0 }
 
 -- an order to reap an entity that was there
 abbrev IsReap : World → Order → Type 0
-IsReap u (order.Cell c) = ⊥
-IsReap u (order.Base c) = ⊥
-IsReap u order.Tick = ⊥
 IsReap u (order.Reap e) = holders u e ≡ 1
+IsReap u _ = ⊥
 
 no_tick : (u : World) (o : Order) → IsReap u o → is_tick_order o ≡ false
-no_tick u (order.Cell c) h = refl
-no_tick u (order.Base c) h = refl
 no_tick u order.Tick h = absurd h
-no_tick u (order.Reap e) h = refl
+no_tick u _ h = refl
 
 no_call : (u : World) (o : Order) → IsReap u o → base_call_of o ≡ None
-no_call u (order.Cell c) h = refl
 no_call u (order.Base c) h = absurd h
-no_call u order.Tick h = refl
-no_call u (order.Reap e) h = refl
+no_call u _ h = refl
 
 -- ---- what nodes have once reaps are loaded
 
@@ -125,7 +119,7 @@ module _ (f : Frame) (u : World) (between : IsBetweenRounds f u) (none : HoldsNo
 
   -- ---- over every list of events
 
-  module _ (vs : List Event) (v : World) (run : LeadsTo node_has_work node_steps start vs v) where
+  module _ (vs : List Event) (v : World) (run : RunsTo start vs v) where
     frame_then : IsInFrame f v
     frame_then = frame_leads f start v vs frame_loaded run
 
@@ -216,10 +210,10 @@ module _ (f : Frame) (u : World) (between : IsBetweenRounds f u) (none : HoldsNo
     pub no_pass : (x : Event) → is_pass v x ≡ false
     no_pass x = no_pass_by v x (λ a c ms at. no_call_comes a x.node c ms at)
 
-  none_passed : (vs : List Event) (v : World) → LeadsTo node_has_work node_steps start vs v → all_passes start vs ≡ 0
+  none_passed : (vs : List Event) (v : World) → RunsTo start vs v → all_passes start vs ≡ 0
   none_passed vs v run = passes_none start (λ x ds on. no_pass ds x on) vs run.each
 
-  pub reaps_end : (vs : List Event) (v : World) → LeadsTo node_has_work node_steps start vs v → length vs ≤ 18 * length es
+  pub reaps_end : (vs : List Event) (v : World) → RunsTo start vs v → length vs ≤ 18 * length es
   reaps_end vs v run =
       let z : Sizes = record { bases = f.settings.bases; lines = 0; witnesses = λ k. 0 } in
       let few = run_ends z f start frame_loaded (λ x ds on. can_then ds x on z (omega arith)) v vs run in

@@ -6,7 +6,7 @@ use Rattle.std.specs.FinMap as table
 use Rattle.std.proofs.Math.Nat.{mul-le-mul_left}
 use Rattle.seam_node_steps.specs.Prelude.{Batch, RealView, WitnessView, CellView, loaded, World, Cell}
 use Rattle.seam_law_flow.specs.Prelude.{slot_at, letters_of}
-use Rattle.seam_law_calls.specs.Prelude.{Frame, has_of, has_none, entity_flow, real_in, real_of, sent_of, sent_by, HasToldAtMost}
+use Rattle.seam_law_calls.specs.Prelude.{Frame, has_of, has_none, real_in, real_of, sent_of, sent_by, HasToldAtMost, real_at}
 use Rattle.seam_law_rounds.specs.Prelude.{framed, numbers_of, MayBeLoaded}
 use Rattle.seam_law_ghosts.specs.Prelude.{AreCopiesBetweenRounds, GoesThroughRound, WasThere}
 use Rattle.seam_law_clients.specs.Prelude.{having_looked, looked_by}
@@ -46,27 +46,26 @@ module _ (f : Frame) (w : World) (b : Batch) (may : MayBeLoaded f w b) where
   module _ (copies : AreCopiesBetweenRounds f w) (v : World) (round : GoesThroughRound w b v) where
     -- ---- the numbers of reals
 
-    calls_by : (n : ℕ) → AreAtMost numbers_of n w → (e k : ℕ) (q : RealView) → real_in ((entity_flow e round.called).slot k) ≡ Some q →
+    calls_by : (n : ℕ) → AreAtMost numbers_of n w → (e k : ℕ) (q : RealView) → real_at e round.called k ≡ Some q →
         Somewhere e start ⊎ Nowhere e start → numbers_of q ≤ n + (3 * length b.orders + 2)
     calls_by n low e k q at (inl p) =
         let first = numbers_loaded n low e p.0 p.1 p.2 in
-        let loaded = real_loaded f w b may.between may.fits e p.0 p.1 p.2 in
+        let loaded = real_loaded f w b may.begin e p.0 p.1 p.2 in
         let none = no_held p.1.orders loaded.settled.none_held in
-        let load = weighs f w b may.between may.fits e p.0 p.1 loaded in
-        let less = burden_leads g e start round.called round.call_events (in_frame f w b may.between may.fits) round.calls in
+        let load = weighs f w b may.begin e p.0 p.1 loaded in
+        let less = burden_leads g e start round.called round.call_events (in_frame f w b may.begin) round.calls in
         let its = real_room e round.called k q at in
         omega (arith, first, none, load, less, its)
     calls_by n low e k q at (inr none) =
-        let gone = gone_leads g (frame_loaded f w b may.between may.fits) e start round.called round.call_events
-        (in_frame f w b may.between may.fits)
-        (record { slots = none; mail = λ x y. ap (letters_of real_of) (no_mail f w b may.between may.fits e x y) }) round.calls in
+        let gone = gone_leads g (frame_loaded f w b may.begin) e start round.called round.call_events
+        (in_frame f w b may.begin)
+        (record { slots = none; mail = λ x y. ap (letters_of real_of) (no_mail f w b may.begin e x y) }) round.calls in
         absurd (let z = sym (gone.slots k) ∙ at in cc)
 
     -- a real of the end, as the calls left it
-    before_looks : ((e k : ℕ) (q : RealView) → real_in ((entity_flow e v).slot k) ≡ Some q → WasThere e k q round.reaped) → (e k : ℕ)
-        (q : RealView) → real_in ((entity_flow e v).slot k) ≡ Some q →
-        (r : RealView) × (real_in ((entity_flow e round.reaped).slot k) ≡ Some r)
-        × (real_in ((entity_flow e round.called).slot k) ≡ Some r) × (numbers_of q ≡ numbers_of r)
+    before_looks : ((e k : ℕ) (q : RealView) → real_at e v k ≡ Some q → WasThere e k q round.reaped) → (e k : ℕ) (q : RealView) →
+        real_at e v k ≡ Some q → (r : RealView) × (real_at e round.reaped k ≡ Some r) × (real_at e round.called k ≡ Some r) ×
+        (numbers_of q ≡ numbers_of r)
     before_looks leave e k q at =
         let was = leave e k q at in (
           was.real,
@@ -76,7 +75,7 @@ module _ (f : Frame) (w : World) (b : Batch) (may : MayBeLoaded f w b) where
           ap numbers_of was.same,
         )
 
-    pub numbers_most : ((e k : ℕ) (q : RealView) → real_in ((entity_flow e v).slot k) ≡ Some q → WasThere e k q round.reaped) → (n : ℕ) →
+    pub numbers_most : ((e k : ℕ) (q : RealView) → real_at e v k ≡ Some q → WasThere e k q round.reaped) → (n : ℕ) →
         AreAtMost numbers_of n w → AreAtMost numbers_of (n + (3 * length b.orders + 2)) v
     numbers_most leave n low e k q at =
         let was = before_looks leave e k q at in
@@ -97,20 +96,19 @@ module _ (f : Frame) (w : World) (b : Batch) (may : MayBeLoaded f w b) where
           cells = λ k r at. told_loaded n low e k r at;
           hands = λ a k.
               subst (AllByRecursion (λ m. (r : RealView) → real_of m ≡ Some r → sent_by r ≤ n))
-              (sym (no_mail f w b may.between may.fits e a k)) tt;
+              (sym (no_mail f w b may.begin e a k)) tt;
         }
 
-        told_called : (k : ℕ) (q : RealView) → real_in ((entity_flow e round.called).slot k) ≡ Some q →
-            sent_by q ≤ n + lines * (16 * length b.orders)
+        told_called : (k : ℕ) (q : RealView) → real_at e round.called k ≡ Some q → sent_by q ≤ n + lines * (16 * length b.orders)
         told_called k q at =
-            let all = (tells_at_most g may.fits.tree.cells_to us ws few start among e n (in_frame f w b may.between may.fits) told_first
+            let all = (tells_at_most g may.begin.fits.tree.cells_to us ws few start among e n (in_frame f w b may.begin) told_first
             round.called round.call_events round.calls).cells k q at in
-            let left = mul-le-mul_left lines (looks_loaded f w b may.between may.fits may.parts may.brings e) in
+            let left = mul-le-mul_left lines (looks_loaded f w b may.begin may.parts may.brings e) in
             omega (arith, all, left)
 
         -- one look more
         told_looked : (k : ℕ) (r : RealView) (cell : CellView) → slice_get round.reaped.nodes k ≡ Some (Cell cell) →
-            real_in ((entity_flow e round.reaped).slot k) ≡ Some r → table.get cell.reals e ≡ Some r → (o : Option WitnessView) →
+            real_at e round.reaped k ≡ Some r → table.get cell.reals e ≡ Some r → (o : Option WitnessView) →
             r.witness ≡ o → sent_by (having_looked cell e r) ≤ sent_by r + lines
         told_looked k r cell node at here None none =
             let now = ap (λ o. sent_by (looked_by cell e r o)) none in omega (arith, now)
@@ -120,10 +118,10 @@ module _ (f : Frame) (w : World) (b : Batch) (may : MayBeLoaded f w b) where
             let was = ap sent_of has in
             omega (arith, now, was, few_lines)
 
-        pub told_end : (leave : (e k : ℕ) (q : RealView) → real_in ((entity_flow e v).slot k) ≡ Some q → WasThere e k q round.reaped)
-            (looked : (e k : ℕ) (r : RealView) → real_in ((entity_flow e round.reaped).slot k) ≡ Some r → (cell : CellView) →
-            slice_get round.reaped.nodes k ≡ Some (Cell cell) → real_in ((entity_flow e v).slot k) ≡ Some (having_looked cell e r))
-            (k : ℕ) (q : RealView) → real_in ((entity_flow e v).slot k) ≡ Some q → sent_by q ≤ n + lines * (16 * length b.orders + 1)
+        pub told_end : (leave : (e k : ℕ) (q : RealView) → real_at e v k ≡ Some q → WasThere e k q round.reaped)
+            (looked : (e k : ℕ) (r : RealView) → real_at e round.reaped k ≡ Some r → (cell : CellView) →
+            slice_get round.reaped.nodes k ≡ Some (Cell cell) → real_at e v k ≡ Some (having_looked cell e r))
+            (k : ℕ) (q : RealView) → real_at e v k ≡ Some q → sent_by q ≤ n + lines * (16 * length b.orders + 1)
         told_end leave looked k q at =
             let was = before_looks leave e k q at in
             let cell = cell_at e k round.reaped was.0 (slice_get round.reaped.nodes k) refl was.1 in
@@ -136,5 +134,5 @@ module _ (f : Frame) (w : World) (b : Batch) (may : MayBeLoaded f w b) where
             omega (arith, look, first, is, split)
           where
             cell_has : (cell : CellView) (k : ℕ) (r : RealView) → slice_get round.reaped.nodes k ≡ Some (Cell cell) →
-                real_in ((entity_flow e round.reaped).slot k) ≡ Some r → table.get cell.reals e ≡ Some r
+                real_at e round.reaped k ≡ Some r → table.get cell.reals e ≡ Some r
             cell_has cell k r node at = sym (ap (λ o. real_in (slot_at (has_of e) has_none o)) node) ∙ at

@@ -1,15 +1,15 @@
 -- How long a round is, where its nodes can do what they are to do.
-use Rattle.std.proofs.Common.{◌≡◌, ℕ, ◌+◌, ◌*◌, ◌≤◌, ◌⊎◌, Bool, true, false, List, [], ◌∷◌, length, Some, refl, sym, ap}
-use Rattle.std.proofs.Common.{◌∙◌, subst, arith, inl, inr}
+use Rattle.std.proofs.Common.{◌≡◌, ℕ, ◌+◌, ◌*◌, ◌≤◌, ◌⊎◌, Bool, true, false, List, [], ◌∷◌, length, Some, refl, sym, ap, ◌∙◌, subst, arith}
+use Rattle.std.proofs.Common.{inl, inr}
 use Rattle.std.specs.Prelude.{not, slice_get}
 use Rattle.std.specs.List.{AllByRecursion}
 use Rattle.std.specs.FinMap as table
 use Rattle.std.proofs.lemmas.Option.{slice_get-map}
-use Rattle.seam_node_steps.specs.Prelude.{link, LeadsTo, EachNode, Event, Call as CallData, Order, Batch, rank_of, RealView, has_ready}
-use Rattle.seam_node_steps.specs.Prelude.{may_execute, Msg, holders, CellView, BaseView, PartView, stray_order, NodeView, World, node_steps}
-use Rattle.seam_node_steps.specs.Prelude.{node_has_work, Cell, Base, loaded}
+use Rattle.seam_node_steps.specs.Prelude.{link, EachNode, Event, Call as CallData, Order, Batch, rank_of, RealView, has_ready, may_execute}
+use Rattle.seam_node_steps.specs.Prelude.{Msg, holders, CellView, BaseView, PartView, stray_order, NodeView, World, node_has_work, Cell}
+use Rattle.seam_node_steps.specs.Prelude.{Base, loaded}
 use Rattle.seam_law_flow.specs.Prelude.{slot_at}
-use Rattle.seam_law_calls.specs.Prelude.{Frame, IsInFrame, order_about, has_of, has_none, NoneIsStray}
+use Rattle.seam_law_calls.specs.Prelude.{Frame, IsInFrame, order_about, has_of, has_none, NoneIsStray, RunsTo}
 use Rattle.seam_law_rounds.specs.Prelude.{framed, node_loaded, MayBeLoaded}
 use Rattle.seam_law_bounds.specs.Prelude.{part_weight, Sizes, settle_weight, settling, order_weight, BaseCan, AllCan, all_passes}
 use Rattle.seam_law_bounds.specs.Prelude.{HoldsNothing, entities, one_if_cell, cell_orders, base_orders, tick_orders}
@@ -58,9 +58,7 @@ order_in os o = by o.1 (λ c is. inl is)
 
 order_later : (os : List (ℕ × Order)) (o : ℕ × Order) (x : Order) → OrderIs (IsIn os) x → OrderIs (IsIn (o ∷ os)) x
 order_later os o (order.Cell c) h = inr h
-order_later os o (order.Base c) h = tt
-order_later os o order.Tick h = tt
-order_later os o (order.Reap e) h = tt
+order_later os o _ h = tt
 
 orders_in : (os : List (ℕ × Order)) → AllByRecursion (λ o. OrderIs (IsIn os) o.1) os
 orders_in [] = tt
@@ -84,7 +82,7 @@ module _ (f : Frame) (w : World) (b : Batch) (may : MayBeLoaded f w b) (none : H
   Ok o = IsKnown o × OrderIs (IsIn b.orders) o
 
   orders_ok : AllByRecursion (λ o. Ok o.1) b.orders
-  orders_ok = both_all (λ o. IsKnown o.1) (λ o. OrderIs (IsIn b.orders) o.1) b.orders may.fits.known (orders_in b.orders)
+  orders_ok = both_all (λ o. IsKnown o.1) (λ o. OrderIs (IsIn b.orders) o.1) b.orders may.begin.fits.known (orders_in b.orders)
 
   -- what nodes have where each order is such
   pub plain_with : (Q : Order → Type 0) → AllByRecursion (λ o. Q o.1) b.orders → EachNode (λ k s. IsPlain Q s) start.nodes
@@ -92,7 +90,7 @@ module _ (f : Frame) (w : World) (b : Batch) (may : MayBeLoaded f w b) (none : H
       let was =
       node_there (slice_get w.nodes k) (node_loaded b) t
       (sym (slice_get-map (node_loaded b) w.nodes k) ∙ (sym (ap (λ v. slice_get v.nodes k) (loaded_is w b)) ∙ at)) in
-      subst (IsPlain Q) was.2 (loaded_plain Q b all was.0 (blank_at f w b may.between may.fits none k was.0 was.1))
+      subst (IsPlain Q) was.2 (loaded_plain Q b all was.0 (blank_at f w b may.begin none k was.0 was.1))
 
   plain_start : EachNode (λ k s. IsPlain Ok s) start.nodes
   plain_start = plain_with Ok orders_ok
@@ -105,27 +103,28 @@ module _ (f : Frame) (w : World) (b : Batch) (may : MayBeLoaded f w b) (none : H
   orders_start k s at = orders_of_plain s (plain_start k s at)
 
   pub frame_start : IsInFrame g start
-  frame_start = in_frame f w b may.between may.fits
+  frame_start = in_frame f w b may.begin
 
   pub empty_start : (x y : ℕ) → link start.rows x y ≡ []
   empty_start x y =
-      ap (λ v. link v.rows x y) (loaded_is w b) ∙ quiet_links node_has_work w may.between.nodes.sound.square may.between.quiet x y
+      ap (λ v. link v.rows x y) (loaded_is w b)
+      ∙ quiet_links node_has_work w may.begin.between.nodes.sound.square may.begin.between.quiet x y
 
   pub sole_start : (e : ℕ) → IsSoleReal e start
-  sole_start e k r at j other = (settled_loaded f w b may.between may.fits e k r at).others j other
+  sole_start e k r at j other = (settled_loaded f w b may.begin e k r at).others j other
 
-  module _ (v : World) (es : List Event) (run : LeadsTo node_has_work node_steps start es v) where
+  module _ (v : World) (es : List Event) (run : RunsTo start es v) where
     pub frame_then : IsInFrame g v
     frame_then = frame_leads g start v es frame_start run
 
     nowhere_none : (e : ℕ) → Nowhere e start → holders start e ≡ 0
-    nowhere_none e n = nobody f w b may.between may.fits v es run e n
+    nowhere_none e n = nobody f w b may.begin v es run e n
 
     pub idle_then : (e : ℕ) → Nowhere e start → IsIdle g e v
     idle_then e no_one =
         idle_leads g e start v es
         (record {
-          unknown = unknown_loaded f w b may.between may.fits e (nowhere_none e no_one);
+          unknown = unknown_loaded f w b may.begin e (nowhere_none e no_one);
           parts = parts_none Ok start plain_start e;
         }) run
 
@@ -169,7 +168,7 @@ module _ (f : Frame) (w : World) (b : Batch) (may : MayBeLoaded f w b) (none : H
     pub cell_then : (k : ℕ) (c : CellView) → slice_get v.nodes k ≡ Some (Cell c) → (e : ℕ) (r : RealView) → table.get c.reals e ≡ Some r →
         has_ready r.orders ≡ true → may_execute r ≡ true
     cell_then k c node e r at ready =
-        allowed (may_execute r) ((round_tasks f w b may.between may.fits v es run k c node).ready e r at ready)
+        allowed (may_execute r) ((round_tasks f w b may.begin v es run k c node).ready e r at ready)
 
     -- ---- calls that are passed on
 
@@ -186,38 +185,35 @@ module _ (f : Frame) (w : World) (b : Batch) (may : MayBeLoaded f w b) (none : H
   abbrev most : ℕ
   most = 1 + cell_orders b
 
-  module _ (v : World) (es : List Event) (run : LeadsTo node_has_work node_steps start es v) where
+  module _ (v : World) (es : List Event) (run : RunsTo start es v) where
     call_few : (c : CallData) → holders start c.entity ≡ 1 → Somewhere c.entity start ⊎ Nowhere c.entity start →
         passed_in start es (order.Cell c) ≤ 1 * most
     call_few c one (inr n) = let zero = nowhere_none v es run c.entity n in absurd (omega (arith, one, zero))
     call_few c one (inl p) =
-        let a = passed_few f w b may.between may.fits c.entity p.0 p.1 p.2 (rank_of c.sender) c.number v es run in
+        let a = passed_few f w b may.begin c.entity p.0 p.1 p.2 (rank_of c.sender) c.number v es run in
         let h =
-        hands_few c.entity g start es frame_start (spared_loaded f w b may.between may.fits c.entity p.0 p.1 p.2) run.each in
-        let l = left_few f w b may.between may.fits none c.entity p.0 p.1 p.2 in
+        hands_few c.entity g start es frame_start (spared_loaded f w b may.begin c.entity p.0 p.1 p.2) run.each in
+        let l = left_few f w b may.begin none c.entity p.0 p.1 p.2 in
         omega (arith, a, h, l)
 
     order_few : (o : Order) → IsKnown o → passed_in start es o ≤ one_if_cell o * most
     order_few (order.Cell c) known = call_few c (known c.entity refl) (search_real c.entity start)
-    order_few (order.Base c) known = omega arith
-    order_few order.Tick known = omega arith
-    order_few (order.Reap e) known = omega arith
+    order_few _ known = omega arith
 
     passes_few : all_passes start es ≤ cell_orders b * most
     passes_few =
         let each =
         all_weaker (λ o. IsKnown o.1) (λ o. passed_in start es o.1 ≤ one_if_cell o.1 * most) b.orders (λ o h. order_few o.1 h)
-        may.fits.known in
+        may.begin.fits.known in
         let few = cells_bound (passed_in start es) most b.orders each in
         let sum = passes_are_ordered b.orders start (λ u ds on a k c ms at. calls_then u ds on a k c ms at) es run.each in
         omega (arith, few, sum)
 
     -- the weight of the start, and the calls that are passed on
-    pub round_long : (z : Sizes) → AllCan z start →
-        length es ≤ entities start * settling z
-        + (cell_orders b * (3 + settle_weight z) + (3 * base_orders b + tick_orders b * order_weight z order.Tick)) + cell_orders b * most
+    pub round_long : (z : Sizes) → AllCan z start → length es ≤ entities start * settling z +
+        (cell_orders b * (3 + settle_weight z) + (3 * base_orders b + tick_orders b * order_weight z order.Tick)) + cell_orders b * most
     round_long z can =
         let long = run_ends z g start frame_start can v es run in
         let passed = passes_few in
-        let weighs = loaded_weighs f w b may.between may.fits none z in
+        let weighs = loaded_weighs f w b may.begin none z in
         omega (arith, long, passed, weighs)

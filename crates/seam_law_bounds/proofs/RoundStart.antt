@@ -1,6 +1,6 @@
 -- What a loaded world weighs, and how often its entities may yet settle.
-use Rattle.std.proofs.Common.{◌≡◌, ℕ, suc, ◌+◌, ◌*◌, ◌≤◌, ◌⊎◌, Bool, true, false, cond, eqb, List, [], ◌∷◌, ◌++◌, length, map}
-use Rattle.std.proofs.Common.{Option, None, Some, refl, sym, ap, ◌∙◌, subst, arith, inl, inr}
+use Rattle.std.proofs.Common.{◌≡◌, ℕ, suc, ◌+◌, ◌*◌, ◌≤◌, ◌⊎◌, Bool, true, false, cond, eqb, List, [], ◌∷◌, ◌++◌, length, map, Option, None}
+use Rattle.std.proofs.Common.{Some, refl, sym, ap, ◌∙◌, subst, arith, inl, inr}
 use Rattle.std.specs.Prelude.{option_map, slice_get}
 use Rattle.std.specs.List.{AllByRecursion}
 use Rattle.std.specs.FinMap as table
@@ -11,9 +11,9 @@ use Rattle.seam_node_steps.specs.Prelude.{link, EachNode, total, Order, Batch, R
 use Rattle.seam_node_steps.specs.Prelude.{CellView, BaseView, NodeView, World, node_has_work, Cell, Base, with_nodes, with_orders, order_if}
 use Rattle.seam_node_steps.specs.Prelude.{ordered_at, cell_begins, cell_round, loaded}
 use Rattle.seam_law_flow.specs.Prelude.{slot_at}
-use Rattle.seam_law_calls.specs.Prelude.{Frame, IsAt, order_concerns, orders_of, has_of, has_none, entity_flow, held_in, real_in}
-use Rattle.seam_law_calls.specs.Prelude.{reaped_by_order}
-use Rattle.seam_law_rounds.specs.Prelude.{IsBetweenRounds, IsFitting, framed, each, made, node_loaded}
+use Rattle.seam_law_calls.specs.Prelude.{Frame, IsAt, order_concerns, orders_of, has_of, has_none, held_in, real_in, reaped_by_order}
+use Rattle.seam_law_calls.specs.Prelude.{real_at}
+use Rattle.seam_law_rounds.specs.Prelude.{framed, each, made, node_loaded, MayBegin}
 use Rattle.seam_law_bounds.specs.Prelude.{Sizes, settle_weight, settling, look_weight, real_weight, part_weight, order_weight, node_weight}
 use Rattle.seam_law_bounds.specs.Prelude.{letter_weight, world_weight, HoldsNothing, reals_at, entities, one_if_cell, one_if_tick}
 use Rattle.seam_law_bounds.specs.Prelude.{cell_orders, base_orders, tick_orders}
@@ -59,9 +59,8 @@ module _ (z : Sizes) where
   tick = order_weight z order.Tick
 
   orders_weigh : (os : List (ℕ × Order)) → AllByRecursion (λ o. reaped_by_order o.1 ≡ None) os →
-      total (λ o. order_weight z o.1) os
-      ≡ total (λ o. one_if_cell o.1) os * (3 + settle_weight z)
-      + (3 * total (λ o. one_if_base o.1) os + total (λ o. one_if_tick o.1) os * order_weight z order.Tick)
+      total (λ o. order_weight z o.1) os ≡ total (λ o. one_if_cell o.1) os * (3 + settle_weight z) +
+      (3 * total (λ o. one_if_base o.1) os + total (λ o. one_if_tick o.1) os * order_weight z order.Tick)
   orders_weigh [] h =
       let a = none_times 0 (3 + settle_weight z) refl in
       let b = none_times 0 (order_weight z order.Tick) refl in
@@ -109,7 +108,7 @@ entities_stay : (os : List (ℕ × Order)) (w : World) → entities (with_orders
 entities_stay [] w = refl
 entities_stay (o ∷ os) w = entities_stay os (with_order w o) ∙ reals_ordered o w.nodes
 
-module _ (f : Frame) (w : World) (b : Batch) (between : IsBetweenRounds f w) (fits : IsFitting f w b) (none : HoldsNothing w) where
+module _ (f : Frame) (w : World) (b : Batch) (begin : MayBegin f w b) (none : HoldsNothing w) where
   abbrev pub g : Frame
   g = framed f b
 
@@ -130,14 +129,13 @@ module _ (f : Frame) (w : World) (b : Batch) (between : IsBetweenRounds f w) (fi
   ordered_is = nodes_after ordered_at begun b.orders
 
   -- a node of the world before the orders
-  begun_from : (k : ℕ) (t : NodeView) → slice_get begun.nodes k ≡ Some t →
-      (s : NodeView) × (slice_get w.nodes k ≡ Some s) × (turn s ≡ t)
+  begun_from : (k : ℕ) (t : NodeView) → slice_get begun.nodes k ≡ Some t → (s : NodeView) × (slice_get w.nodes k ≡ Some s) × (turn s ≡ t)
   begun_from k t at =
       node_there (slice_get w.nodes k) turn t (sym (slice_get-map turn w.nodes k) ∙ (sym (ap (λ v. slice_get v.nodes k) begun_is) ∙ at))
 
   pub blank_at : (k : ℕ) (s : NodeView) → slice_get w.nodes k ≡ Some s → IsBlank s
   blank_at k s at =
-      idle_blank s (quiet_tasks node_has_work w between.quiet k s at)
+      idle_blank s (quiet_tasks node_has_work w begin.between.quiet k s at)
       (λ n is. none k n (at ∙ ap Some is))
 
   pub begun_blank : (k : ℕ) (t : NodeView) → slice_get begun.nodes k ≡ Some t → IsBlank t
@@ -149,7 +147,7 @@ module _ (f : Frame) (w : World) (b : Batch) (between : IsBetweenRounds f w) (fi
   begun_at k t at =
       let was = begun_from k t at in
       subst (IsAt g k) was.2
-      (node_begun f b fits.tree k was.0 (between.nodes.sound.states k was.0 was.1) (between.nodes.nodes k was.0 was.1)).1
+      (node_begun f b begin.fits.tree k was.0 (begin.between.nodes.sound.states k was.0 was.1) (begin.between.nodes.nodes k was.0 was.1)).1
 
   -- a cell of it is a cell of the loaded world
   cell_there : (k : ℕ) (c : CellView) → slice_get begun.nodes k ≡ Some (Cell c) → slice_get (loaded w b).nodes k ≡ Some (Cell c)
@@ -162,7 +160,7 @@ module _ (f : Frame) (w : World) (b : Batch) (between : IsBetweenRounds f w) (fi
       held_in r.orders ≡ 0
   held_none k c node e r at =
       let there = ap (λ o. real_in (slot_at (has_of e) has_none o)) (cell_there k c node) ∙ at in
-      no_held r.orders (settled_loaded f w b between fits e k r there).none_held
+      no_held r.orders (settled_loaded f w b begin e k r there).none_held
 
   module _ (z : Sizes) where
     -- before the orders each real is to settle, and nothing else weighs
@@ -206,7 +204,8 @@ module _ (f : Frame) (w : World) (b : Batch) (between : IsBetweenRounds f w) (fi
         let nodes = total_times (node_weight z) reals_at (settling z) begun.nodes begun_node_weighs in
         let links =
         rows_none (letter_weight z) begun.rows
-        (λ x y. ap (λ v. link v.rows x y) begun_is ∙ quiet_links node_has_work w between.nodes.sound.square between.quiet x y) in
+        (λ x y. ap (λ v. link v.rows x y) begun_is
+        ∙ quiet_links node_has_work w begin.between.nodes.sound.square begin.between.quiet x y) in
         omega (arith, nodes, links)
 
     -- what a loaded world weighs at most
@@ -215,16 +214,16 @@ module _ (f : Frame) (w : World) (b : Batch) (between : IsBetweenRounds f w) (fi
     loaded_weighs =
         let more = orders_add z g b.orders begun begun_at in
         let start = begun_weighs in
-        let orders = orders_weigh z b.orders fits.spares in
+        let orders = orders_weigh z b.orders begin.fits.spares in
         let same = ap (λ n. n * settling z) (entities_stay b.orders begun) in
         omega (arith, more, start, orders, same)
 
   -- ---- how often an entity may yet settle
 
-  module _ (e home : ℕ) (r : RealView) (here : real_in ((entity_flow e (loaded w b)).slot home) ≡ Some r) where
-    real_begun : (k : ℕ) → real_in ((entity_flow e (loaded w b)).slot k) ≡ real_in ((entity_flow e begun).slot k)
+  module _ (e home : ℕ) (r : RealView) (here : real_at e (loaded w b) home ≡ Some r) where
+    real_begun : (k : ℕ) → real_at e (loaded w b) k ≡ real_at e begun k
     real_begun k =
-        ap (λ v. real_in ((entity_flow e v).slot k)) ordered_is
+        ap (λ v. real_at e v k) ordered_is
         ∙ reals_stay e (each ordered_at b.orders) (λ s. cells_stay b.orders s) begun k
       where
         cells_stay : (os : List (ℕ × Order)) (s : NodeView) → (has_of e (each ordered_at os s)).cell ≡ (has_of e s).cell
@@ -236,7 +235,7 @@ module _ (f : Frame) (w : World) (b : Batch) (between : IsBetweenRounds f w) (fi
     held_by (Some q) (inl h) = cc
     held_by (Some q) (inr h) =
         let same : q ≡ r = cc in
-        ap real_left same ∙ no_held r.orders (settled_loaded f w b between fits e home r here).none_held
+        ap real_left same ∙ no_held r.orders (settled_loaded f w b begin e home r here).none_held
 
     orders_none : (t : NodeView) → IsBlank t → (has_of e t).base.orders ≡ []
     orders_none (Cell c) h = refl
@@ -245,18 +244,18 @@ module _ (f : Frame) (w : World) (b : Batch) (between : IsBetweenRounds f w) (fi
     node_few : (k : ℕ) (t : NodeView) → slice_get begun.nodes k ≡ Some t → node_left e t ≤ 0 + cond {A = ℕ} (eqb k home) 1 0
     node_few k t at = elim (cases_eq k home) [
       | inl is ↦
-          let real = there ∙ (ap (λ j. real_in ((entity_flow e (loaded w b)).slot j)) is ∙ here) in
+          let real = there ∙ (ap (λ j. real_at e (loaded w b) j) is ∙ here) in
           let held = held_by (real_in (has_of e t)) (inr real) in
           let one = ap one_if real in
           rw (eq-eqb k home is) (omega (arith, held, one, once, orders))
       | inr n ↦
-          let real = there ∙ (settled_loaded f w b between fits e home r here).others k n in
+          let real = there ∙ (settled_loaded f w b begin e home r here).others k n in
           let held = held_by (real_in (has_of e t)) (inl real) in
           let zero = ap one_if real in
           rw (ne_eqb k home n) (omega (arith, held, zero, once, orders))
     ]
       where
-        there : real_in (has_of e t) ≡ real_in ((entity_flow e (loaded w b)).slot k)
+        there : real_in (has_of e t) ≡ real_at e (loaded w b) k
         there = sym (real_begun k ∙ ap (λ o. real_in (slot_at (has_of e) has_none o)) at)
 
         once : Surveys e t
@@ -271,7 +270,8 @@ module _ (f : Frame) (w : World) (b : Batch) (between : IsBetweenRounds f w) (fi
         let zero = total_none begun.nodes in
         let links =
         rows_none (mine_left e) begun.rows
-        (λ x y. ap (λ v. link v.rows x y) begun_is ∙ quiet_links node_has_work w between.nodes.sound.square between.quiet x y) in
+        (λ x y. ap (λ v. link v.rows x y) begun_is
+        ∙ quiet_links node_has_work w begin.between.nodes.sound.square begin.between.quiet x y) in
         omega (arith, nodes, zero, links)
 
     -- ---- with the orders
@@ -285,10 +285,9 @@ module _ (f : Frame) (w : World) (b : Batch) (between : IsBetweenRounds f w) (fi
         by false = omega arith
     filter_adds (x ∷ xs) o = by (order_concerns e x) (filter_adds xs o)
       where
-        by : (d : Bool) →
-            total one_if_cell (orders_of e (xs ++ o ∷ [])) ≤ total one_if_cell (orders_of e xs) + one_if_cell o →
-            total one_if_cell (cond d (x ∷ orders_of e (xs ++ o ∷ [])) (orders_of e (xs ++ o ∷ [])))
-            ≤ total one_if_cell (cond d (x ∷ orders_of e xs) (orders_of e xs)) + one_if_cell o
+        by : (d : Bool) → total one_if_cell (orders_of e (xs ++ o ∷ [])) ≤ total one_if_cell (orders_of e xs) + one_if_cell o →
+            total one_if_cell (cond d (x ∷ orders_of e (xs ++ o ∷ [])) (orders_of e (xs ++ o ∷ []))) ≤ total one_if_cell
+            (cond d (x ∷ orders_of e xs) (orders_of e xs)) + one_if_cell o
         by true h = omega (arith, h)
         by false h = h
 

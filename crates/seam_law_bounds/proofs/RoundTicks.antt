@@ -1,8 +1,8 @@
 -- A round ends, with its ticks.
 use Rattle.std.proofs.Common.{◌≡◌, ℕ, zero, suc, ◌+◌, ◌*◌, ◌≤◌, List, length, refl, ap, arith}
 use Rattle.std.specs.List.{range_with_len}
-use Rattle.seam_node_steps.specs.Prelude.{LeadsTo, total, Event, Batch, cell_count, World, node_steps, node_has_work, loaded}
-use Rattle.seam_law_calls.specs.Prelude.{Frame}
+use Rattle.seam_node_steps.specs.Prelude.{total, Event, Batch, cell_count, World, loaded}
+use Rattle.seam_law_calls.specs.Prelude.{Frame, RunsTo}
 use Rattle.seam_law_rounds.specs.Prelude.{MayBeLoaded}
 use Rattle.seam_law_bounds.specs.Prelude.{Sizes, look_weight, tick_weight, order_weight, AllCan, LooksFit, Always, HoldsNothing, entities}
 use Rattle.seam_law_bounds.specs.Prelude.{cell_orders, base_orders, tick_orders, events_of_round}
@@ -50,7 +50,7 @@ module _ (f : Frame) (w : World) (b : Batch) (may : MayBeLoaded f w b) (none : H
       can_look z (g f w b may none) v (omega arith) (frame_then f w b may none v es run) (few v es run)
       (cell_then f w b may none v es run) (base_then f w b may none v es run) x.node o.node o.input o.is_node
 
-  pub round_ends : (v : World) (es : List Event) → LeadsTo node_has_work node_steps s0 es v →
+  pub round_ends : (v : World) (es : List Event) → RunsTo s0 es v →
       length es ≤ events_of_round f.settings.bases (cell_orders b) (base_orders b) (tick_orders b) (entities s0) n
   round_ends v es run =
       let long = round_long f w b may none v es run z can in

@@ -3,11 +3,10 @@ use Rattle.std.proofs.Common.{◌≡◌, ℕ, ◌⊎◌, Bool, true, false, cond
 use Rattle.std.proofs.Common.{subst, inl, inr}
 use Rattle.std.specs.Prelude.{option_map, slice_get}
 use Rattle.std.specs.List.{AllByRecursion}
-use Rattle.seam_node_steps.specs.Prelude.{IsQuiet, LeadsTo, Event, State, Property, ghost_of, other_of, projected, GhostCopy, RealView}
-use Rattle.seam_node_steps.specs.Prelude.{WitnessView, holders, seen_as, CellView, known_to, is_another, World, node_steps, node_has_work}
-use Rattle.seam_node_steps.specs.Prelude.{Cell, look_loaded}
+use Rattle.seam_node_steps.specs.Prelude.{IsQuiet, Event, State, Property, ghost_of, other_of, projected, GhostCopy, RealView, WitnessView}
+use Rattle.seam_node_steps.specs.Prelude.{holders, seen_as, CellView, known_to, is_another, World, node_has_work, Cell, look_loaded}
 use Rattle.seam_law_flow.specs.Prelude.{letters_of}
-use Rattle.seam_law_calls.specs.Prelude.{Frame, mine, entity_flow, real_in}
+use Rattle.seam_law_calls.specs.Prelude.{Frame, mine, RunsTo, real_at}
 use Rattle.seam_law_rounds.specs.Prelude.{IsBetweenRounds, HasPartsBetweenRounds}
 use Rattle.seam_law_ghosts.specs.Prelude.{WasThere, AreCopiesBetweenRounds}
 use Rattle.seam_law_clients.specs.Prelude.{witness_looked, looked_by, having_looked, HaveRoomToLook}
@@ -29,7 +28,7 @@ use Rattle.seam_law_bounds.proofs.Viewed.{EachKnown, viewed_known}
 module _ (f : Frame) (u : World) (between : IsBetweenRounds f u) (parts : HasPartsBetweenRounds f u) (copies : AreCopiesBetweenRounds f u)
     (room : HaveRoomToLook u)
     (ghosts : (ps : List Property) (s : State) → projected ps group.Ghost group.Other (ghost_of ps s).props ≡ (other_of ps s).props)
-    (vs : List Event) (v : World) (run : LeadsTo node_has_work node_steps (look_loaded u) vs v) (quiet : IsQuiet node_has_work v) where
+    (vs : List Event) (v : World) (run : RunsTo (look_loaded u) vs v) (quiet : IsQuiet node_has_work v) where
   -- ---- who is known is there
 
   module _ (k : ℕ) (cell : CellView) (node : slice_get u.nodes k ≡ Some (Cell cell)) (e : ℕ) where
@@ -63,7 +62,7 @@ module _ (f : Frame) (u : World) (between : IsBetweenRounds f u) (parts : HasPar
   same_real_is : {a b : RealView} → Some a ≡ Some b → a ≡ b
   same_real_is h = cc
 
-  module _ (e k : ℕ) (q : RealView) (at : real_in ((entity_flow e v).slot k) ≡ Some q) (x : WitnessView) (has : q.witness ≡ Some x) where
+  module _ (e k : ℕ) (q : RealView) (at : real_at e v k ≡ Some q) (x : WitnessView) (has : q.witness ≡ Some x) where
     there : WasThere e k q u
     there = looks_leave f u between vs v run e k q at
 

@@ -1,6 +1,6 @@
 -- Where a phase begins: no one looks, and base parts hold nothing.
-use Rattle.std.proofs.Common.{◌≡◌, ℕ, ◌≤◌, ◌⊎◌, Bool, true, false, cond, List, [], ◌∷◌, Option, None, Some, refl, sym, ap, ◌∙◌}
-use Rattle.std.proofs.Common.{subst, arith, inl, inr}
+use Rattle.std.proofs.Common.{◌≡◌, ℕ, ◌≤◌, ◌⊎◌, Bool, true, false, cond, List, [], ◌∷◌, Option, None, Some, refl, sym, ap, ◌∙◌, subst}
+use Rattle.std.proofs.Common.{arith, inl, inr}
 use Rattle.std.specs.Prelude.{slice_get}
 use Rattle.std.specs.List.{AllByRecursion}
 use Rattle.std.specs.FinMap as table
@@ -8,8 +8,8 @@ use Rattle.std.proofs.lemmas.Bool.{cases_eq}
 use Rattle.seam_node_steps.specs.Prelude.{link, EachNode, Order, RealView, Msg, PartView, NodeView, World, Cell, Base}
 use Rattle.seam_law_flow.specs.Prelude.{slot_at, letters_of, more_letter}
 use Rattle.seam_law_calls.specs.Prelude.{Frame, IsInFrame, Has, mine, times, order_concerns, orders_of, has_of, has_none, entity_flow}
-use Rattle.seam_law_calls.specs.Prelude.{real_in, real_of, base_call_in, update_in, base_call_of, calls_ordered, sent_by, is_tick_order}
-use Rattle.seam_law_calls.specs.Prelude.{tick_in, HasToldAtMost, HasNoLooks}
+use Rattle.seam_law_calls.specs.Prelude.{real_of, base_call_in, update_in, base_call_of, calls_ordered, sent_by, is_tick_order, tick_in}
+use Rattle.seam_law_calls.specs.Prelude.{HasToldAtMost, HasNoLooks, real_at}
 use Rattle.seam_law_bounds.specs.Prelude.{part_weight}
 use Rattle.seam_net_runs.specs.Sums.{weight_or}
 use Rattle.seam_law_rounds.proofs.Shape.{Somewhere, Nowhere, search_real}
@@ -23,15 +23,14 @@ IsPlain Ok (Base b) = AllByRecursion Ok b.orders × ((e : ℕ) (p : PartView) �
 -- the entity's real is at one node at most
 abbrev pub IsSoleReal : ℕ → World → Type 0
 IsSoleReal e w =
-    (k : ℕ) (r : RealView) → real_in ((entity_flow e w).slot k) ≡ Some r → (j : ℕ) → (j ≡ k → ⊥) → real_in ((entity_flow e w).slot j) ≡ None
+    (k : ℕ) (r : RealView) → real_at e w k ≡ Some r → (j : ℕ) → (j ≡ k → ⊥) → real_at e w j ≡ None
 
 part_none_by : (o : Option PartView) → ((p : PartView) → o ≡ Some p → part_weight p ≡ 0) → weight_or part_weight o ≡ 0
 part_none_by None h = refl
 part_none_by (Some p) h = h p refl
 
 module _ (f : Frame) (e : ℕ) (w : World) (frame : IsInFrame f w) (empty : (a k : ℕ) → link w.rows a k ≡ []) (Ok : Order → Type 0)
-    (nodes : EachNode (λ k s. IsPlain Ok s) w.nodes) (no_tick : (o : Order) → Ok o → is_tick_order o ≡ false)
-    (sole : IsSoleReal e w) where
+    (nodes : EachNode (λ k s. IsPlain Ok s) w.nodes) (no_tick : (o : Order) → Ok o → is_tick_order o ≡ false) (sole : IsSoleReal e w) where
   mail_is : (a k : ℕ) → (entity_flow e w).mail a k ≡ []
   mail_is a k = ap (letters_of (mine e)) (empty a k)
 
@@ -56,9 +55,9 @@ module _ (f : Frame) (e : ℕ) (w : World) (frame : IsInFrame f w) (empty : (a k
     },
   )
     where
-      same_by : (k : ℕ) (r : RealView) → real_in ((entity_flow e w).slot k) ≡ Some r → (k ≡ p.0) ⊎ (k ≡ p.0 → ⊥) → sent_by r ≤ sent_by p.1
+      same_by : (k : ℕ) (r : RealView) → real_at e w k ≡ Some r → (k ≡ p.0) ⊎ (k ≡ p.0 → ⊥) → sent_by r ≤ sent_by p.1
       same_by k r at (inl is) =
-          let there = sym at ∙ (ap (λ j. real_in ((entity_flow e w).slot j)) is ∙ p.2) in
+          let there = sym at ∙ (ap (λ j. real_at e w j) is ∙ p.2) in
           let one : r ≡ p.1 = cc in
           let a = ap sent_by one in
           omega (arith, a)

@@ -1,10 +1,11 @@
 -- What a witness told stays within what it told at the start and what its looks may tell, by how many entities there are to look at.
 use Rattle.std.proofs.Common.{◌≡◌, ℕ, ◌+◌, ◌*◌, ◌≤◌, true, List, [], ◌∷◌, ◌++◌, length, Some, sym, ap, ◌∙◌, arith}
 use Rattle.std.proofs.Math.Nat.{mul-le-mul_left}
-use Rattle.seam_node_steps.specs.Prelude.{cells_of, happens, enabled, LeadsTo, Occurs, Event, Here, base_of, cell_count, RealView}
-use Rattle.seam_node_steps.specs.Prelude.{WitnessView, Known, shown_of, CellView, known_to, World, node_steps, node_has_work, Cell}
+use Rattle.seam_node_steps.specs.Prelude.{cells_of, happens, enabled, Occurs, Event, Here, base_of, cell_count, RealView, WitnessView}
+use Rattle.seam_node_steps.specs.Prelude.{Known, shown_of, CellView, known_to, World, node_steps, node_has_work, Cell}
 use Rattle.seam_law_flow.specs.Prelude.{slot_at}
 use Rattle.seam_law_calls.specs.Prelude.{Frame, IsInFrame, has_of, has_none, real_in, sent_of, sent_by, EachReal, HasToldAtMost, looks_left}
+use Rattle.seam_law_calls.specs.Prelude.{RunsTo}
 use Rattle.seam_law_bounds.specs.Prelude.{LooksAmong, LooksFit, Always}
 use Rattle.seam_machine.proofs.Occurring.{occurs}
 use Rattle.seam_net_runs.proofs.Runs.{leads_keeps, leads_extend, leads_nowhere}
@@ -44,7 +45,7 @@ module _ (f : Frame) (most : cells_of f.tree ≤ cell_count) (us ws : List ℕ)
 
   record Within (w : World) : Type 0 where
     before : List Event
-    from : LeadsTo node_has_work node_steps start before w
+    from : RunsTo start before w
     frame : IsInFrame f w
     each : EachReal e (IsWithin (looks_left e w)) w
 
@@ -84,7 +85,7 @@ module _ (f : Frame) (most : cells_of f.tree ≤ cell_count) (us ws : List ℕ)
   within_more : (w : World) (v : Event) → Within w → enabled node_has_work w v ≡ true → Within (happens node_steps w v)
   within_more w v h on = within_happens w v on (occurs node_has_work w v on) h
 
-  within_leads : (v : World) (es : List Event) → Within start → LeadsTo node_has_work node_steps start es v → Within v
+  within_leads : (v : World) (es : List Event) → Within start → RunsTo start es v → Within v
   within_leads v es h run = leads_keeps node_has_work node_steps Within within_more start v es h run
 
 -- ---- all of it
@@ -93,7 +94,7 @@ module _ (f : Frame) (most : cells_of f.tree ≤ cell_count) (us ws : List ℕ)
     (few : (w : World) → LooksAmong us (λ k. ws) w →
     LooksFit (record { bases = 0; lines = length us; witnesses = λ k. length ws }) w) (start : World)
     (among : Always (LooksAmong us (λ k. ws)) start) (e n : ℕ) (frame : IsInFrame f start) (told : HasToldAtMost e n start) (v : World)
-    (es : List Event) (run : LeadsTo node_has_work node_steps start es v) where
+    (es : List Event) (run : RunsTo start es v) where
   abbrev b : ℕ
   b = n + (1 + length us) * looks_left e start
 

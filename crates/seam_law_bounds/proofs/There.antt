@@ -1,6 +1,6 @@
 -- A loaded world has to look at what is there: by the records its copies and views name no entities but those that have a real.
-use Rattle.std.proofs.Common.{◌≡◌, ℕ, zero, suc, ◌≤◌, ◌⊎◌, Bool, true, false, cond, ◌||◌, List, [], ◌∷◌, ◌++◌, length, Option, None}
-use Rattle.std.proofs.Common.{Some, refl, sym, ap, ◌∙◌, subst, arith, inl, inr, eqb}
+use Rattle.std.proofs.Common.{◌≡◌, ℕ, zero, suc, ◌≤◌, ◌⊎◌, Bool, true, false, cond, ◌||◌, List, [], ◌∷◌, ◌++◌, length, Option, None, Some}
+use Rattle.std.proofs.Common.{refl, sym, ap, ◌∙◌, subst, arith, inl, inr, eqb}
 use Rattle.std.specs.Prelude.{is_some, filter, map, nat_eq, option_map, slice_get}
 use Rattle.std.specs.List.{AllByRecursion}
 use Rattle.std.specs.Map.{keys_of}
@@ -11,12 +11,12 @@ use Rattle.std.proofs.lemmas.Bool.{eq-eqb}
 use Rattle.std.proofs.lemmas.Bool.Decides.{nat_tests}
 use Rattle.std.proofs.lemmas.List.{length-append, length-map}
 use Rattle.std.proofs.lemmas.List.Folds.{list_any-append}
-use Rattle.seam_node_steps.specs.Prelude.{Division, leaf_at, cells_of, link, LeadsTo, total, Event, copy_in, Create, Order, Batch}
-use Rattle.seam_node_steps.specs.Prelude.{GhostCopy, Here, RealView, WitnessView, created, real_begins, holders, Map, number_of, CellView}
-use Rattle.seam_node_steps.specs.Prelude.{has_witness, witnesses, NodeView, World, node_steps, node_has_work, Cell, Base, real_if}
-use Rattle.seam_node_steps.specs.Prelude.{created_at, with_witness, attached, cell_round, base_round, ordered_at, loaded}
+use Rattle.seam_node_steps.specs.Prelude.{Division, leaf_at, cells_of, link, total, Event, copy_in, Create, Order, Batch, GhostCopy, Here}
+use Rattle.seam_node_steps.specs.Prelude.{RealView, WitnessView, created, real_begins, holders, Map, number_of, CellView, has_witness}
+use Rattle.seam_node_steps.specs.Prelude.{witnesses, NodeView, World, node_has_work, Cell, Base, real_if, created_at, with_witness}
+use Rattle.seam_node_steps.specs.Prelude.{attached, cell_round, base_round, ordered_at, loaded}
 use Rattle.seam_law_flow.specs.Prelude.{slot_at, letters_of}
-use Rattle.seam_law_calls.specs.Prelude.{Frame, has_of, has_none, entity_flow, real_in, real_of}
+use Rattle.seam_law_calls.specs.Prelude.{Frame, has_of, has_none, real_in, real_of, RunsTo, real_at}
 use Rattle.seam_law_rounds.specs.Prelude.{framed, made, node_loaded, MayBeLoaded}
 use Rattle.seam_law_ghosts.specs.Prelude.{AreCopiesBetweenRounds}
 use Rattle.seam_law_bounds.specs.Prelude.{is_among, AllAmong, LooksAmong, SeesWhatIsThere, HoldsNothing, entities, reals_at, all_witnesses}
@@ -104,8 +104,7 @@ module _ (P : RealView → Type 0) (new : (h : Here) (x : Create) → P (created
   had_by b None h = h
   had_by b (Some n) h = node_had b n h
 
-  pub had_loaded : (w : World) (b : Batch) (k : ℕ) → Had (real_in ((entity_flow e w).slot k)) →
-      Had (real_in ((entity_flow e (loaded w b)).slot k))
+  pub had_loaded : (w : World) (b : Batch) (k : ℕ) → Had (real_at e w k) → Had (real_at e (loaded w b) k)
   had_loaded w b k h =
       subst (λ s. Had (real_in s)) (sym (slot_is w b e k)) (had_by b (slice_get w.nodes k) h)
 
@@ -193,20 +192,20 @@ module _ (f : Frame) (w : World) (b : Batch) (may : MayBeLoaded f w b) (copies :
   nobody : (e : ℕ) → Nowhere e (loaded w b) → holders (loaded w b) e ≡ 0
   nobody e n =
       none_counts (loaded w b) e
-      (record { slots = n; mail = λ x y. ap (letters_of real_of) (no_mail f w b may.between may.fits e x y) })
+      (record { slots = n; mail = λ x y. ap (letters_of real_of) (no_mail f w b may.begin e x y) })
 
   copy_named : (k : ℕ) (c : CellView) → slice_get (loaded w b).nodes k ≡ Some (Cell c) → (e : ℕ) (x : GhostCopy) →
       copy_in (table.get c.ghosts e) ≡ Some x → Somewhere e (loaded w b) ⊎ Nowhere e (loaded w b) → is_among us e ≡ true
   copy_named k c node e x there (inl p) = named e p
   copy_named k c node e x there (inr n) =
-      let low = ((in_frame f w b may.between may.fits).nodes k (Cell c) node).low in
-      let none = (loaded_copied f w b may.between may.fits copies).none e (nobody e n) k low in
+      let low = ((in_frame f w b may.begin).nodes k (Cell c) node).low in
+      let none = (loaded_copied f w b may.begin copies).none e (nobody e n) k low in
       let is = ap (λ o. copy_in (slot_at (has_of e) has_none o).cell.slot.ghost) node ∙ there in
       absurd (let z = sym none ∙ is in cc)
 
   all_named : (ps : List (ℕ × ℕ)) → AllByRecursion (λ p. holders (loaded w b) p.0 ≡ 1) ps → AllAmong us (keys_of ps)
   all_named [] h = tt
-  all_named (p ∷ ps) h = (named p.0 (home_loaded f w b may.between may.fits p.0 h.0), all_named ps h.1)
+  all_named (p ∷ ps) h = (named p.0 (home_loaded f w b may.begin p.0 h.0), all_named ps h.1)
 
   pub among_named : SeesWhatIsThere (loaded w b) →
       ((k : ℕ) (c : CellView) → slice_get (loaded w b).nodes k ≡ Some (Cell c) → (e : ℕ) (r : RealView) (x : WitnessView) →
@@ -216,7 +215,7 @@ module _ (f : Frame) (w : World) (b : Batch) (may : MayBeLoaded f w b) (copies :
     copies = λ k c node e x there. copy_named k c node e x there (search_real e (loaded w b));
     views = λ k c node e r x at has.
         let here = ap (λ o. real_in (slot_at (has_of e) has_none o)) node ∙ at in (
-          (sees_loaded f w b may.between may.fits may.parts e k r here x has).view,
+          (sees_loaded f w b may.begin may.parts e k r here x has).view,
           all_named x.view.entries (sees e k r here x has),
         );
     witnesses = witnesses;
@@ -257,7 +256,7 @@ module _ (f : Frame) (w : World) (b : Batch) (may : MayBeLoaded f w b) (copies :
   sees_start : SeesWhatIsThere start
   sees_start e k r here x has =
       all_weaker (λ p. holders w p.0 ≡ 1) (λ p. holders start p.0 ≡ 1) x.view.entries
-      (λ p h. holds_kept f w b may.between may.fits p.0 h)
+      (λ p h. holds_kept f w b may.begin p.0 h)
       (had_loaded SeesThere (λ h x y has. absurd (let z = has in cc)) (λ h r old. nothing_seen h r) (λ r old. old) e w b k
       (λ r at. sees e k r at) r here x has)
 
@@ -268,9 +267,8 @@ module _ (f : Frame) (w : World) (b : Batch) (may : MayBeLoaded f w b) (copies :
       number_at seers_of e start.nodes k (Cell c) node
       (passing_has has_witness e r (table.entries c.reals) (sym (table.get-entries c.reals e) ∙ at) (ap is_some has)))
 
-  pub round_ends_by_records : HoldsNothing w → (v : World) (es : List Event) → LeadsTo node_has_work node_steps start es v →
-      length es
-      ≤ events_of_round f.settings.bases (cell_orders b) (base_orders b) (tick_orders b) (entities start) (all_witnesses start)
+  pub round_ends_by_records : HoldsNothing w → (v : World) (es : List Event) → RunsTo start es v →
+      length es ≤ events_of_round f.settings.bases (cell_orders b) (base_orders b) (tick_orders b) (entities start) (all_witnesses start)
   round_ends_by_records none v es run =
       let many = numbers_many reals_of reals_at reals_many start.nodes in
       subst
@@ -316,18 +314,19 @@ somewhere_in e (s ∷ ss) h = by (is_among (reals_of s) e) refl (somewhere_in e 
         (suc x.0, x.1, x.2)
 
 module _ (f : Frame) (w : World) (b : Batch) (may : MayBeLoaded f w b) (copies : AreCopiesBetweenRounds f w)
-    (sees : SeesWhatIsThere w) (v : World) (es : List Event) (run : LeadsTo node_has_work node_steps (loaded w b) es v) where
+    (sees : SeesWhatIsThere w) (v : World) (es : List Event) (run : RunsTo (loaded w b) es v) where
   pub among_then : LooksAmong (us f w b may copies sees) (λ k. ws f w b may copies sees) v
   among_then =
-      always_among (us f w b may copies sees) (ws f w b may copies sees) (framed f b) (loaded w b) (in_frame f w b may.between may.fits)
-      (λ x y. ap (λ q. link q.rows x y) (loaded_is w b) ∙ quiet_links node_has_work w may.between.nodes.sound.square may.between.quiet x y)
+      always_among (us f w b may copies sees) (ws f w b may copies sees) (framed f b) (loaded w b) (in_frame f w b may.begin)
+      (λ x y. ap (λ q. link q.rows x y) (loaded_is w b)
+      ∙ quiet_links node_has_work w may.begin.between.nodes.sound.square may.begin.between.quiet x y)
       (among_loaded f w b may copies sees) v es run
 
   held_then : (ps : List (ℕ × ℕ)) → AllAmong (us f w b may copies sees) (keys_of ps) → AllByRecursion (λ p. holders v p.0 ≡ 1) ps
   held_then [] h = tt
   held_then (p ∷ ps) h =
       let x = somewhere_in p.0 (loaded w b).nodes h.0 in
-      (one_after f w b may.between may.fits p.0 x.0 x.1 x.2 v es run, held_then ps h.1)
+      (one_after f w b may.begin p.0 x.0 x.1 x.2 v es run, held_then ps h.1)
 
   pub sees_then : SeesWhatIsThere v
   sees_then e k r here x has =

@@ -1,8 +1,8 @@
 -- A round without ticks ends.
 use Rattle.std.proofs.Common.{◌≡◌, ℕ, ◌+◌, ◌*◌, ◌≤◌, false, List, [], ◌∷◌, length, refl, arith}
 use Rattle.std.specs.List.{AllByRecursion}
-use Rattle.seam_node_steps.specs.Prelude.{LeadsTo, EachNode, total, Event, Order, Batch, World, node_steps, node_has_work}
-use Rattle.seam_law_calls.specs.Prelude.{Frame, is_tick_order, HasNoLooks}
+use Rattle.seam_node_steps.specs.Prelude.{EachNode, total, Event, Order, Batch, World}
+use Rattle.seam_law_calls.specs.Prelude.{Frame, is_tick_order, HasNoLooks, RunsTo}
 use Rattle.seam_law_rounds.specs.Prelude.{MayBeLoaded}
 use Rattle.seam_law_bounds.specs.Prelude.{Sizes, order_weight, AllCan, HoldsNothing, entities, one_if_tick, cell_orders, base_orders}
 use Rattle.seam_law_bounds.specs.Prelude.{tick_orders, events_of_round}
@@ -15,10 +15,8 @@ use Rattle.seam_law_bounds.proofs.RoundPhase.{round_long}
 use Rattle.seam_law_bounds.proofs.Starts.{IsPlain, looks_start, told_start}
 
 tick_by : (o : Order) → is_tick_order o ≡ false → one_if_tick o ≡ 0
-tick_by (order.Cell c) h = refl
-tick_by (order.Base c) h = refl
 tick_by order.Tick h = cc
-tick_by (order.Reap e) h = refl
+tick_by _ h = refl
 
 ticks_none : (os : List (ℕ × Order)) → AllByRecursion (λ o. is_tick_order o.1 ≡ false) os → total (λ o. one_if_tick o.1) os ≡ 0
 ticks_none [] h = refl
@@ -46,7 +44,7 @@ module _ (f : Frame) (w : World) (b : Batch) (may : MayBeLoaded f w b) (none : H
   plain : EachNode (λ k s. IsPlain NoTick s) s0.nodes
   plain = plain_with f w b may none NoTick no_ticks
 
-  looks_then : (v : World) (es : List Event) → LeadsTo node_has_work node_steps s0 es v → (e : ℕ) → HasNoLooks e v
+  looks_then : (v : World) (es : List Event) → RunsTo s0 es v → (e : ℕ) → HasNoLooks e v
   looks_then v es run e =
       let frame = frame_start f w b may none in
       let empty = empty_start f w b may none in
@@ -59,7 +57,7 @@ module _ (f : Frame) (w : World) (b : Batch) (may : MayBeLoaded f w b) (none : H
       can_by z h v enough (frame_then f w b may none v es run) (looks_then v es run) (cell_then f w b may none v es run)
       (base_then f w b may none v es run) x.node x.from o.node o.input o.is_node o.is_fed
 
-  pub tickless_ends : (v : World) (es : List Event) → LeadsTo node_has_work node_steps s0 es v → (n : ℕ) →
+  pub tickless_ends : (v : World) (es : List Event) → RunsTo s0 es v → (n : ℕ) →
       length es ≤ events_of_round f.settings.bases (cell_orders b) (base_orders b) (tick_orders b) (entities s0) n
   tickless_ends v es run n =
       let z : Sizes = record { bases = f.settings.bases; lines = 0; witnesses = λ k. 0 } in

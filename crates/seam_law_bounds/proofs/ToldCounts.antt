@@ -1,6 +1,6 @@
 -- How much one look tells, by how many entities there are to look at.
-use Rattle.std.proofs.Common.{◌≡◌, ℕ, zero, suc, ◌+◌, ◌≤◌, Bool, true, false, List, [], ◌∷◌, length, filter_map, Some}
-use Rattle.std.proofs.Common.{refl, sym, subst, arith}
+use Rattle.std.proofs.Common.{◌≡◌, ℕ, zero, suc, ◌+◌, ◌≤◌, Bool, true, false, List, [], ◌∷◌, length, filter_map, Some, refl, sym, subst}
+use Rattle.std.proofs.Common.{arith}
 use Rattle.std.specs.Prelude.{slice_get}
 use Rattle.std.specs.FinMap as table
 use Rattle.seam_node_steps.specs.Prelude.{copy_in, Shown, Here, RealView, WitnessView, Known, shown_for, own_due, looks_of, shown_of}

@@ -1,14 +1,14 @@
 -- What an event asks of its node, so that it lowers the weight; and which events keep it.
 use Rattle.std.specs.Prelude.{◌≡◌, ℕ, ◌≤◌, Bool, true, false, ◌&&◌, is_none, is_some, List, ◌∷◌, length, Option, None, Some, slice_get}
 use Rattle.std.specs.FinMap as table
-use Rattle.seam_node_steps.specs.Prelude.{input_from, LeadsTo, Occurs, Input, Task, From, Event, Order, RealView, WitnessView, has_ready}
-use Rattle.seam_node_steps.specs.Prelude.{may_execute, Msg, Tick, Slot}
-use Rattle.seam_node_steps.specs.Prelude.{looks_of, CellView, slot_of, known_to, witnesses, BaseView, PartView, stray_order, proxy_is_ready}
-use Rattle.seam_node_steps.specs.Prelude.{may_show, NodeView, World, node_steps, node_has_work, Cell, Base}
+use Rattle.seam_node_steps.specs.Prelude.{input_from, Occurs, Input, Task, From, Event, Order, RealView, WitnessView, has_ready}
+use Rattle.seam_node_steps.specs.Prelude.{may_execute, Msg, Tick, Slot, looks_of, CellView, slot_of, known_to, witnesses, BaseView}
+use Rattle.seam_node_steps.specs.Prelude.{PartView, stray_order, proxy_is_ready, may_show, NodeView, World, node_steps, Cell, Base}
 use Rattle.seam_net_runs.specs.Weights.{counted}
 use Rattle.seam_entity.specs.declared.message.Msg.TheVariants.{Call}
 use Rattle.seam_node_steps.specs.BaseCases as base
 use Rattle.seam_law_bounds.specs.Weights.{Sizes}
+use Rattle.seam_law_calls.specs.Prelude.{RunsTo}
 
 -- ---- calls that are passed on
 
@@ -62,7 +62,7 @@ NodeCan z (Base b) i = BaseCan b
 -- over every list of events from w, the node of each event can do what it is to do
 abbrev pub AllCan : Sizes → World → Type 0
 AllCan z w =
-    (v : World) (es : List Event) → LeadsTo node_has_work node_steps w es v → (x : Event) (o : Occurs v x) → NodeCan z o.node o.input
+    (v : World) (es : List Event) → RunsTo w es v → (x : Event) (o : Occurs v x) → NodeCan z o.node o.input
 
 -- how many of the events pass a call on
 abbrev pub all_passes : World → List Event → ℕ

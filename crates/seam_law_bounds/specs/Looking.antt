@@ -3,10 +3,9 @@ use Rattle.std.specs.Prelude.{◌≡◌, ℕ, ◌≤◌, Bool, true, nat_eq, Lis
 use Rattle.std.specs.List.{AllByRecursion, list_any}
 use Rattle.std.specs.Map.{keys_of}
 use Rattle.std.specs.FinMap as table
-use Rattle.seam_node_steps.specs.Prelude.{LeadsTo, Event, copy_in, GhostCopy, RealView, WitnessView, holders, looks_of, CellView, known_to}
-use Rattle.seam_node_steps.specs.Prelude.{witnesses, BaseView, PartView, proxy_is_ready, may_show, World, node_steps, node_has_work, Cell}
-use Rattle.seam_node_steps.specs.Prelude.{Base}
-use Rattle.seam_law_calls.specs.Prelude.{entity_flow, real_in}
+use Rattle.seam_node_steps.specs.Prelude.{Event, copy_in, GhostCopy, RealView, WitnessView, holders, looks_of, CellView, known_to}
+use Rattle.seam_node_steps.specs.Prelude.{witnesses, BaseView, PartView, proxy_is_ready, may_show, World, Cell, Base}
+use Rattle.seam_law_calls.specs.Prelude.{RunsTo, real_at}
 use Rattle.seam_view.specs.Replica.{IsView}
 use Rattle.seam_law_bounds.specs.Weights.{Sizes}
 
@@ -24,14 +23,14 @@ ClientsKeepRoom w =
 
 -- the fact holds over every list of events from w
 abbrev pub Always : (World → Type 0) → World → Type 0
-Always P w = (v : World) (es : List Event) → LeadsTo node_has_work node_steps w es v → P v
+Always P w = (v : World) (es : List Event) → RunsTo w es v → P v
 
 -- ---- what a world has to look at
 
 -- each entity that a witness has in view has a holder
 abbrev pub SeesWhatIsThere : World → Type 0
 SeesWhatIsThere w =
-    (e k : ℕ) (r : RealView) → real_in ((entity_flow e w).slot k) ≡ Some r → (x : WitnessView) → r.witness ≡ Some x →
+    (e k : ℕ) (r : RealView) → real_at e w k ≡ Some r → (x : WitnessView) → r.witness ≡ Some x →
     AllByRecursion (λ p. holders w p.0 ≡ 1) x.view.entries
 
 abbrev pub is_among : List ℕ → ℕ → Bool

@@ -1,8 +1,7 @@
 -- How often a call is passed on, and how often its entity is handed over.
 use Rattle.std.specs.Prelude.{ℕ, ◌==◌, Bool, false, ◌&&◌, is_some, is_none, List, Option, None, Some}
-use Rattle.seam_node_steps.specs.Prelude.{input_from, happens, Input, Task, From, Event, Call as CallData, Msg}
-use Rattle.seam_node_steps.specs.Prelude.{World, node_steps}
-use Rattle.seam_law_calls.specs.Prelude.{Has, entity_flow, real_in, is_from}
+use Rattle.seam_node_steps.specs.Prelude.{input_from, happens, Input, Task, From, Event, Call as CallData, Msg, World, node_steps}
+use Rattle.seam_law_calls.specs.Prelude.{Has, entity_flow, real_in, is_from, real_at}
 use Rattle.seam_net_runs.specs.Weights.{counted}
 use Rattle.seam_entity.specs.declared.message.Msg.TheVariants.{Call}
 
@@ -39,7 +38,7 @@ passes_on e s n w x = brings_call e s n (input_from w.rows x.node x.from) && was
 -- the event's node has the entity's real before the event, and not after it
 abbrev pub hands_over : ℕ → World → Event → Bool
 hands_over e w x =
-    is_some (real_in ((entity_flow e w).slot x.node)) && is_none (real_in ((entity_flow e (happens node_steps w x)).slot x.node))
+    is_some (real_at e w x.node) && is_none (real_at e (happens node_steps w x) x.node)
 
 -- how many of the events pass the call on
 abbrev pub passes : ℕ → ℕ → ℕ → World → List Event → ℕ

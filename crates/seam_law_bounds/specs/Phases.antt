@@ -32,21 +32,15 @@ all_witnesses w = total witnesses_at w.nodes
 
 abbrev pub one_if_cell : Order → ℕ
 one_if_cell (order.Cell k) = 1
-one_if_cell (order.Base k) = 0
-one_if_cell order.Tick = 0
-one_if_cell (order.Reap e) = 0
+one_if_cell _ = 0
 
 abbrev pub one_if_base : Order → ℕ
-one_if_base (order.Cell k) = 0
 one_if_base (order.Base k) = 1
-one_if_base order.Tick = 0
-one_if_base (order.Reap e) = 0
+one_if_base _ = 0
 
 abbrev pub one_if_tick : Order → ℕ
-one_if_tick (order.Cell k) = 0
-one_if_tick (order.Base k) = 0
 one_if_tick order.Tick = 1
-one_if_tick (order.Reap e) = 0
+one_if_tick _ = 0
 
 -- how many of a batch's orders are calls to cell parts, calls to base parts, and ticks
 abbrev pub cell_orders : Batch → ℕ

@@ -68,12 +68,10 @@ abbrev pub letter_weight : Sizes → ℕ → Msg → ℕ
 letter_weight z k (Call c) = 2 + settle_weight z
 letter_weight z k (BaseCall c) = 2
 letter_weight z k (Hand r) = 1 + z.bases + real_weight z r
-letter_weight z k (Current e j g) = 1
-letter_weight z k (GhostSet e n c) = 1
-letter_weight z k (GhostDrop e n) = 1
 letter_weight z k Tick = tick_weight z k
 letter_weight z k (Reap e) = 17
 letter_weight z k (Update u) = 2
+letter_weight z k _ = 1
 
 -- a world: all its nodes and all messages on their way
 abbrev pub world_weight : Sizes → World → ℕ

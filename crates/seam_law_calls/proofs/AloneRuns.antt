@@ -1,18 +1,19 @@
 -- Each call once to the base part of an entity without a client: after every list of events.
 use Rattle.std.proofs.Common.{◌≡◌, ℕ, true, List, ◌∷◌, ap}
-use Rattle.seam_node_steps.specs.Prelude.{happens, enabled, LeadsTo, Occurs, Event, Call as CallData, Msg, BaseCall, may_show, World}
-use Rattle.seam_node_steps.specs.Prelude.{node_steps, node_has_work}
+use Rattle.seam_node_steps.specs.Prelude.{happens, enabled, Occurs, Event, Call as CallData, Msg, BaseCall, may_show, World, node_steps}
+use Rattle.seam_node_steps.specs.Prelude.{node_has_work}
 use Rattle.seam_law_flow.specs.Prelude.{comes}
 use Rattle.seam_law_calls.specs.Prelude.{Frame, here_at, IsInFrame, entity_flow, IsSpared, HasNoProxy, home_of, FindsPart, HasBaseCalls}
-use Rattle.seam_law_calls.specs.Prelude.{HasNoClient}
+use Rattle.seam_law_calls.specs.Prelude.{HasNoClient, RunsTo}
 use Rattle.seam_machine.proofs.Occurring.{occurs}
 use Rattle.seam_net_runs.proofs.Runs.{leads_keeps}
 use Rattle.seam_law_flow.proofs.Following.{slots_kept}
-use Rattle.seam_law_calls.proofs.Classify.{frame_happens, event_moves}
+use Rattle.seam_law_calls.proofs.Classify.{event_moves}
 use Rattle.seam_law_calls.proofs.OneReal.{spared_happens}
 use Rattle.seam_law_calls.proofs.PartSteps.{part_moves}
 use Rattle.seam_law_calls.proofs.ClientSteps.{client_after, stays_alone}
 use Rattle.seam_law_calls.proofs.BaseRuns.{unordered, finds, kept_happens}
+use Rattle.seam_law_calls.proofs.Keeping.{run_keeps}
 
 -- an entity without a client gets none
 module _ (f : Frame) (e : ℕ) where
@@ -26,24 +27,10 @@ module _ (f : Frame) (e : ℕ) where
       (part_moves f e g.k ((entity_flow e w).slot g.k) (comes g.input) ((entity_flow e (happens node_steps w v)).slot g.k) g.moves.sent
       g.moves.moves)) (alone g.k))
 
-  record Bare (w : World) : Type 0 where
-    frame : IsInFrame f w
-    spared : IsSpared e w
-    none : HasNoClient e w
-
-  bare_more : (w : World) (v : Event) → Bare w → enabled node_has_work w v ≡ true → Bare (happens node_steps w v)
-  bare_more w v h on =
-      let o = occurs node_has_work w v on in
-      record {
-        frame = frame_happens f w v o h.frame;
-        spared = spared_happens f e w v o h.frame h.spared;
-        none = bare_happens w v o h.frame h.spared h.none;
-      }
-
-  pub bare_leads : (w v : World) (es : List Event) → IsInFrame f w → IsSpared e w → HasNoClient e w →
-      LeadsTo node_has_work node_steps w es v → HasNoClient e v
+  pub bare_leads : (w v : World) (es : List Event) → IsInFrame f w → IsSpared e w → HasNoClient e w → RunsTo w es v → HasNoClient e v
   bare_leads w v es frame spared none run =
-      (leads_keeps node_has_work node_steps Bare bare_more w v es (record { frame = frame; spared = spared; none = none }) run).none
+      (run_keeps f (λ x. IsSpared e x × HasNoClient e x)
+      (λ x a o q h. (spared_happens f e x a o q h.0, bare_happens x a o q h.0 h.1)) w v es frame run (spared, none)).1
 
 module _ (f : Frame) (e ty : ℕ) (first : ℕ → ℕ) (batch : ℕ → List CallData) where
   -- nothing is to be shown
@@ -66,7 +53,6 @@ module _ (f : Frame) (e ty : ℕ) (first : ℕ → ℕ) (batch : ℕ → List Ca
         alone = bare_happens f e w v o h.calls.part.frame h.calls.spared h.alone;
       }
 
-  pub alone_leads : (w v : World) (es : List Event) → HasBaseCalls f e ty first batch w → HasNoClient e w →
-      LeadsTo node_has_work node_steps w es v → Alone v
+  pub alone_leads : (w v : World) (es : List Event) → HasBaseCalls f e ty first batch w → HasNoClient e w → RunsTo w es v → Alone v
   alone_leads w v es h alone run =
       leads_keeps node_has_work node_steps Alone alone_more w v es (record { calls = h; alone = alone }) run

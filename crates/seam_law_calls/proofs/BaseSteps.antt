@@ -4,18 +4,13 @@ use Rattle.std.specs.Prelude.{nat_lt}
 use Rattle.std.specs.Cmp.{nat_cmp_total, unsigned_tied}
 use Rattle.std.specs.FinMap as table
 use Rattle.std.proofs.lemmas.Bool.{cases_eq, eq-eqb, ne_eqb}
-use Rattle.seam_node_steps.specs.Prelude.{From, Call as CallData, Order, Msg, BaseCall, Hand, Current, GhostSet, GhostDrop, Tick, Reap}
-use Rattle.seam_node_steps.specs.Prelude.{Update, Map, about, BaseView, RouteView, PartView, ProxyView, with_part}
-use Rattle.seam_node_steps.specs.Prelude.{stray_base_call, stray_current}
-use Rattle.seam_node_steps.specs.Prelude.{stray_update}
+use Rattle.seam_node_steps.specs.Prelude.{From, Call as CallData, Order, Msg, BaseCall, Current, Tick, Update, Map, about, BaseView}
+use Rattle.seam_node_steps.specs.Prelude.{RouteView, PartView, ProxyView, with_part, stray_base_call, stray_current, stray_update}
 use Rattle.seam_node_steps.specs.Prelude.{sends_none, case_of, base_steps}
-use Rattle.seam_law_calls.specs.Prelude.{mine, concerning, orders_of, AtBase, at_base, newer, part_offered, updated}
-use Rattle.seam_law_calls.specs.Prelude.{BaseMoves}
+use Rattle.seam_law_calls.specs.Prelude.{mine, concerning, orders_of, AtBase, at_base, newer, part_offered, updated, BaseMoves, entity_of}
 use Rattle.seam_call.specs.declared.shown.Update.{Update as UpdateData}
-use Rattle.seam_entity.specs.declared.message.Msg.TheVariants.{Call}
 use Rattle.seam_node_steps.specs.BaseCases
-use Rattle.seam_node_steps.specs.BaseCases.{may_call}
-use Rattle.seam_node_steps.specs.BaseCases.{unless_stray, is_stray}
+use Rattle.seam_node_steps.specs.BaseCases.{may_call, unless_stray, is_stray}
 use Rattle.seam_law_calls.specs.BaseMoves as move
 use Rattle.seam_law_calls.proofs.Lists.{mine_own, mine_other}
 
@@ -184,15 +179,11 @@ module _ (e : ℕ) (b : BaseView) where
 
   -- a message about the entity
   own_moves : (m : Msg) → about m ≡ Some e → Hears m (Some m)
-  own_moves (Call c) a = move.strays (Call c) refl refl refl refl
   own_moves (BaseCall c) a = call_own c (some_is c.entity e a)
-  own_moves (Hand r) a = move.strays (Hand r) refl refl refl refl
   own_moves (Current x j g) a = current_own x j g (some_is x e a)
-  own_moves (GhostSet x n c) a = move.strays (GhostSet x n c) refl refl refl refl
-  own_moves (GhostDrop x n) a = move.strays (GhostDrop x n) refl refl refl refl
   own_moves Tick a = cc
-  own_moves (Reap x) a = move.strays (Reap x) refl refl refl refl
   own_moves (Update u) a = update_own u (some_is u.entity e a)
+  own_moves m a = move.strays m refl refl refl refl
 
   hears_by : (m : Msg) (x : ℕ) → about m ≡ Some x → (x ≡ e) ⊎ (x ≡ e → ⊥) → Hears m (mine e m)
   hears_by m x a (inl is) =
@@ -204,15 +195,8 @@ module _ (e : ℕ) (b : BaseView) where
   nothing_sent m false = refl
 
   hears : (m : Msg) → Hears m (mine e m)
-  hears (Call c) = hears_by (Call c) c.entity refl (cases_eq c.entity e)
-  hears (BaseCall c) = hears_by (BaseCall c) c.entity refl (cases_eq c.entity e)
-  hears (Hand r) = hears_by (Hand r) r.entity refl (cases_eq r.entity e)
-  hears (Current x j g) = hears_by (Current x j g) x refl (cases_eq x e)
-  hears (GhostSet x n c) = hears_by (GhostSet x n c) x refl (cases_eq x e)
-  hears (GhostDrop x n) = hears_by (GhostDrop x n) x refl (cases_eq x e)
   hears Tick = move.strays Tick refl refl refl refl
-  hears (Reap x) = hears_by (Reap x) x refl (cases_eq x e)
-  hears (Update u) = hears_by (Update u) u.entity refl (cases_eq u.entity e)
+  hears m = hears_by m (entity_of m) refl (cases_eq (entity_of m) e)
 
   pub message_moves : (a : ℕ) (m : Msg) → Goal (mine e m) (base_steps b (From a m)).state (base_steps b (From a m)).sent
   message_moves a m =

@@ -14,8 +14,7 @@ use Rattle.seam_law_calls.specs.Prelude.{concerns, concerning, order_about, orde
 use Rattle.seam_call.specs.declared.order.Order.TheVariants as order
 use Rattle.seam_entity.specs.declared.message.Msg.TheVariants.{Call}
 use Rattle.seam_node_steps.specs.BaseCases
-use Rattle.seam_node_steps.specs.BaseCases.{may_call, may_execute, executes_ready}
-use Rattle.seam_node_steps.specs.BaseCases.{unless_stray}
+use Rattle.seam_node_steps.specs.BaseCases.{may_call, may_execute, executes_ready, unless_stray}
 use Rattle.seam_law_calls.specs.BaseMoves as move
 use Rattle.seam_law_calls.proofs.Lists.{AllAbout, all_pass, concerned_own, concerned_other, concerning_own, concerning_other, orders_own}
 use Rattle.seam_law_calls.proofs.Lists.{orders_other}
@@ -49,9 +48,8 @@ module _ (e : ℕ) (b : BaseView) where
     own_part p x is = ap (λ z. at_base e (with_part d z p)) is ∙ part_own e d p
 
     called_moves : (c : CallData) (o : Option PartView) → s.orders ≡ order.Base c ∷ orders_of e os → c.entity ≡ e →
-        is_base_node_of b.here e ≡ true →
-        table.get b.parts e ≡ o →
-        stray_base_call b.here c o ≡ false → Goal (sends_none (BaseCases.part_called d c o))
+        is_base_node_of b.here e ≡ true → table.get b.parts e ≡ o → stray_base_call b.here c o ≡ false →
+        Goal (sends_none (BaseCases.part_called d c o))
     called_moves c None at is here has sound = cc
     called_moves c (Some p) at is here has sound =
         move.offers_own c (orders_of e os) p refl at is here has (yes_of (may_call b.here p c) sound)
@@ -155,8 +153,7 @@ module _ (e : ℕ) (b : BaseView) where
         let rest = ap (orders_of e) at ∙ orders_other e o os (concerned_other e x (order_about o) is n) in
         move.rests refl (k.state ∙ at_same _ _ _ _ _ _ (sym rest) refl refl) (concerning_other e x (order_of_node d o).sent k.sent n)
 
-    order_at : (o : Order) (x : ℕ) → b.orders ≡ o ∷ os → order_about o ≡ Some x → (x ≡ e) ⊎ (x ≡ e → ⊥) →
-        Goal (base_task b (o ∷ os))
+    order_at : (o : Order) (x : ℕ) → b.orders ≡ o ∷ os → order_about o ≡ Some x → (x ≡ e) ⊎ (x ≡ e → ⊥) → Goal (base_task b (o ∷ os))
     order_at o x at is (inl same) = own_by o (stray_order b o) at (is ∙ ap Some same) refl
     order_at o x at is (inr n) = other_by o x (stray_order b o) at is n
 

@@ -1,11 +1,9 @@
 -- No move raises what is yet to do.
-use Rattle.std.proofs.Common.{◌≡◌, ℕ, ◌+◌, ◌*◌, ◌≤◌, Bool, false, List, [], ◌∷◌, map, Option, None, Some}
-use Rattle.std.proofs.Common.{refl, ap, ◌∙◌, arith}
+use Rattle.std.proofs.Common.{◌≡◌, ℕ, ◌+◌, ◌*◌, ◌≤◌, Bool, false, List, [], ◌∷◌, map, Option, None, Some, refl, ap, ◌∙◌, arith}
 use Rattle.std.specs.List.{range_with_len}
 use Rattle.std.specs.FinSet as set
-use Rattle.seam_node_steps.specs.Prelude.{rank_of, total, RealView, Msg, Hand, Reap}
-use Rattle.seam_node_steps.specs.Prelude.{base_numbers, base_of, SlotStep, slot_after, haunts_at, ghost_messages, beat_after, settled_to}
-use Rattle.seam_node_steps.specs.Prelude.{current_to, shown_of, looks_with, tick_to}
+use Rattle.seam_node_steps.specs.Prelude.{rank_of, total, RealView, Msg, Hand, Reap, base_numbers, base_of, SlotStep, slot_after, haunts_at}
+use Rattle.seam_node_steps.specs.Prelude.{ghost_messages, beat_after, settled_to, current_to, shown_of, looks_with, tick_to}
 use Rattle.seam_law_flow.specs.Prelude.{IsSilent}
 use Rattle.seam_law_calls.specs.Prelude.{Frame, here_at, Has, AtCell, unlisted_if, Does, Acts, surveys, calls, readies, CellMoves}
 use Rattle.seam_law_calls.specs.Prelude.{BaseMoves, Moves, at_a_cell, at_a_base, held_in, real_burden, order_burden, letter_burden}
@@ -97,9 +95,8 @@ module _ (f : Frame) (e k : ℕ) (s : Has) (i : Option Msg) (t : Has) (sent : Li
       let z = base_is same in
       omega (arith, a, b, c, z)
 
-  stays_eased : (u : AtCell) (r q : RealView) (changed : Bool) → s.cell.slot.real ≡ Some r →
-      Acts (here_at f k) e s.cell i r u q changed → Does u (settle.stays (here_at f k) f.tree s.cell.slot q changed) t.cell sent →
-      t.base ≡ s.base → Eased
+  stays_eased : (u : AtCell) (r q : RealView) (changed : Bool) → s.cell.slot.real ≡ Some r → Acts (here_at f k) e s.cell i r u q changed →
+      Does u (settle.stays (here_at f k) f.tree s.cell.slot q changed) t.cell sent → t.base ≡ s.base → Eased
   stays_eased u r q changed has acts d same =
       let haunts = haunts_at (here_at f k) f.tree q.state.pos k q.haunts in
       let told = ghost_messages (here_at f k) q k haunts changed in

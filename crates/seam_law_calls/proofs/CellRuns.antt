@@ -1,18 +1,16 @@
 -- Each call to a cell part once: after an event, and after every list of events.
-use Rattle.std.proofs.Common.{◌≡◌, ℕ, ◌+◌, ◌<◌, ◌≤◌, true, not, is_some, List, ◌∷◌, length, Option, None, Some}
-use Rattle.std.proofs.Common.{refl}
-use Rattle.std.proofs.Common.{ap, ◌∙◌, arith}
+use Rattle.std.proofs.Common.{◌≡◌, ℕ, ◌+◌, ◌<◌, ◌≤◌, true, not, is_some, List, ◌∷◌, length, Option, None, Some, refl, ap, ◌∙◌, arith}
 use Rattle.std.specs.Prelude.{slice_get}
 use Rattle.std.specs.FinMap as table
 use Rattle.seam_table.proofs.Found.{found}
-use Rattle.seam_node_steps.specs.Prelude.{happens, enabled, LeadsTo, Occurs, Task, Event, item_at, next_item, Call as CallData, rank_of}
-use Rattle.seam_node_steps.specs.Prelude.{order_or, order_of, RealView, Msg, Reap, limit, cell_count, order_is_ready, may_offer}
-use Rattle.seam_node_steps.specs.Prelude.{fits_cell_part, may_call, may_execute, NodeView, World, node_steps, node_has_work, Cell, Base}
+use Rattle.seam_node_steps.specs.Prelude.{happens, enabled, Occurs, Task, Event, item_at, next_item, Call as CallData, rank_of, order_or}
+use Rattle.seam_node_steps.specs.Prelude.{order_of, RealView, Msg, Reap, limit, cell_count, order_is_ready, may_offer, fits_cell_part}
+use Rattle.seam_node_steps.specs.Prelude.{may_call, may_execute, NodeView, World, node_steps, node_has_work, Cell, Base}
 use Rattle.seam_law_flow.specs.Prelude.{Flow, comes, letter_in, letters_of, more_letter, slot_at, carried_in, Item, desk_of, parcel_of}
 use Rattle.seam_law_flow.specs.Prelude.{AreInTurn, Passes, Twice}
 use Rattle.seam_law_calls.specs.Prelude.{Frame, here_at, IsInFrame, Has, mine, has_of, has_none, entity_flow, real_burden, node_burden}
 use Rattle.seam_law_calls.specs.Prelude.{mine_burden, burden, real_in, IsSpared, IsFrame, HasOne, is_visited, AllLead, desk_for, real_desk}
-use Rattle.seam_law_calls.specs.Prelude.{cell_post, cell_mail, as_sender, IsCallOf, AreCallsOf, CellCallsInTurn, FindsTurn}
+use Rattle.seam_law_calls.specs.Prelude.{cell_post, cell_mail, as_sender, IsCallOf, AreCallsOf, CellCallsInTurn, FindsTurn, RunsTo}
 use Rattle.seam_machine.proofs.Occurring.{occurs}
 use Rattle.seam_net_runs.specs.Sums.{weight_or}
 use Rattle.seam_net_runs.proofs.Runs.{leads_keeps}
@@ -170,8 +168,7 @@ module _ (f : Frame) (frame : IsFrame f) (e ty : ℕ) (known : ty < length f.def
 
     -- a call that comes finds its turn
     comes_due : (c : CallData) → comes (goes f frame e ty known w v o h.has calm).input ≡ Some (Call c) →
-        FindsTurn f (goes f frame e ty known w v o h.has calm).k
-        ((entity_flow e w).slot (goes f frame e ty known w v o h.has calm).k) c
+        FindsTurn f (goes f frame e ty known w v o h.has calm).k ((entity_flow e w).slot (goes f frame e ty known w v o h.has calm).k) c
     comes_due c is =
         let g = goes f frame e ty known w v o h.has calm in
         let i = first_is (λ x. None) Some (entity_flow e w) g.k g.input g.rest (Call c) g.head (ap (carried_in Some) is) in
@@ -209,5 +206,5 @@ module _ (f : Frame) (frame : IsFrame f) (e ty : ℕ) (known : ty < length f.def
   kept_more : (w : World) (v : Event) → Kept w → enabled node_has_work w v ≡ true → Kept (happens node_steps w v)
   kept_more w v h on = kept_happens w v (occurs node_has_work w v on) h
 
-  pub kept_leads : (w v : World) (es : List Event) → Kept w → LeadsTo node_has_work node_steps w es v → Kept v
+  pub kept_leads : (w v : World) (es : List Event) → Kept w → RunsTo w es v → Kept v
   kept_leads w v es h run = leads_keeps node_has_work node_steps Kept kept_more w v es h run

@@ -1,6 +1,5 @@
 -- Each step of a node is, for one sender, one or two of the moves of its calls to the entity's cell part.
-use Rattle.std.proofs.Common.{◌≡◌, ℕ, ◌+◌, ◌<◌, ◌≤◌, Bool, true, ◌||◌, is_some, List, [], ◌∷◌, ◌++◌, Option, None, Some, refl}
-use Rattle.std.proofs.Common.{sym, ap, ◌∙◌}
+use Rattle.std.proofs.Common.{◌≡◌, ℕ, ◌+◌, ◌<◌, ◌≤◌, Bool, true, ◌||◌, is_some, List, [], ◌∷◌, ◌++◌, Option, None, Some, refl, sym, ap, ◌∙◌}
 use Rattle.std.proofs.Common.{subst, arith, inl, inr}
 use Rattle.std.specs.List.{range_with_len}
 use Rattle.std.specs.FinMap as table
@@ -118,8 +117,7 @@ module _ (f : Frame) (e k s : ℕ) (h : Has) (i : Option Msg) (t : Has) (sent : 
     turned q d is = post_is (stores h) (stores h) _ _ refl (ap Some is)
 
     acts_seen : (u : AtCell) (r q : RealView) (changed : Bool) → real_in h ≡ Some r → HoldsOwn h →
-        Acts (here_at f k) e h.cell i r u q changed → (o : ℕ → List (Mail CallData)) → Quiet o →
-        Passes k (cell_post s h) came (acted q) o
+        Acts (here_at f k) e h.cell i r u q changed → (o : ℕ → List (Mail CallData)) → Quiet o → Passes k (cell_post s h) came (acted q) o
     acts_seen u r q changed has own (surveys n a b c) o z = rests (ap (carried_in mine) a) (stays_put r q has refl) z
     acts_seen u r q changed has own (calls c a x m d) o z = elim (cases_eq (rank_of c.sender) s) [
       | inl is ↦ offers c.number c (desk_for s r.orders r.done) (ap (carried_in mine) a ∙ from_same s c (Item c.number c) is)
@@ -160,8 +158,7 @@ module _ (f : Frame) (e k s : ℕ) (h : Has) (i : Option Msg) (t : Has) (sent : 
         (leaves (desk_for s q.orders q.done) j refl refl after
         (only (ghost_messages (here_at f k) q j haunts changed) j (Hand gone) _ d.sends silent refl))
 
-    holds_seen : (c : CallData) (r : RealView) → i ≡ Some (Call c) → real_in h ≡ Some r →
-        (order_of r.orders c.sender).next < c.number →
+    holds_seen : (c : CallData) (r : RealView) → i ≡ Some (Call c) → real_in h ≡ Some r → (order_of r.orders c.sender).next < c.number →
         cell_post s t ≡ acted (with_offer r c) → IsSilent mine sent → Seen
     holds_seen c r a has early after q = elim (cases_eq (rank_of c.sender) s) [
       | inl is ↦ once (offers c.number c (desk_for s r.orders r.done) (ap (carried_in mine) a ∙ from_same s c (Item c.number c) is)
@@ -184,19 +181,13 @@ module _ (f : Frame) (e k s : ℕ) (h : Has) (i : Option Msg) (t : Has) (sent : 
       stray_none (Call c) a b =
           let p = turn c a in
           absurd (call_not_stray (here_at f k) c h.cell.slot.real h.cell.slot.next p.may p.place b)
-      stray_none (BaseCall c) a b = unseen (BaseCall c) a refl
       stray_none (Hand r) a b =
           let p = room r a in
           absurd (not_both (may_come (here_at f k) f.tree r) p.may
           (sym (ap (λ o. is_stray (here_at f k) f.tree (record { real = o; next = h.cell.slot.next; ghost = h.cell.slot.ghost }) (Hand r))
           p.free)
           ∙ b))
-      stray_none (Current x j g) a b = unseen (Current x j g) a refl
-      stray_none (GhostSet x n c) a b = unseen (GhostSet x n c) a refl
-      stray_none (GhostDrop x n) a b = unseen (GhostDrop x n) a refl
-      stray_none Tick a b = unseen Tick a refl
-      stray_none (Reap x) a b = unseen (Reap x) a refl
-      stray_none (Update u) a b = unseen (Update u) a refl
+      stray_none m a b = unseen m a refl
 
       cell_seen : HoldsOwn h → (i ≡ Some (Reap e) → ⊥) → CellMoves (here_at f k) f.tree e h.cell i t.cell sent → Seen
       cell_seen own calm (move.rests n d) = idle_step _ h.cell d refl (ap (carried_in mine) n) tt
@@ -237,14 +228,8 @@ module _ (f : Frame) (e k s : ℕ) (h : Has) (i : Option Msg) (t : Has) (sent : 
 
     base_stray_none : (m : Msg) → i ≡ Some m → came ≡ None
     base_stray_none (Call c) a = let low = (turn c a).cell in absurd (omega (arith, low, high))
-    base_stray_none (BaseCall c) a = unseen (BaseCall c) a refl
     base_stray_none (Hand r) a = let low = (room r a).cell in absurd (omega (arith, low, high))
-    base_stray_none (Current x j g) a = unseen (Current x j g) a refl
-    base_stray_none (GhostSet x n c) a = unseen (GhostSet x n c) a refl
-    base_stray_none (GhostDrop x n) a = unseen (GhostDrop x n) a refl
-    base_stray_none Tick a = unseen Tick a refl
-    base_stray_none (Reap x) a = unseen (Reap x) a refl
-    base_stray_none (Update u) a = unseen (Update u) a refl
+    base_stray_none m a = unseen m a refl
 
     still : came ≡ None → IsSilent mine sent → stores t ≡ stores h → Seen
     still n q a = idle n q a desk_same

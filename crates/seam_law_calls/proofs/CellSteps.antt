@@ -7,20 +7,17 @@ use Rattle.std.specs.Cmp.{unsigned_tied}
 use Rattle.std.specs.FinMap as table
 use Rattle.std.proofs.lemmas.Bool.{cases_eq, eq-eqb, ne_eqb}
 use Rattle.seam_table.proofs.Found.{found}
-use Rattle.seam_node_steps.specs.Prelude.{Input, Task, From, RealView, Msg, BaseCall, Hand, Current, GhostSet, GhostDrop, Tick, Reap}
-use Rattle.seam_node_steps.specs.Prelude.{Update, number_of, has_ready, Slot, SlotStep, slot_after, about, slot_steps, stray_survey}
-use Rattle.seam_node_steps.specs.Prelude.{stray_ready_call, stray_look, CellView, slot_of, after_slot, unlisted_by, stepped, cell_steps}
-use Rattle.seam_node_steps.specs.Prelude.{cell_task, ready_next, look_next, cell_hears, ready_entity, real_is_ready, surveys, calls_ready}
-use Rattle.seam_node_steps.specs.Prelude.{looks_around, known_to, AreUnderTheirEntities}
+use Rattle.seam_node_steps.specs.Prelude.{Input, Task, From, RealView, Msg, Tick, number_of, has_ready, Slot, SlotStep, slot_after, about}
+use Rattle.seam_node_steps.specs.Prelude.{slot_steps, stray_survey, stray_ready_call, stray_look, CellView, slot_of, after_slot}
+use Rattle.seam_node_steps.specs.Prelude.{unlisted_by, stepped, cell_steps, cell_task, ready_next, look_next, cell_hears, ready_entity}
+use Rattle.seam_node_steps.specs.Prelude.{real_is_ready, surveys, calls_ready, looks_around, known_to, AreUnderTheirEntities}
 use Rattle.seam_law_flow.specs.Prelude.{letter_in}
-use Rattle.seam_law_calls.specs.Prelude.{mine, concerning, times, AtCell, at_cell, unlisted_if, Does, CellMoves, looks_after_tick}
-use Rattle.seam_entity.specs.declared.message.Msg.TheVariants.{Call}
+use Rattle.seam_law_calls.specs.Prelude.{mine, concerning, times, AtCell, at_cell, unlisted_if, Does, CellMoves, entity_of}
 use Rattle.seam_node_steps.proofs.Slots.{slot_stepped}
 use Rattle.seam_law_calls.specs.CellMoves as move
 use Rattle.seam_law_calls.specs.CellMoves.{after_step}
 use Rattle.seam_law_calls.proofs.Lists.{AllAbout, mine_own, mine_other, concerning_own, concerning_other, times_own, times_other}
-use Rattle.seam_law_calls.proofs.Lists.{times_without}
-use Rattle.seam_law_calls.proofs.Lists.{times_without_other}
+use Rattle.seam_law_calls.proofs.Lists.{times_without, times_without_other}
 use Rattle.seam_law_calls.proofs.Sent.{slot_about, surveys_about, readies_about, looks_about}
 use Rattle.seam_law_calls.proofs.SlotSteps.{message_moves, survey_moves, ready_moves, look_moves}
 use Rattle.seam_law_calls.proofs.Ticking.{ticked}
@@ -180,15 +177,8 @@ module _ (c : CellView) (keys : AreUnderTheirEntities c.reals) (e : ℕ) where
   tick_moves = move.ticks refl (at_same _ _ _ _ _ _ refl refl (ticked c e)) refl
 
   hears_moves : (m : Msg) → Moved (mine e m) (cell_steps c (From 0 m)).state (cell_steps c (From 0 m)).sent
-  hears_moves (Call k) = hears_by (Call k) k.entity refl (cases_eq k.entity e)
-  hears_moves (BaseCall k) = hears_by (BaseCall k) k.entity refl (cases_eq k.entity e)
-  hears_moves (Hand r) = hears_by (Hand r) r.entity refl (cases_eq r.entity e)
-  hears_moves (Current x j g) = hears_by (Current x j g) x refl (cases_eq x e)
-  hears_moves (GhostSet x b k) = hears_by (GhostSet x b k) x refl (cases_eq x e)
-  hears_moves (GhostDrop x b) = hears_by (GhostDrop x b) x refl (cases_eq x e)
   hears_moves Tick = tick_moves
-  hears_moves (Reap x) = hears_by (Reap x) x refl (cases_eq x e)
-  hears_moves (Update u) = hears_by (Update u) u.entity refl (cases_eq u.entity e)
+  hears_moves m = hears_by m (entity_of m) refl (cases_eq (entity_of m) e)
 
   pub cell_moves : (i : Input Msg) → Moved (letter_in (mine e) i) (cell_steps c i).state (cell_steps c i).sent
   cell_moves Task = task_moves c.survey refl

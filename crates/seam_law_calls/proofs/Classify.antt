@@ -66,8 +66,7 @@ module _ (f : Frame) (w : World) (v : Event) (o : Occurs w v) (q : IsInFrame f w
     nodes = each_node (IsAt f) node_steps w v o q.nodes (stays_at f v.node o.node o.input (q.nodes v.node o.node o.is_node));
   }
 
-  node_moves_to : (e : ℕ) →
-      MovesTo f e v.node (has_of e o.node) (letter_in (mine e) o.input) (has_of e (node_steps o.node o.input).state)
+  node_moves_to : (e : ℕ) → MovesTo f e v.node (has_of e o.node) (letter_in (mine e) o.input) (has_of e (node_steps o.node o.input).state)
       (λ j. letters_of (mine e) (items_to j (node_steps o.node o.input).sent))
   node_moves_to e = record {
     sent = concerning e (node_steps o.node o.input).sent;

@@ -1,17 +1,16 @@
 -- Each call to a base part with a client once, over every list of events in which its witness tells no more than there is room for.
 use Rattle.std.proofs.Common.{◌≡◌, ℕ, ◌+◌, ◌≤◌, true, List, [], ◌∷◌, length, refl, sym, ap, subst, arith}
-use Rattle.seam_node_steps.specs.Prelude.{happens, enabled, run, AllEnabled, LeadsTo, Event, Call as CallData, RealView, Msg, BaseCall}
-use Rattle.seam_node_steps.specs.Prelude.{may_show, World, node_steps, node_has_work}
+use Rattle.seam_node_steps.specs.Prelude.{happens, run, AllEnabled, Event, Call as CallData, RealView, Msg, BaseCall, may_show, World}
+use Rattle.seam_node_steps.specs.Prelude.{node_steps, node_has_work}
 use Rattle.seam_law_calls.specs.Prelude.{Frame, IsInFrame, entity_flow, IsSpared, sent_of, sent_by, FindsPart, HasBaseCalls, EachReal}
-use Rattle.seam_law_calls.specs.Prelude.{HasToldAtMost, HasClient, HasRoomFor}
+use Rattle.seam_law_calls.specs.Prelude.{HasToldAtMost, HasClient, HasRoomFor, RunsTo}
 use Rattle.seam_machine.proofs.Occurring.{occurs}
-use Rattle.seam_net_runs.proofs.Runs.{leads_keeps}
-use Rattle.seam_law_calls.proofs.Classify.{frame_happens}
 use Rattle.seam_law_calls.proofs.OneReal.{one_leads, spared_happens}
 use Rattle.seam_law_calls.proofs.PartEasing.{base_burden_happens}
 use Rattle.seam_law_calls.proofs.WitnessKept.{each_weaker, each_happens}
 use Rattle.seam_law_calls.proofs.BaseRuns.{finds, kept_happens}
 use Rattle.seam_law_calls.proofs.ClientRuns.{one_of, part_may_show, client_happens}
+use Rattle.seam_law_calls.proofs.Keeping.{run_keeps}
 
 -- ---- what witnesses told never falls
 
@@ -19,31 +18,18 @@ abbrev AtLeast : ℕ → RealView → Type 0
 AtLeast m r = m ≤ sent_by r
 
 module _ (f : Frame) (e m : ℕ) where
-  record Told (w : World) : Type 0 where
-    frame : IsInFrame f w
-    each : EachReal e (AtLeast m) w
-
-  told_more : (w : World) (v : Event) → Told w → enabled node_has_work w v ≡ true → Told (happens node_steps w v)
-  told_more w v h on =
-      let o = occurs node_has_work w v on in
-      record {
-        frame = frame_happens f w v o h.frame;
-        each =
-            each_happens (AtLeast m) (λ r q same le. let a = ap sent_of same in omega (arith, a, le)) f e w v o h.frame
-            (λ k n r q x y shown at wit wit' sum le.
-            let a = ap sent_of wit in
-            let b = ap sent_of wit' in
-            omega (arith, le, a, b, sum)) h.each;
-      }
-
-  told_leads : (w v : World) (es : List Event) → IsInFrame f w → EachReal e (AtLeast m) w → LeadsTo node_has_work node_steps w es v →
-      EachReal e (AtLeast m) v
+  told_leads : (w v : World) (es : List Event) → IsInFrame f w → EachReal e (AtLeast m) w → RunsTo w es v → EachReal e (AtLeast m) v
   told_leads w v es q each run =
-      (leads_keeps node_has_work node_steps Told told_more w v es (record { frame = q; each = each }) run).each
+      run_keeps f (EachReal e (AtLeast m)) (λ x a o frame all.
+      each_happens (AtLeast m) (λ r q same le. let a = ap sent_of same in omega (arith, a, le)) f e x a o frame
+      (λ k n r q y z shown at wit wit' sum le.
+      let a = ap sent_of wit in
+      let b = ap sent_of wit' in
+      omega (arith, le, a, b, sum)) all) w v es q run each
 
 -- a witness that told at most n in the end told at most n before
 told_before : (f : Frame) (e ty first n : ℕ) (w v : World) (es : List Event) (h : HasClient f e ty first w) → IsSpared e w →
-    LeadsTo node_has_work node_steps w es v → HasToldAtMost e n v → HasToldAtMost e n w
+    RunsTo w es v → HasToldAtMost e n v → HasToldAtMost e n w
 told_before f e ty first n w v es h spared run most =
     let number = first + length h.issued in
     let one = (one_leads f h.frame e ty h.known w v es h.one spared run).has in
@@ -85,8 +71,7 @@ module _ (f : Frame) (e ty : ℕ) (first : ℕ → ℕ) (batch : ℕ → List Ca
         client = client_happens f e ty update n w v o h.client h.calls.spared now room;
       }) (omega (arith, less, room)) on.1 most
 
-  pub both_leads : (w v : World) (es : List Event) → Both w → HasRoomFor e n w → LeadsTo node_has_work node_steps w es v →
-      HasToldAtMost e n v → Both v
+  pub both_leads : (w v : World) (es : List Event) → Both w → HasRoomFor e n w → RunsTo w es v → HasToldAtMost e n v → Both v
   both_leads w v es h room r most =
       subst Both (sym r.is_run) (both_run w es h room r.each (subst (HasToldAtMost e n) r.is_run most))
 
@@ -112,7 +97,7 @@ module _ (f : Frame) (e ty update n : ℕ) where
       }) (omega (arith, less, room)) on.1 most
 
   pub client_leads : (w v : World) (es : List Event) → HasClient f e ty update w → IsSpared e w → HasRoomFor e n w →
-      LeadsTo node_has_work node_steps w es v → HasToldAtMost e n v → HasClient f e ty update v
+      RunsTo w es v → HasToldAtMost e n v → HasClient f e ty update v
   client_leads w v es h spared room r most =
       let end = client_run w es (record { client = h; spared = spared }) room r.each (subst (HasToldAtMost e n) r.is_run most) in
       subst (HasClient f e ty update) (sym r.is_run) end.client

@@ -15,7 +15,7 @@ use Rattle.seam_law_flow.specs.Prelude.{Flow, Goes, comes, letters_of, more_lett
 use Rattle.seam_law_flow.specs.Prelude.{IsToward, Life, number_from, numbered}
 use Rattle.seam_law_calls.specs.Prelude.{Frame, here_at, Has, AtBase, entity_flow, MovesTo, real_in, real_of, IsSpared, IsOne, Missed}
 use Rattle.seam_law_calls.specs.Prelude.{sent_by, base_burden, home_of, tells, proxy_of, order_in, updates_at, shown_at, EachReal}
-use Rattle.seam_law_calls.specs.Prelude.{HasToldAtMost, HasClient, HasRoomFor, FindsClient}
+use Rattle.seam_law_calls.specs.Prelude.{HasToldAtMost, HasClient, HasRoomFor, FindsClient, real_at}
 use Rattle.seam_law_flow.proofs.Following.{letters_kept, came}
 use Rattle.seam_law_flow.proofs.TokenLemmas.{one_more, first_is, sole_first, sole_here}
 use Rattle.seam_law_flow.proofs.Numbers.{item_bounds}
@@ -286,7 +286,7 @@ module _ (f : Frame) (e ty first n : ℕ) (w : World) (v : Event) (o : Occurs w 
 
   -- the other reals: there are none where the witness told something
   record Others : Type 0 where
-    cells : (k : ℕ) → (k ≡ step.k → ⊥) → (r : RealView) → real_in ((entity_flow e w).slot k) ≡ Some r → Follows r
+    cells : (k : ℕ) → (k ≡ step.k → ⊥) → (r : RealView) → real_at e w k ≡ Some r → Follows r
     hands : (a k : ℕ) → AllByRecursion (λ m. (r : RealView) → real_of m ≡ Some r → Follows r) ((entity_flow e w).mail a k)
 
   others_by : (told.us ≡ []) ⊎ ((r : RealView) × (real_in before ≡ Some r)) → Others
@@ -310,9 +310,9 @@ module _ (f : Frame) (e ty first n : ℕ) (w : World) (v : Event) (o : Occurs w 
   others : Others
   others = others_by told.teller
 
-  cells_next : (k : ℕ) (r : RealView) → real_in ((entity_flow e next).slot k) ≡ Some r → Follows r
+  cells_next : (k : ℕ) (r : RealView) → real_at e next k ≡ Some r → Follows r
   cells_next k = elim (cases_eq k step.k) [
-    | inl is ↦ subst (λ x. (r : RealView) → real_in ((entity_flow e next).slot x) ≡ Some r → Follows r) (sym is) told.slot
+    | inl is ↦ subst (λ x. (r : RealView) → real_at e next x ≡ Some r → Follows r) (sym is) told.slot
     | inr away ↦ λ r has. others.cells k away r (ap real_in (sym (step.others k away)) ∙ has)
   ]
 

@@ -10,9 +10,9 @@ use Rattle.std.specs.declared.cmp.Ordering.TheVariants.{Less, Equal, Greater}
 use Rattle.std.proofs.lemmas.Bool.{eq-eqb, ne_eqb}
 use Rattle.std.proofs.lemmas.Bool.Decides.{nat_tests}
 use Rattle.std.proofs.lemmas.List.{append-nil}
-use Rattle.seam_node_steps.specs.Prelude.{items_to, with_item, after_offer, after_taking, next_item, Order, Shown, RealView, Msg}
-use Rattle.seam_node_steps.specs.Prelude.{Hand, Update, Here, cell_count, PartView, ProxyView}
-use Rattle.seam_node_steps.specs.Prelude.{line_if, base_text, offered_update, shows_next, numbered}
+use Rattle.seam_node_steps.specs.Prelude.{items_to, with_item, after_offer, after_taking, next_item, Order, Shown, RealView, Msg, Hand}
+use Rattle.seam_node_steps.specs.Prelude.{Update, Here, cell_count, PartView, ProxyView, line_if, base_text, offered_update, shows_next}
+use Rattle.seam_node_steps.specs.Prelude.{numbered}
 use Rattle.seam_law_flow.specs.Prelude.{letters_of, IsSilent, carried_in, SendsNone, at_once, more_issued, number_from}
 use Rattle.seam_law_calls.specs.Prelude.{Frame, here_at, Has, Moves, at_a_cell, at_a_base, real_in, real_of, update_in, told, Missed}
 use Rattle.seam_law_calls.specs.Prelude.{sent_of, sent_by, WitnessMoves, home_of, with_number, tells, proxy_of, order_in, updates_at}
@@ -96,9 +96,8 @@ shown_once x u Greater is =
     (ne_eqb u.number x.updates.next (apart_by u.number x.updates.next Greater is (λ e. cc)))
     ∙ append-nil (letters_of shown_in x.lines))
 
-pub shows_by : (x : ProxyView) (o : Option Shown) → is_some o ≡ true → next_item x.updates ≡ o → (s : Shown) ×
-    (next_item x.updates ≡ Some s) ×
-    ((shows_next x o).updates ≡ after_taking x.updates) ×
+pub shows_by : (x : ProxyView) (o : Option Shown) → is_some o ≡ true → next_item x.updates ≡ o →
+    (s : Shown) × (next_item x.updates ≡ Some s) × ((shows_next x o).updates ≡ after_taking x.updates) ×
     (letters_of shown_in (shows_next x o).lines ≡ letters_of shown_in x.lines ++ s ∷ [])
 shows_by x None ready is = cc
 shows_by x (Some s) ready is = (s, is, refl, letters_of-append shown_in x.lines (_ ∷ []))

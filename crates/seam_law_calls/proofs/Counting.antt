@@ -28,15 +28,9 @@ kept_hand true r = refl
 kept_hand false r = refl
 
 carried_is : (e k : ℕ) (m : Msg) → one_if (carried_in real_of (mine e m)) ≡ carried e k m
-carried_is e k (Call c) = kept_none (concerns e (Call c)) (Call c) refl
-carried_is e k (BaseCall c) = kept_none (concerns e (BaseCall c)) (BaseCall c) refl
 carried_is e k (Hand r) = kept_hand (eqb r.entity e) r
-carried_is e k (Current x j g) = kept_none (concerns e (Current x j g)) (Current x j g) refl
-carried_is e k (GhostSet x n c) = kept_none (concerns e (GhostSet x n c)) (GhostSet x n c) refl
-carried_is e k (GhostDrop x n) = kept_none (concerns e (GhostDrop x n)) (GhostDrop x n) refl
 carried_is e k Tick = refl
-carried_is e k (Reap x) = kept_none (concerns e (Reap x)) (Reap x) refl
-carried_is e k (Update u) = kept_none (concerns e (Update u)) (Update u) refl
+carried_is e k m = kept_none (concerns e m) m refl
 
 -- the two counts are one
 holders_is : (w : World) (e : ℕ) → token.holders (has_of e) (mine e) real_in real_of w ≡ holders w e

@@ -1,18 +1,17 @@
 -- What no step raises no event raises; so what is yet to do, and a hand-over that comes has small numbers.
 use Rattle.std.proofs.Common.{◌≡◌, ℕ, ◌+◌, ◌<◌, ◌≤◌, Bool, true, false, cond, List, [], ◌∷◌, Some, refl, ap, arith}
-use Rattle.seam_node_steps.specs.Prelude.{happens, enabled, LeadsTo, Occurs, total, Input, Task, From, Event, RealView, Msg, Hand, Reap}
-use Rattle.seam_node_steps.specs.Prelude.{limit, NodeView, World, node_steps, node_has_work}
+use Rattle.seam_node_steps.specs.Prelude.{happens, Occurs, total, Input, Task, From, Event, RealView, Msg, Hand, Reap, limit, NodeView}
+use Rattle.seam_node_steps.specs.Prelude.{World, node_steps}
 use Rattle.seam_law_flow.specs.Prelude.{letter_in}
 use Rattle.seam_law_calls.specs.Prelude.{Frame, IsInFrame, Has, concerns, kept_if, mine, concerning, has_of, real_burden, letter_burden}
-use Rattle.seam_law_calls.specs.Prelude.{has_burden, node_burden, mine_burden, burden}
+use Rattle.seam_law_calls.specs.Prelude.{has_burden, node_burden, mine_burden, burden, RunsTo}
 use Rattle.seam_net_runs.specs.Sums.{weight_or}
 use Rattle.seam_net_runs.specs.Weights.{weight, input_weight, sent_weight}
-use Rattle.seam_machine.proofs.Occurring.{occurs}
-use Rattle.seam_net_runs.proofs.Runs.{leads_keeps}
 use Rattle.seam_net_runs.proofs.Soundness.{sound_sends}
 use Rattle.seam_net_runs.proofs.Weighing.{weight_moves, weight_bounds}
-use Rattle.seam_law_calls.proofs.Classify.{node_laws, node_moves, frame_happens}
+use Rattle.seam_law_calls.proofs.Classify.{node_laws, node_moves}
 use Rattle.seam_law_calls.proofs.Burdening.{eased}
+use Rattle.seam_law_calls.proofs.Keeping.{run_keeps}
 
 -- ---- numbers of what a node has of an entity and of messages about it, in a world
 
@@ -56,21 +55,10 @@ module _ (F : Has → ℕ) (G : Msg → ℕ) (e : ℕ) where
 -- what no event raises, no list of events does
 module _ (f : Frame) (n : World → ℕ) (falls : (w : World) (v : Event) (o : Occurs w v) → IsInFrame f w → n (happens node_steps w v) ≤ n w)
   where
-    record Lighter (most : ℕ) (w : World) : Type 0 where
-      frame : IsInFrame f w
-      few : n w ≤ most
-
-    lighter_more : (most : ℕ) (w : World) (v : Event) → Lighter most w → enabled node_has_work w v ≡ true →
-        Lighter most (happens node_steps w v)
-    lighter_more most w v h on =
-        let o = occurs node_has_work w v on in
-        let less = falls w v o h.frame in
-        let few = h.few in
-        record { frame = frame_happens f w v o h.frame; few = omega (arith, less, few) }
-
-    pub falls_lead : (w v : World) (es : List Event) → IsInFrame f w → LeadsTo node_has_work node_steps w es v → n v ≤ n w
+    pub falls_lead : (w v : World) (es : List Event) → IsInFrame f w → RunsTo w es v → n v ≤ n w
     falls_lead w v es q run =
-        (leads_keeps node_has_work node_steps (Lighter (n w)) (lighter_more (n w)) w v es (record { frame = q; few = omega arith }) run).few
+        run_keeps f (λ x. n x ≤ n w) (λ x a o frame few. let less = falls x a o frame in omega (arith, less, few)) w v es q run
+        (omega arith)
 
 -- ---- what is yet to do
 
@@ -101,6 +89,5 @@ module _ (f : Frame) (e : ℕ) (w : World) (v : Event) (o : Occurs w v) (q : IsI
       omega (arith, a, b, c, d, few)
 
 -- after every list of events
-pub burden_leads : (f : Frame) (e : ℕ) (w v : World) (es : List Event) → IsInFrame f w → LeadsTo node_has_work node_steps w es v →
-    burden e v ≤ burden e w
+pub burden_leads : (f : Frame) (e : ℕ) (w v : World) (es : List Event) → IsInFrame f w → RunsTo w es v → burden e v ≤ burden e w
 burden_leads f e w v es q run = falls_lead f (burden e) (burden_happens f e) w v es q run

@@ -9,13 +9,13 @@ use Rattle.std.proofs.lemmas.Bool.{eqb-true}
 use Rattle.std.specs.FinMap as table
 use Rattle.std.specs.FinSet as set
 use Rattle.std.proofs.lemmas.List.Elements.{All-nil, All-cons, All-replicate}
-use Rattle.seam_node_steps.specs.Prelude.{cut_after, area, IsTree, IsProper, are_of_group, link, run, AllEnabled, LeadsTo, IsSquare}
-use Rattle.seam_node_steps.specs.Prelude.{ArePeers, EachNode, Event, Msg, Map, properties, all_held, fits_cell_part, NodeView, World}
-use Rattle.seam_node_steps.specs.Prelude.{node_peers, node_has_work, node_steps, IsNode, holders, RouteView, idle, one, IsRow, two_cells}
-use Rattle.seam_node_steps.specs.Prelude.{made, at_home, with_cells, base_16, the_move, hit_1, hit_2}
+use Rattle.seam_node_steps.specs.Prelude.{cut_after, area, IsTree, IsProper, are_of_group, link, run, AllEnabled, IsSquare, ArePeers}
+use Rattle.seam_node_steps.specs.Prelude.{EachNode, Event, Msg, Map, properties, all_held, fits_cell_part, NodeView, World, node_peers}
+use Rattle.seam_node_steps.specs.Prelude.{node_has_work, node_steps, IsNode, holders, RouteView, idle, one, IsRow, two_cells, made, at_home}
+use Rattle.seam_node_steps.specs.Prelude.{with_cells, base_16, the_move, hit_1, hit_2}
 use Rattle.seam_law_flow.specs.Prelude.{slot_at, letters_of}
 use Rattle.seam_law_calls.specs.Prelude.{here_at, IsAt, IsInFrame, Has, mine, has_of, has_none, entity_flow, RealFits, IsFitReal, IsFitHand}
-use Rattle.seam_law_calls.specs.Prelude.{burden, real_in, reaped_by, HasNoReaps, IsSpared, AllFits, IsFrame, frame, events_of}
+use Rattle.seam_law_calls.specs.Prelude.{burden, real_in, reaped_by, HasNoReaps, IsSpared, AllFits, IsFrame, frame, events_of, RunsTo}
 use Rattle.seam_defs.specs.declared.flags.Group.TheVariants as group
 use Rattle.seam_defs.proofs.WellFormed.{builtin-are-defs}
 use Rattle.seam_defs.proofs.TestLemmas.{of_group-Decides}
@@ -317,6 +317,5 @@ run_of e n w [] row = refl
 run_of e n w (s ∷ ss) row = run_of e n s.1 ss row.3 ∙ sym (ap (λ v. run node_steps v (events_of ss)) row.1)
 
 -- the events of a row lead to its last world
-pub row_leads : (e n : ℕ) (w : World) (ss : List (Event × World)) → IsRow e n w ss →
-    LeadsTo node_has_work node_steps w (events_of ss) (last_of w ss)
+pub row_leads : (e n : ℕ) (w : World) (ss : List (Event × World)) → IsRow e n w ss → RunsTo w (events_of ss) (last_of w ss)
 row_leads e n w ss row = record { each = enabled_of e n w ss row; is_run = run_of e n w ss row }

@@ -1,42 +1,25 @@
 -- Calls find their way after every list of events.
-use Rattle.std.proofs.Common.{◌≡◌, ℕ, ◌<◌, Bool, true, false, not, ◌&&◌, ◌||◌, is_some, List, [], ◌∷◌, length, None, Some, refl}
-use Rattle.std.proofs.Common.{sym, ap, ◌∙◌, subst}
+use Rattle.std.proofs.Common.{◌≡◌, ℕ, ◌<◌, Bool, true, false, not, ◌&&◌, ◌||◌, is_some, List, [], ◌∷◌, length, None, Some, refl, sym, ap}
+use Rattle.std.proofs.Common.{◌∙◌, subst}
 use Rattle.std.specs.List.{AllByRecursion}
-use Rattle.seam_node_steps.specs.Prelude.{happens, enabled, LeadsTo, Event, Call as CallData, Msg, RouteView, World, node_steps}
-use Rattle.seam_node_steps.specs.Prelude.{node_has_work}
+use Rattle.seam_node_steps.specs.Prelude.{happens, Event, Call as CallData, Msg, RouteView, World, node_steps}
 use Rattle.seam_law_flow.specs.Prelude.{Flow, comes}
 use Rattle.seam_law_calls.specs.Prelude.{Frame, Has, entity_flow, IsSpared, IsFrame, HasOne, is_visited, follow, NamesVisited, AllLead}
-use Rattle.seam_machine.proofs.Occurring.{occurs}
-use Rattle.seam_net_runs.proofs.Runs.{leads_keeps}
+use Rattle.seam_law_calls.specs.Prelude.{RunsTo}
 use Rattle.seam_entity.specs.declared.message.Msg.TheVariants.{Call}
-use Rattle.seam_law_calls.proofs.OneReal.{goes, room, one_happens, calm_of, spared_happens}
+use Rattle.seam_law_calls.proofs.OneReal.{goes, room, one_keeps}
 use Rattle.seam_law_calls.proofs.WayMoves.{leads}
 use Rattle.seam_law_calls.proofs.Leading.{lead_goes}
 
 module _ (f : Frame) (frame : IsFrame f) (e ty : ℕ) (known : ty < length f.defs) where
-  record Found (w : World) : Type 0 where
-    has : HasOne f e ty w
-    spared : IsSpared e w
-    lead : AllLead (entity_flow e w)
-
-  found_more : (w : World) (v : Event) → Found w → enabled node_has_work w v ≡ true → Found (happens node_steps w v)
-  found_more w v h on =
-      let o = occurs node_has_work w v on in
-      let calm = calm_of f e w v o h.has.fits.frame h.spared in
-      let g = goes f frame e ty known w v o h.has calm in
-      record {
-        has = (one_happens f frame e ty known w v o h.has calm).has;
-        spared = spared_happens f e w v o h.has.fits.frame h.spared;
-        lead =
-            lead_goes g g.moves.0.sent g.moves.0.items
-            (leads f e g.k ((entity_flow e w).slot g.k) (comes g.input) ((entity_flow e (happens node_steps w v)).slot g.k) g.moves.0.sent
-            (room f frame e ty known w v o h.has calm) g.moves.1.1 g.moves.0.moves) h.lead;
-      }
-
   pub ways_lead : (w v : World) (es : List Event) → HasOne f e ty w → IsSpared e w → AllLead (entity_flow e w) →
-      LeadsTo node_has_work node_steps w es v → AllLead (entity_flow e v)
+      RunsTo w es v → AllLead (entity_flow e v)
   ways_lead w v es has spared lead run =
-      (leads_keeps node_has_work node_steps Found found_more w v es (record { has = has; spared = spared; lead = lead }) run).lead
+      one_keeps f frame e ty known (λ x. AllLead (entity_flow e x)) (λ x a o one its calm was.
+      let g = goes f frame e ty known x a o one calm in
+      lead_goes g g.moves.0.sent g.moves.0.items
+      (leads f e g.k ((entity_flow e x).slot g.k) (comes g.input) ((entity_flow e (happens node_steps x a)).slot g.k) g.moves.0.sent
+      (room f frame e ty known x a o one calm) g.moves.1.1 g.moves.0.moves) was) w v es has spared run lead
 
 first_by : (v a : Bool) → ((not true || v) && a) ≡ true → v ≡ true
 first_by true a h = refl

@@ -1,25 +1,23 @@
 -- A Reap that finds the real takes it out of the world, and an entity that no one has stays gone.
-use Rattle.std.proofs.Common.{◌≡◌, ℕ, ◌+◌, Bool, true, false, not, List, Option, None, Some, refl, sym, ap, ◌∙◌}
-use Rattle.std.proofs.Common.{subst, arith}
+use Rattle.std.proofs.Common.{◌≡◌, ℕ, ◌+◌, Bool, true, false, not, List, Option, None, Some, refl, sym, ap, ◌∙◌, subst, arith}
 use Rattle.std.specs.List.{AllByRecursion}
-use Rattle.seam_node_steps.specs.Prelude.{happens, enabled, LeadsTo, Occurs, Event, RealView, Msg, Hand, Reap, limit, may_rise, is_stray}
-use Rattle.seam_node_steps.specs.Prelude.{World, node_steps, node_has_work}
+use Rattle.seam_node_steps.specs.Prelude.{happens, Occurs, Event, RealView, Msg, Hand, Reap, limit, may_rise, is_stray, World, node_steps}
 use Rattle.seam_law_flow.specs.Prelude.{Goes, comes, letter_in, letters_of, IsSilent, carried_in, Nobody, Handles, still, turns, lands}
 use Rattle.seam_law_flow.specs.Prelude.{leaves, relays}
 use Rattle.seam_law_calls.specs.Prelude.{Frame, here_at, IsInFrame, Has, AtCell, mine, has_of, entity_flow, Acts, surveys, calls, readies}
 use Rattle.seam_law_calls.specs.Prelude.{CellMoves, Moves, at_a_cell, at_a_base, MovesTo, Replays, real_in, real_of, IsFrame, HasOne}
-use Rattle.seam_machine.proofs.Occurring.{occurs}
-use Rattle.seam_net_runs.proofs.Runs.{leads_keeps}
+use Rattle.seam_law_calls.specs.Prelude.{RunsTo, real_at}
 use Rattle.seam_law_flow.proofs.Following.{came}
 use Rattle.seam_law_flow.proofs.SendLists.{sees_none}
 use Rattle.seam_law_flow.proofs.Lives.{nobody_still, nobody_ends}
 use Rattle.seam_law_calls.specs.CellMoves as move
-use Rattle.seam_law_calls.proofs.Classify.{frame_happens, event_moves, event_moves_with}
+use Rattle.seam_law_calls.proofs.Classify.{event_moves, event_moves_with}
 use Rattle.seam_law_calls.proofs.Holds.{below_is}
 use Rattle.seam_law_calls.proofs.Plain.{drops_silent}
 use Rattle.seam_law_calls.proofs.Handling.{reals_unseen, handled}
 use Rattle.seam_law_calls.proofs.Easing.{reaped_small}
 use Rattle.seam_law_calls.proofs.OneReal.{hands_all, came_hand}
+use Rattle.seam_law_calls.proofs.Keeping.{run_keeps}
 
 -- ---- nobody has it
 
@@ -33,7 +31,7 @@ module _ (f : Frame) (frame : IsFrame f) (e : ℕ) (w : World) (v : Event) (o : 
       (came (λ a k m. (r : RealView) → m ≡ Hand r → ⊥) moves (Hand r) h (λ a k.
       hands_all (λ r. ⊥) ((entity_flow e w).mail a k) (subst (AllByRecursion (λ r. ⊥)) (sym (none.mail a k)) tt))).1 r refl
 
-  none_here : (r : RealView) → real_in ((entity_flow e w).slot moves.k) ≡ Some r → ⊥
+  none_here : (r : RealView) → real_at e w moves.k ≡ Some r → ⊥
   none_here r h = let no = sym (none.slots moves.k) ∙ h in cc
 
   gone_by : Handles real_in real_of (Replays f) ((entity_flow e w).slot moves.k) (comes moves.input)
@@ -49,21 +47,11 @@ module _ (f : Frame) (frame : IsFrame f) (e : ℕ) (w : World) (v : Event) (o : 
       gone_by (handled f frame.defs e 0 moves.k _ (comes moves.input) _ moves.moves.sent moves.out moves.moves.items
       (λ r h. absurd (none_comes r h)) (λ r h is. none_here r h) moves.moves.moves).0
 
-record Gone (f : Frame) (e : ℕ) (w : World) : Type 0 where
-  frame : IsInFrame f w
-  none : Nobody real_in real_of (entity_flow e w)
-
-gone_more : (f : Frame) → IsFrame f → (e : ℕ) (w : World) (v : Event) → Gone f e w → enabled node_has_work w v ≡ true →
-    Gone f e (happens node_steps w v)
-gone_more f frame e w v g on =
-    let o = occurs node_has_work w v on in
-    record { frame = frame_happens f w v o g.frame; none = gone_happens f frame e w v o g.frame g.none }
-
 -- after every list of events
 pub gone_leads : (f : Frame) → IsFrame f → (e : ℕ) (w v : World) (es : List Event) → IsInFrame f w →
-    Nobody real_in real_of (entity_flow e w) → LeadsTo node_has_work node_steps w es v → Nobody real_in real_of (entity_flow e v)
+    Nobody real_in real_of (entity_flow e w) → RunsTo w es v → Nobody real_in real_of (entity_flow e v)
 gone_leads f frame e w v es q none run =
-    (leads_keeps node_has_work node_steps (Gone f e) (gone_more f frame e) w v es (record { frame = q; none = none }) run).none
+    run_keeps f (λ x. Nobody real_in real_of (entity_flow e x)) (gone_happens f frame e) w v es q run none
 
 -- ---- a Reap finds the real
 

@@ -1,6 +1,6 @@
 -- What each move does with the entity's real: it stays as it is, is turned into what calls make of it, lands, or leaves.
-use Rattle.std.proofs.Common.{◌≡◌, ℕ, ◌+◌, ◌<◌, ◌≤◌, Bool, true, List, [], ◌∷◌, Option, None, Some, refl, sym, ap, ◌∙◌}
-use Rattle.std.proofs.Common.{subst, arith, inl, inr}
+use Rattle.std.proofs.Common.{◌≡◌, ℕ, ◌+◌, ◌<◌, ◌≤◌, Bool, true, List, [], ◌∷◌, Option, None, Some, refl, sym, ap, ◌∙◌, subst, arith, inl}
+use Rattle.std.proofs.Common.{inr}
 use Rattle.std.specs.List.{range_with_len}
 use Rattle.std.specs.FinSet as set
 use Rattle.seam_node_steps.specs.Prelude.{AreDefs, items_to, RealView, Msg, BaseCall, Hand, Current, GhostSet, GhostDrop, Tick, Reap}
@@ -83,20 +83,13 @@ module _ (f : Frame) (defs : AreDefs f.defs) (e ty k : ℕ) (s : Has) (i : Optio
 
   stray_none : ((r : RealView) → i ≡ Some (Hand r) → FindsRoom f k s r) → (m : Msg) → i ≡ Some m →
       is_stray (here_at f k) f.tree s.cell.slot m ≡ true → carried_in real_of i ≡ None
-  stray_none room (Call c) h b = came_none (Call c) h refl
-  stray_none room (BaseCall c) h b = came_none (BaseCall c) h refl
   stray_none room (Hand r) h b =
       let p = room r h in
       absurd (not_both (may_come (here_at f k) f.tree r) p.may
       (sym (ap (λ o. is_stray (here_at f k) f.tree (record { real = o; next = s.cell.slot.next; ghost = s.cell.slot.ghost }) (Hand r))
       p.free)
       ∙ b))
-  stray_none room (Current x j g) h b = came_none (Current x j g) h refl
-  stray_none room (GhostSet x n c) h b = came_none (GhostSet x n c) h refl
-  stray_none room (GhostDrop x n) h b = came_none (GhostDrop x n) h refl
-  stray_none room Tick h b = came_none Tick h refl
-  stray_none room (Reap x) h b = came_none (Reap x) h refl
-  stray_none room (Update u) h b = came_none (Update u) h refl
+  stray_none room m h b = came_none m h refl
 
   -- a settling that stays
   stays_handled : (u : AtCell) (r q : RealView) (changed : Bool) → real_in s ≡ Some r → Acts (here_at f k) e s.cell i r u q changed →
@@ -193,15 +186,8 @@ module _ (f : Frame) (defs : AreDefs f.defs) (e ty k : ℕ) (s : Has) (i : Optio
 
   base_stray_none : cell_count ≤ k → ((r : RealView) → i ≡ Some (Hand r) → FindsRoom f k s r) → (m : Msg) → i ≡ Some m →
       carried_in real_of i ≡ None
-  base_stray_none high room (Call c) h = came_none (Call c) h refl
-  base_stray_none high room (BaseCall c) h = came_none (BaseCall c) h refl
   base_stray_none high room (Hand r) h = let p = room r h in let low = p.cell in absurd (omega (arith, low, high))
-  base_stray_none high room (Current x j g) h = came_none (Current x j g) h refl
-  base_stray_none high room (GhostSet x n c) h = came_none (GhostSet x n c) h refl
-  base_stray_none high room (GhostDrop x n) h = came_none (GhostDrop x n) h refl
-  base_stray_none high room Tick h = came_none Tick h refl
-  base_stray_none high room (Reap x) h = came_none (Reap x) h refl
-  base_stray_none high room (Update u) h = came_none (Update u) h refl
+  base_stray_none high room m h = came_none m h refl
 
   quiet : sent ≡ [] → IsSilent real_of sent
   quiet h = subst (IsSilent real_of) (sym h) tt

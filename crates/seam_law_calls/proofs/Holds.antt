@@ -1,7 +1,7 @@
 -- Tests of two things and of numbers, beside what is known of held calls.
 use Rattle.std.proofs.Common.{◌≡◌, ℕ, ◌<◌, Bool, true, false, not, nat_lt, arith}
 use Rattle.std.proofs.lemmas.Bool.Decides.{nat_tests}
-pub use Rattle.seam_entity.proofs.HeldLemmas.{both, all_two, got_passes, picked_passes, item_passes_too, held_offered, held_taken}
+pub use Rattle.seam_entity.proofs.HeldLemmas.{all_two, both, got_passes, held_offered, held_taken, item_passes_too, picked_passes}
 
 pub not_both : (b : Bool) → b ≡ true → not b ≡ true → ⊥
 not_both true h k = cc

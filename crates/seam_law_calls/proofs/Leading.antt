@@ -1,10 +1,9 @@
 -- Whatever leads to a cell still leads to one after an event.
-use Rattle.std.proofs.Common.{◌≡◌, ℕ, Bool, true, false, not, ◌&&◌, ◌||◌, ◌⊎◌, List, [], ◌∷◌, ◌++◌, map, Option, None, Some}
-use Rattle.std.proofs.Common.{refl, sym, ap, ◌∙◌, subst, inl, inr}
+use Rattle.std.proofs.Common.{◌≡◌, ℕ, Bool, true, false, not, ◌&&◌, ◌||◌, ◌⊎◌, List, [], ◌∷◌, ◌++◌, map, Option, None, Some, refl, sym, ap}
+use Rattle.std.proofs.Common.{◌∙◌, subst, inl, inr}
 use Rattle.std.specs.List.{AllByRecursion}
 use Rattle.std.proofs.lemmas.Bool.{cases_eq}
-use Rattle.seam_node_steps.specs.Prelude.{items_to, Call as CallData, RealView, Msg, Hand, Current}
-use Rattle.seam_node_steps.specs.Prelude.{NextPlace, RouteView}
+use Rattle.seam_node_steps.specs.Prelude.{items_to, Call as CallData, RealView, Msg, Hand, Current, NextPlace, RouteView}
 use Rattle.seam_law_flow.specs.Prelude.{Flow, Goes, comes, IsSilent}
 use Rattle.seam_law_calls.specs.Prelude.{Has, is_visited, is_call, is_hand, has_hand, follow, NamesVisited, AllLead}
 use Rattle.seam_machine.proofs.SendLemmas.{items_to-append}

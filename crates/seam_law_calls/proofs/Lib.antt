@@ -12,6 +12,7 @@ pub mod Plain
 pub mod Replaying
 pub mod Handling
 pub mod HeldCounts
+pub mod BaseDeeds
 pub mod Paying
 pub mod Burdening
 pub mod Easing
@@ -32,6 +33,7 @@ pub mod PartSteps
 pub mod PartEasing
 pub mod PartSeen
 pub mod PartKept
+pub mod Keeping
 pub mod ClientSteps
 pub mod BaseRuns
 pub mod BaseQuiet

@@ -51,9 +51,7 @@ concerning_other e x ps h n = none_passes (λ p. concerns e p.1) ps (each_other 
 
 -- the letters to one node are what it gets of the sends that concern the entity
 letters_by : (e j : ℕ) (p : ℕ × Msg) (ps : List (ℕ × Msg)) (a b : Bool) →
-    letters_of (mine e) (items_to j ps) ≡ items_to j (concerning e ps) →
-    eqb p.0 j ≡ a →
-    concerns e p.1 ≡ b →
+    letters_of (mine e) (items_to j ps) ≡ items_to j (concerning e ps) → eqb p.0 j ≡ a → concerns e p.1 ≡ b →
     letters_of (mine e) (cond a (p.1 ∷ items_to j ps) (items_to j ps)) ≡ items_to j (cond b (p ∷ concerning e ps) (concerning e ps))
 letters_by e j p ps true true ih at is =
     ap (λ b. more_letter (kept_if b p.1) (letters_of (mine e) (items_to j ps))) is ∙

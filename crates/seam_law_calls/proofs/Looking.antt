@@ -1,6 +1,6 @@
 -- What a step does with an entity's witness: it looks at what the cell knows of others, or its entry in the look list is not taken.
-use Rattle.std.proofs.Common.{◌≡◌, ℕ, ◌+◌, ◌⊎◌, Bool, true, false, cond, List, [], ◌∷◌, Option, None, Some, refl, sym}
-use Rattle.std.proofs.Common.{ap, ◌∙◌, subst, inl, inr}
+use Rattle.std.proofs.Common.{◌≡◌, ℕ, ◌+◌, ◌⊎◌, Bool, true, false, cond, List, [], ◌∷◌, Option, None, Some, refl, sym, ap, ◌∙◌, subst, inl}
+use Rattle.std.proofs.Common.{inr}
 use Rattle.std.specs.Ordering.{nat_cmp, eq_by_cmp}
 use Rattle.std.specs.Cmp.{unsigned_tied}
 use Rattle.std.specs.FinMap as table
@@ -8,15 +8,15 @@ use Rattle.std.specs.declared.cmp.Ordering.{Ordering}
 use Rattle.std.specs.declared.cmp.Ordering.TheVariants.{Less, Equal, Greater}
 use Rattle.std.proofs.lemmas.Bool.{cases_eq, eq-eqb, ne_eqb}
 use Rattle.seam_node_steps.specs.Prelude.{Input, Task, From, OrderView, next_item, Division, Call as CallData, Shown, ready_order, order_of}
-use Rattle.seam_node_steps.specs.Prelude.{executed, executed_ready, shows, RealView, WitnessView, Msg, BaseCall, Hand, Current, GhostSet}
-use Rattle.seam_node_steps.specs.Prelude.{GhostDrop, Tick, Reap, Update, Here, base_of, Slot, NextPlace, SlotStep, slot_after, unless_stray}
-use Rattle.seam_node_steps.specs.Prelude.{settled, settled_by, home_after, about, slot_steps, is_stray, call_next_place, ghost_set, reap}
-use Rattle.seam_node_steps.specs.Prelude.{survey_task, stray_survey, ready_call_task, stray_ready_call, ready_in, executes_ready, Known}
-use Rattle.seam_node_steps.specs.Prelude.{numbered, shown_of, looks_of, after_looking, look_task, look_by, stray_look, stray_look_by}
-use Rattle.seam_node_steps.specs.Prelude.{CellView, slot_of, after_slot, unlisted_by, stepped, cell_steps, cell_task, ready_next, look_next}
-use Rattle.seam_node_steps.specs.Prelude.{cell_hears, ready_entity, surveys, calls_ready, looks_around, known_to, AreUnderTheirEntities}
+use Rattle.seam_node_steps.specs.Prelude.{executed, executed_ready, shows, RealView, WitnessView, Msg, GhostSet, Tick, Reap, Here, base_of}
+use Rattle.seam_node_steps.specs.Prelude.{Slot, NextPlace, SlotStep, slot_after, unless_stray, settled, settled_by, home_after, about}
+use Rattle.seam_node_steps.specs.Prelude.{slot_steps, is_stray, call_next_place, ghost_set, reap, survey_task, stray_survey}
+use Rattle.seam_node_steps.specs.Prelude.{ready_call_task, stray_ready_call, ready_in, executes_ready, Known, numbered, shown_of, looks_of}
+use Rattle.seam_node_steps.specs.Prelude.{after_looking, look_task, look_by, stray_look, stray_look_by, CellView, slot_of, after_slot}
+use Rattle.seam_node_steps.specs.Prelude.{unlisted_by, stepped, cell_steps, cell_task, ready_next, look_next, cell_hears, ready_entity}
+use Rattle.seam_node_steps.specs.Prelude.{surveys, calls_ready, looks_around, known_to, AreUnderTheirEntities}
 use Rattle.seam_law_flow.specs.Prelude.{letter_in}
-use Rattle.seam_law_calls.specs.Prelude.{mine, concerning, times, AtCell, at_cell}
+use Rattle.seam_law_calls.specs.Prelude.{mine, concerning, times, AtCell, at_cell, entity_of}
 use Rattle.seam_entity.specs.declared.message.Msg.TheVariants.{Call}
 use Rattle.seam_node_steps.specs.CellCases.{case_of, call, offered}
 use Rattle.seam_node_steps.proofs.Slots.{slot_stepped}
@@ -267,15 +267,8 @@ module _ (c : CellView) (keys : AreUnderTheirEntities c.reals) (e : ℕ) where
       others i c y x n refl (concerning_other e y x.sent (slot_about y c.here c.tree (slot_of c y) m a (keys y)) n)
 
   hears_does : (m : Msg) → Does (mine e m) (cell_steps c (From 0 m)).state (cell_steps c (From 0 m)).sent
-  hears_does (Call k) = hears_by _ (Call k) k.entity refl (cases_eq k.entity e)
-  hears_does (BaseCall k) = hears_by _ (BaseCall k) k.entity refl (cases_eq k.entity e)
-  hears_does (Hand r) = hears_by _ (Hand r) r.entity refl (cases_eq r.entity e)
-  hears_does (Current x j g) = hears_by _ (Current x j g) x refl (cases_eq x e)
-  hears_does (GhostSet x b k) = hears_by _ (GhostSet x b k) x refl (cases_eq x e)
-  hears_does (GhostDrop x b) = hears_by _ (GhostDrop x b) x refl (cases_eq x e)
   hears_does Tick = elsewhere (ticked refl)
-  hears_does (Reap x) = hears_by _ (Reap x) x refl (cases_eq x e)
-  hears_does (Update u) = hears_by _ (Update u) u.entity refl (cases_eq u.entity e)
+  hears_does m = hears_by _ m (entity_of m) refl (cases_eq (entity_of m) e)
 
   pub cell_looks : (i : Input Msg) → Does (letter_in (mine e) i) (cell_steps c i).state (cell_steps c i).sent
   cell_looks Task = task_does c.survey

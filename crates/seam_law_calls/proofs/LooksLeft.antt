@@ -5,13 +5,13 @@ use Rattle.std.specs.List.{range_with_len}
 use Rattle.std.specs.FinSet as set
 use Rattle.std.proofs.lemmas.List.FromFn.{length-range_with_len}
 use Rattle.seam_law_flow.proofs.Following.{all_append}
-use Rattle.seam_node_steps.specs.Prelude.{cells_of, happens, total, Occurs, Event, Shown, RealView, Msg}
-use Rattle.seam_node_steps.specs.Prelude.{Tick, Here, base_numbers, cell_count, SlotStep, haunts_at}
-use Rattle.seam_node_steps.specs.Prelude.{ghost_messages, current_to, tick_to, Known, numbered, World, node_steps}
+use Rattle.seam_node_steps.specs.Prelude.{cells_of, happens, total, Occurs, Event, Shown, RealView, Msg, Tick, Here, base_numbers}
+use Rattle.seam_node_steps.specs.Prelude.{cell_count, SlotStep, haunts_at, ghost_messages, current_to, tick_to, Known, numbered, World}
+use Rattle.seam_node_steps.specs.Prelude.{node_steps}
 use Rattle.seam_law_flow.specs.Prelude.{letter_in, IsSilent}
 use Rattle.seam_law_calls.specs.Prelude.{Frame, here_at, IsInFrame, Has, AtCell, AtBase, mine, concerning, has_of, unlisted_if, Does, Acts}
-use Rattle.seam_law_calls.specs.Prelude.{surveys, calls, readies, CellMoves, has_witness, BaseMoves, Moves, at_a_cell}
-use Rattle.seam_law_calls.specs.Prelude.{at_a_base, tick_in, order_looks, node_looks, mine_looks, looks_left}
+use Rattle.seam_law_calls.specs.Prelude.{surveys, calls, readies, CellMoves, has_witness, BaseMoves, Moves, at_a_cell, at_a_base, tick_in}
+use Rattle.seam_law_calls.specs.Prelude.{order_looks, node_looks, mine_looks, looks_left}
 use Rattle.seam_net_runs.specs.Sums.{weight_or}
 use Rattle.seam_net_runs.proofs.Soundness.{sound_sends}
 use Rattle.seam_net_runs.proofs.Weighing.{weight_moves}
@@ -71,8 +71,7 @@ module _ (f : Frame) (e k : ℕ) (s : Has) (i : Option Msg) (t : Has) (sent : Li
 
     acts_keep : (u : AtCell) (r q : RealView) (changed : Bool) → Acts (here_at f k) e s.cell i r u q changed → u.looks ≤ s.cell.looks
     acts_keep u r q changed (surveys n a b c) = omega arith
-    acts_keep u r q changed (calls c a x m d) = omega arith
-    acts_keep u r q changed (readies o c a m at item) = omega arith
+    acts_keep u r q changed _ = omega arith
 
     cell_eases : CellMoves (here_at f k) f.tree e s.cell i t.cell sent → Eased
     cell_eases (move.rests n d) = cell_step _ s.cell d (omega arith) tt

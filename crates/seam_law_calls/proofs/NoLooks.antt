@@ -1,23 +1,22 @@
 -- A witness tells only in looks: without them, what it told is all.
-use Rattle.std.proofs.Common.{◌≡◌, ℕ, ◌≤◌, Bool, true, false, List, [], ◌∷◌, Option, None, Some, refl, sym, ap, ◌∙◌, subst, arith}
+use Rattle.std.proofs.Common.{◌≡◌, ℕ, ◌≤◌, Bool, true, false, List, Option, None, Some, refl, sym, ap, ◌∙◌, subst, arith}
 use Rattle.std.specs.List.{AllByRecursion}
 use Rattle.std.specs.FinSet as set
-use Rattle.seam_node_steps.specs.Prelude.{happens, enabled, LeadsTo, Event, Order, RealView, Msg, Tick, base_numbers, SlotStep, haunts_at}
+use Rattle.seam_node_steps.specs.Prelude.{happens, enabled, Event, Order, RealView, Msg, Tick, base_numbers, SlotStep, haunts_at}
 use Rattle.seam_node_steps.specs.Prelude.{ghost_messages, current_to, World, node_steps, node_has_work}
 use Rattle.seam_law_flow.specs.Prelude.{comes, IsSilent}
-use Rattle.seam_law_calls.specs.Prelude.{Frame, here_at, IsInFrame, Has, AtCell, AtBase, entity_flow, unlisted_if, Does, Acts, surveys}
-use Rattle.seam_law_calls.specs.Prelude.{calls, readies, CellMoves, BaseMoves, Moves, at_a_cell, at_a_base, sent_of, sent_by, is_tick_order}
-use Rattle.seam_law_calls.specs.Prelude.{tick_in, HasToldAtMost, HasNoLooks}
+use Rattle.seam_law_calls.specs.Prelude.{Frame, here_at, IsInFrame, Has, AtCell, entity_flow, unlisted_if, Does, Acts, surveys, calls}
+use Rattle.seam_law_calls.specs.Prelude.{CellMoves, Moves, at_a_cell, at_a_base, sent_of, sent_by, is_tick_order, tick_in, HasToldAtMost}
+use Rattle.seam_law_calls.specs.Prelude.{HasNoLooks, RunsTo}
 use Rattle.seam_machine.proofs.Occurring.{occurs}
 use Rattle.seam_net_runs.proofs.Runs.{leads_keeps}
 use Rattle.seam_law_flow.proofs.Following.{all_append, slots_kept, letters_kept, came}
-use Rattle.seam_call.specs.declared.order.Order.TheVariants as order
 use Rattle.seam_law_calls.specs.CellMoves as move
-use Rattle.seam_law_calls.specs.BaseMoves as base_move
 use Rattle.seam_law_calls.proofs.Classify.{event_moves, frame_happens}
 use Rattle.seam_law_calls.proofs.Plain.{SeesNoGhost, ghosts_silent, drops_silent, mapped_silent}
 use Rattle.seam_law_calls.proofs.Sparing.{items_all}
 use Rattle.seam_law_calls.proofs.WitnessKept.{each_happens}
+use Rattle.seam_law_calls.proofs.BaseDeeds.{base_keeps}
 
 pub no_tick : SeesNoGhost tick_in
 no_tick = record { sets = λ e n c. refl; drops = λ e n. refl }
@@ -43,8 +42,7 @@ module _ (f : Frame) (e k : ℕ) (s : Has) (i : Option Msg) (t : Has) (sent : Li
 
     acts_keep : (u : AtCell) (r q : RealView) (changed : Bool) → Acts (here_at f k) e s.cell i r u q changed → u.looks ≡ 0
     acts_keep u r q changed (surveys n a b c) = none
-    acts_keep u r q changed (calls c a x m d) = none
-    acts_keep u r q changed (readies o c a m at item) = none
+    acts_keep u r q changed _ = none
 
     module _ (base : NoTicks t.base.orders) where
       calm_step : (x : SlotStep) (u : AtCell) → Does u x t.cell sent → u.looks ≡ 0 → IsSilent tick_in x.sent → Calm
@@ -76,40 +74,16 @@ module _ (f : Frame) (e k : ℕ) (s : Has) (i : Option Msg) (t : Has) (sent : Li
       cell_calm (move.overlooks n known h at b d) = absurd (omega (arith, at, none))
       cell_calm (move.stuck r h has ready may d) = calm_step _ s.cell d none tt
 
-  module _ (cell : t.cell.looks ≡ 0) (before : NoTicks s.base.orders) where
-    kept : (b : AtBase) → b.orders ≡ s.base.orders → t.base ≡ b → NoTicks t.base.orders
-    kept b same a = subst NoTicks (sym (ap (λ x. x.orders) a ∙ same)) before
-
-    gone : (o : Order) (os : List Order) (b : AtBase) → s.base.orders ≡ o ∷ os → b.orders ≡ os → t.base ≡ b → NoTicks t.base.orders
-    gone o os b at same a =
-        let all : NoTicks (o ∷ os) = subst NoTicks at before in
-        subst NoTicks (sym (ap (λ x. x.orders) a ∙ same)) all.1
-
-    rest : NoTicks t.base.orders → (l : List (ℕ × Msg)) → sent ≡ l → IsSilent tick_in l → Calm
-    rest os l is z = record { cell = cell; orders = os; silent = subst (IsSilent tick_in) (sym is) z }
-
-    base_calm : (cells : ℕ) → BaseMoves (here_at f k) cells e s.base i t.base sent → Calm
-    base_calm cells (base_move.rests n a z) = rest (kept s.base refl a) [] z tt
-    base_calm cells (base_move.strays m n b a z) = rest (kept s.base refl a) [] z tt
-    base_calm cells (base_move.reroutes new r n has b a z) = rest (kept _ refl a) [] z tt
-    base_calm cells (base_move.offers c p n own has may a z) = rest (kept _ refl a) [] z tt
-    base_calm cells (base_move.updates u n own b a z) = rest (kept _ refl a) [] z tt
-    base_calm cells (base_move.orders_call c os r n at own has a z) = rest (gone (order.Cell c) os _ at refl a) _ z (refl, tt)
-    base_calm cells (base_move.orders_base_call c os n at own b a z) = rest (gone (order.Base c) os _ at refl a) _ z (refl, tt)
-    base_calm cells (base_move.offers_own c os p n at own b has may a z) = rest (gone (order.Base c) os _ at refl a) [] z tt
-    base_calm cells (base_move.orders_tick os n at a z) =
-        let all : NoTicks (order.Tick ∷ os) = subst NoTicks at before in
-        absurd (let no = all.0 in cc)
-    base_calm cells (base_move.orders_reap os r n at has a z) = rest (gone (order.Reap e) os _ at refl a) _ z (refl, tt)
-    base_calm cells (base_move.stuck_order o os n at b a z) = rest (kept s.base refl a) [] z tt
-    base_calm cells (base_move.executes p o c n has may at item a z) = rest (kept _ refl a) [] z tt
-    base_calm cells (base_move.stuck_part p n has v may a z) = rest (kept s.base refl a) [] z tt
-    base_calm cells (base_move.shows p n has v may a z) = rest (kept _ refl a) [] z tt
-    base_calm cells (base_move.stuck_client p n has v may a z) = rest (kept s.base refl a) [] z tt
-
   calm_moves : s.cell.looks ≡ 0 → NoTicks s.base.orders → Moves f e k s i t sent → Calm
   calm_moves none before (at_a_cell low m same) = cell_calm none (subst NoTicks (sym (ap (λ b. b.orders) same)) before) m
-  calm_moves none before (at_a_base high m same) = base_calm (ap (λ c. c.looks) same ∙ none) before _ m
+  calm_moves none before (at_a_base high m same) =
+      let b = base_keeps (λ o. is_tick_order o ≡ false) (λ j x. tick_in x ≡ None) m (record {
+        calls = λ c r at is. refl;
+        base_calls = λ c is. refl;
+        ticks = λ is j lt. absurd (let no = is in cc);
+        reaps = λ r at is. refl;
+      }) before in
+      record { cell = ap (λ c. c.looks) same ∙ none; orders = b.0; silent = b.1 }
 
 -- ---- a run
 
@@ -143,7 +117,6 @@ module _ (f : Frame) (e n : ℕ) where
             (λ k m r q x y shown at wit wit' sum le. let none = h.looks.cells k in absurd (omega (arith, at, none))) h.told;
       }
 
-  pub looks_lead : (w v : World) (es : List Event) → IsInFrame f w → HasNoLooks e w → HasToldAtMost e n w →
-      LeadsTo node_has_work node_steps w es v → WithoutLooks v
+  pub looks_lead : (w v : World) (es : List Event) → IsInFrame f w → HasNoLooks e w → HasToldAtMost e n w → RunsTo w es v → WithoutLooks v
   looks_lead w v es q looks told run =
       leads_keeps node_has_work node_steps WithoutLooks looks_more w v es (record { frame = q; looks = looks; told = told }) run

@@ -51,7 +51,7 @@ base_below f w k b q is =
     let same = ap peers_of (q.nodes k (Base b) is).here in
     omega (arith, lt, many, same)
 
-ordered_by : (f : Frame) (e : ℕ) (w : World) (k : ℕ) (q : IsInFrame f w) (n : Option NodeView) → slice_get w.nodes k ≡ n →
+pub ordered_by : (f : Frame) (e : ℕ) (w : World) (k : ℕ) (q : IsInFrame f w) (n : Option NodeView) → slice_get w.nodes k ≡ n →
     (o : Order) (os : List Order) → (slot_at (has_of e) has_none n).base.orders ≡ o ∷ os → IsBaseNumber f k
 ordered_by f e w k q None is o os at = absurd (let z = at in cc)
 ordered_by f e w k q (Some (Cell c)) is o os at = absurd (let z = at in cc)
@@ -105,20 +105,15 @@ module _ (f : Frame) (e ty : ℕ) (first : ℕ → ℕ) (batch : ℕ → List Ca
 
   no_letter : (a k : ℕ) (m : Msg) (ms : List Msg) → cell_count ≤ k → (entity_flow e w).mail a k ≡ m ∷ ms →
       strays_at (here_at f k) ((entity_flow e w).slot k).base m ≡ false
-  no_letter a k (Call c) ms high at = absurd (misses_cell a k (Call c) ms high at refl)
   no_letter a k (BaseCall c) ms high at =
       call_is_due f e k ((entity_flow e w).slot k) c (call_finds f e ty first batch update n w h room a k c ms at)
-  no_letter a k (Hand r) ms high at = absurd (misses_cell a k (Hand r) ms high at refl)
   no_letter a k (Current x j g) ms high at =
       let fit = right a k (Current x j g) ms at in
       let route = routes.routes k (fit.bases refl) in
       let both = fit.routes x j g refl in
       current_fits j g ((entity_flow e w).slot k).base.route route.0 route.1 both.0 both.1
-  no_letter a k (GhostSet x m c) ms high at = absurd (misses_cell a k (GhostSet x m c) ms high at refl)
-  no_letter a k (GhostDrop x m) ms high at = absurd (misses_cell a k (GhostDrop x m) ms high at refl)
-  no_letter a k Tick ms high at = absurd (misses_cell a k Tick ms high at refl)
-  no_letter a k (Reap x) ms high at = absurd (misses_cell a k (Reap x) ms high at refl)
   no_letter a k (Update u) ms high at = update_by room a k u ms at
+  no_letter a k m ms high at = absurd (misses_cell a k m ms high at refl)
 
   -- ---- orders
 

@@ -2,8 +2,8 @@
 use Rattle.std.proofs.Common.{◌≡◌, ℕ, ◌&&◌, is_none, Some, refl, sym, ap, ◌∙◌}
 use Rattle.std.specs.Prelude.{slice_get}
 use Rattle.std.specs.FinMap as table
-use Rattle.seam_node_steps.specs.Prelude.{Order, Msg, BaseCall, Current, Update, about, BaseView}
-use Rattle.seam_node_steps.specs.Prelude.{stray_order, stray_base_call, stray_current, stray_update, is_base_node_of, World, Base}
+use Rattle.seam_node_steps.specs.Prelude.{Order, Msg, BaseCall, Current, Update, about, BaseView, stray_order, stray_base_call}
+use Rattle.seam_node_steps.specs.Prelude.{stray_current, stray_update, is_base_node_of, World, Base}
 use Rattle.seam_law_flow.specs.Prelude.{letters_of, more_letter, slot_at}
 use Rattle.seam_law_calls.specs.Prelude.{Frame, here_at, IsInFrame, mine, order_about, orders_of, at_base, has_of, has_none, entity_flow}
 use Rattle.seam_law_calls.specs.Prelude.{strays_at, is_stuck, NothingIsStray, NoneIsStray}

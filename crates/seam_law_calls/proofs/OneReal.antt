@@ -1,17 +1,17 @@
 -- Exactly one real: each event leaves the one real at a place that is known, and it replays its calls.
-use Rattle.std.proofs.Common.{◌≡◌, ℕ, ◌<◌, Bool, true, false, ◌&&◌, is_some, List, [], ◌∷◌, length, ◌⊎◌, Option}
-use Rattle.std.proofs.Common.{None, Some, refl, sym, ap, ◌∙◌, subst, arith, inl, inr}
+use Rattle.std.proofs.Common.{◌≡◌, ℕ, ◌<◌, Bool, true, false, ◌&&◌, is_some, List, [], ◌∷◌, length, ◌⊎◌, Option, None, Some, refl, sym, ap}
+use Rattle.std.proofs.Common.{◌∙◌, subst, arith, inl, inr}
 use Rattle.std.specs.List.{AllByRecursion, list_all}
 use Rattle.std.specs.FinSet as set
 use Rattle.std.proofs.lemmas.Bool.{cases_eq}
-use Rattle.seam_node_steps.specs.Prelude.{cells_of, AreDefs, happens, enabled, run, AllEnabled, LeadsTo, Occurs, items_to, Input, Task}
-use Rattle.seam_node_steps.specs.Prelude.{From, Event, RealView, Msg, Hand, Reap}
-use Rattle.seam_node_steps.specs.Prelude.{limit, cell_numbers, properties, is_cell_if, may_come, World, node_steps, node_has_work}
+use Rattle.seam_node_steps.specs.Prelude.{cells_of, AreDefs, happens, enabled, run, AllEnabled, Occurs, items_to, Input, Task, From, Event}
+use Rattle.seam_node_steps.specs.Prelude.{RealView, Msg, Hand, Reap, limit, cell_numbers, properties, is_cell_if, may_come, World}
+use Rattle.seam_node_steps.specs.Prelude.{node_steps, node_has_work}
 use Rattle.seam_law_flow.specs.Prelude.{Goes, comes, letter_in, letters_of, carried_in, TokenPlace, On, Sole, Handles, still, turns, lands}
 use Rattle.seam_law_flow.specs.Prelude.{leaves, relays, place_after, token_after}
 use Rattle.seam_law_calls.specs.Prelude.{Frame, here_at, IsInFrame, Has, concerns, kept_if, mine, entity_flow, MovesTo, Replays, RealFits}
 use Rattle.seam_law_calls.specs.Prelude.{IsFitReal, IsFitHand, real_burden, real_in, real_of, reaped_by, HasNoReaps, IsSpared, AllFits}
-use Rattle.seam_law_calls.specs.Prelude.{IsFrame, HasOne, OneFrom, reaps, NoReapComes}
+use Rattle.seam_law_calls.specs.Prelude.{IsFrame, HasOne, OneFrom, reaps, NoReapComes, RunsTo, real_at}
 use Rattle.seam_defs.specs.declared.flags.Group.TheVariants as group
 use Rattle.seam_defs.proofs.TestLemmas.{of_group-Decides}
 use Rattle.seam_machine.proofs.Occurring.{occurs}
@@ -20,6 +20,7 @@ use Rattle.seam_law_flow.proofs.Following.{slots_kept, letters_kept, came}
 use Rattle.seam_law_flow.proofs.TokenLemmas.{sole_came, sole_goes, token_turns}
 use Rattle.seam_entity.specs.declared.message.Msg.TheVariants.{Call}
 use Rattle.seam_node_steps.specs.CellCases.{haunts_cell}
+use Rattle.seam_law_calls.proofs.Keeping.{run_keeps}
 use Rattle.seam_law_calls.proofs.Classify.{frame_happens, event_moves_with}
 use Rattle.seam_law_calls.proofs.Holds.{all_two, below_is}
 use Rattle.seam_law_calls.proofs.Replaying.{replays_none, replays_on}
@@ -125,8 +126,7 @@ module _ (f : Frame) (defs : AreDefs f.defs) (e ty k : ℕ) (s : Has) (i : Optio
 -- ---- an event
 
 module _ (f : Frame) (frame : IsFrame f) (e ty : ℕ) (known : ty < length f.defs) (w : World) (v : Event) (o : Occurs w v)
-    (has : HasOne f e ty w)
-    (calm : letter_in (mine e) o.input ≡ Some (Reap e) → ⊥) where
+    (has : HasOne f e ty w) (calm : letter_in (mine e) o.input ≡ Some (Reap e) → ⊥) where
   -- a hand-over that comes has small numbers, and no Reap comes
   abbrev Came : Option Msg → Type 0
   Came i = ((r : RealView) → i ≡ Some (Hand r) → real_burden r < limit) × (i ≡ Some (Reap e) → ⊥)
@@ -146,8 +146,7 @@ module _ (f : Frame) (frame : IsFrame f) (e ty : ℕ) (known : ty < length f.def
   hand_fits : (r : RealView) → letter ≡ Some (Hand r) → RealFits f e ty node r
   hand_fits r is = (came (λ a k m. IsFitHand f e ty k m) goes (Hand r) is has.fits.hands).1 r refl
 
-  free_by : (p : TokenPlace) (a : ℕ) → p ≡ On a node → Sole real_in real_of (entity_flow e w) p has.real →
-      real_in ((entity_flow e w).slot node) ≡ None
+  free_by : (p : TokenPlace) (a : ℕ) → p ≡ On a node → Sole real_in real_of (entity_flow e w) p has.real → real_at e w node ≡ None
   free_by p a is one = let s = subst (λ x. Sole real_in real_of (entity_flow e w) x has.real) is one in s.slots node
 
   pub room : (r : RealView) → letter ≡ Some (Hand r) → FindsRoom f node ((entity_flow e w).slot node) r
@@ -250,6 +249,10 @@ module _ (f : Frame) (e : ℕ) (w : World) (v : Event) (o : Occurs w v) (q : IsI
         (sent_spared f e flows.k _ (comes flows.input) _ flows.moves.0.sent (spared.orders flows.k) flows.moves.0.moves)));
   }
 
+-- and after every list of events
+pub spared_leads : (f : Frame) (e : ℕ) (w v : World) (es : List Event) → IsInFrame f w → IsSpared e w → RunsTo w es v → IsSpared e v
+spared_leads f e w v es frame spared run = run_keeps f (IsSpared e) (spared_happens f e) w v es frame run spared
+
 module _ (f : Frame) (frame : IsFrame f) (e ty : ℕ) (known : ty < length f.defs) where
   record Spared (start : RealView) (w : World) : Type 0 where
     one : OneFrom f e ty start w
@@ -267,8 +270,20 @@ module _ (f : Frame) (frame : IsFrame f) (e ty : ℕ) (known : ty < length f.def
       }
 
   -- after every list of events
-  pub one_leads : (w v : World) (es : List Event) (h : HasOne f e ty w) → IsSpared e w → LeadsTo node_has_work node_steps w es v →
-      OneFrom f e ty h.real v
+  pub one_leads : (w v : World) (es : List Event) (h : HasOne f e ty w) → IsSpared e w → RunsTo w es v → OneFrom f e ty h.real v
   one_leads w v es h spared run =
       (leads_keeps node_has_work node_steps (Spared h.real) (spared_more h.real) w v es
       (record { one = record { has = h; replays = replays_none f h.real }; spared = spared }) run).one
+
+-- a fact of worlds with the one real, which no one reaps, and which each event keeps
+module _ (f : Frame) (frame : IsFrame f) (e ty : ℕ) (known : ty < length f.defs) (I : World → Type 0) where
+  abbrev pub OneKeeps : Type 0
+  OneKeeps = (w : World) (v : Event) (o : Occurs w v) → HasOne f e ty w → IsSpared e w →
+      (letter_in (mine e) o.input ≡ Some (Reap e) → ⊥) → I w → I (happens node_steps w v)
+
+  pub one_keeps : OneKeeps → (w v : World) (es : List Event) → HasOne f e ty w → IsSpared e w → RunsTo w es v → I w → I v
+  one_keeps keep w v es has spared run fact =
+      (run_keeps f (λ x. HasOne f e ty x × IsSpared e x × I x) (λ x a o q h.
+      let calm = calm_of f e x a o q h.1 in
+      ((one_happens f frame e ty known x a o h.0 calm).has, spared_happens f e x a o q h.1, keep x a o h.0 h.1 calm h.2)) w v es
+      has.fits.frame run (has, spared, fact)).2

@@ -64,16 +64,10 @@ module _ (f : Frame) (e k : ℕ) (s : Has) (i : Option Msg) (t : Has) (sent : Li
     of x u d n q = rests n.0 n.1 (ap calls_ordered same) (ap (λ b. b.part) same) (subst (IsSilent base_call_in) (sym d.sends) q)
 
     strays : (m : Msg) → i ≡ Some m → Does s.cell slot_step.rests t.cell sent → Its
-    strays (Call c) a d = of _ s.cell d (other (Call c) a refl refl) tt
     strays (BaseCall c) a d = refuses c a (inl low) same (subst (IsSilent base_call_in) (sym d.sends) tt)
-    strays (Hand r) a d = of _ s.cell d (other (Hand r) a refl refl) tt
-    strays (Current x j g) a d = of _ s.cell d (other (Current x j g) a refl refl) tt
-    strays (GhostSet x n c) a d = of _ s.cell d (other (GhostSet x n c) a refl refl) tt
-    strays (GhostDrop x n) a d = of _ s.cell d (other (GhostDrop x n) a refl refl) tt
-    strays Tick a d = of _ s.cell d (other Tick a refl refl) tt
-    strays (Reap x) a d = of _ s.cell d (other (Reap x) a refl refl) tt
     strays (Update u) a d =
         misses u a (inl low) (ap calls_ordered same) (ap (λ b. b.part) same) (subst (IsSilent base_call_in) (sym d.sends) tt)
+    strays m a d = of _ s.cell d (other m a refl refl) tt
 
     acts_unseen : (u : AtCell) (r q : RealView) (changed : Bool) → Acts (here_at f k) e s.cell i r u q changed →
         (called i ≡ None) × (told i ≡ None)
@@ -120,15 +114,9 @@ module _ (f : Frame) (e k : ℕ) (s : Has) (i : Option Msg) (t : Has) (sent : Li
   idle n a z = rests n.0 n.1 (ap calls_ordered a) (ap (λ b. b.part) a) (nothing z)
 
   base_strays : (m : Msg) → i ≡ Some m → strays_at (here_at f k) s.base m ≡ true → t.base ≡ s.base → sent ≡ [] → Its
-  base_strays (Call c) n b a z = idle (other (Call c) n refl refl) a z
   base_strays (BaseCall c) n b a z = refuses c n (inr b) a (nothing z)
-  base_strays (Hand r) n b a z = idle (other (Hand r) n refl refl) a z
-  base_strays (Current x j g) n b a z = idle (other (Current x j g) n refl refl) a z
-  base_strays (GhostSet x m c) n b a z = idle (other (GhostSet x m c) n refl refl) a z
-  base_strays (GhostDrop x m) n b a z = idle (other (GhostDrop x m) n refl refl) a z
-  base_strays Tick n b a z = idle (other Tick n refl refl) a z
-  base_strays (Reap x) n b a z = idle (other (Reap x) n refl refl) a z
   base_strays (Update u) n b a z = misses u n (inr (inr b)) (ap calls_ordered a) (ap (λ x. x.part) a) (nothing z)
+  base_strays m n b a z = idle (other m n refl refl) a z
 
   -- an order that is none for the base part is gone
   gone : (o : Order) (os : List Order) → base_call_of o ≡ None → s.base.orders ≡ o ∷ os → t.base.orders ≡ os →

@@ -10,7 +10,7 @@ use Rattle.seam_node_steps.specs.Prelude.{order_is_ready, has_ready, CellView, r
 use Rattle.seam_node_steps.specs.Prelude.{NodeView, World, node_has_work, Cell, Base}
 use Rattle.seam_law_flow.specs.Prelude.{letters_of, Desk, desk_of, parcel_of, IsStill}
 use Rattle.seam_law_calls.specs.Prelude.{Frame, IsInFrame, Has, mine, has_of, has_none, orders_of, entity_flow, real_in, from_sender}
-use Rattle.seam_law_calls.specs.Prelude.{desk_for, cell_order_from, real_desk, cell_mail, as_sender, CellCallsInTurn}
+use Rattle.seam_law_calls.specs.Prelude.{desk_for, cell_order_from, real_desk, cell_mail, as_sender, CellCallsInTurn, real_at}
 use Rattle.seam_machine.proofs.Quiet.{quiet_links, quiet_tasks}
 use Rattle.seam_law_flow.proofs.TokenLemmas.{sole_here}
 use Rattle.seam_law_flow.proofs.Ends.{all_done}
@@ -93,8 +93,7 @@ module _ (f : Frame) (e : ℕ) (w : World) (q : IsInFrame f w) (quiet : IsQuiet 
       slots (λ k h. IsIdle h) e w (λ k n at. idle_node e n (quiet_tasks node_has_work w quiet k n at)) (λ k. idle_none)
 
   desk_by : (s : ℕ) (o : Option RealView) (d : Desk CallData) →
-      ((r : RealView) → o ≡ Some r → next_item (order_or (table.get r.orders s)) ≡ None) → real_desk s o ≡ Some d →
-      next_item d.order ≡ None
+      ((r : RealView) → o ≡ Some r → next_item (order_or (table.get r.orders s)) ≡ None) → real_desk s o ≡ Some d → next_item d.order ≡ None
   desk_by s None d ready at = cc
   desk_by s (Some r) d ready at =
       let same : desk_for s r.orders r.done ≡ d = cc in
@@ -105,12 +104,12 @@ module _ (f : Frame) (e : ℕ) (w : World) (q : IsInFrame f w) (quiet : IsQuiet 
     mail = λ x y.
         ap (λ l. letters_of (cell_mail s) (letters_of (mine e) l)) (quiet_links node_has_work w q.sound.square quiet x y);
     stores = λ k. ap (letters_of (cell_order_from s)) (idle_at k).orders;
-    ready = λ k d at. desk_by s (real_in ((entity_flow e w).slot k)) d (λ r has. (idle_at k).ready r has s) at;
+    ready = λ k d at. desk_by s (real_at e w k) d (λ r has. (idle_at k).ready r has s) at;
   }
 
   -- the real executed every call of the batch, each sender's in order
   pub all_executed : (first : ℕ → ℕ) (batch : ℕ → List CallData) → CellCallsInTurn e first batch w → (k : ℕ) (r : RealView) →
-      real_in ((entity_flow e w).slot k) ≡ Some r → (s : ℕ) → letters_of (from_sender s) r.done ≡ batch s
+      real_at e w k ≡ Some r → (s : ℕ) → letters_of (from_sender s) r.done ≡ batch s
   all_executed first batch turns k r has s =
       let t = turns s in
       let there = ap (real_desk s) has in

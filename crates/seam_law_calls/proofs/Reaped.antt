@@ -1,26 +1,21 @@
 -- After a reap: the base part is gone and stays gone, and no call to it is left.
 use Rattle.std.proofs.Common.{◌≡◌, ℕ, zero, suc, Bool, true, false, is_some, is_none, cond, eqb, List, [], ◌∷◌, ◌++◌, map, filter, Option}
-use Rattle.std.proofs.Common.{None, Some, refl, sym, ap, ◌∙◌, subst}
+use Rattle.std.proofs.Common.{None, Some, refl, sym, ap, ◌∙◌}
 use Rattle.std.specs.Prelude.{slice_get}
 use Rattle.std.specs.Cmp.{nat_cmp_total, unsigned_tied}
 use Rattle.std.specs.FinMap as table
-use Rattle.std.specs.List.{AllByRecursion}
 use Rattle.std.proofs.lemmas.Bool.{eq-eqb}
-use Rattle.seam_node_steps.specs.Prelude.{happens, enabled, LeadsTo, Occurs, Task, Event, Call as CallData, Order, Msg, Reap, Here, base_of}
-use Rattle.seam_node_steps.specs.Prelude.{order_if, reap_ordered_at, with_reap, reaps_loaded, BaseView, RouteView, on_route, base_task}
-use Rattle.seam_node_steps.specs.Prelude.{base_steps, NodeView, World, node_steps, node_has_work, Cell, Base}
-use Rattle.seam_law_flow.specs.Prelude.{comes, letters_of, more_letter, slot_at, IsSilent}
+use Rattle.seam_node_steps.specs.Prelude.{Task, Event, Call as CallData, Order, Msg, Reap, Here, base_of, order_if, reap_ordered_at}
+use Rattle.seam_node_steps.specs.Prelude.{with_reap, reaps_loaded, BaseView, RouteView, on_route, base_task, base_steps, NodeView, World}
+use Rattle.seam_node_steps.specs.Prelude.{Cell, Base}
+use Rattle.seam_law_flow.specs.Prelude.{letters_of, more_letter, slot_at, IsSilent}
 use Rattle.seam_law_calls.specs.Prelude.{Frame, here_at, IsInFrame, AtBase, order_concerns, at_base, has_of, has_none, entity_flow}
 use Rattle.seam_law_calls.specs.Prelude.{base_call_in, base_call_of, calls_ordered, PartMoves, rests, refuses, offers, sends, serves}
-use Rattle.seam_law_calls.specs.Prelude.{executes, misses, updates, shows, ends, HasNoBaseCalls, HasNoPart}
-use Rattle.seam_machine.proofs.Occurring.{occurs}
-use Rattle.seam_net_runs.proofs.Runs.{leads_keeps}
-use Rattle.seam_law_flow.proofs.Following.{slots_kept, letters_kept}
+use Rattle.seam_law_calls.specs.Prelude.{executes, misses, updates, shows, ends, HasNoBaseCalls, HasNoPart, RunsTo}
 use Rattle.seam_call.specs.declared.order.Order.TheVariants as order
 use Rattle.seam_node_steps.specs.BaseCases.{unless_stray}
-use Rattle.seam_law_calls.proofs.Classify.{event_moves, frame_happens}
-use Rattle.seam_law_calls.proofs.Sparing.{items_all}
 use Rattle.seam_law_calls.proofs.PartSteps.{part_moves}
+use Rattle.seam_law_calls.proofs.Keeping.{all_lead, units}
 
 -- ---- the order to reap
 
@@ -71,60 +66,23 @@ module _ (h : Here) (e : ℕ) (s : AtBase) (i : Option Msg) (t : AtBase) (sent :
   no_call (ends os n at l after z) none = record { orders = l ∙ none; sends_none = z }
 
 module _ (f : Frame) (e : ℕ) where
-  moves : (w : World) (v : Event) (o : Occurs w v) (q : IsInFrame f w) → PartMoves (here_at f (event_moves f w v o q e).k) e
-      ((entity_flow e w).slot (event_moves f w v o q e).k).base (comes (event_moves f w v o q e).input)
-      ((entity_flow e (happens node_steps w v)).slot (event_moves f w v o q e).k).base (event_moves f w v o q e).moves.sent
-  moves w v o q =
-      let g = event_moves f w v o q e in
-      part_moves f e g.k ((entity_flow e w).slot g.k) (comes g.input) ((entity_flow e (happens node_steps w v)).slot g.k) g.moves.sent
-      g.moves.moves
-
   -- ---- the part stays gone
 
-  record Gone (w : World) : Type 0 where
-    frame : IsInFrame f w
-    gone : HasNoPart e w
-
-  gone_more : (w : World) (v : Event) → Gone w → enabled node_has_work w v ≡ true → Gone (happens node_steps w v)
-  gone_more w v h on =
-      let o = occurs node_has_work w v on in
-      let g = event_moves f w v o h.frame e in
-      record {
-        frame = frame_happens f w v o h.frame;
-        gone = slots_kept (λ k s. s.base.part ≡ None) g h.gone (no_part (here_at f g.k) e _ _ _ _ (moves w v o h.frame) (h.gone g.k));
-      }
-
-  pub part_stays_gone : (w v : World) (es : List Event) → IsInFrame f w → HasNoPart e w →
-      LeadsTo node_has_work node_steps w es v → HasNoPart e v
-  part_stays_gone w v es q gone run =
-      (leads_keeps node_has_work node_steps Gone gone_more w v es (record { frame = q; gone = gone }) run).gone
+  pub part_stays_gone : (w v : World) (es : List Event) → IsInFrame f w → HasNoPart e w → RunsTo w es v → HasNoPart e v
+  part_stays_gone w v es frame gone run =
+      (all_lead f e (λ k s. s.base.part ≡ None) (λ a k m. Unit {0})
+      (λ k s i t sent none come m. (no_part (here_at f k) e _ _ _ _ (part_moves f e k s i t sent m) none, units sent)) w v es frame run
+      (record { slots = gone; letters = λ a k. units ((entity_flow e w).mail a k) })).slots
 
   -- ---- no call is left
 
-  record Quiet (w : World) : Type 0 where
-    frame : IsInFrame f w
-    none : HasNoBaseCalls e w
-
-  quiet_more : (w : World) (v : Event) → Quiet w → enabled node_has_work w v ≡ true → Quiet (happens node_steps w v)
-  quiet_more w v h on =
-      let o = occurs node_has_work w v on in
-      let g = event_moves f w v o h.frame e in
-      let silent = no_call (here_at f g.k) e _ _ _ _ (moves w v o h.frame) (h.none.orders g.k) in
-      record {
-        frame = frame_happens f w v o h.frame;
-        none = record {
-          orders = slots_kept (λ k s. calls_ordered s.base ≡ []) g h.none.orders silent.orders;
-          letters =
-              letters_kept (λ a k m. base_call_in m ≡ None) g h.none.letters
-              (λ j. subst (AllByRecursion (λ m. base_call_in m ≡ None)) (sym (g.moves.items j))
-              (items_all (λ m. base_call_in m ≡ None) j g.moves.sent silent.sends_none));
-        };
-      }
-
-  pub no_call_comes : (w v : World) (es : List Event) → IsInFrame f w → HasNoBaseCalls e w → LeadsTo node_has_work node_steps w es v →
-      HasNoBaseCalls e v
-  no_call_comes w v es q none run =
-      (leads_keeps node_has_work node_steps Quiet quiet_more w v es (record { frame = q; none = none }) run).none
+  pub no_call_comes : (w v : World) (es : List Event) → IsInFrame f w → HasNoBaseCalls e w → RunsTo w es v → HasNoBaseCalls e v
+  no_call_comes w v es frame none run =
+      let all = all_lead f e (λ k s. calls_ordered s.base ≡ []) (λ a k m. base_call_in m ≡ None)
+      (λ k s i t sent here come m.
+      let c = no_call (here_at f k) e _ _ _ _ (part_moves f e k s i t sent m) here in (c.orders, c.sends_none)) w v es frame run
+      (record { slots = none.orders; letters = none.letters }) in
+      record { orders = all.slots; letters = all.letters }
 
 -- ---- reaps are loaded into a quiet world
 
@@ -138,9 +96,8 @@ same_by : (o : Order) (os : List Order) (ls : List CallData) (b : Bool) → lett
 same_by o os ls true is = ap (more_letter (base_call_of o)) is
 same_by o os ls false is = is
 
-split_by : (o : Order) (os : List Order) (b : Bool) →
-    cond b (more_letter (base_call_of o) (letters_of base_call_of os)) (letters_of base_call_of os)
-    ≡ letters_of base_call_of (cond b (o ∷ os) os)
+split_by : (o : Order) (os : List Order) (b : Bool) → cond b (more_letter (base_call_of o) (letters_of base_call_of os))
+    (letters_of base_call_of os) ≡ letters_of base_call_of (cond b (o ∷ os) os)
 split_by o os true = refl
 split_by o os false = refl
 
@@ -152,8 +109,7 @@ reap_is_none test x (o ∷ os) =
     same_by o (filter test (os ++ order.Reap x ∷ [])) (letters_of base_call_of (filter test os)) (test o) (reap_is_none test x os)
     ∙ split_by o (filter test os) (test o)
 
-ordered_if : (e x : ℕ) (b : BaseView) (t : Bool) →
-    calls_ordered (at_base e (order_if t b (order.Reap x))) ≡ calls_ordered (at_base e b)
+ordered_if : (e x : ℕ) (b : BaseView) (t : Bool) → calls_ordered (at_base e (order_if t b (order.Reap x))) ≡ calls_ordered (at_base e b)
 ordered_if e x b true = reap_is_none (order_concerns e) x b.orders
 ordered_if e x b false = refl
 

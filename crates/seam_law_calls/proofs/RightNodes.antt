@@ -1,6 +1,5 @@
 -- Each move sends its messages to nodes that have a case for them, and routes that fit.
-use Rattle.std.proofs.Common.{◌≡◌, ℕ, zero, suc, ◌+◌, ◌<◌, ◌≤◌, Bool, true, false, List, [], ◌∷◌, map, Option, None, Some, refl, sym, ap}
-use Rattle.std.proofs.Common.{◌∙◌}
+use Rattle.std.proofs.Common.{◌≡◌, ℕ, zero, suc, ◌+◌, ◌<◌, ◌≤◌, Bool, true, false, List, [], ◌∷◌, Option, None, Some, refl, sym, ap, ◌∙◌}
 use Rattle.std.proofs.Common.{subst, arith, cond}
 use Rattle.std.specs.Prelude.{filter_map, ◌==◌, ◌||◌}
 use Rattle.std.specs.List.{AllByRecursion, range_with_len, cons_option}
@@ -9,13 +8,14 @@ use Rattle.std.proofs.lemmas.Nat.{mod_below}
 use Rattle.seam_node_steps.specs.Prelude.{Pos, Cells, IsTree, leaf_at, cells_of, GhostCopy, Shown, RealView, Msg, BaseCall, Hand, Current}
 use Rattle.seam_node_steps.specs.Prelude.{GhostSet, GhostDrop, Tick, Update, limit, Here, cell_count, base_of, copy_of_real, NextPlace}
 use Rattle.seam_node_steps.specs.Prelude.{SlotStep, told, told_unless, ghost_message, ghost_messages, haunts_at, home_after, current_to}
-use Rattle.seam_node_steps.specs.Prelude.{drop_if, drop_at, drops, numbered, shown_of, RouteView, tick_to}
+use Rattle.seam_node_steps.specs.Prelude.{drop_if, drop_at, drops, numbered, shown_of, RouteView}
 use Rattle.seam_law_calls.specs.Prelude.{Frame, here_at, Has, AtCell, Does, CellMoves, BaseMoves, Moves, at_a_cell, at_a_base, IsBaseNumber}
 use Rattle.seam_law_calls.specs.Prelude.{is_for_cells, IsForNode}
 use Rattle.seam_tree.proofs.Leaves.{leaf_is_cell}
 use Rattle.seam_law_flow.proofs.Following.{all_append}
 use Rattle.seam_law_calls.specs.CellMoves as move
-use Rattle.seam_law_calls.specs.BaseMoves as base_move
+use Rattle.seam_law_calls.proofs.BaseDeeds.{base_keeps, mapped_all}
+use Rattle.seam_law_calls.proofs.Keeping.{units}
 
 -- ---- lists over a range
 
@@ -34,11 +34,6 @@ module _ (P : ℕ → Msg → Type 0) where
   chosen_all g a (suc len) h =
       cons_all (g a) (filter_map g (range_with_len (a + 1) len)) (λ p is. h a p (omega arith) is)
       (chosen_all g (a + 1) len (λ k p lt is. h k p (omega (arith, lt)) is))
-
-  mapped_all : (g : ℕ → ℕ × Msg) (a len : ℕ) → ((k : ℕ) → a ≤ k → k < a + len → P (g k).0 (g k).1) → AllSent (map g (range_with_len a len))
-  mapped_all g a zero h = tt
-  mapped_all g a (suc len) h =
-      (h a (omega arith) (omega arith), mapped_all g (a + 1) len (λ k le lt. h k (omega (arith, le)) (omega (arith, lt))))
 
 -- ---- messages
 
@@ -164,23 +159,13 @@ module _ (f : Frame) (tree : IsTree f.tree) (some : 1 ≤ f.settings.bases) (e k
 
   base_right : ((r : RouteView) → s.base.route ≡ Some r → r.cell < cell_count) →
       BaseMoves (here_at f k) (cells_of f.tree) e s.base i t.base sent → Right
-  base_right routes (base_move.rests n a z) = is [] z tt
-  base_right routes (base_move.strays m n b a z) = is [] z tt
-  base_right routes (base_move.reroutes new r n has b a z) = is [] z tt
-  base_right routes (base_move.offers c p n own has may a z) = is [] z tt
-  base_right routes (base_move.updates u n own b a z) = is [] z tt
-  base_right routes (base_move.orders_call c os r n at own has a z) = is _ z (for_cell f r.cell _ refl (routes r has), tt)
-  base_right routes (base_move.orders_base_call c os n at own b a z) = is _ z (base_call_for f _ c (home_is_base f e some), tt)
-  base_right routes (base_move.offers_own c os p n at own b has may a z) = is [] z tt
-  base_right routes (base_move.orders_tick os n at a z) =
-      let most = tree.cells_to in
-      is _ z (mapped_all (IsForNode f) tick_to 0 (cells_of f.tree) (λ j le lt. for_cell f j Tick refl (omega (arith, lt, most))))
-  base_right routes (base_move.orders_reap os r n at has a z) = is _ z (for_cell f r.cell _ refl (routes r has), tt)
-  base_right routes (base_move.stuck_order o os n at b a z) = is [] z tt
-  base_right routes (base_move.executes p o c n has may at item a z) = is [] z tt
-  base_right routes (base_move.stuck_part p n has v may a z) = is [] z tt
-  base_right routes (base_move.shows p n has v may a z) = is [] z tt
-  base_right routes (base_move.stuck_client p n has v may a z) = is [] z tt
+  base_right routes m =
+      let most = tree.cells_to in (base_keeps (λ o. Unit {0}) (IsForNode f) m (record {
+        calls = λ c r at is. for_cell f r.cell _ refl (routes r at);
+        base_calls = λ c is. base_call_for f _ c (home_is_base f e some);
+        ticks = λ is j lt. for_cell f j Tick refl (omega (arith, lt, most));
+        reaps = λ r at is. for_cell f r.cell _ refl (routes r at);
+      }) (units s.base.orders)).1
 
   pub sends_right : ((n : NextPlace) → s.cell.slot.next ≡ Some n → n.cell < cell_count) →
       ((r : RouteView) → s.base.route ≡ Some r → r.cell < cell_count) → Moves f e k s i t sent → Right

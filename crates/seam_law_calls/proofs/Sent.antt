@@ -7,11 +7,10 @@ use Rattle.std.specs.declared.cmp.Ordering.{Ordering}
 use Rattle.std.specs.declared.cmp.Ordering.TheVariants.{Less, Equal, Greater}
 use Rattle.std.specs.FinSet as set
 use Rattle.seam_node_steps.specs.Prelude.{Division, Cells, OrderView, next_item, Call as CallData, GhostCopy, Shown, order_of, RealView}
-use Rattle.seam_node_steps.specs.Prelude.{WitnessView, Msg, Hand, GhostSet, GhostDrop, Reap, Here}
-use Rattle.seam_node_steps.specs.Prelude.{cell_numbers, base_numbers, base_of, ready_order, executed, executed_ready, shows, copy_of_real}
-use Rattle.seam_node_steps.specs.Prelude.{settled_to, Slot, NextPlace, SlotStep, unless_stray, home_after, haunts_at, told, told_unless}
-use Rattle.seam_node_steps.specs.Prelude.{ghost_message, ghost_messages, settled_by, settled, stays, goes, about, slot_steps, is_stray}
-use Rattle.seam_node_steps.specs.Prelude.{Known, numbered, look_by, look_task}
+use Rattle.seam_node_steps.specs.Prelude.{WitnessView, Msg, Hand, GhostSet, GhostDrop, Reap, Here, cell_numbers, base_numbers, base_of}
+use Rattle.seam_node_steps.specs.Prelude.{ready_order, executed, executed_ready, shows, copy_of_real, settled_to, Slot, NextPlace, SlotStep}
+use Rattle.seam_node_steps.specs.Prelude.{unless_stray, home_after, haunts_at, told, told_unless, ghost_message, ghost_messages, settled_by}
+use Rattle.seam_node_steps.specs.Prelude.{settled, stays, goes, about, slot_steps, is_stray, Known, numbered, look_by, look_task}
 use Rattle.seam_law_flow.proofs.Following.{all_append}
 use Rattle.seam_entity.specs.declared.message.Msg.TheVariants.{Call}
 use Rattle.seam_node_steps.specs.CellCases
@@ -120,8 +119,7 @@ module _ (e : ℕ) where
     case_about _ is keys = tt
 
     -- what a message about an entity makes its slot send
-    pub slot_about : (m : Msg) → about m ≡ Some e → ((r : RealView) → s.real ≡ Some r → r.entity ≡ e) →
-        AllAbout e (slot_steps h t s m).sent
+    pub slot_about : (m : Msg) → about m ≡ Some e → ((r : RealView) → s.real ≡ Some r → r.entity ≡ e) → AllAbout e (slot_steps h t s m).sent
     slot_about m is keys = unless_about (is_stray h t s m) (case_of h t s m) (case_about m is keys)
 
     survey_about : (o : Option RealView) → ((r : RealView) → o ≡ Some r → r.entity ≡ e) → AllAbout e (CellCases.survey_task h t s o).sent

@@ -1,18 +1,14 @@
 -- Where no look is left, or the entity has no witness, its client is told nothing.
-use Rattle.std.proofs.Common.{◌≡◌, ℕ, ◌+◌, ◌≤◌, true, false, is_some, List, Option, None, Some, refl, sym, ap, ◌∙◌, subst}
-use Rattle.std.proofs.Common.{arith}
+use Rattle.std.proofs.Common.{◌≡◌, ℕ, ◌+◌, ◌≤◌, false, is_some, List, Option, None, Some, refl, sym, ap, ◌∙◌, subst, arith}
 use Rattle.std.specs.List.{AllByRecursion}
-use Rattle.seam_node_steps.specs.Prelude.{cells_of, happens, enabled, LeadsTo, Occurs, Event, RealView, WitnessView, Msg, cell_count, World}
-use Rattle.seam_node_steps.specs.Prelude.{node_steps, node_has_work}
+use Rattle.seam_node_steps.specs.Prelude.{cells_of, happens, Occurs, Event, RealView, WitnessView, Msg, cell_count, World, node_steps}
 use Rattle.seam_law_flow.specs.Prelude.{letter_in, slot_at, IsSilent}
 use Rattle.seam_law_calls.specs.Prelude.{Frame, here_at, IsInFrame, Has, AtCell, mine, concerning, has_of, has_none, Moves, at_a_cell}
 use Rattle.seam_law_calls.specs.Prelude.{at_a_base, real_in, update_in, WitnessMoves, EachReal, node_looks, mine_looks, looks_left}
-use Rattle.seam_law_calls.specs.Prelude.{IsToldNothing}
-use Rattle.seam_machine.proofs.Occurring.{occurs}
-use Rattle.seam_net_runs.proofs.Runs.{leads_keeps}
+use Rattle.seam_law_calls.specs.Prelude.{IsToldNothing, RunsTo}
 use Rattle.seam_net_runs.proofs.Weighing.{weight_bounds}
 use Rattle.seam_law_flow.proofs.Following.{all_append, letters_kept}
-use Rattle.seam_law_calls.proofs.Classify.{node_moves, frame_happens}
+use Rattle.seam_law_calls.proofs.Classify.{node_moves}
 use Rattle.seam_law_calls.proofs.Sparing.{items_all}
 use Rattle.seam_law_calls.specs.WitnessMoves as witness
 use Rattle.seam_law_calls.proofs.BaseSilent.{sees_no_update, base_silent}
@@ -20,6 +16,7 @@ use Rattle.seam_law_calls.proofs.WitnessKept.{IsSeen, each_happens}
 use Rattle.seam_law_calls.proofs.WitnessSteps.{witness_moves}
 use Rattle.seam_law_calls.proofs.LooksLeft.{looks_left_happens}
 use Rattle.seam_law_calls.proofs.Telling.{event_fact}
+use Rattle.seam_law_calls.proofs.Keeping.{run_keeps}
 
 -- the node's real has no witness that is to look
 abbrev NeverLooks : AtCell → Type 0
@@ -57,52 +54,27 @@ module _ (f : Frame) (e : ℕ) (w : World) (v : Event) (o : Occurs w v) (q : IsI
 -- ---- no look is left
 
 module _ (f : Frame) (most : cells_of f.tree ≤ cell_count) (e : ℕ) where
-  record Lookless (w : World) : Type 0 where
-    frame : IsInFrame f w
-    left : looks_left e w ≡ 0
-    none : IsToldNothing e w
-
-  lookless_more : (w : World) (v : Event) → Lookless w → enabled node_has_work w v ≡ true → Lookless (happens node_steps w v)
-  lookless_more w v h on =
-      let o = occurs node_has_work w v on in
-      let less = looks_left_happens f most e w v o h.frame in
-      let left = h.left in
-      let bound = weight_bounds (node_looks e) (mine_looks e) w v o in
-      record {
-        frame = frame_happens f w v o h.frame;
-        left = omega (arith, less, left);
-        none = silent_happens f e w v o h.frame (λ n r x at has seen. omega (arith, at, bound, left)) h.none;
-      }
-
   pub tells_none : (w v : World) (es : List Event) → IsInFrame f w → looks_left e w ≡ 0 → IsToldNothing e w →
-      LeadsTo node_has_work node_steps w es v → IsToldNothing e v
+      RunsTo w es v → IsToldNothing e v
   tells_none w v es frame left none run =
-      (leads_keeps node_has_work node_steps Lookless lookless_more w v es (record { frame = frame; left = left; none = none }) run).none
+      (run_keeps f (λ x. (looks_left e x ≡ 0) × IsToldNothing e x) (λ x a o q h.
+      let less = looks_left_happens f most e x a o q in
+      let left = h.0 in
+      let bound = weight_bounds (node_looks e) (mine_looks e) x a o in
+      (omega (arith, less, left), silent_happens f e x a o q (λ n r y at has seen. omega (arith, at, bound, left)) h.1)) w v es frame run
+      (left, none)).1
 
 -- ---- there is no witness
 
 module _ (f : Frame) (e : ℕ) where
-  record Unseen (w : World) : Type 0 where
-    frame : IsInFrame f w
-    each : EachReal e (IsSeen f e false) w
-    none : IsToldNothing e w
-
-  unseen_more : (w : World) (v : Event) → Unseen w → enabled node_has_work w v ≡ true → Unseen (happens node_steps w v)
-  unseen_more w v h on =
-      let o = occurs node_has_work w v on in
-      record {
-        frame = frame_happens f w v o h.frame;
-        each =
-            each_happens (IsSeen f e false) (λ r q same is. ap is_some same ∙ is) f e w v o h.frame
-            (λ k n r q x y shown at wit wit' sum is. ap is_some wit' ∙ (sym (ap is_some wit) ∙ is)) h.each;
-        none =
-            silent_happens f e w v o h.frame
-            (λ n r x at has seen.
-            let is = h.each.cells v.node r (ap (λ z. real_in (slot_at (has_of e) has_none z)) o.is_node ∙ has) in
-            absurd (let z = sym (ap is_some seen) ∙ is in cc)) h.none;
-      }
-
   pub unseen_told_none : (w v : World) (es : List Event) → IsInFrame f w → EachReal e (IsSeen f e false) w → IsToldNothing e w →
-      LeadsTo node_has_work node_steps w es v → IsToldNothing e v
+      RunsTo w es v → IsToldNothing e v
   unseen_told_none w v es frame each none run =
-      (leads_keeps node_has_work node_steps Unseen unseen_more w v es (record { frame = frame; each = each; none = none }) run).none
+      (run_keeps f (λ x. EachReal e (IsSeen f e false) x × IsToldNothing e x) (λ x a o q h. (
+        each_happens (IsSeen f e false) (λ r q same is. ap is_some same ∙ is) f e x a o q
+            (λ k n r q y z shown at wit wit' sum is. ap is_some wit' ∙ (sym (ap is_some wit) ∙ is)) h.0,
+        silent_happens f e x a o q
+            (λ n r y at has seen.
+            let is = h.0.cells a.node r (ap (λ z. real_in (slot_at (has_of e) has_none z)) o.is_node ∙ has) in
+            absurd (let z = sym (ap is_some seen) ∙ is in cc)) h.1,
+      )) w v es frame run (each, none)).1

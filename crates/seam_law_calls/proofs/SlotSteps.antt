@@ -6,11 +6,10 @@ use Rattle.std.specs.declared.cmp.Ordering.TheVariants.{Less, Equal, Greater}
 use Rattle.std.proofs.lemmas.Bool.{eqb-true, eqb-false}
 use Rattle.std.proofs.lemmas.Bool.Decides.{nat_tests}
 use Rattle.seam_node_steps.specs.Prelude.{Division, OrderView, next_item, Call as CallData, GhostCopy, order_of, RealView, WitnessView, Msg}
-use Rattle.seam_node_steps.specs.Prelude.{Hand, GhostSet, GhostDrop, Reap, is_small, may_rise, Here}
-use Rattle.seam_node_steps.specs.Prelude.{has_ready, ready_order, may_settle, may_execute, may_call, executed, executed_ready, shows, Slot}
-use Rattle.seam_node_steps.specs.Prelude.{NextPlace, unless_stray, home_after, settled_by, settled, about, slot_steps, is_stray, may_come}
-use Rattle.seam_node_steps.specs.Prelude.{stray_survey, stray_ready_call, survey_task, ready_call_task, Known, shown_of, look_by, look_task}
-use Rattle.seam_node_steps.specs.Prelude.{stray_look, stray_look_by}
+use Rattle.seam_node_steps.specs.Prelude.{Hand, GhostSet, GhostDrop, Reap, is_small, may_rise, Here, has_ready, ready_order, may_settle}
+use Rattle.seam_node_steps.specs.Prelude.{may_execute, may_call, executed, executed_ready, shows, Slot, NextPlace, unless_stray, home_after}
+use Rattle.seam_node_steps.specs.Prelude.{settled_by, settled, about, slot_steps, is_stray, may_come, stray_survey, stray_ready_call}
+use Rattle.seam_node_steps.specs.Prelude.{survey_task, ready_call_task, Known, shown_of, look_by, look_task, stray_look, stray_look_by}
 use Rattle.seam_law_calls.specs.Prelude.{AtCell, Does, Acts, CellMoves, surveys, calls, readies}
 use Rattle.seam_entity.specs.declared.message.Msg.TheVariants.{Call}
 use Rattle.seam_node_steps.specs.CellCases
@@ -170,7 +169,6 @@ module _ (h : Here) (t : Division) (e : ℕ) (s : AtCell) (key : IsKey e s.slot)
   look_at n None known at_n has d = move.overlooks n known refl at_n (ap (λ o. stray_look h o known) has) d
 
   -- the entity is taken from the look list
-  pub look_moves : (n : ℕ) (known : List Known) → s.looks ≡ n + 1 →
-      Does (record s { looks = n }) (unless_stray (stray_look h s.slot.real known) (look_task h s.slot s.slot.real known)) v sent →
-      Goal None
+  pub look_moves : (n : ℕ) (known : List Known) → s.looks ≡ n + 1 → Does (record s { looks = n })
+      (unless_stray (stray_look h s.slot.real known) (look_task h s.slot s.slot.real known)) v sent → Goal None
   look_moves n known at_n d = look_at n s.slot.real known at_n refl d

@@ -1,16 +1,14 @@
 -- An entity that no one reaps is reaped by none: no move orders it or sends a Reap.
-use Rattle.std.proofs.Common.{◌≡◌, ℕ, Bool, true, false, cond, eqb, List, [], ◌∷◌, Option, None, refl, sym, ap, ◌∙◌, subst}
-use Rattle.std.specs.List.{AllByRecursion, range_with_len}
+use Rattle.std.proofs.Common.{◌≡◌, ℕ, Bool, true, false, cond, eqb, List, [], ◌∷◌, Option, None, refl, sym, subst}
+use Rattle.std.specs.List.{AllByRecursion}
 use Rattle.std.specs.FinSet as set
 use Rattle.seam_node_steps.specs.Prelude.{items_to, Order, Msg, base_numbers, base_of, SlotStep, haunts_at, ghost_messages, current_to}
-use Rattle.seam_node_steps.specs.Prelude.{tick_to}
 use Rattle.seam_law_flow.specs.Prelude.{IsSilent}
 use Rattle.seam_law_calls.specs.Prelude.{Frame, here_at, Has, AtCell, AtBase, Does, CellMoves, BaseMoves, Moves, at_a_cell, at_a_base}
 use Rattle.seam_law_calls.specs.Prelude.{reaped_by, reaped_by_order, HasNoReaps}
 use Rattle.seam_law_flow.proofs.Following.{all_append}
-use Rattle.seam_call.specs.declared.order.Order.TheVariants as order
 use Rattle.seam_law_calls.specs.CellMoves as move
-use Rattle.seam_law_calls.specs.BaseMoves as base_move
+use Rattle.seam_law_calls.proofs.BaseDeeds.{base_keeps}
 use Rattle.seam_law_calls.proofs.Plain.{SeesNoGhost, ghosts_silent, drops_silent, mapped_silent, numbered_silent}
 
 no_ghosts : SeesNoGhost reaped_by
@@ -64,48 +62,16 @@ module _ (f : Frame) (e k : ℕ) (s : Has) (i : Option Msg) (t : Has) (sent : Li
   cell_silent (move.overlooks n known h at b d) = of _ _ d tt
   cell_silent (move.stuck r h has ready may d) = of _ s.cell d tt
 
-  tail_of : (o : Order) (os : List Order) → s.base.orders ≡ o ∷ os → HasNoReaps s → NoneReaped (o ∷ os)
-  tail_of o os at h = subst NoneReaped at h
-
   -- what is left of the orders, and what is sent
-  record Left : Type 0 where
-    orders : HasNoReaps t
-    silent : Unreaped
-
-  kept : (b : AtBase) → b.orders ≡ s.base.orders → t.base ≡ b → HasNoReaps s → HasNoReaps t
-  kept b same a h = subst NoneReaped (sym (ap (λ x. x.orders) a ∙ same)) h
-
-  gone : (o : Order) (os : List Order) (b : AtBase) → s.base.orders ≡ o ∷ os → b.orders ≡ os → t.base ≡ b → HasNoReaps s → HasNoReaps t
-  gone o os b at same a h = subst NoneReaped (sym (ap (λ x. x.orders) a ∙ same)) (tail_of o os at h).1
-
-  base_left : (cells : ℕ) → HasNoReaps s → BaseMoves (here_at f k) cells e s.base i t.base sent → Left
-  base_left cells h (base_move.rests n a z) = record { orders = kept s.base refl a h; silent = is [] z tt }
-  base_left cells h (base_move.strays m n b a z) = record { orders = kept s.base refl a h; silent = is [] z tt }
-  base_left cells h (base_move.reroutes new r n has b a z) = record { orders = kept _ refl a h; silent = is [] z tt }
-  base_left cells h (base_move.offers c p n own has may a z) = record { orders = kept _ refl a h; silent = is [] z tt }
-  base_left cells h (base_move.updates u n own b a z) = record { orders = kept _ refl a h; silent = is [] z tt }
-  base_left cells h (base_move.orders_call c os r n at own has a z) =
-      record { orders = gone (order.Cell c) os _ at refl a h; silent = is _ z (refl, tt) }
-  base_left cells h (base_move.orders_base_call c os n at own b a z) =
-      record { orders = gone (order.Base c) os _ at refl a h; silent = is _ z (refl, tt) }
-  base_left cells h (base_move.offers_own c os p n at own b has may a z) =
-      record { orders = gone (order.Base c) os _ at refl a h; silent = is [] z tt }
-  base_left cells h (base_move.orders_tick os n at a z) =
-      record {
-        orders = gone order.Tick os _ at refl a h;
-        silent = is _ z (mapped_silent reaped_by tick_to (λ j. refl) (range_with_len 0 cells));
-      }
-  base_left cells h (base_move.orders_reap os r n at has a z) = absurd (let no = (tail_of (order.Reap e) os at h).0 in cc)
-  base_left cells h (base_move.stuck_order o os n at b a z) = record { orders = kept s.base refl a h; silent = is [] z tt }
-  base_left cells h (base_move.executes p o c n has may at item a z) = record { orders = kept _ refl a h; silent = is [] z tt }
-  base_left cells h (base_move.stuck_part p n has v may a z) = record { orders = kept s.base refl a h; silent = is [] z tt }
-  base_left cells h (base_move.shows p n has v may a z) = record { orders = kept _ refl a h; silent = is [] z tt }
-  base_left cells h (base_move.stuck_client p n has v may a z) = record { orders = kept s.base refl a h; silent = is [] z tt }
+  base_left : (cells : ℕ) → HasNoReaps s → BaseMoves (here_at f k) cells e s.base i t.base sent → HasNoReaps t × Unreaped
+  base_left cells h m =
+      base_keeps (λ o. reaped_by_order o ≡ None) (λ j m. reaped_by m ≡ None) m
+      (record { calls = λ c r at is. refl; base_calls = λ c is. refl; ticks = λ is j lt. refl; reaps = λ r at is. is }) h
 
   pub orders_spared : HasNoReaps s → Moves f e k s i t sent → HasNoReaps t
-  orders_spared h (at_a_cell low m same) = kept s.base refl same h
-  orders_spared h (at_a_base high m same) = (base_left _ h m).orders
+  orders_spared h (at_a_cell low m same) = subst (λ (b : AtBase). NoneReaped b.orders) (sym same) h
+  orders_spared h (at_a_base high m same) = (base_left _ h m).0
 
   pub sent_spared : HasNoReaps s → Moves f e k s i t sent → Unreaped
   sent_spared h (at_a_cell low m same) = cell_silent m
-  sent_spared h (at_a_base high m same) = (base_left _ h m).silent
+  sent_spared h (at_a_base high m same) = (base_left _ h m).1

@@ -1,51 +1,34 @@
 -- Nothing about the entity is stray at a base node, over every list of events.
-use Rattle.std.proofs.Common.{◌≡◌, ℕ, ◌<◌, ◌≤◌, true, List, length, arith}
-use Rattle.seam_node_steps.specs.Prelude.{happens, enabled, LeadsTo, Event, Call as CallData, World, node_steps, node_has_work}
+use Rattle.std.proofs.Common.{ℕ, ◌<◌, ◌≤◌, List, length, arith}
+use Rattle.seam_node_steps.specs.Prelude.{Event, Call as CallData, World}
 use Rattle.seam_law_calls.specs.Prelude.{Frame, IsInFrame, IsFrame, IsSpared, HasOne, base_burden, HasBaseCalls, HasNoClient, HasClient}
-use Rattle.seam_law_calls.specs.Prelude.{HasToldAtMost, HasRoomFor, HasRoutes, no_client, client, NothingIsStray}
-use Rattle.seam_machine.proofs.Occurring.{occurs}
-use Rattle.seam_net_runs.proofs.Runs.{leads_keeps}
+use Rattle.seam_law_calls.specs.Prelude.{HasToldAtMost, HasRoomFor, HasRoutes, no_client, client, NothingIsStray, RunsTo}
 use Rattle.seam_law_calls.proofs.Easing.{falls_lead}
-use Rattle.seam_law_calls.proofs.OneReal.{one_happens, calm_of, spared_happens}
 use Rattle.seam_law_calls.proofs.PartEasing.{base_burden_happens}
 use Rattle.seam_law_calls.proofs.RoutesKept.{routes_happen}
 use Rattle.seam_law_calls.proofs.AloneRuns.{alone_leads}
 use Rattle.seam_law_calls.proofs.ClientLeads.{both_leads}
 use Rattle.seam_law_calls.proofs.NoStray.{nothing_is_stray}
+use Rattle.seam_law_calls.proofs.OneReal.{one_keeps}
 
 -- ---- routes
 
 module _ (f : Frame) (frame : IsFrame f) (e ty : ℕ) (known : ty < length f.defs) where
-  record Routed (w : World) : Type 0 where
-    one : HasOne f e ty w
-    spared : IsSpared e w
-    routes : HasRoutes f e w
-
-  routed_more : (w : World) (v : Event) → Routed w → enabled node_has_work w v ≡ true → Routed (happens node_steps w v)
-  routed_more w v h on =
-      let o = occurs node_has_work w v on in
-      let calm = calm_of f e w v o h.one.fits.frame h.spared in
-      record {
-        one = (one_happens f frame e ty known w v o h.one calm).has;
-        spared = spared_happens f e w v o h.one.fits.frame h.spared;
-        routes = routes_happen f frame e ty known w v o h.one calm h.routes;
-      }
-
-  pub routes_lead : (w v : World) (es : List Event) → HasOne f e ty w → IsSpared e w → HasRoutes f e w →
-      LeadsTo node_has_work node_steps w es v → HasRoutes f e v
+  pub routes_lead : (w v : World) (es : List Event) → HasOne f e ty w → IsSpared e w → HasRoutes f e w → RunsTo w es v → HasRoutes f e v
   routes_lead w v es one spared routes run =
-      (leads_keeps node_has_work node_steps Routed routed_more w v es (record { one = one; spared = spared; routes = routes }) run).routes
+      one_keeps f frame e ty known (HasRoutes f e) (λ x a o has its calm was. routes_happen f frame e ty known x a o has calm was) w v es
+      one spared run routes
 
 -- ---- what is yet to do
 
-pub base_burden_leads : (f : Frame) (e : ℕ) (w v : World) (es : List Event) → IsInFrame f w → LeadsTo node_has_work node_steps w es v →
+pub base_burden_leads : (f : Frame) (e : ℕ) (w v : World) (es : List Event) → IsInFrame f w → RunsTo w es v →
     base_burden e v ≤ base_burden e w
 base_burden_leads f e w v es q run = falls_lead f (base_burden e) (base_burden_happens f e) w v es q run
 
 -- ---- nothing is stray
 
 module _ (f : Frame) (e ty : ℕ) (first : ℕ → ℕ) (batch : ℕ → List CallData) (w v : World) (es : List Event)
-    (h : HasBaseCalls f e ty first batch w) (routes : HasRoutes f e w) (run : LeadsTo node_has_work node_steps w es v) where
+    (h : HasBaseCalls f e ty first batch w) (routes : HasRoutes f e w) (run : RunsTo w es v) where
   pub alone_without_stray : IsFrame f → ty < length f.defs → HasOne f e ty w → HasNoClient e w → NothingIsStray f e v
   alone_without_stray frame known one alone =
       let a = alone_leads f e ty first batch w v es h alone run in

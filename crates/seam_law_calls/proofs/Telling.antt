@@ -1,22 +1,21 @@
 -- What a witness told stays within what it told at the start and what its looks may tell.
 use Rattle.std.proofs.Common.{◌≡◌, ℕ, ◌+◌, ◌*◌, ◌<◌, ◌≤◌, Bool, true, false, List, [], ◌∷◌, length, map, filter_map, Option, None, Some}
-use Rattle.std.proofs.Common.{refl}
-use Rattle.std.proofs.Common.{sym, ap, ◌∙◌, subst, arith, inl, inr}
+use Rattle.std.proofs.Common.{refl, sym, ap, ◌∙◌, subst, arith, inl, inr}
 use Rattle.std.specs.Prelude.{slice_get}
 use Rattle.std.specs.List.{AllByRecursion}
 use Rattle.std.specs.FinMap as table
 use Rattle.std.specs.FinSet as set
 use Rattle.std.proofs.lemmas.Bool.{cases_lt}
 use Rattle.std.proofs.lemmas.List.{length-map}
-use Rattle.seam_node_steps.specs.Prelude.{cells_of, happens, enabled, LeadsTo, Occurs, Event, copy_in, GhostCopy, Shown, RealView}
-use Rattle.seam_node_steps.specs.Prelude.{WitnessView, Msg, Hand, Here, base_numbers, base_of, cell_count, SlotStep, slot_after, haunts_at}
-use Rattle.seam_node_steps.specs.Prelude.{ghost_messages, current_to, Known, seen_as, shown_for, own_due, looks_of, shown_of, after_looking}
-use Rattle.seam_node_steps.specs.Prelude.{CellView, known_to, NodeView, World, node_steps, node_has_work, Cell, Base, IsNode}
+use Rattle.seam_node_steps.specs.Prelude.{cells_of, happens, enabled, Occurs, Event, copy_in, GhostCopy, Shown, RealView, WitnessView, Msg}
+use Rattle.seam_node_steps.specs.Prelude.{Hand, Here, base_numbers, base_of, cell_count, SlotStep, slot_after, haunts_at, ghost_messages}
+use Rattle.seam_node_steps.specs.Prelude.{current_to, Known, seen_as, shown_for, own_due, looks_of, shown_of, after_looking, CellView}
+use Rattle.seam_node_steps.specs.Prelude.{known_to, NodeView, World, node_steps, node_has_work, Cell, Base, IsNode}
 use Rattle.seam_law_flow.specs.Prelude.{Goes, comes, letter_in, slot_at, IsSilent}
 use Rattle.seam_law_calls.specs.Prelude.{Frame, here_at, IsInFrame, Has, AtCell, mine, concerning, has_of, has_none, entity_flow, Does}
 use Rattle.seam_law_calls.specs.Prelude.{Acts, surveys, calls, readies, CellMoves, Moves, at_a_cell, at_a_base, MovesTo, real_in, real_of}
 use Rattle.seam_law_calls.specs.Prelude.{sent_of, sent_by, EachReal, HasToldAtMost, most_entities, HasFewEntities, IsFewView, SeesFew}
-use Rattle.seam_law_calls.specs.Prelude.{looks_left, most_shown}
+use Rattle.seam_law_calls.specs.Prelude.{looks_left, most_shown, RunsTo, real_at}
 use Rattle.seam_machine.proofs.Occurring.{occurs}
 use Rattle.seam_net_runs.proofs.Runs.{leads_keeps}
 use Rattle.seam_net_runs.proofs.Soundness.{sound_sends}
@@ -62,12 +61,10 @@ module _ (P : RealView → Type 0) (by_witness : ByWitness P) (f : Frame) (e k :
 
   acts_keep : (u : AtCell) (r q : RealView) (changed : Bool) → Acts (here_at f k) e s.cell i r u q changed → q.witness ≡ r.witness
   acts_keep u r q changed (surveys n a b c) = refl
-  acts_keep u r q changed (calls c a x m d) = refl
-  acts_keep u r q changed (readies o c a m at item) = refl
+  acts_keep u r q changed _ = refl
 
   -- a look takes the entry
-  takes_it : (n : ℕ) (q : RealView) → i ≡ None → s.cell.looks ≡ n + 1 → t.cell.looks ≡ n → real_in t ≡ Some q →
-      NotTaken s.cell i t.cell → ⊥
+  takes_it : (n : ℕ) (q : RealView) → i ≡ None → s.cell.looks ≡ n + 1 → t.cell.looks ≡ n → real_in t ≡ Some q → NotTaken s.cell i t.cell → ⊥
   takes_it n q none at is now (as_often often) = omega (arith, at, is, often)
   takes_it n q none at is now (gone none_now) = let z = sym none_now ∙ now in cc
   takes_it n q none at is now (ticked fed) = let z = sym none ∙ fed in cc
@@ -162,7 +159,7 @@ module _ (f : Frame) (e : ℕ) (w : World) (v : Event) (o : Occurs w v) (frame :
   -- by what the node does with the witness
   module _ (Fact : Has → Option Msg → Has → List (ℕ × Msg) → Type 0)
       (g : Goes (λ k s i t out. (m : MovesTo f e k s i t out) × Fact s i t m.sent) (entity_flow e w) (entity_flow e after)) where
-    each_then : ((r : RealView) → real_in ((entity_flow e after).slot g.k) ≡ Some r → P r) →
+    each_then : ((r : RealView) → real_at e after g.k ≡ Some r → P r) →
         AllByRecursion (λ p. OfReal P p.1) g.moves.0.sent → EachReal e P after
     each_then slot sends = record {
       cells = slots_kept (λ k s. (r : RealView) → real_in s ≡ Some r → P r) g each.cells slot;
@@ -269,8 +266,7 @@ module _ (f : Frame) (most : cells_of f.tree ≤ cell_count) (e b : ℕ) where
 
   -- after a look one less is left
   within_look : (h : Here) (known : List Known) → AllBelow known → length known ≤ most_entities → (r : RealView) (w : WitnessView) →
-      r.witness ≡ Some w → (m n : ℕ) → m + 1 ≤ n → IsWithin n r →
-      IsWithin m (looked_at h known r w)
+      r.witness ≡ Some w → (m n : ℕ) → m + 1 ≤ n → IsWithin n r → IsWithin m (looked_at h known r w)
   within_look h known below few r w seen m n le it =
       let view = it.sees w seen in
       let more = told_few h r w known view few in
@@ -342,14 +338,13 @@ module _ (f : Frame) (most : cells_of f.tree ≤ cell_count) (e b : ℕ) where
   within_more : (w : World) (v : Event) → Within w → enabled node_has_work w v ≡ true → Within (happens node_steps w v)
   within_more w v h on = within_happens w v (occurs node_has_work w v on) h
 
-  within_leads : (w v : World) (es : List Event) → Within w → LeadsTo node_has_work node_steps w es v → Within v
+  within_leads : (w v : World) (es : List Event) → Within w → RunsTo w es v → Within v
   within_leads w v es h run = leads_keeps node_has_work node_steps Within within_more w v es h run
 
 -- ---- all of it
 
 module _ (f : Frame) (most : cells_of f.tree ≤ cell_count) (e n : ℕ) (w v : World) (es : List Event) (frame : IsInFrame f w)
-    (few : HasFewEntities w) (sees : EachReal e SeesFew w) (told : HasToldAtMost e n w)
-    (run : LeadsTo node_has_work node_steps w es v) where
+    (few : HasFewEntities w) (sees : EachReal e SeesFew w) (told : HasToldAtMost e n w) (run : RunsTo w es v) where
   abbrev b : ℕ
   b = n + most_shown * looks_left e w
 

@@ -1,11 +1,11 @@
 -- What each move does with what leads to the entity's real.
-use Rattle.std.proofs.Common.{◌≡◌, ℕ, ◌+◌, ◌≤◌, ◌⊎◌, Bool, true, false, cond, ◌||◌, nat_lt, is_some, List, [], ◌∷◌, ◌++◌, map}
-use Rattle.std.proofs.Common.{Option, None, Some, refl, sym, ap, ◌∙◌, subst, arith, inl, inr}
+use Rattle.std.proofs.Common.{◌≡◌, ℕ, ◌+◌, ◌≤◌, ◌⊎◌, Bool, true, false, cond, ◌||◌, nat_lt, is_some, List, [], ◌∷◌, ◌++◌, map, Option, None}
+use Rattle.std.proofs.Common.{Some, refl, sym, ap, ◌∙◌, subst, arith, inl, inr}
 use Rattle.std.specs.List.{range_with_len}
 use Rattle.std.specs.FinSet as set
-use Rattle.seam_node_steps.specs.Prelude.{Call as CallData, RealView, Msg, BaseCall, Hand, Current, Reap}
-use Rattle.seam_node_steps.specs.Prelude.{cell_count, base_numbers, base_of, Slot, NextPlace, SlotStep, slot_after, haunts_at}
-use Rattle.seam_node_steps.specs.Prelude.{ghost_messages, settled_to, is_stray, may_come, RouteView, tick_to}
+use Rattle.seam_node_steps.specs.Prelude.{Call as CallData, RealView, Msg, BaseCall, Hand, Current, Reap, cell_count, base_numbers, base_of}
+use Rattle.seam_node_steps.specs.Prelude.{Slot, NextPlace, SlotStep, slot_after, haunts_at, ghost_messages, settled_to, is_stray, may_come}
+use Rattle.seam_node_steps.specs.Prelude.{RouteView, tick_to}
 use Rattle.seam_law_flow.specs.Prelude.{IsSilent}
 use Rattle.seam_law_calls.specs.Prelude.{Frame, here_at, Has, AtCell, Does, Acts, surveys, calls, readies, CellMoves, BaseMoves, Moves}
 use Rattle.seam_law_calls.specs.Prelude.{at_a_cell, at_a_base, is_visited, is_call}

@@ -1,19 +1,17 @@
 -- What is true of each real of an entity by its witness stays true.
-use Rattle.std.proofs.Common.{◌≡◌, ℕ, ◌+◌, Bool, true, is_some, List, [], ◌∷◌, length, Option, Some, refl, sym, ap, ◌∙◌, subst}
+use Rattle.std.proofs.Common.{◌≡◌, ℕ, ◌+◌, Bool, is_some, List, [], ◌∷◌, length, Option, Some, refl, sym, ap, ◌∙◌, subst}
 use Rattle.std.specs.List.{AllByRecursion}
-use Rattle.seam_node_steps.specs.Prelude.{happens, enabled, LeadsTo, Occurs, Event, Shown, RealView, WitnessView, Msg, Hand, World}
-use Rattle.seam_node_steps.specs.Prelude.{node_steps, node_has_work}
+use Rattle.seam_node_steps.specs.Prelude.{happens, Occurs, Event, Shown, RealView, WitnessView, Msg, Hand, World, node_steps}
 use Rattle.seam_law_flow.specs.Prelude.{comes, IsSilent}
 use Rattle.seam_law_calls.specs.Prelude.{Frame, here_at, IsInFrame, Has, AtCell, entity_flow, Moves, at_a_cell, at_a_base, real_in, real_of}
-use Rattle.seam_law_calls.specs.Prelude.{WitnessMoves, EachReal}
-use Rattle.seam_machine.proofs.Occurring.{occurs}
-use Rattle.seam_net_runs.proofs.Runs.{leads_keeps}
+use Rattle.seam_law_calls.specs.Prelude.{WitnessMoves, EachReal, RunsTo}
 use Rattle.seam_law_flow.proofs.Following.{all_append, slots_kept, letters_kept, came}
-use Rattle.seam_law_calls.proofs.Classify.{event_moves, frame_happens}
+use Rattle.seam_law_calls.proofs.Classify.{event_moves}
 use Rattle.seam_law_calls.proofs.Sparing.{items_all}
 use Rattle.seam_law_calls.specs.WitnessMoves as witness
 use Rattle.seam_law_calls.proofs.WitnessSteps.{witness_moves}
 use Rattle.seam_law_calls.proofs.BaseSilent.{sees_no_real, numbered_unreal, base_silent}
+use Rattle.seam_law_calls.proofs.Keeping.{run_keeps}
 
 module _ (P : RealView → Type 0) where
   abbrev pub OfReal : Msg → Type 0
@@ -101,21 +99,7 @@ module _ (f : Frame) (e : ℕ) (b : Bool) where
   abbrev pub IsSeen : RealView → Type 0
   IsSeen r = is_some r.witness ≡ b
 
-  record Seen (w : World) : Type 0 where
-    frame : IsInFrame f w
-    each : EachReal e IsSeen w
-
-  seen_more : (w : World) (v : Event) → Seen w → enabled node_has_work w v ≡ true → Seen (happens node_steps w v)
-  seen_more w v h on =
-      let o = occurs node_has_work w v on in
-      record {
-        frame = frame_happens f w v o h.frame;
-        each =
-            each_happens IsSeen (λ r q same is. ap is_some same ∙ is) f e w v o h.frame
-            (λ k n r q x y shown at wit wit' sum is. ap is_some wit' ∙ (sym (ap is_some wit) ∙ is)) h.each;
-      }
-
-  pub seen_leads : (w v : World) (es : List Event) → IsInFrame f w → EachReal e IsSeen w → LeadsTo node_has_work node_steps w es v →
-      EachReal e IsSeen v
+  pub seen_leads : (w v : World) (es : List Event) → IsInFrame f w → EachReal e IsSeen w → RunsTo w es v → EachReal e IsSeen v
   seen_leads w v es frame each run =
-      (leads_keeps node_has_work node_steps Seen seen_more w v es (record { frame = frame; each = each }) run).each
+      run_keeps f (EachReal e IsSeen) (λ x a o q all. each_happens IsSeen (λ r q same is. ap is_some same ∙ is) f e x a o q
+      (λ k n r q y z shown at wit wit' sum is. ap is_some wit' ∙ (sym (ap is_some wit) ∙ is)) all) w v es frame run each

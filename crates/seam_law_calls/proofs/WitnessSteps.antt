@@ -55,8 +55,7 @@ module _ (f : Frame) (e k : ℕ) (s : Has) (i : Option Msg) (t : Has) (sent : Li
 
   acts_keep : (u : AtCell) (r q : RealView) (changed : Bool) → Acts (here_at f k) e s.cell i r u q changed → q.witness ≡ r.witness
   acts_keep u r q changed (surveys n a b c) = refl
-  acts_keep u r q changed (calls c a x m d) = refl
-  acts_keep u r q changed (readies o c a m at item) = refl
+  acts_keep u r q changed _ = refl
 
   pub witness_moves : CellMoves (here_at f k) f.tree e s.cell i t.cell sent → Its
   witness_moves (move.rests n d) = still _ s.cell d refl tt tt

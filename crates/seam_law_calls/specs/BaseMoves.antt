@@ -14,15 +14,10 @@ use Rattle.seam_law_calls.specs.Sights.{AtBase}
 
 -- stray input, by what the base node has of the entity that it is about
 abbrev pub strays_at : Here → AtBase → Msg → Bool
-strays_at h s (Call c) = true
 strays_at h s (BaseCall c) = stray_base_call h c s.part
-strays_at h s (Hand r) = true
 strays_at h s (Current e j g) = stray_current (record { cell = j; generation = g }) s.route
-strays_at h s (GhostSet e n c) = true
-strays_at h s (GhostDrop e n) = true
-strays_at h s Tick = true
-strays_at h s (Reap e) = true
 strays_at h s (Update u) = stray_update u s.part
+strays_at h s _ = true
 
 -- an order that cannot be executed
 abbrev pub is_stuck : Here → AtBase → Order → Bool

@@ -1,7 +1,6 @@
 -- What an entity has yet to do, in numbers that no step raises; versions, beats and generations count in it, so they stay small.
 use Rattle.std.specs.Prelude.{ℕ, ◌+◌, ◌*◌, length}
-use Rattle.seam_node_steps.specs.Prelude.{OrderView, total, Call as CallData, Order, Orders, RealView, Msg, Hand}
-use Rattle.seam_node_steps.specs.Prelude.{Reap, NodeView, World}
+use Rattle.seam_node_steps.specs.Prelude.{OrderView, total, Call as CallData, Order, Orders, RealView, Msg, Hand, Reap, NodeView, World}
 use Rattle.seam_net_runs.specs.Sums.{map_total, weight_or}
 use Rattle.seam_net_runs.specs.Weights.{weight}
 use Rattle.seam_call.specs.declared.order.Order.TheVariants as order

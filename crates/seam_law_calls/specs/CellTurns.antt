@@ -2,8 +2,8 @@
 use Rattle.std.specs.Prelude.{◌≡◌, ℕ, ◌<◌, ◌≤◌, ◌==◌, Bool, true, List, Option, None, Some}
 use Rattle.std.specs.List.{AllByRecursion}
 use Rattle.std.specs.FinMap as table
-use Rattle.seam_node_steps.specs.Prelude.{Call as CallData, Order, rank_of, Orders, order_or, order_of, RealView, Msg, Hand}
-use Rattle.seam_node_steps.specs.Prelude.{cell_count, fits_cell_part, may_call, World}
+use Rattle.seam_node_steps.specs.Prelude.{Call as CallData, Order, rank_of, Orders, order_or, order_of, RealView, Msg, Hand, cell_count}
+use Rattle.seam_node_steps.specs.Prelude.{fits_cell_part, may_call, World}
 use Rattle.seam_law_flow.specs.Prelude.{Flow, letters_of, narrow, Desk, Post, Mail, Item, Parcel, AreInTurn}
 use Rattle.seam_call.specs.declared.order.Order.TheVariants as order
 use Rattle.seam_entity.specs.declared.message.Msg.TheVariants.{Call}
@@ -33,9 +33,7 @@ desk_for s os done = record { order = order_or (table.get os s); done = letters_
 
 abbrev pub cell_order_from : ℕ → Order → Option (ℕ × CallData)
 cell_order_from s (order.Cell c) = numbered_from s c
-cell_order_from s (order.Base c) = None
-cell_order_from s order.Tick = None
-cell_order_from s (order.Reap e) = None
+cell_order_from s _ = None
 
 abbrev pub real_desk : ℕ → Option RealView → Option (Desk CallData)
 real_desk s None = None

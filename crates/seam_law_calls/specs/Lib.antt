@@ -4,6 +4,7 @@ pub mod CellMoves
 pub mod BaseMoves
 pub mod Moves
 pub mod Replays
+pub mod Runs
 pub mod Fits
 pub mod Burdens
 pub mod Ones
@@ -13,7 +14,7 @@ pub mod CellTurns
 pub mod PartMoves
 pub mod WitnessMoves
 pub mod BaseTurns
-pub mod Clients
+pub mod ClientUpdates
 pub mod Strays
 pub mod Reaps
 pub mod Telling

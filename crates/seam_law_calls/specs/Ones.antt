@@ -1,8 +1,8 @@
 -- Exactly one real: where it is, and what it is.
 use Rattle.std.specs.Prelude.{◌≡◌, ℕ, ◌<◌, Bool, false, ◌&&◌, is_some, List, [], ◌∷◌, Option, None, Some}
 use Rattle.std.specs.List.{AllByRecursion}
-use Rattle.seam_node_steps.specs.Prelude.{IsTree, AreDefs, Order, RealView, Msg, Hand, Reap}
-use Rattle.seam_node_steps.specs.Prelude.{limit, input_from, happens, Input, Task, From, Event, World, node_steps}
+use Rattle.seam_node_steps.specs.Prelude.{IsTree, AreDefs, Order, RealView, Msg, Hand, Reap, limit, input_from, happens, Input, Task, From}
+use Rattle.seam_node_steps.specs.Prelude.{Event, World, node_steps}
 use Rattle.seam_law_flow.specs.Prelude.{TokenPlace, Sole}
 use Rattle.seam_call.specs.declared.order.Order.TheVariants as order
 use Rattle.seam_law_calls.specs.Frames.{Frame, IsInFrame}
@@ -13,6 +13,10 @@ use Rattle.seam_law_calls.specs.Replays.{Replays}
 
 abbrev pub real_in : Has → Option RealView
 real_in s = s.cell.slot.real
+
+-- the real of entity e that node k of the world has
+abbrev pub real_at : ℕ → World → ℕ → Option RealView
+real_at e w k = real_in ((entity_flow e w).slot k)
 
 -- the real that a letter carries
 abbrev pub real_of : Msg → Option RealView
@@ -31,10 +35,8 @@ reaped_by (Reap e) = Some e
 reaped_by _ = None
 
 abbrev pub reaped_by_order : Order → Option ℕ
-reaped_by_order (order.Cell c) = None
-reaped_by_order (order.Base c) = None
-reaped_by_order order.Tick = None
 reaped_by_order (order.Reap e) = Some e
+reaped_by_order _ = None
 
 abbrev pub HasNoReaps : Has → Type 0
 HasNoReaps s = AllByRecursion (λ o. reaped_by_order o ≡ None) s.base.orders
@@ -49,7 +51,7 @@ pub record IsSpared (e : ℕ) (w : World) : Type 0 where
 -- what fits of an entity of type ty in a world: each of its reals, wherever it is; and its numbers have room for all that is to be done
 pub record AllFits (f : Frame) (e ty : ℕ) (w : World) : Type 0 where
   pub frame : IsInFrame f w
-  pub reals : (k : ℕ) → IsFitReal f e ty k (real_in ((entity_flow e w).slot k))
+  pub reals : (k : ℕ) → IsFitReal f e ty k (real_at e w k)
   pub hands : (a k : ℕ) → AllByRecursion (IsFitHand f e ty k) ((entity_flow e w).mail a k)
   pub room : burden e w < limit
 

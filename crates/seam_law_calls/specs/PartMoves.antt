@@ -1,10 +1,9 @@
 -- What a step does with an entity's base part and the calls to it: the moves of a node with all else left out.
 use Rattle.std.specs.Prelude.{◌≡◌, ℕ, ◌<◌, true, List, [], ◌∷◌, ◌⊎◌, Option, None, Some}
 use Rattle.std.specs.Ordering.{nat_cmp}
-use Rattle.seam_node_steps.specs.Prelude.{OrderView, next_item, after_taking, Call as CallData, Order, order_of, Msg, BaseCall}
-use Rattle.seam_node_steps.specs.Prelude.{Update, Here, cell_count, base_of, is_ready}
-use Rattle.seam_node_steps.specs.Prelude.{ready_order, PartView, ProxyView, with_order, offered_update, shows_next, is_base_node_of}
-use Rattle.seam_node_steps.specs.Prelude.{stray_base_call, stray_update}
+use Rattle.seam_node_steps.specs.Prelude.{OrderView, next_item, after_taking, Call as CallData, Order, order_of, Msg, BaseCall, Update}
+use Rattle.seam_node_steps.specs.Prelude.{Here, cell_count, base_of, is_ready, ready_order, PartView, ProxyView, with_order, offered_update}
+use Rattle.seam_node_steps.specs.Prelude.{shows_next, is_base_node_of, stray_base_call, stray_update}
 use Rattle.seam_law_flow.specs.Prelude.{letters_of, IsSilent, carried_in}
 use Rattle.seam_call.specs.declared.order.Order.TheVariants as order
 use Rattle.seam_call.specs.declared.shown.Update.{Update as UpdateData}
@@ -23,10 +22,8 @@ update_in _ = None
 
 -- the call of a base part that is ordered
 abbrev pub base_call_of : Order → Option CallData
-base_call_of (order.Cell c) = None
 base_call_of (order.Base c) = Some c
-base_call_of order.Tick = None
-base_call_of (order.Reap e) = None
+base_call_of _ = None
 
 -- the calls to the base part among a node's orders
 abbrev pub calls_ordered : AtBase → List CallData

@@ -8,22 +8,24 @@ pub use Rattle.seam_law_calls.specs.Burdens.{real_burden}
 pub use Rattle.seam_law_calls.specs.CellMoves.{Acts, CellMoves, Does, calls, has_witness, looks_after_tick, readies, surveys, unlisted_if}
 pub use Rattle.seam_law_calls.specs.CellTurns.{AreCallsOf, CellCallsInTurn, FindsTurn, IsCallOf, as_sender, cell_mail, cell_order_from}
 pub use Rattle.seam_law_calls.specs.CellTurns.{cell_post, desk_for, from_sender, is_from, numbered_from, real_desk}
-pub use Rattle.seam_law_calls.specs.Clients.{EachReal, FindsClient, HasClient, HasNoLooks, HasRoomFor, HasToldAtMost, is_tick_order}
-pub use Rattle.seam_law_calls.specs.Clients.{lines_in, order_in, proxy_of, shown_at, shown_in, tells, tick_in, updates_at, with_number}
+pub use Rattle.seam_law_calls.specs.ClientUpdates.{EachReal, FindsClient, HasClient, HasNoLooks, HasRoomFor, HasToldAtMost, is_tick_order}
+pub use Rattle.seam_law_calls.specs.ClientUpdates.{lines_in, order_in, proxy_of, shown_at, shown_in, tells, tick_in, updates_at}
+pub use Rattle.seam_law_calls.specs.ClientUpdates.{with_number}
 pub use Rattle.seam_law_calls.specs.Fits.{IsFitHand, IsFitReal, RealFits}
 pub use Rattle.seam_law_calls.specs.Frames.{Frame, IsAt, IsBaseAt, IsInFrame, here_at}
 pub use Rattle.seam_law_calls.specs.HandOverExample.{events_of, frame}
 pub use Rattle.seam_law_calls.specs.Moves.{Moves, MovesTo, at_a_base, at_a_cell}
-pub use Rattle.seam_law_calls.specs.Ones.{AllFits, HasNoReaps, HasOne, IsFrame, IsOne, IsSpared, NoReapComes, OneFrom, real_in, real_of}
-pub use Rattle.seam_law_calls.specs.Ones.{reaped_by, reaped_by_order, reaps}
+pub use Rattle.seam_law_calls.specs.Ones.{AllFits, HasNoReaps, HasOne, IsFrame, IsOne, IsSpared, NoReapComes, OneFrom, real_at, real_in}
+pub use Rattle.seam_law_calls.specs.Ones.{real_of, reaped_by, reaped_by_order, reaps}
 pub use Rattle.seam_law_calls.specs.PartMoves.{HasNoProxy, Missed, Offered, PartMoves, base_call_in, base_call_of, called, calls_ordered}
 pub use Rattle.seam_law_calls.specs.PartMoves.{early, ends, executes, late, misses, now, offers, refuses, rests, sends, serves, shows, told}
 pub use Rattle.seam_law_calls.specs.PartMoves.{update_in, updates}
 pub use Rattle.seam_law_calls.specs.Reaps.{HasNoBaseCalls, HasNoPart}
 pub use Rattle.seam_law_calls.specs.Replays.{Account, Replays, account_of, after_call, after_calls}
-pub use Rattle.seam_law_calls.specs.Sights.{AtBase, AtCell, Has, at_base, at_cell, concerned, concerning, concerns, entity_flow, has_none}
-pub use Rattle.seam_law_calls.specs.Sights.{has_of, kept_if, mine, no_base, no_cell, one_more_if, order_about, order_concerns, orders_of}
-pub use Rattle.seam_law_calls.specs.Sights.{times}
+pub use Rattle.seam_law_calls.specs.Runs.{RunsTo}
+pub use Rattle.seam_law_calls.specs.Sights.{AtBase, AtCell, Has, at_base, at_cell, concerned, concerning, concerns, entity_flow, entity_of}
+pub use Rattle.seam_law_calls.specs.Sights.{has_none, has_of, kept_if, mine, no_base, no_cell, one_more_if, order_about, order_concerns}
+pub use Rattle.seam_law_calls.specs.Sights.{orders_of, times}
 pub use Rattle.seam_law_calls.specs.Strays.{HasRoutes, IsBaseNumber, IsForNode, LinesHaveRoom, NoneIsStray, NothingIsStray, client}
 pub use Rattle.seam_law_calls.specs.Strays.{is_for_cells, no_client}
 pub use Rattle.seam_law_calls.specs.Telling.{BringsNone, HasFewEntities, IsAbsent, IsBlank, IsFewView, IsToldNothing, SeesFew, looks_left}

@@ -1,5 +1,5 @@
 -- A world as one entity sees it: what each node has of the entity, and the messages about it on each link.
-use Rattle.std.specs.Prelude.{ℕ, ◌+◌, ◌==◌, Bool, true, if◌then◌else◌, List, [], ◌∷◌, filter, Option, None, Some}
+use Rattle.std.specs.Prelude.{ℕ, ◌+◌, ◌==◌, Bool, true, if◌then◌else◌, List, [], ◌∷◌, filter, Option, None, Some, unwrap_or}
 use Rattle.std.specs.FinMap as table
 use Rattle.seam_node_steps.specs.Prelude.{Order, Msg, Slot, about, CellView, slot_of, BaseView, RouteView, PartView, NodeView, World, Cell}
 use Rattle.seam_node_steps.specs.Prelude.{Base}
@@ -12,6 +12,10 @@ use Rattle.seam_call.specs.declared.order.Order.TheVariants as order
 abbrev pub concerned : ℕ → Option ℕ → Bool
 concerned e None = true
 concerned e (Some x) = x == e
+
+-- the entity that a message is about, or 0
+abbrev pub entity_of : Msg → ℕ
+entity_of m = unwrap_or (about m) 0
 
 abbrev pub concerns : ℕ → Msg → Bool
 concerns e m = concerned e (about m)

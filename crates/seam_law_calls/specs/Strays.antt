@@ -10,7 +10,7 @@ use Rattle.seam_law_calls.specs.Frames.{Frame, here_at}
 use Rattle.seam_law_calls.specs.Sights.{order_about, entity_flow}
 use Rattle.seam_law_calls.specs.BaseMoves.{strays_at, is_stuck}
 use Rattle.seam_law_calls.specs.BaseTurns.{HasNoClient}
-use Rattle.seam_law_calls.specs.Clients.{HasClient, HasToldAtMost, HasRoomFor}
+use Rattle.seam_law_calls.specs.ClientUpdates.{HasClient, HasToldAtMost, HasRoomFor}
 
 -- node k is one of the base nodes
 pub record IsBaseNumber (f : Frame) (k : ℕ) : Type 0 where
@@ -19,15 +19,10 @@ pub record IsBaseNumber (f : Frame) (k : ℕ) : Type 0 where
 
 -- a message that cells have a case for; base nodes have one for the others
 abbrev pub is_for_cells : Msg → Bool
-is_for_cells (Call c) = true
 is_for_cells (BaseCall c) = false
-is_for_cells (Hand r) = true
 is_for_cells (Current e j g) = false
-is_for_cells (GhostSet e n c) = true
-is_for_cells (GhostDrop e n) = true
-is_for_cells Tick = true
-is_for_cells (Reap e) = true
 is_for_cells (Update u) = false
+is_for_cells _ = true
 
 -- a message to node k is one for such a node, and a route names a cell, with a generation that is small
 pub record IsForNode (f : Frame) (k : ℕ) (m : Msg) : Type 0 where

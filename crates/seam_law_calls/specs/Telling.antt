@@ -1,8 +1,8 @@
 -- What bounds the updates that a witness tells: how many entities there may be, and how often it is to look.
 use Rattle.std.specs.Prelude.{◌≡◌, ℕ, ◌+◌, ◌*◌, ◌^◌, ◌<◌, ◌≤◌, None, Some}
 use Rattle.std.specs.List.{AllByRecursion}
-use Rattle.seam_node_steps.specs.Prelude.{total, copy_in, Order, RealView, WitnessView, Msg, Hand, GhostSet}
-use Rattle.seam_node_steps.specs.Prelude.{Tick, cell_count, NodeView, World}
+use Rattle.seam_node_steps.specs.Prelude.{total, copy_in, Order, RealView, WitnessView, Msg, Hand, GhostSet, Tick, cell_count, NodeView}
+use Rattle.seam_node_steps.specs.Prelude.{World}
 use Rattle.seam_net_runs.specs.Sums.{weight_or}
 use Rattle.seam_net_runs.specs.Weights.{weight}
 use Rattle.seam_view.specs.Replica.{Replica, IsView}
@@ -50,10 +50,8 @@ SeesFew r = (x : WitnessView) → r.witness ≡ Some x → IsFewView x.view
 
 -- a tick makes a witness look at most once in each cell
 abbrev pub order_looks : Order → ℕ
-order_looks (order.Cell c) = 0
-order_looks (order.Base c) = 0
 order_looks order.Tick = cell_count
-order_looks (order.Reap e) = 0
+order_looks _ = 0
 
 abbrev pub letter_looks : Msg → ℕ
 letter_looks Tick = 1

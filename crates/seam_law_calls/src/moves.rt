@@ -4,7 +4,9 @@
 //! it, and ticks). Each step of a cell or a base node is one of the moves of `specs/CellMoves` and `specs/BaseMoves`, whatever the entity;
 //! so a law of one entity is proved over moves alone, and the cases of the steps are taken apart here only.
 //!
-//! For callers, of `proofs/`: `Classify` (a step and an event are moves, nodes as machines, the frame is kept).
+//! For callers, of `proofs/`: `Classify` (a step and an event are moves, nodes as machines, the frame is kept), `Keeping` (what each move
+//! keeps of slots and messages, or each event of a world, every list of events keeps) and `BaseDeeds` (a base node's moves in six kinds:
+//! what it does with orders, and sends for them).
 
 ghost use Rattle.std.specs.Prelude.{◌≡◌, ℕ, true};
 ghost use Rattle.seam_node_steps.specs.Prelude.{happens, enabled, Occurs, Input, Event, Msg, NodeView, World, node_steps, IsNode};
@@ -13,13 +15,15 @@ ghost use Rattle.seam_law_calls.specs.Prelude.{Frame, IsAt, IsInFrame, mine, con
 
 /// A step of a node is, for each entity, one of the moves.
 pub fn a_step_is_a_move()
-    ensures { (f : Frame) (e k : ℕ) (s : NodeView) (i : Input Msg) → IsNode s → IsAt f k s
-        → Moves f e k (has_of e s) (letter_in (mine e) i) (has_of e (node_steps s i).state) (concerning e (node_steps s i).sent) }
+    ensures { (f : Frame) (e k : ℕ) (s : NodeView) (i : Input Msg) → IsNode s → IsAt f k s →
+        Moves f e k (has_of e s) (letter_in (mine e) i) (has_of e (node_steps s i).state)
+        (concerning e (node_steps s i).sent) }
 {}
 
 /// An event of a world is, for each entity, a step of its flow by one of the moves, and the world's nodes go by the same frame after it.
 pub fn an_event_is_a_move()
     ensures moves { (f : Frame) (w : World) (v : Event) (o : Occurs w v) → IsInFrame f w → (e : ℕ)
         → Goes (MovesTo f e) (entity_flow e w) (entity_flow e (happens node_steps w v)) }
-    ensures framed { (f : Frame) (w : World) (v : Event) (o : Occurs w v) → IsInFrame f w → IsInFrame f (happens node_steps w v) }
+    ensures framed { (f : Frame) (w : World) (v : Event) (o : Occurs w v) → IsInFrame f w →
+        IsInFrame f (happens node_steps w v) }
 {}

@@ -14,50 +14,58 @@
 //! an offer) and `Holds` (that they all pass a test, and what two tests pass).
 
 ghost use Rattle.std.specs.Prelude.{◌≡◌, ℕ, ◌<◌, ◌≤◌, List, length, Some};
-ghost use Rattle.seam_node_steps.specs.Prelude.{happens, run, AllEnabled, LeadsTo, Occurs, Event, RealView, Reap, holders, World};
+ghost use Rattle.seam_node_steps.specs.Prelude.{happens, run, AllEnabled, Occurs, Event, RealView, Reap, holders, World};
 ghost use Rattle.seam_node_steps.specs.Prelude.{node_steps, node_has_work, loaded, empty_world};
 ghost use Rattle.seam_law_flow.specs.Prelude.{letter_in, TokenPlace, Nobody};
 ghost use Rattle.seam_law_calls.specs.Prelude.{Frame, IsInFrame, mine, has_of, entity_flow, burden, events_of, real_in, real_of, IsOne};
-ghost use Rattle.seam_law_calls.specs.Prelude.{IsSpared, AllFits, IsFrame, HasOne, OneFrom, NoReapComes};
+ghost use Rattle.seam_law_calls.specs.Prelude.{IsSpared, AllFits, IsFrame, HasOne, OneFrom, NoReapComes, RunsTo};
 ghost use Rattle.seam_node_steps.specs.EarlyCall as early;
 ghost use Rattle.seam_law_calls.specs.HandOverExample as example;
 
 /// An entity that fits, has one holder and is not reaped has one holder after every list of events.
 pub fn exactly_one_real()
-    ensures { (f : Frame) (e ty : ℕ) (w v : World) (es : List Event) → IsFrame f → ty < length f.defs → AllFits f e ty w → IsSpared e w →
-        holders w e ≡ 1 → LeadsTo node_has_work node_steps w es v → holders v e ≡ 1 }
+    ensures { (f : Frame) (e ty : ℕ) (w v : World) (es : List Event) → IsFrame f →
+        ty < length f.defs → AllFits f e ty w → IsSpared e w → holders w e ≡ 1 → RunsTo w es v →
+        holders v e ≡ 1 }
 {}
 
 /// Its one real, wherever it is then, is the one at the start after further calls: they are appended to its list of done calls, its
 /// state is that after their deeds, its version rose by their number, and its public version is the version at the last of them that
 /// others may see. All that fitted still fits.
 pub fn reals_replay_their_calls()
-    ensures { (f : Frame) (e ty : ℕ) (w v : World) (es : List Event) → IsFrame f → ty < length f.defs → AllFits f e ty w → IsSpared e w →
-        (p : TokenPlace) (r : RealView) → IsOne e w p r → LeadsTo node_has_work node_steps w es v → OneFrom f e ty r v }
+    ensures { (f : Frame) (e ty : ℕ) (w v : World) (es : List Event) → IsFrame f →
+        ty < length f.defs → AllFits f e ty w → IsSpared e w → (p : TokenPlace) (r : RealView) →
+        IsOne e w p r → RunsTo w es v → OneFrom f e ty r v }
 {}
 
 /// An entity that may be reaped has one holder as long as no Reap of it comes to a node. A Reap that comes to the cell of its real leaves
 /// it none, and an entity that no one has stays gone.
 pub fn a_reap_ends_the_one_real()
-    ensures until { (f : Frame) (e ty : ℕ) (w : World) (es : List Event) → IsFrame f → ty < length f.defs → (h : HasOne f e ty w) →
-        AllEnabled node_has_work node_steps w es → NoReapComes e w es → OneFrom f e ty h.real (run node_steps w es) }
-    ensures ends { (f : Frame) (e ty : ℕ) (w : World) (v : Event) (o : Occurs w v) (r : RealView) → IsFrame f → HasOne f e ty w →
-        letter_in (mine e) o.input ≡ Some (Reap e) → real_in (has_of e o.node) ≡ Some r → holders (happens node_steps w v) e ≡ 0 }
-    ensures gone { (f : Frame) (e : ℕ) (w v : World) (es : List Event) → IsFrame f → IsInFrame f w → holders w e ≡ 0 →
-        LeadsTo node_has_work node_steps w es v → holders v e ≡ 0 }
+    ensures until { (f : Frame) (e ty : ℕ) (w : World) (es : List Event) → IsFrame f →
+        ty < length f.defs → (h : HasOne f e ty w) → AllEnabled node_has_work node_steps w es →
+        NoReapComes e w es → OneFrom f e ty h.real (run node_steps w es) }
+    ensures ends { (f : Frame) (e ty : ℕ) (w : World) (v : Event) (o : Occurs w v) (r : RealView) →
+        IsFrame f → HasOne f e ty w → letter_in (mine e) o.input ≡ Some (Reap e) →
+        real_in (has_of e o.node) ≡ Some r → holders (happens node_steps w v) e ≡ 0 }
+    ensures gone { (f : Frame) (e : ℕ) (w v : World) (es : List Event) → IsFrame f → IsInFrame f w →
+        holders w e ≡ 0 → RunsTo w es v → holders v e ≡ 0 }
 {}
 
 /// An entity has one holder exactly where its one real is at one place, and none exactly where nobody has it.
 pub fn holders_are_at_one_place()
-    ensures one { (w : World) (e : ℕ) → holders w e ≡ 1 → (p : TokenPlace) × (r : RealView) × IsOne e w p r }
-    ensures counts { (w : World) (e : ℕ) (p : TokenPlace) (r : RealView) → IsOne e w p r → holders w e ≡ 1 }
-    ensures none { (w : World) (e : ℕ) → holders w e ≡ 0 → Nobody real_in real_of (entity_flow e w) }
-    ensures nobody { (w : World) (e : ℕ) → Nobody real_in real_of (entity_flow e w) → holders w e ≡ 0 }
+    ensures one { (w : World) (e : ℕ) → holders w e ≡ 1 → (p : TokenPlace) × (r : RealView) ×
+        IsOne e w p r }
+    ensures counts { (w : World) (e : ℕ) (p : TokenPlace) (r : RealView) → IsOne e w p r →
+        holders w e ≡ 1 }
+    ensures none { (w : World) (e : ℕ) → holders w e ≡ 0 →
+        Nobody real_in real_of (entity_flow e w) }
+    ensures nobody { (w : World) (e : ℕ) → Nobody real_in real_of (entity_flow e w) →
+        holders w e ≡ 0 }
 {}
 
 /// What an entity has yet to do, its version, beat and generation among it, is never more than at the start.
 pub fn numbers_stay_small()
-    ensures { (f : Frame) (e : ℕ) (w v : World) (es : List Event) → IsInFrame f w → LeadsTo node_has_work node_steps w es v →
+    ensures { (f : Frame) (e : ℕ) (w v : World) (es : List Event) → IsInFrame f w → RunsTo w es v →
         burden e v ≤ burden e w }
 {}
 
@@ -69,7 +77,7 @@ pub fn a_loaded_world_has_what_the_laws_ask()
     ensures fits { AllFits example.frame 1 0 early.world_0 }
     ensures spared { IsSpared 1 early.world_0 }
     ensures one { holders early.world_0 1 ≡ 1 }
-    ensures handed_over { LeadsTo node_has_work node_steps early.world_0 (events_of early.steps) early.world_12 }
+    ensures handed_over { RunsTo early.world_0 (events_of early.steps) early.world_12 }
 {
     seam_node_steps::rows::an_early_call_is_held();
 }

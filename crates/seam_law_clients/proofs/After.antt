@@ -1,6 +1,6 @@
 -- What a look leaves of a client: it fits what the look leaves of the witness.
-use Rattle.std.proofs.Common.{◌≡◌, ℕ, ◌≤◌, ◌⊎◌, Bool, true, false, cond, List, [], ◌∷◌, ◌++◌, map, Option, None, Some}
-use Rattle.std.proofs.Common.{refl, sym, ap, ◌∙◌, subst, arith, inl, inr}
+use Rattle.std.proofs.Common.{◌≡◌, ℕ, ◌≤◌, ◌⊎◌, Bool, true, false, cond, List, [], ◌∷◌, ◌++◌, map, Option, None, Some, refl, sym, ap, ◌∙◌}
+use Rattle.std.proofs.Common.{subst, arith, inl, inr}
 use Rattle.std.specs.Prelude.{option_map, slice_get}
 use Rattle.std.specs.List.{filter_map, cons_option}
 use Rattle.std.specs.Ordering.{nat_cmp, eq_by_cmp}
@@ -13,7 +13,7 @@ use Rattle.seam_view.specs.Replica.{Replica, IsView, seen_of, after_showing, aft
 use Rattle.seam_node_steps.specs.Prelude.{State, Property, ghost_of, other_of, own_of, projected, type_of, GhostCopy, Shown, Own, Set}
 use Rattle.seam_node_steps.specs.Prelude.{Enter, Leave, RealView, WitnessView, Known, seen_as, known_of, shown_for, own_due, after_looking}
 use Rattle.seam_node_steps.specs.Prelude.{looks_of, shown_of, CellView, known_to, is_another, RouteView, World, Cell}
-use Rattle.seam_law_calls.specs.Prelude.{Frame, here_at, entity_flow, real_in, IsBaseNumber}
+use Rattle.seam_law_calls.specs.Prelude.{Frame, here_at, entity_flow, IsBaseNumber, real_at}
 use Rattle.seam_law_rounds.specs.Prelude.{IsBetweenRounds}
 use Rattle.seam_law_ghosts.specs.Prelude.{AreCopiesBetweenRounds}
 use Rattle.seam_law_clients.specs.Prelude.{version_in, own_now, FitsWitness}
@@ -33,8 +33,7 @@ module _ (known : List Seen) where
   same_by r e None = (refl, refl)
   same_by r e (Some s) = (refl, refl)
 
-  same_one : (r : Replica) (l : Look) →
-      ((after_look known r l).radius ≡ r.radius) × ((after_look known r l).hysteresis ≡ r.hysteresis)
+  same_one : (r : Replica) (l : Look) → ((after_look known r l).radius ≡ r.radius) × ((after_look known r l).hysteresis ≡ r.hysteresis)
   same_one r (look.Leave e) = (refl, refl)
   same_one r (look.Set e) = same_by r e (seen_of e known)
   same_one r (look.Enter e) = same_by r e (seen_of e known)
@@ -140,7 +139,7 @@ told_by known ls shown r v false due = rw due refl
 module _ (f : Frame) (w : World) (between : IsBetweenRounds f w) (copies : AreCopiesBetweenRounds f w)
     (ghosts : (ps : List Property) (s : State) → projected ps group.Ghost group.Other (ghost_of ps s).props ≡ (other_of ps s).props)
     (stays : (r : Replica) (known : List Seen) (looks : List Look) → IsView r → IsView (after_looks known r looks))
-    (e k : ℕ) (r : RealView) (at : real_in ((entity_flow e w).slot k) ≡ Some r) (v : WitnessView) (c : ClientReplica)
+    (e k : ℕ) (r : RealView) (at : real_at e w k ≡ Some r) (v : WitnessView) (c : ClientReplica)
     (fits : FitsWitness f w r v c) (cell : CellView) (node : slice_get w.nodes k ≡ Some (Cell cell)) where
   abbrev known : List Known
   known = known_to cell e
@@ -159,7 +158,7 @@ module _ (f : Frame) (w : World) (between : IsBetweenRounds f w) (copies : AreCo
   record IsThere (x version : ℕ) : Type 0 where
     home : ℕ
     real : RealView
-    here : real_in ((entity_flow x w).slot home) ≡ Some real
+    here : real_at x w home ≡ Some real
     public : real.public ≡ version
 
   there_by : (x : ℕ) (d : GhostCopy) → known_at cell x ≡ Some d → Somewhere x w ⊎ Nowhere x w → IsThere x d.version
@@ -190,8 +189,7 @@ module _ (f : Frame) (w : World) (between : IsBetweenRounds f w) (copies : AreCo
   there : (x : ℕ) (s : Seen) → seen_of x (map seen_as known) ≡ Some s → IsThere x s.version
   there x s is = there_of x s (table.find nat_cmp x known) refl (sym (seen_found x known) ∙ is)
 
-  not_above : (x j version : ℕ) (q : RealView) → IsFrom (map seen_as known) v.view x version →
-      real_in ((entity_flow x w).slot j) ≡ Some q → version ≤ q.public
+  not_above : (x j version : ℕ) (q : RealView) → IsFrom (map seen_as known) v.view x version → real_at x w j ≡ Some q → version ≤ q.public
   not_above x j version q (was h) here = fits.others_not_ahead x j version q h here
   not_above x j version q (now s seen is) here =
       let t = there x s seen in

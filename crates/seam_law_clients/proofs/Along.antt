@@ -1,9 +1,8 @@
 -- A witness tells rightly, over every list of events.
 use Rattle.std.proofs.Common.{ℕ, List, Some, sym, subst}
 use Rattle.std.proofs.lemmas.List.Sums.{fold-append}
-use Rattle.seam_node_steps.specs.Prelude.{LeadsTo, Event, Shown, RealView, WitnessView, shown_of, looks_of, after_looking, known_to, World}
-use Rattle.seam_node_steps.specs.Prelude.{node_steps, node_has_work}
-use Rattle.seam_law_calls.specs.Prelude.{Frame, IsSpared, HasClient, HasToldAtMost, HasRoomFor}
+use Rattle.seam_node_steps.specs.Prelude.{Event, Shown, RealView, WitnessView, shown_of, looks_of, after_looking, known_to, World}
+use Rattle.seam_law_calls.specs.Prelude.{Frame, IsSpared, HasClient, HasToldAtMost, HasRoomFor, RunsTo}
 use Rattle.seam_law_clients.specs.Prelude.{FitsWithin, ComesBetween, IsTrueBetween, TellsRightly}
 use Rattle.seam_rule_clients.specs.Clients.{ClientReplica, after_shown, after_all_shown}
 use Rattle.seam_rule_clients.specs.Lines.{Truth, ShowsRightly}
@@ -19,7 +18,7 @@ module _ (f : Frame) (e ty first n : ℕ) (t : Truth) (c : ClientReplica) (start
   IsRight us r x = ShowsRightly t e c us × FitsWithin f r x (after_all_shown c us)
 
   pub rightly_leads : (es : List Event) → TellsRightly f e ty first t c start → HasClient f e ty first start → IsSpared e start →
-      HasRoomFor e n start → LeadsTo node_has_work node_steps start es end → TellsRightly f e ty first t c end
+      HasRoomFor e n start → RunsTo start es end → TellsRightly f e ty first t c end
   rightly_leads es h client spared room run_ =
       let after : Tells f e ty first IsRight end =
       tells_lead f e ty first n IsRight

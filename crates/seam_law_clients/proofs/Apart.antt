@@ -193,9 +193,8 @@ module _ {X : Type 0} (of : X → Look) (test : X → Bool) where
   AreApartBy [] = Unit {0}
   AreApartBy (x ∷ xs) = AllByRecursion (λ y. eqb (entity_of (of x)) (entity_of (of y)) ≡ false) xs × AreApartBy xs
 
-  apart_by : (x : X) (xs : List X) (b : Bool) →
-      AllByRecursion (λ m. eqb (entity_of (of x)) (entity_of m) ≡ false) (map of (filter test xs)) → AreApart (map of (filter test xs)) →
-      AreApart (map of (cond b (x ∷ filter test xs) (filter test xs)))
+  apart_by : (x : X) (xs : List X) (b : Bool) → AllByRecursion (λ m. eqb (entity_of (of x)) (entity_of m) ≡ false) (map of (filter test xs))
+      → AreApart (map of (filter test xs)) → AreApart (map of (cond b (x ∷ filter test xs) (filter test xs)))
   apart_by x xs true others rest = (others, rest)
   apart_by x xs false others rest = rest
 

@@ -8,13 +8,13 @@ use Rattle.std.specs.declared.cmp.Ordering.{Ordering}
 use Rattle.std.specs.declared.cmp.Ordering.TheVariants.{Less, Equal, Greater}
 use Rattle.std.proofs.lemmas.List.{append-nil, map-append}
 use Rattle.std.proofs.lemmas.List.Sums.{fold-append}
-use Rattle.seam_node_steps.specs.Prelude.{happens, enabled, LeadsTo, Event, State, client_of, changes, next_item, after_offer, after_taking}
+use Rattle.seam_node_steps.specs.Prelude.{happens, enabled, Event, State, client_of, changes, next_item, after_offer, after_taking}
 use Rattle.seam_node_steps.specs.Prelude.{Call as CallData, Order, Shown, Line, ClientText, Msg, Here, type_at, properties, Orders}
 use Rattle.seam_node_steps.specs.Prelude.{PartView, ProxyView, base_text, with_line, line_if, with_deed, with_order, offered_update}
 use Rattle.seam_node_steps.specs.Prelude.{shows_next, World, node_steps, node_has_work}
 use Rattle.seam_law_flow.specs.Prelude.{comes, more_letter}
 use Rattle.seam_law_calls.specs.Prelude.{Frame, here_at, IsInFrame, AtBase, entity_flow, IsSpared, Offered, now, early, late, PartMoves}
-use Rattle.seam_law_calls.specs.Prelude.{rests, refuses, offers, sends, serves, executes, misses, updates, shows, ends}
+use Rattle.seam_law_calls.specs.Prelude.{rests, refuses, offers, sends, serves, executes, misses, updates, shows, ends, RunsTo}
 use Rattle.seam_law_clients.specs.Prelude.{base_in, base_lines, number_of_line, line_where, state_with, state_after, lines_after}
 use Rattle.seam_law_clients.specs.Prelude.{ShowsItsPart}
 use Rattle.seam_machine.proofs.Occurring.{occurs}
@@ -107,8 +107,7 @@ module _ (h : Here) where
 
   -- a call is executed
   done_by : (p : PartView) (x : ProxyView) (k : CallData) (os : Orders) (b : Bool) → changes (type_at h p.ty) p.state k.deed ≡ b →
-      ShowsItsPart h p x
-      (Some (record (with_deed h p k) { orders = os; proxy = Some (line_if b (base_text h (with_deed h p k)) x) }))
+      ShowsItsPart h p x (Some (record (with_deed h p k) { orders = os; proxy = Some (line_if b (base_text h (with_deed h p k)) x) }))
   done_by p x k os true is = record {
     part = record (with_deed h p k) { orders = os; proxy = Some (with_line x (base_text h (with_deed h p k))) };
     is = refl;
@@ -280,7 +279,7 @@ module _ (f : Frame) (e : ℕ) (w : World) where
             so_far.proxy so_far.is so_far.has (part_moves f e g.k from (comes g.input) to g.moves.sent g.moves.moves)));
       }
 
-  pub shows_its_part : (v : World) (es : List Event) → IsInFrame f w → IsSpared e w → LeadsTo node_has_work node_steps w es v → (k : ℕ)
+  pub shows_its_part : (v : World) (es : List Event) → IsInFrame f w → IsSpared e w → RunsTo w es v → (k : ℕ)
       (p : PartView) (x : ProxyView) → ((entity_flow e w).slot k).base.part ≡ Some p → p.proxy ≡ Some x →
       ShowsItsPart (here_at f k) p x ((entity_flow e v).slot k).base.part
   shows_its_part v es frame spared run =

@@ -1,34 +1,28 @@
 -- Where a round's calls end a client fits its witness, also in what it was shown of others.
-use Rattle.std.proofs.Common.{◌≡◌, ℕ, ◌+◌, ◌≤◌, ◌⊎◌, Bool, true, false, cond, is_some, List, [], ◌∷◌, Option, None, Some, refl}
-use Rattle.std.proofs.Common.{sym, ap, ◌∙◌, subst, arith, inl, inr}
+use Rattle.std.proofs.Common.{◌≡◌, ℕ, ◌+◌, ◌≤◌, ◌⊎◌, Bool, true, false, cond, is_some, List, [], ◌∷◌, Option, None, Some, refl, sym, ap}
+use Rattle.std.proofs.Common.{◌∙◌, subst, arith, inl, inr}
 use Rattle.std.specs.List.{AllByRecursion}
 use Rattle.std.specs.Ordering.{nat_cmp, eq_by_cmp}
 use Rattle.std.specs.Cmp.{nat_cmp_total}
 use Rattle.std.specs.FinMap as table
-use Rattle.seam_node_steps.specs.Prelude.{happens, enabled, IsQuiet, LeadsTo, Event, TypeDef, changes, type_of, Call, Batch, GhostCopy}
-use Rattle.seam_node_steps.specs.Prelude.{Shown, Own, Enter, Set, Leave, public_after, RealView, WitnessView, Msg, RouteView, loaded, World}
-use Rattle.seam_node_steps.specs.Prelude.{node_steps, node_has_work}
-use Rattle.seam_law_flow.specs.Prelude.{comes}
-use Rattle.seam_law_calls.specs.Prelude.{Frame, here_at, IsInFrame, Has, AtBase, entity_flow, BaseMoves, Moves, at_a_cell, at_a_base}
-use Rattle.seam_law_calls.specs.Prelude.{real_in, real_of, IsSpared, HasOne, Account, account_of, after_call, after_calls, Replays}
-use Rattle.seam_law_calls.specs.Prelude.{IsBaseNumber, home_of, shown_at, HasClient, IsAbsent}
-use Rattle.seam_law_rounds.specs.Prelude.{IsBetweenRounds, IsFitting, framed}
+use Rattle.seam_node_steps.specs.Prelude.{IsQuiet, Event, TypeDef, changes, type_of, Call, Batch, GhostCopy, Shown, Own, Enter, Set, Leave}
+use Rattle.seam_node_steps.specs.Prelude.{public_after, RealView, WitnessView, RouteView, loaded, World, node_has_work}
+use Rattle.seam_law_calls.specs.Prelude.{Frame, IsInFrame, entity_flow, real_in, real_of, HasOne, Account, account_of, after_call}
+use Rattle.seam_law_calls.specs.Prelude.{after_calls, Replays, IsBaseNumber, home_of, shown_at, HasClient, IsAbsent, RunsTo, real_at}
+use Rattle.seam_law_rounds.specs.Prelude.{framed, MayBegin}
 use Rattle.seam_law_ghosts.specs.Prelude.{IsTrue, present}
 use Rattle.seam_law_clients.specs.Prelude.{FitsWitness, FitsWithin, TellsRightly, WasOther, true_between}
-use Rattle.seam_machine.proofs.Occurring.{occurs}
-use Rattle.seam_net_runs.proofs.Runs.{leads_keeps}
-use Rattle.seam_law_flow.proofs.Following.{slots_kept}
 use Rattle.seam_law_flow.proofs.TokenLemmas.{sole_here}
-use Rattle.seam_law_calls.specs.BaseMoves as move
-use Rattle.seam_law_calls.proofs.Classify.{event_moves, frame_happens}
-use Rattle.seam_law_calls.proofs.OneReal.{one_leads, spared_happens}
+use Rattle.seam_law_calls.proofs.OneReal.{one_leads, spared_leads}
+use Rattle.seam_law_calls.proofs.Keeping.{all_lead, units}
+use Rattle.seam_law_calls.proofs.RoutesKept.{route_moves}
 use Rattle.seam_law_rounds.proofs.Going.{frame_loaded, settled_loaded, spared_loaded}
 use Rattle.seam_law_rounds.proofs.Shape.{Somewhere, Nowhere, search_real}
 use Rattle.seam_rule_clients.specs.Clients.{ClientReplica, after_shown, after_all_shown}
 use Rattle.seam_rule_clients.specs.Lines.{Truth, ShowsTruth}
 use Rattle.seam_node_steps.proofs.Sorted.{tied_same}
 use Rattle.seam_law_clients.proofs.Starts.{shown_rightly, fits_shown}
-use Rattle.seam_law_clients.proofs.RoundTruth.{absent_leads}
+use Rattle.seam_law_calls.proofs.Absent.{absent_leads}
 
 -- ---- where a version shown is from
 
@@ -91,100 +85,47 @@ public_rises f r q p le =
 
 -- ---- a base node keeps a route
 
-module _ (f : Frame) (e k : ℕ) (s : Has) (i : Option Msg) (t : Has) (sent : List (ℕ × Msg)) (routed : is_some s.base.route ≡ true) where
-  abbrev Routed : Type 0
-  Routed = is_some t.base.route ≡ true
-
-  kept : (b : AtBase) → t.base ≡ b → b.route ≡ s.base.route → Routed
-  kept b a same = ap (λ (x : AtBase). is_some x.route) a ∙ (ap is_some same ∙ routed)
-
-  base_routed : (cells : ℕ) → BaseMoves (here_at f k) cells e s.base i t.base sent → Routed
-  base_routed cells (move.rests n a z) = kept s.base a refl
-  base_routed cells (move.strays m n b a z) = kept s.base a refl
-  base_routed cells (move.reroutes new r n has b a z) = ap is_some (ap (λ (x : AtBase). x.route) a)
-  base_routed cells (move.offers c p n own has may a z) = kept _ a refl
-  base_routed cells (move.updates u n own b a z) = kept _ a refl
-  base_routed cells (move.orders_call c os r n at own has a z) = kept _ a refl
-  base_routed cells (move.orders_base_call c os n at own b a z) = kept _ a refl
-  base_routed cells (move.offers_own c os p n at own b has may a z) = kept _ a refl
-  base_routed cells (move.orders_tick os n at a z) = kept _ a refl
-  base_routed cells (move.orders_reap os r n at has a z) = kept _ a refl
-  base_routed cells (move.stuck_order o os n at b a z) = kept s.base a refl
-  base_routed cells (move.executes p o c n has may at item a z) = kept _ a refl
-  base_routed cells (move.stuck_part p n has v may a z) = kept s.base a refl
-  base_routed cells (move.shows p n has v may a z) = kept _ a refl
-  base_routed cells (move.stuck_client p n has v may a z) = kept s.base a refl
-
-  still_routed : Moves f e k s i t sent → Routed
-  still_routed (at_a_cell low m is) = kept s.base is refl
-  still_routed (at_a_base high m is) = base_routed _ m
-
-module _ (f : Frame) (x : ℕ) (start : World) where
-  record RoutesStay (w : World) : Type 0 where
-    frame : IsInFrame f w
-    routes : (k : ℕ) → is_some ((entity_flow x start).slot k).base.route ≡ true → is_some ((entity_flow x w).slot k).base.route ≡ true
-
-  routes_more : (w : World) (v : Event) → RoutesStay w → enabled node_has_work w v ≡ true → RoutesStay (happens node_steps w v)
-  routes_more w v h on =
-      let o = occurs node_has_work w v on in
-      let g = event_moves f w v o h.frame x in
-      record {
-        frame = frame_happens f w v o h.frame;
-        routes =
-            slots_kept (λ k s. is_some ((entity_flow x start).slot k).base.route ≡ true → is_some s.base.route ≡ true) g h.routes
-            (λ was. still_routed f x g.k ((entity_flow x w).slot g.k) (comes g.input) ((entity_flow x (happens node_steps w v)).slot g.k)
-            g.moves.sent (h.routes g.k was) g.moves.moves);
-      }
-
-  pub routes_stay : (v : World) (es : List Event) → IsInFrame f start → LeadsTo node_has_work node_steps start es v → (k : ℕ) →
-      is_some ((entity_flow x start).slot k).base.route ≡ true → is_some ((entity_flow x v).slot k).base.route ≡ true
-  routes_stay v es frame run =
-      (leads_keeps node_has_work node_steps RoutesStay routes_more start v es (record { frame = frame; routes = λ k h. h }) run).routes
-
-module _ (f : Frame) (x : ℕ) where
-  record Spares (w : World) : Type 0 where
-    frame : IsInFrame f w
-    spared : IsSpared x w
-
-  spares_more : (w : World) (v : Event) → Spares w → enabled node_has_work w v ≡ true → Spares (happens node_steps w v)
-  spares_more w v h on =
-      let o = occurs node_has_work w v on in
-      record { frame = frame_happens f w v o h.frame; spared = spared_happens f x w v o h.frame h.spared }
-
-  spared_leads : (w v : World) (es : List Event) → IsInFrame f w → IsSpared x w → LeadsTo node_has_work node_steps w es v → IsSpared x v
-  spared_leads w v es frame spared run =
-      (leads_keeps node_has_work node_steps Spares spares_more w v es (record { frame = frame; spared = spared }) run).spared
-
 pub some_route : (o : Option RouteView) → is_some o ≡ true → (route : RouteView) × (o ≡ Some route)
 some_route None h = cc
 some_route (Some route) h = (route, refl)
 
+-- once it has one
+module _ (f : Frame) (x : ℕ) (start : World) where
+  pub routes_stay : (v : World) (es : List Event) → IsInFrame f start → RunsTo start es v → (k : ℕ) →
+      is_some ((entity_flow x start).slot k).base.route ≡ true → is_some ((entity_flow x v).slot k).base.route ≡ true
+  routes_stay v es frame run =
+      (all_lead f x (λ k s. is_some ((entity_flow x start).slot k).base.route ≡ true → is_some s.base.route ≡ true) (λ a k m. Unit {0})
+      (λ k s i t sent here come m. (
+        λ was. ap is_some (route_moves f x k s i t sent m (some_route s.base.route (here was))).1,
+        units sent,
+      )) start v es frame run (record { slots = λ k h. h; letters = λ a k. units ((entity_flow x start).mail a k) })).slots
+
 -- ---- where the calls end
 
-module _ (f : Frame) (w : World) (b : Batch) (between : IsBetweenRounds f w) (fits : IsFitting f w b)
+module _ (f : Frame) (w : World) (b : Batch) (begin : MayBegin f w b)
     (framed_ : IsInFrame (framed f b) (loaded w b))
-    (truths : (u : World) (us : List Event) → LeadsTo node_has_work node_steps (loaded w b) us u → (x k : ℕ) (r : RealView) →
-    real_in ((entity_flow x (loaded w b)).slot k) ≡ Some r → IsTrue (framed f b) x r.ty r (λ n. present (framed f b) r) u)
+    (truths : (u : World) (us : List Event) → RunsTo (loaded w b) us u → (x k : ℕ) (r : RealView) →
+    real_at x (loaded w b) k ≡ Some r → IsTrue (framed f b) x r.ty r (λ n. present (framed f b) r) u)
     (absent : (x : ℕ) → Nowhere x (loaded w b) → IsAbsent x (loaded w b)) (v : World) (es : List Event)
-    (run : LeadsTo node_has_work node_steps (loaded w b) es v) where
+    (run : RunsTo (loaded w b) es v) where
   abbrev g : Frame
   g = framed f b
 
   abbrev start : World
   start = loaded w b
 
-  module _ (x j version : ℕ) (q : RealView) (here : real_in ((entity_flow x v).slot j) ≡ Some q) where
+  module _ (x j version : ℕ) (q : RealView) (here : real_at x v j ≡ Some q) where
     -- of what was shown in the round
     in_round : (d : GhostCopy) → WasOther g start v x d → d.version ≤ q.public
     in_round d o =
         let its = truths o.world o.between.before o.between.from x o.home o.first o.at_first in
-        let settled = settled_loaded f w b between fits x o.home o.first o.at_first in
-        let spared = spared_leads g x start o.world o.between.before framed_ (spared_loaded f w b between fits x o.home o.first o.at_first)
+        let settled = settled_loaded f w b begin x o.home o.first o.at_first in
+        let spared = spared_leads g x start o.world o.between.before framed_ (spared_loaded f w b begin x o.home o.first o.at_first)
         o.between.from in
         let has : HasOne g x o.first.ty o.world =
         record { fits = its.one.has.fits; place = o.place; real = o.real; one = o.one } in
         let end =
-        one_leads g (frame_loaded f w b between fits) x o.first.ty settled.type o.world v o.between.after has spared o.between.to in
+        one_leads g (frame_loaded f w b begin) x o.first.ty settled.type o.world v o.between.after has spared o.between.to in
         let one : q ≡ end.has.real =
         (sole_here real_in real_of (entity_flow x v) end.has.place end.has.real q j end.has.one here).1 in
         let low = (public_rises g o.first o.real o.replays settled.public).1 in
@@ -194,11 +135,11 @@ module _ (f : Frame) (w : World) (b : Batch) (between : IsBetweenRounds f w) (fi
         let most = o.not_ahead in
         omega (arith, up, public, same, most)
 
-    before_round : ((i : ℕ) (p : RealView) → real_in ((entity_flow x start).slot i) ≡ Some p → version ≤ p.public) →
+    before_round : ((i : ℕ) (p : RealView) → real_at x start i ≡ Some p → version ≤ p.public) →
         Somewhere x start ⊎ Nowhere x start → version ≤ q.public
     before_round least (inl p) =
         let its = truths v es run x p.0 p.1 p.2 in
-        let settled = settled_loaded f w b between fits x p.0 p.1 p.2 in
+        let settled = settled_loaded f w b begin x p.0 p.1 p.2 in
         let one : q ≡ its.one.has.real =
         (sole_here real_in real_of (entity_flow x v) its.one.has.place its.one.has.real q j its.one.has.one here).1 in
         let up = (public_rises g p.1 its.one.has.real its.one.replays settled.public).0 in
@@ -226,8 +167,7 @@ module _ (f : Frame) (w : World) (b : Batch) (between : IsBetweenRounds f w) (fi
         lines_from t shown c x version (shown_rightly g e ty first t v c h).true_
         (ap (λ y. table.get y.shown x) now_fits.others ∙ is)
 
-    not_ahead : (x j version : ℕ) (q : RealView) → IsFrom t c x version → real_in ((entity_flow x v).slot j) ≡ Some q →
-        version ≤ q.public
+    not_ahead : (x j version : ℕ) (q : RealView) → IsFrom t c x version → real_at x v j ≡ Some q → version ≤ q.public
     not_ahead x j version q (was is) here =
         before_round x j version q here
         (λ i p at. began.others_not_ahead x i version p (ap (λ y. table.get y.shown x) (sym began.others) ∙ is) at) (search_real x start)
@@ -240,7 +180,7 @@ module _ (f : Frame) (w : World) (b : Batch) (between : IsBetweenRounds f w) (fi
         let at = began.others_known x version (ap (λ y. table.get y.shown x) (sym began.others) ∙ is) k base in
         some_route ((entity_flow x v).slot k).base.route (routes_stay g x start v es framed_ run k (ap is_some at.1))
     known x version (now d o same) k base =
-        let at = (settled_loaded f w b between fits x o.home o.first o.at_first).routes k base.from base.below in
+        let at = (settled_loaded f w b begin x o.home o.first o.at_first).routes k base.from base.below in
         some_route ((entity_flow x v).slot k).base.route (routes_stay g x start v es framed_ run k (ap is_some at))
 
     pub fits_then : FitsWitness g v h.one.real h.witness (after_all_shown c shown)

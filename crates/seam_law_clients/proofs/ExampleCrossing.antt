@@ -1,14 +1,13 @@
 -- The batch of the crossing fits an opened world, and so what the laws of clients ask is true of it.
-use Rattle.std.proofs.Common.{◌≡◌, ℕ, zero, suc, ◌+◌, Bool, true, false, eqb, List, [], ◌∷◌, ◌++◌, map, length, None, Some}
-use Rattle.std.proofs.Common.{refl, sym, ap, ◌∙◌, subst, arith, inl, inr}
+use Rattle.std.proofs.Common.{◌≡◌, ℕ, zero, suc, ◌+◌, Bool, true, false, eqb, List, [], ◌∷◌, ◌++◌, map, length, None, Some, refl, sym, ap}
+use Rattle.std.proofs.Common.{◌∙◌, subst, arith, inl, inr}
 use Rattle.std.specs.List.{IsDistinct, range_with_len}
 use Rattle.std.specs.FinMap as table
 use Rattle.std.proofs.lemmas.Bool.{cases_eq, ne_eqb}
-use Rattle.seam_node_steps.specs.Prelude.{LeadsTo, builtin, standard, fits_cell_part, RealView, Map, PartView, holders, new_part}
-use Rattle.seam_node_steps.specs.Prelude.{with_proxy, loaded, look_loaded, NodeView, node_steps, node_has_work, empty_world, here, idle, no}
-use Rattle.seam_node_steps.specs.Prelude.{two_cells}
+use Rattle.seam_node_steps.specs.Prelude.{builtin, standard, fits_cell_part, RealView, Map, PartView, holders, new_part, with_proxy, loaded}
+use Rattle.seam_node_steps.specs.Prelude.{look_loaded, NodeView, node_steps, node_has_work, empty_world, here, idle, no, two_cells}
 use Rattle.seam_law_flow.specs.Prelude.{number_from}
-use Rattle.seam_law_calls.specs.Prelude.{here_at, Has, has_of, entity_flow, events_of, real_in, home_of}
+use Rattle.seam_law_calls.specs.Prelude.{here_at, Has, has_of, entity_flow, events_of, real_in, home_of, RunsTo, real_at}
 use Rattle.seam_law_rounds.specs.Prelude.{IsFitting, IsForReal, AreNumbered, calls_of, calls_at, framed, AreReapable, opening}
 use Rattle.seam_law_rounds.specs.Prelude.{base_calls_of, base_calls_at, AreBaseNumbered, IsForPart, FitsParts, MayBeLoaded}
 use Rattle.seam_law_ghosts.specs.Prelude.{GoesThroughRound, AreCopiesBetweenRounds}
@@ -162,7 +161,7 @@ numbered e s = elim (cases_eq 3 e) [
   | inr n ↦ none_numbered e s (λ z at. let other = ne_eqb 3 e n in absurd (let y = sym z ∙ other in cc))
 ]
 
-for_real : (e k : ℕ) (r : RealView) → real_in ((entity_flow e (loaded empty_world batch)).slot k) ≡ Some r → IsForReal opening batch e r
+for_real : (e k : ℕ) (r : RealView) → real_at e (loaded empty_world batch) k ≡ Some r → IsForReal opening batch e r
 for_real e k r at =
     let young = (young_loaded e k).real r at in
     record {
@@ -254,7 +253,7 @@ brings = record {
 }
 
 pub may_be_loaded : MayBeLoaded opening empty_world batch
-may_be_loaded = record { between = between; parts = parts_between; fits = fits; brings = brings }
+may_be_loaded = record { begin = record { between = between; fits = fits }; parts = parts_between; brings = brings }
 
 pub no_copies : AreCopiesBetweenRounds opening empty_world
 no_copies = opened_copied builtin standard between.frame (omega arith)
@@ -269,43 +268,42 @@ clients_fit = clients_fit_loaded opening empty_world batch may_be_loaded (λ e. 
 
 -- ---- where the entities are
 
-first_there : real_in ((entity_flow 1 world_0).slot 0) ≡ Some watcher_1
+first_there : real_at 1 world_0 0 ≡ Some watcher_1
 unfolding world_0
 first_there = simp of_three
 
-second_there : real_in ((entity_flow 2 world_0).slot 1) ≡ Some watcher_2
+second_there : real_at 2 world_0 1 ≡ Some watcher_2
 unfolding world_0
 second_there = simp of_three
 
-third_there : real_in ((entity_flow 3 world_0).slot 0) ≡ Some walker
+third_there : real_at 3 world_0 0 ≡ Some walker
 unfolding world_0
 third_there = simp of_three
 
-pub witnesses : (real_in ((entity_flow 1 (loaded empty_world batch)).slot 0) ≡ Some watcher_1)
-    × (real_in ((entity_flow 2 (loaded empty_world batch)).slot 1) ≡ Some watcher_2)
+pub witnesses : (real_at 1 (loaded empty_world batch) 0 ≡ Some watcher_1) × (real_at 2 (loaded empty_world batch) 1 ≡ Some watcher_2)
 witnesses = (
-  ap (λ w. real_in ((entity_flow 1 w).slot 0)) load ∙ first_there,
-  ap (λ w. real_in ((entity_flow 2 w).slot 1)) load ∙ second_there,
+  ap (λ w. real_at 1 w 0) load ∙ first_there,
+  ap (λ w. real_at 2 w 1) load ∙ second_there,
 )
 
-pub before : real_in ((entity_flow 3 (loaded empty_world batch)).slot 0) ≡ Some walker
-before = ap (λ w. real_in ((entity_flow 3 w).slot 0)) load ∙ third_there
+pub before : real_at 3 (loaded empty_world batch) 0 ≡ Some walker
+before = ap (λ w. real_at 3 w 0) load ∙ third_there
 
-pub after : real_in ((entity_flow 3 world_9).slot 1) ≡ Some crossed
+pub after : real_at 3 world_9 1 ≡ Some crossed
 unfolding world_9
 after = simp of_three
 
 -- ---- the calls
 
-pub calls_lead : LeadsTo node_has_work node_steps (loaded empty_world batch) (events_of steps) world_9
+pub calls_lead : RunsTo (loaded empty_world batch) (events_of steps) world_9
 calls_lead =
-    subst (λ w. LeadsTo node_has_work node_steps w (events_of steps) world_9) (sym load) (row_leads 3 1 world_0 steps row)
+    subst (λ w. RunsTo w (events_of steps) world_9) (sym load) (row_leads 3 1 world_0 steps row)
 
 -- ---- the round
 
-pub looks_lead : LeadsTo node_has_work node_steps (look_loaded world_9) (events_of look_steps) look_11
+pub looks_lead : RunsTo (look_loaded world_9) (events_of look_steps) look_11
 looks_lead =
-    subst (λ w. LeadsTo node_has_work node_steps w (events_of look_steps) look_11) (sym looks.load)
+    subst (λ w. RunsTo w (events_of look_steps) look_11) (sym looks.load)
     (row_leads 3 1 look_0 look_steps looks.row)
 
 -- none is reaped

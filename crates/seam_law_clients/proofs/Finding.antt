@@ -1,10 +1,9 @@
 -- No update comes without a client: of an entity that is there, by the laws of its client; of one that is not, since none tells it.
 use Rattle.std.proofs.Common.{◌≡◌, ℕ, ◌⊎◌, List, [], ◌∷◌, None, Some, sym, ap, ◌∙◌, subst, inl, inr}
 use Rattle.std.specs.List.{AllByRecursion}
-use Rattle.seam_node_steps.specs.Prelude.{LeadsTo, Event, Batch, RealView, Msg, Update, World, node_steps, node_has_work, ordered_at}
-use Rattle.seam_node_steps.specs.Prelude.{loaded, look_loaded}
+use Rattle.seam_node_steps.specs.Prelude.{Event, Batch, RealView, Msg, Update, World, node_has_work, ordered_at, loaded, look_loaded}
 use Rattle.seam_law_flow.specs.Prelude.{letters_of}
-use Rattle.seam_law_calls.specs.Prelude.{Frame, IsInFrame, mine, entity_flow, real_in, real_of, update_in, FindsClient}
+use Rattle.seam_law_calls.specs.Prelude.{Frame, IsInFrame, mine, entity_flow, real_of, update_in, FindsClient, RunsTo, real_at}
 use Rattle.seam_law_rounds.specs.Prelude.{IsBetweenRounds, framed, HasPartsBetweenRounds, MayBeLoaded, HasSmallNumbers}
 use Rattle.seam_machine.proofs.Quiet.{quiet_links}
 use Rattle.seam_call.specs.declared.shown.Update.{Update as UpdateData}
@@ -18,8 +17,8 @@ use Rattle.seam_law_rounds.proofs.PartsGoing.{update_finds_it}
 use Rattle.seam_law_rounds.proofs.Calms.{look_finds}
 
 -- one that is nowhere, with nothing on its way, is told nothing
-module _ (f : Frame) (e : ℕ) (w v : World) (es : List Event) (frame : IsInFrame f w) (run : LeadsTo node_has_work node_steps w es v)
-    (nowhere : (k : ℕ) → real_in ((entity_flow e w).slot k) ≡ None) (no_mail_there : (a k : ℕ) → (entity_flow e w).mail a k ≡ []) where
+module _ (f : Frame) (e : ℕ) (w v : World) (es : List Event) (frame : IsInFrame f w) (run : RunsTo w es v)
+    (nowhere : (k : ℕ) → real_at e w k ≡ None) (no_mail_there : (a k : ℕ) → (entity_flow e w).mail a k ≡ []) where
   none_comes : (a k : ℕ) (u : UpdateData) (ms : List Msg) → {P : Type 0} → (entity_flow e v).mail a k ≡ Update u ∷ ms → P
   none_comes a k u ms at =
       let silent =
@@ -34,13 +33,12 @@ module _ (f : Frame) (e : ℕ) (w v : World) (es : List Event) (frame : IsInFram
 
 -- ---- in a round
 
-module _ (f : Frame) (w : World) (b : Batch) (may : MayBeLoaded f w b) (v : World) (es : List Event)
-    (run : LeadsTo node_has_work node_steps (loaded w b) es v) (e a k : ℕ) (u : UpdateData) (ms : List Msg)
-    (at : (entity_flow e v).mail a k ≡ Update u ∷ ms) where
+module _ (f : Frame) (w : World) (b : Batch) (may : MayBeLoaded f w b) (v : World) (es : List Event) (run : RunsTo (loaded w b) es v)
+    (e a k : ℕ) (u : UpdateData) (ms : List Msg) (at : (entity_flow e v).mail a k ≡ Update u ∷ ms) where
   round_by : Somewhere e (loaded w b) ⊎ Nowhere e (loaded w b) → FindsClient (framed f b) e k ((entity_flow e v).slot k).base u
   round_by (inl p) = update_finds_it f w b may e p.0 p.1 p.2 v es run a k u ms at
   round_by (inr n) =
-      none_comes (framed f b) e (loaded w b) v es (in_frame f w b may.between may.fits) run n (no_mail f w b may.between may.fits e) a k u
+      none_comes (framed f b) e (loaded w b) v es (in_frame f w b may.begin) run n (no_mail f w b may.begin e) a k u
       ms at
 
   pub round_finds : FindsClient (framed f b) e k ((entity_flow e v).slot k).base u
@@ -49,7 +47,7 @@ module _ (f : Frame) (w : World) (b : Batch) (may : MayBeLoaded f w b) (v : Worl
 -- ---- where witnesses look
 
 module _ (f : Frame) (u : World) (between : IsBetweenRounds f u) (parts : HasPartsBetweenRounds f u) (small : HasSmallNumbers f u)
-    (vs : List Event) (v : World) (run : LeadsTo node_has_work node_steps (look_loaded u) vs v) (e a k : ℕ) (m : UpdateData)
+    (vs : List Event) (v : World) (run : RunsTo (look_loaded u) vs v) (e a k : ℕ) (m : UpdateData)
     (ms : List Msg) (at : (entity_flow e v).mail a k ≡ Update m ∷ ms) where
   looks_by : Somewhere e u ⊎ Nowhere e u → FindsClient f e k ((entity_flow e v).slot k).base m
   looks_by (inl p) = look_finds f u between parts small vs v run e p.0 p.1 p.2 a k m ms at

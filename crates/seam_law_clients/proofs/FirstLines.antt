@@ -2,11 +2,10 @@
 use Rattle.std.proofs.Common.{◌≡◌, ℕ, Bool, true, false, cond, eqb, List, [], ◌++◌, Option, None, Some, refl, sym, ap, ◌∙◌, subst}
 use Rattle.std.specs.Prelude.{option_map, slice_get}
 use Rattle.std.specs.List.{AllByRecursion, list_any}
-use Rattle.seam_node_steps.specs.Prelude.{IsQuiet, LeadsTo, Event, properties_of, Batch, Here, properties, RealView, has_any, PartView}
-use Rattle.seam_node_steps.specs.Prelude.{ProxyView, line_if, base_text, World, node_steps, node_has_work, new_proxy, proxy_begins}
-use Rattle.seam_node_steps.specs.Prelude.{part_begins, loaded}
+use Rattle.seam_node_steps.specs.Prelude.{IsQuiet, Event, properties_of, Batch, Here, properties, RealView, has_any, PartView, ProxyView}
+use Rattle.seam_node_steps.specs.Prelude.{line_if, base_text, World, node_has_work, new_proxy, proxy_begins, part_begins, loaded}
 use Rattle.seam_law_flow.specs.Prelude.{slot_at, letters_of}
-use Rattle.seam_law_calls.specs.Prelude.{Frame, here_at, has_of, has_none, entity_flow, real_in, from_sender, home_of}
+use Rattle.seam_law_calls.specs.Prelude.{Frame, here_at, has_of, has_none, entity_flow, from_sender, home_of, RunsTo, real_at}
 use Rattle.seam_law_rounds.specs.Prelude.{MayBeMade, framed, base_calls_of, MayBeLoaded}
 use Rattle.seam_law_clients.specs.Prelude.{base_lines, line_where, first_lines, ShowsItsPart}
 use Rattle.seam_defs.specs.declared.flags.Group.TheVariants as group
@@ -47,19 +46,19 @@ module _ (f : Frame) (w : World) (b : Batch) (may : MayBeLoaded f w b) where
     home = home_of f e
 
     abbrev From : PartView → Type 0
-    From p = PartFrom f w b may.between may.fits may.parts e home p
+    From p = PartFrom f w b may.begin may.parts e home p
 
     old_lines : (p : PartView) (y : From p) (x : ProxyView) → y.part.proxy ≡ Some x → Creation e b.creates → x.lines ≡ []
     old_lines p y x has (nowhere others) = begun_part (part_at e y.node) y.part x (sym (part_peopled e b y.node others) ∙ y.was) has
     old_lines p y x has (once first c later is at others more) =
-        let made : MayBeMade f w c = middle (MayBeMade f w) first c later (subst (AllByRecursion (MayBeMade f w)) is may.fits.creates) in
+        let made : MayBeMade f w c =
+        middle (MayBeMade f w) first c later (subst (AllByRecursion (MayBeMade f w)) is may.begin.fits.creates) in
         let new : (j : ℕ) → (entity_flow e w).slot j ≡ has_none = subst (λ q. (j : ℕ) → (entity_flow q w).slot j ≡ has_none) at made.new in
         let none = ap (λ o. (slot_at (has_of e) has_none o).base.part) (sym y.there) ∙ ap (λ s. s.base.part) (new home) in
         absurd (let z = sym (bare_peopled e b y.node none y.part y.was) ∙ has in cc)
 
     lines_by : (p : PartView) (y : From p) (x : ProxyView) (joins : Bool) → is_among e b.clients ≡ joins →
-        part_if joins (here_at f home) y.part ≡ p → p.proxy ≡ Some x →
-        base_lines x.lines ≡ cond joins (first_lines (here_at f home) p) []
+        part_if joins (here_at f home) y.part ≡ p → p.proxy ≡ Some x → base_lines x.lines ≡ cond joins (first_lines (here_at f home) p) []
     lines_by p y x true is made has =
         let h = here_at f home in
         let due = has_any (properties_of (properties h y.part.ty) group.BaseClient) in
@@ -67,24 +66,23 @@ module _ (f : Frame) (w : World) (b : Batch) (may : MayBeLoaded f w b) where
         let same : line_if due (base_text h q) new_proxy ≡ x = some_is (ap (λ (z : PartView). z.proxy) made ∙ has) in
         ap (λ (z : ProxyView). base_lines z.lines) (sym same) ∙ new_lines h q due ∙ ap (first_lines h) made
     lines_by p y x false is made has =
-        ap base_lines (old_lines p y x (ap (λ (z : PartView). z.proxy) made ∙ has) (creation_of e b.creates may.fits.once))
+        ap base_lines (old_lines p y x (ap (λ (z : PartView). z.proxy) made ∙ has) (creation_of e b.creates may.begin.fits.once))
 
     pub loaded_lines : (p : PartView) (x : ProxyView) → ((entity_flow e start).slot home).base.part ≡ Some p → p.proxy ≡ Some x →
         base_lines x.lines ≡ cond (list_any (λ q. eqb q e) b.clients) (first_lines (here_at f home) p) []
     loaded_lines p x there has =
-        let y = part_there f w b may.between may.fits may.parts e home p (slice_get w.nodes home) refl there in
+        let y = part_there f w b may.begin may.parts e home p (slice_get w.nodes home) refl there in
         subst (λ j. base_lines x.lines ≡ cond j (first_lines (here_at f home) p) []) (sym (among_is e b.clients))
         (lines_by p y x (is_among e b.clients) refl y.is has)
 
     -- ---- in the round
 
-    module _ (k : ℕ) (r : RealView) (here : real_in ((entity_flow e start).slot k) ≡ Some r) (v : World) (es : List Event)
-        (run : LeadsTo node_has_work node_steps start es v) (p : PartView) (x : ProxyView)
-        (there : ((entity_flow e start).slot home).base.part ≡ Some p) (has : p.proxy ≡ Some x) where
+    module _ (k : ℕ) (r : RealView) (here : real_at e start k ≡ Some r) (v : World) (es : List Event) (run : RunsTo start es v)
+        (p : PartView) (x : ProxyView) (there : ((entity_flow e start).slot home).base.part ≡ Some p) (has : p.proxy ≡ Some x) where
       pub round_shows : ShowsItsPart (here_at f home) p x ((entity_flow e v).slot home).base.part
       round_shows =
-          shows_its_part (framed f b) e start v es (in_frame f w b may.between may.fits)
-          (spared_loaded f w b may.between may.fits e k r here) run home p x there has
+          shows_its_part (framed f b) e start v es (in_frame f w b may.begin)
+          (spared_loaded f w b may.begin e k r here) run home p x there has
 
       idle : p.done ≡ []
       idle =

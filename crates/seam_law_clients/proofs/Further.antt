@@ -1,6 +1,6 @@
 -- After one look a further one shows nothing.
-use Rattle.std.proofs.Common.{◌≡◌, ℕ, ◌≤◌, ◌⊎◌, Bool, true, false, cond, not, ◌&&◌, ◌||◌, eqb, List, [], ◌∷◌, ◌++◌, map, Option, None}
-use Rattle.std.proofs.Common.{Some, refl, sym, ap, ◌∙◌, subst, arith, inl, inr}
+use Rattle.std.proofs.Common.{◌≡◌, ℕ, ◌≤◌, ◌⊎◌, Bool, true, false, cond, not, ◌&&◌, ◌||◌, eqb, List, [], ◌∷◌, ◌++◌, map, Option, None, Some}
+use Rattle.std.proofs.Common.{refl, sym, ap, ◌∙◌, subst, arith, inl, inr}
 use Rattle.std.specs.Prelude.{nat_lt, nat_le}
 use Rattle.std.specs.Map.{keys_of, lookup}
 use Rattle.std.specs.List.{AllByRecursion, IsDistinct, list_any, filter}
@@ -46,8 +46,7 @@ placed_by x e v p es false true at too rest =
     ap (λ b. cond b (Some p.1) (version_of x (placed e v es))) same ∙ rest
 placed_by x e v p es false false at too rest = ap (cond (eqb x p.0) (Some p.1)) rest
 
-version_placed : (x e v : ℕ) (es : List (ℕ × ℕ)) (t : Bool) → eqb x e ≡ t →
-    version_of x (placed e v es) ≡ cond t (Some v) (version_of x es)
+version_placed : (x e v : ℕ) (es : List (ℕ × ℕ)) (t : Bool) → eqb x e ≡ t → version_of x (placed e v es) ≡ cond t (Some v) (version_of x es)
 version_placed x e v [] t too = ap (λ b. cond b (Some v) None) too
 version_placed x e v (p ∷ es) t too = placed_by x e v p es (eqb e p.0) t refl too (version_placed x e v es t too)
 
@@ -208,8 +207,7 @@ module _ (r : Replica) (own : Pos) (known : List Seen) (view : IsView r)
   MakesRight (Set e) = IsKnownNear e
   MakesRight (Enter e) = IsKnownNear e
 
-  showing_right : (q : Replica) (e x : ℕ) → IsKnownNear e → eqb x e ≡ true →
-      IsRightIn (after_showing q e (seen_of e known)).entries x
+  showing_right : (q : Replica) (e x : ℕ) → IsKnownNear e → eqb x e ≡ true → IsRightIn (after_showing q e (seen_of e known)).entries x
   showing_right q e x (s, found, is) about =
       let same : e ≡ x = sym (number_is x e about) in
       subst (λ o. IsRightIn (after_showing q e o).entries x) (sym found)
@@ -347,8 +345,7 @@ module _ (r : Replica) (own : Pos) (known : List Seen) (view : IsView r)
       let same = same_distances known r looks in
       λ i. is_far (record r { radius = same.0 i; hysteresis = same.1 i }) own p
 
-  neither : (p : ℕ × ℕ) (o : Option Seen) → IsRight o (Some p.1) →
-      (is_gone after own o ≡ false) × (has_changed after own p.1 o ≡ false)
+  neither : (p : ℕ × ℕ) (o : Option Seen) → IsRight o (Some p.1) → (is_gone after own o ≡ false) × (has_changed after own p.1 o ≡ false)
   neither p None right = absurd right
   neither p (Some s) right =
       let here = same_far s.pos ∙ right.0 in

@@ -9,9 +9,9 @@ use Rattle.std.specs.FinMap as table
 use Rattle.std.specs.FinMap.Entries.{same_entries}
 use Rattle.std.proofs.lemmas.Bool.Decides.{nat_tests}
 use Rattle.std.proofs.lemmas.List.Sums.{fold-append}
-use Rattle.seam_node_steps.specs.Prelude.{IsQuiet, LeadsTo, Event, Shown, Own, RealView, WitnessView, Known, seen_as, shown_for, CellView}
-use Rattle.seam_node_steps.specs.Prelude.{look_loaded, World, node_steps, node_has_work}
-use Rattle.seam_law_calls.specs.Prelude.{Frame, here_at, entity_flow, real_in}
+use Rattle.seam_node_steps.specs.Prelude.{IsQuiet, Event, Shown, Own, RealView, WitnessView, Known, seen_as, shown_for, CellView}
+use Rattle.seam_node_steps.specs.Prelude.{look_loaded, World, node_has_work}
+use Rattle.seam_law_calls.specs.Prelude.{Frame, here_at, RunsTo, real_at}
 use Rattle.seam_law_rounds.specs.Prelude.{IsBetweenRounds}
 use Rattle.seam_law_ghosts.specs.Prelude.{WasThere}
 use Rattle.seam_law_clients.specs.Prelude.{row_of_real, rows_at, row_in, rows_of, looked_by, having_looked, HaveRoomToLook}
@@ -105,15 +105,15 @@ same_row f x cell r None = refl
 same_row f x cell r (Some v) = refl
 
 module _ (f : Frame) (u : World) (between : IsBetweenRounds f u) (room : HaveRoomToLook u) (vs : List Event) (v : World)
-    (run : LeadsTo node_has_work node_steps (look_loaded u) vs v) (quiet : IsQuiet node_has_work v)
-    (was : (e k : ℕ) (q : RealView) → real_in ((entity_flow e v).slot k) ≡ Some q → WasThere e k q u) where
+    (run : RunsTo (look_loaded u) vs v) (quiet : IsQuiet node_has_work v)
+    (was : (e k : ℕ) (q : RealView) → real_at e v k ≡ Some q → WasThere e k q u) where
   again : IsBetweenRounds f v
   again = look_ends_between f u between vs v run quiet
 
   still_none : (x : ℕ) → Nowhere x u → Nowhere x v
-  still_none x n k = by (real_in ((entity_flow x v).slot k)) refl
+  still_none x n k = by (real_at x v k) refl
     where
-      by : (o : Option RealView) → real_in ((entity_flow x v).slot k) ≡ o → real_in ((entity_flow x v).slot k) ≡ None
+      by : (o : Option RealView) → real_at x v k ≡ o → real_at x v k ≡ None
       by None at = at
       by (Some q) at = let there = was x k q at in absurd (let z = sym (n k) ∙ there.here in cc)
 

@@ -1,14 +1,15 @@
 -- Clients in a round: what the records between rounds say of each entity is what its witness needs, to tell its client rightly.
-use Rattle.std.proofs.Common.{◌≡◌, ℕ, ◌+◌, ◌⊎◌, Bool, true, false, is_some, List, [], length, Option, None, Some, refl, sym, ap, ◌∙◌}
-use Rattle.std.proofs.Common.{subst, arith, inl, inr}
+use Rattle.std.proofs.Common.{◌≡◌, ℕ, ◌+◌, ◌⊎◌, Bool, true, false, is_some, List, [], length, Option, None, Some, refl, sym, ap, ◌∙◌, subst}
+use Rattle.std.proofs.Common.{arith, inl, inr}
 use Rattle.std.specs.Prelude.{option_map, slice_get}
 use Rattle.std.specs.List.{AllByRecursion}
-use Rattle.seam_node_steps.specs.Prelude.{LeadsTo, Event, properties_of, Batch, Shown, RealView, WitnessView, Here, properties, has_any}
-use Rattle.seam_node_steps.specs.Prelude.{PartView, ProxyView, line_if, base_text, new_proxy, proxy_begins, part_begins, loaded, World}
-use Rattle.seam_node_steps.specs.Prelude.{node_steps, node_has_work}
+use Rattle.seam_node_steps.specs.Prelude.{Event, properties_of, Batch, Shown, RealView, WitnessView, Here, properties, has_any, PartView}
+use Rattle.seam_node_steps.specs.Prelude.{ProxyView, line_if, base_text, new_proxy, proxy_begins, part_begins, loaded, World, node_steps}
+use Rattle.seam_node_steps.specs.Prelude.{node_has_work}
 use Rattle.seam_law_flow.specs.Prelude.{slot_at, letters_of}
 use Rattle.seam_law_calls.specs.Prelude.{Frame, here_at, has_of, has_none, entity_flow, real_in, real_of, HasNoProxy, sent_by, home_of}
-use Rattle.seam_law_calls.specs.Prelude.{proxy_of, order_in, updates_at, shown_in, lines_in, shown_at, HasClient, HasRoomFor}
+use Rattle.seam_law_calls.specs.Prelude.{proxy_of, order_in, updates_at, shown_in, lines_in, shown_at, HasClient, HasRoomFor, RunsTo}
+use Rattle.seam_law_calls.specs.Prelude.{real_at}
 use Rattle.seam_law_rounds.specs.Prelude.{MayBeMade, framed, AreInStep, AreFor, MayBeLoaded, IsServed, bare, served}
 use Rattle.seam_law_clients.specs.Prelude.{FitsWitness, ClientsFit, FitsWithin, IsTrueBetween, TellsRightly, true_between}
 use Rattle.seam_net_runs.proofs.Runs.{leads_nowhere}
@@ -87,24 +88,24 @@ module _ (f : Frame) (w : World) (b : Batch) (may : MayBeLoaded f w b) where
     abbrev home : ℕ
     home = home_of f e
 
-    before_none : (p : PartView) (y : PartFrom f w b may.between may.fits may.parts e home p) → Creation e b.creates →
-        NoneShown y.part.proxy
+    before_none : (p : PartView) (y : PartFrom f w b may.begin may.parts e home p) → Creation e b.creates → NoneShown y.part.proxy
     before_none p y (nowhere others) = begun_from (part_at e y.node) y.part (sym (part_peopled e b y.node others) ∙ y.was)
     before_none p y (once first c later is at others more) =
-        let made : MayBeMade f w c = middle (MayBeMade f w) first c later (subst (AllByRecursion (MayBeMade f w)) is may.fits.creates) in
+        let made : MayBeMade f w c =
+        middle (MayBeMade f w) first c later (subst (AllByRecursion (MayBeMade f w)) is may.begin.fits.creates) in
         let new : (j : ℕ) → (entity_flow e w).slot j ≡ has_none = subst (λ q. (j : ℕ) → (entity_flow q w).slot j ≡ has_none) at made.new in
         let no_part = ap (λ o. (slot_at (has_of e) has_none o).base.part) (sym y.there) ∙ ap (λ h. h.base.part) (new home) in
         ap (λ o. letters_of shown_in (lines_in o)) (bare_peopled e b y.node no_part y.part y.was)
 
     none_at_start : (p : PartView) → ((entity_flow e start).slot home).base.part ≡ Some p → NoneShown p.proxy
     none_at_start p there =
-        let y = part_there f w b may.between may.fits may.parts e home p (slice_get w.nodes home) refl there in
+        let y = part_there f w b may.begin may.parts e home p (slice_get w.nodes home) refl there in
         subst (λ (z : PartView). NoneShown z.proxy) y.is
-        (joined_none (is_among e b.clients) (here_at f home) y.part (before_none p y (creation_of e b.creates may.fits.once)))
+        (joined_none (is_among e b.clients) (here_at f home) y.part (before_none p y (creation_of e b.creates may.begin.fits.once)))
 
   -- ---- an entity with a witness
 
-  module _ (e k : ℕ) (r : RealView) (here : real_in ((entity_flow e start).slot k) ≡ Some r) where
+  module _ (e k : ℕ) (r : RealView) (here : real_at e start k ≡ Some r) where
     abbrev most : ℕ
     most = sent_by r + most_told
 
@@ -139,7 +140,7 @@ module _ (f : Frame) (w : World) (b : Batch) (may : MayBeLoaded f w b) where
       due =
           let step =
           in_step r.witness client.part.proxy client.proxy client.part.version has client.has
-          (are_for_loaded f w b may.between may.fits may.parts e k r here client.part client.here) in
+          (are_for_loaded f w b may.begin may.parts e k r here client.part client.here) in
           let order : updates_at ((entity_flow e start).slot (home e)) ≡ client.proxy.updates =
           ap (λ o. order_in (proxy_of o)) client.here ∙ ap order_in client.has in
           let none : shown_at ((entity_flow e start).slot (home e)) ≡ [] =
@@ -150,10 +151,10 @@ module _ (f : Frame) (w : World) (b : Batch) (may : MayBeLoaded f w b) where
           let its = step.next in
           omega (arith, many, same, next, its)
 
-      module _ (v : World) (es : List Event) (run : LeadsTo node_has_work node_steps start es v) where
+      module _ (v : World) (es : List Event) (run : RunsTo start es v) where
         client_then : HasClient g e r.ty first v
         client_then =
-            client_leads g e r.ty first most start v es client (spared_loaded f w b may.between may.fits e k r here) room_loaded run
+            client_leads g e r.ty first most start v es client (spared_loaded f w b may.begin e k r here) room_loaded run
             (told f w b may e k r here v es run)
 
         tells_rightly : (c : ClientReplica) → FitsWitness g start r x c → IsTrueBetween g e (true_between g e start v) start v →
@@ -162,7 +163,7 @@ module _ (f : Frame) (w : World) (b : Batch) (may : MayBeLoaded f w b) where
             rightly_leads g e r.ty first most (true_between g e start v) c start v
             (λ u m. told f w b may e k r here u m.before m.from) true_ es
             (rightly_starts g e r.ty first (true_between g e start v) start client k r here x has due c (fits_within g start r x c fits))
-            client (spared_loaded f w b may.between may.fits e k r here) room_loaded run
+            client (spared_loaded f w b may.begin e k r here) room_loaded run
 
   -- ---- an entity without a witness
 
@@ -170,12 +171,12 @@ module _ (f : Frame) (w : World) (b : Batch) (may : MayBeLoaded f w b) where
   none_shown None none = refl
   none_shown (Some p) none = ap (λ o. letters_of shown_in (lines_in o)) (none p refl)
 
-  module _ (v : World) (es : List Event) (run : LeadsTo node_has_work node_steps start es v) (e k : ℕ) (r : RealView)
-      (here : real_in ((entity_flow e start).slot k) ≡ Some r) (unseen : r.witness ≡ None) where
+  module _ (v : World) (es : List Event) (run : RunsTo start es v) (e k : ℕ) (r : RealView)
+      (here : real_at e start k ≡ Some r) (unseen : r.witness ≡ None) where
     bare_shown : IsServed g e r.ty start → shown_at ((entity_flow e v).slot (home_of g e)) ≡ []
     bare_shown (bare none each) =
         none_shown ((entity_flow e v).slot (home_of g e)).base.part
-        (bare_leads g e start v es (in_frame f w b may.between may.fits) (spared_loaded f w b may.between may.fits e k r here) none run
+        (bare_leads g e start v es (in_frame f w b may.begin) (spared_loaded f w b may.begin e k r here) none run
         (home_of g e))
     bare_shown (served n low client seen) = absurd (let z = sym (ap is_some unseen) ∙ seen.cells k r here in cc)
 
@@ -184,8 +185,7 @@ module _ (f : Frame) (w : World) (b : Batch) (may : MayBeLoaded f w b) where
 
   -- ---- over a list of events
 
-  module _ (clients : ℕ → ClientReplica) (fit : ClientsFit g clients start) (v : World) (es : List Event)
-      (run : LeadsTo node_has_work node_steps start es v)
+  module _ (clients : ℕ → ClientReplica) (fit : ClientsFit g clients start) (v : World) (es : List Event) (run : RunsTo start es v)
       (true_ : (e : ℕ) → IsTrueBetween g e (true_between g e start v) start v) where
     abbrev shown : ℕ → List Shown
     shown e = shown_at ((entity_flow e v).slot (home_of g e))
@@ -193,7 +193,7 @@ module _ (f : Frame) (w : World) (b : Batch) (may : MayBeLoaded f w b) where
     abbrev shows : ℕ → ClientReplica
     shows e = after_all_shown (clients e) (shown e)
 
-    pub client_shown : (e k : ℕ) (r : RealView) → real_in ((entity_flow e start).slot k) ≡ Some r → (x : WitnessView) →
+    pub client_shown : (e k : ℕ) (r : RealView) → real_at e start k ≡ Some r → (x : WitnessView) →
         r.witness ≡ Some x → ShowsRightly (true_between g e start v) e (clients e) (shown e)
     client_shown e k r here x has =
         shown_rightly g e r.ty (first e k r here x has) (true_between g e start v) v (clients e)
@@ -204,8 +204,7 @@ module _ (f : Frame) (w : World) (b : Batch) (may : MayBeLoaded f w b) where
     module _ (ends : (e ty first : ℕ) (c : ClientReplica) (r : RealView) (x : WitnessView) → FitsWitness g start r x c →
         (h : TellsRightly g e ty first (true_between g e start v) c v) → HasClient g e ty first v →
         FitsWitness g v h.one.real h.witness (after_all_shown c (shown e))) where
-      module _ (e j : ℕ) (q : RealView) (there : real_in ((entity_flow e v).slot j) ≡ Some q) (y : WitnessView)
-          (seen : q.witness ≡ Some y) where
+      module _ (e j : ℕ) (q : RealView) (there : real_at e v j ≡ Some q) (y : WitnessView) (seen : q.witness ≡ Some y) where
         fits_told : (ty n : ℕ) (r : RealView) (x : WitnessView) → FitsWitness g start r x (clients e) →
             (h : TellsRightly g e ty n (true_between g e start v) (clients e) v) → HasClient g e ty n v → FitsWitness g v q y (shows e)
         fits_told ty n r x fits h client =
@@ -217,22 +216,22 @@ module _ (f : Frame) (w : World) (b : Batch) (may : MayBeLoaded f w b) where
             some_is : {a b : WitnessView} → Some a ≡ Some b → a ≡ b
             some_is h = cc
 
-        fits_by : (k : ℕ) (r : RealView) → real_in ((entity_flow e start).slot k) ≡ Some r → (o : Option WitnessView) → r.witness ≡ o →
+        fits_by : (k : ℕ) (r : RealView) → real_at e start k ≡ Some r → (o : Option WitnessView) → r.witness ≡ o →
             IsServed g e r.ty start → FitsWitness g v q y (shows e)
         fits_by k r here (Some x) has serves =
             fits_told r.ty (first e k r here x has) r x (fit.each e k r here x has)
             (tells_rightly e k r here x has v es run (clients e) (fit.each e k r here x has) (true_ e))
             (client_then e k r here x has v es run)
         fits_by k r here None has (bare none each) =
-            let still = seen_leads g e false start v es (in_frame f w b may.between may.fits) each run in
+            let still = seen_leads g e false start v es (in_frame f w b may.begin) each run in
             absurd (let z = sym (ap is_some seen) ∙ still.cells j q there in cc)
         fits_by k r here None has (served n low client each) = absurd (let z = sym (ap is_some has) ∙ each.cells k r here in cc)
 
         fits_where : Somewhere e start ⊎ Nowhere e start → FitsWitness g v q y (shows e)
         fits_where (inl p) = fits_by p.0 p.1 p.2 p.1.witness refl (serves_loaded e p.0 p.1 p.2)
         fits_where (inr n) =
-            let gone = gone_leads g (frame_loaded f w b may.between may.fits) e start v es (in_frame f w b may.between may.fits)
-            (record { slots = n; mail = λ a k. ap (letters_of real_of) (no_mail f w b may.between may.fits e a k) }) run in
+            let gone = gone_leads g (frame_loaded f w b may.begin) e start v es (in_frame f w b may.begin)
+            (record { slots = n; mail = λ a k. ap (letters_of real_of) (no_mail f w b may.begin e a k) }) run in
             absurd (let z = sym (gone.slots j) ∙ there in cc)
 
       pub clients_fit : ClientsFit g shows v

@@ -29,6 +29,7 @@ pub mod FirstLines
 pub mod Reaped
 pub mod Finding
 pub mod Room
+pub mod LastBases
 pub mod Round
 pub mod Crossing
 pub mod CrossingLooks

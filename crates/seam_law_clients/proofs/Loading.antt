@@ -9,7 +9,7 @@ use Rattle.seam_node_steps.specs.Prelude.{Division, leaf_at, cells_of, Create, O
 use Rattle.seam_node_steps.specs.Prelude.{new_witness, RealView, WitnessView, Map, set_at, BaseView, RouteView, NodeView, World, Cell, Base}
 use Rattle.seam_node_steps.specs.Prelude.{part_if, with_route, created_at, attached, cell_round, base_round, order_if, ordered_at, loaded}
 use Rattle.seam_law_flow.specs.Prelude.{slot_at}
-use Rattle.seam_law_calls.specs.Prelude.{Frame, here_at, has_of, has_none, entity_flow, real_in, IsBaseNumber}
+use Rattle.seam_law_calls.specs.Prelude.{Frame, here_at, has_of, has_none, entity_flow, real_in, IsBaseNumber, real_at}
 use Rattle.seam_law_rounds.specs.Prelude.{MayBeMade, framed, each, node_loaded, MayBeLoaded}
 use Rattle.seam_law_clients.specs.Prelude.{FitsWitness, ClientsFit, clients_loaded}
 use Rattle.seam_node_steps.proofs.Slots.{get-set_at}
@@ -122,28 +122,27 @@ module _ (f : Frame) (w : World) (b : Batch) (may : MayBeLoaded f w b) where
   start = loaded w b
 
   abbrev From : ℕ → ℕ → RealView → Type 0
-  From e k r = RealFrom f w b may.between may.fits may.parts e k r
+  From e k r = RealFrom f w b may.begin may.parts e k r
 
-  from : (e k : ℕ) (r : RealView) → real_in ((entity_flow e start).slot k) ≡ Some r → From e k r
-  from e k r at = real_there f w b may.between may.fits may.parts e k r (slice_get w.nodes k) refl at
+  from : (e k : ℕ) (r : RealView) → real_at e start k ≡ Some r → From e k r
+  from e k r at = real_there f w b may.begin may.parts e k r (slice_get w.nodes k) refl at
 
   creation : (e : ℕ) → Creation e b.creates
-  creation e = creation_of e b.creates may.fits.once
+  creation e = creation_of e b.creates may.begin.fits.once
 
   is_new : (e : ℕ) (first : List Create) (c : Create) (later : List Create) → b.creates ≡ first ++ c ∷ later → c.entity ≡ e →
       (j : ℕ) → (entity_flow e w).slot j ≡ has_none
   is_new e first c later is at =
-      let made : MayBeMade f w c = middle (MayBeMade f w) first c later (subst (AllByRecursion (MayBeMade f w)) is may.fits.creates) in
+      let made : MayBeMade f w c =
+      middle (MayBeMade f w) first c later (subst (AllByRecursion (MayBeMade f w)) is may.begin.fits.creates) in
       subst (λ q. (j : ℕ) → (entity_flow q w).slot j ≡ has_none) at made.new
 
   -- the real that it had
-  was_there : (e k : ℕ) (r : RealView) (y : From e k r) → AllByRecursion (λ c. c.entity ≡ e → ⊥) b.creates →
-      real_in ((entity_flow e w).slot k) ≡ Some y.real
+  was_there : (e k : ℕ) (r : RealView) (y : From e k r) → AllByRecursion (λ c. c.entity ≡ e → ⊥) b.creates → real_at e w k ≡ Some y.real
   was_there e k r y others =
       ap (λ o. real_in (slot_at (has_of e) has_none o)) y.there ∙ (sym (real_peopled e b y.node others) ∙ y.was)
 
-  module _ (r : RealView) (x : WitnessView) (c : ClientReplica) (began : FitsWitness f w r x c)
-      (base : (k : ℕ) × IsBaseNumber f k) where
+  module _ (r : RealView) (x : WitnessView) (c : ClientReplica) (began : FitsWitness f w r x c) (base : (k : ℕ) × IsBaseNumber f k) where
     -- what it was shown of others is not ahead of them
     not_ahead_by : (y j version : ℕ) (q : RealView) → table.get x.view.shown y ≡ Some version → (from_ : From y j q) →
         Creation y b.creates → version ≤ q.public
@@ -184,7 +183,7 @@ module _ (f : Frame) (w : World) (b : Batch) (may : MayBeLoaded f w b) where
         let here = was_there e k r y others in
         let seen : y.real.witness ≡ Some x = ap (λ (z : RealView). z.witness) is ∙ has in
         let base : (j : ℕ) × IsBaseNumber f j =
-        let some = some_base f w may.between.nodes e k y.real here in
+        let some = some_base f w may.begin.between.nodes e k y.real here in
         (cell_count, record { from = omega arith; below = omega (arith, some) }) in
         subst (λ z. FitsWitness g start z x (clients e)) is
         (still_fits y.real x (clients e) (fit.each e k y.real here x seen) base)

@@ -1,7 +1,6 @@
 -- A cell in the phase of looks: some of its witnesses have looked, and the others wait in its look list.
-use Rattle.std.proofs.Common.{◌≡◌, ℕ, ◌+◌, Bool, true, false, cond, not, ◌||◌, is_some, T, List, [], ◌∷◌, map, filter, find, length}
-use Rattle.std.proofs.Common.{Option, None, Some}
-use Rattle.std.proofs.Common.{refl, sym, ap, ◌∙◌, arith}
+use Rattle.std.proofs.Common.{◌≡◌, ℕ, ◌+◌, Bool, true, false, cond, not, ◌||◌, is_some, T, List, [], ◌∷◌, map, filter, find, length, Option}
+use Rattle.std.proofs.Common.{None, Some, refl, sym, ap, ◌∙◌, arith}
 use Rattle.std.specs.Prelude.{option_map}
 use Rattle.std.specs.List.{AllByRecursion, list_any}
 use Rattle.std.specs.Ordering.{nat_cmp, eq_by_cmp}
@@ -17,8 +16,7 @@ use Rattle.seam_node_steps.specs.Prelude.{witnesses, tick, cell_task, ready_next
 use Rattle.seam_node_steps.specs.Prelude.{cell_has_work}
 use Rattle.seam_law_clients.specs.Prelude.{witness_looked, looked_by, having_looked}
 use Rattle.seam_node_steps.proofs.Slots.{get-set_at}
-use Rattle.seam_node_steps.proofs.Sorted.{first, second}
-use Rattle.seam_node_steps.proofs.Sorted.{tied_same, none_below, passing, find_filter, sorted_filter, or_else}
+use Rattle.seam_node_steps.proofs.Sorted.{first, second, tied_same, none_below, passing, find_filter, sorted_filter, or_else}
 use Rattle.seam_node_steps.proofs.Knowing.{known_by, known_at, unless_self, known_rises, known_to_is}
 
 -- whether the entity is in the list

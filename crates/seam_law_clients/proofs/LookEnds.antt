@@ -1,19 +1,18 @@
 -- The phase of looks from its load to its quiet end: each witness has looked once.
-use Rattle.std.proofs.Common.{◌≡◌, ℕ, ◌<◌, ◌≤◌, ◌⊎◌, Bool, true, false, cond, eqb, is_some, List, [], ◌∷◌, ◌++◌, length}
-use Rattle.std.proofs.Common.{Option, None, Some, refl, sym, ap, ◌∙◌, subst, arith, inl, inr}
-use Rattle.std.specs.Prelude.{option_map, slice_get}
+use Rattle.std.proofs.Common.{◌≡◌, ℕ, ◌<◌, ◌≤◌, ◌⊎◌, Bool, true, false, cond, eqb, is_some, List, [], ◌∷◌, ◌++◌, length, Option, None, Some}
+use Rattle.std.proofs.Common.{refl, sym, ap, ◌∙◌, subst, arith, inl, inr}
+use Rattle.std.specs.Prelude.{option_map, slice_get, slice_index_or}
 use Rattle.std.specs.List.{AllByRecursion}
 use Rattle.std.specs.Ordering.{nat_cmp}
 use Rattle.std.specs.FinMap as table
 use Rattle.std.proofs.lemmas.Bool.{eq-eqb}
 use Rattle.std.proofs.lemmas.Option.{slice_get-map, slice_get_cases}
 use Rattle.std.proofs.lemmas.List.{length-map}
-use Rattle.std.specs.Prelude.{slice_index_or}
-use Rattle.seam_node_steps.specs.Prelude.{IsQuiet, LeadsTo, Event, RealView, WitnessView, cell_count, number_of, has_any, BaseView}
-use Rattle.seam_node_steps.specs.Prelude.{CellView, has_witness, witnesses, NodeView, World, node_steps, node_has_work, Cell, Base}
-use Rattle.seam_node_steps.specs.Prelude.{order_if, ordered_at, look_loaded}
+use Rattle.seam_node_steps.specs.Prelude.{IsQuiet, Event, RealView, WitnessView, cell_count, number_of, has_any, BaseView, CellView}
+use Rattle.seam_node_steps.specs.Prelude.{has_witness, witnesses, NodeView, World, node_steps, node_has_work, Cell, Base, order_if}
+use Rattle.seam_node_steps.specs.Prelude.{ordered_at, look_loaded}
 use Rattle.seam_law_flow.specs.Prelude.{slot_at}
-use Rattle.seam_law_calls.specs.Prelude.{Frame, has_of, has_none, entity_flow, real_in}
+use Rattle.seam_law_calls.specs.Prelude.{Frame, has_of, has_none, real_in, RunsTo, real_at}
 use Rattle.seam_law_rounds.specs.Prelude.{IsBetweenRounds}
 use Rattle.seam_law_clients.specs.Prelude.{having_looked, HaveRoomToLook}
 use Rattle.seam_machine.proofs.Quiet.{quiet_links, quiet_tasks}
@@ -106,7 +105,7 @@ module _ (f : Frame) (u : World) (between : IsBetweenRounds f u) (room : HaveRoo
 
   -- ---- the end
 
-  module _ (vs : List Event) (v : World) (run : LeadsTo node_has_work node_steps (look_loaded u) vs v) where
+  module _ (vs : List Event) (v : World) (run : RunsTo (look_loaded u) vs v) where
     pub looking : IsLooking f u between may v
     looking =
         leads_keeps node_has_work node_steps (IsLooking f u between may) (looking_more f u between may) (look_loaded u) v vs starts run
@@ -142,8 +141,8 @@ module _ (f : Frame) (u : World) (between : IsBetweenRounds f u) (room : HaveRoo
           let none = none_left rest (sym (work_is c free d rest m) ∙ quiet_tasks node_has_work v quiet k (Cell d) node) in
           record { cell = d; there = node; all = subst (IsMidway c d) none m }
 
-      pub looked : (e k : ℕ) (r : RealView) → real_in ((entity_flow e u).slot k) ≡ Some r → (cell : CellView) →
-          slice_get u.nodes k ≡ Some (Cell cell) → real_in ((entity_flow e v).slot k) ≡ Some (having_looked cell e r)
+      pub looked : (e k : ℕ) (r : RealView) → real_at e u k ≡ Some r → (cell : CellView) →
+          slice_get u.nodes k ≡ Some (Cell cell) → real_at e v k ≡ Some (having_looked cell e r)
       looked e k r at cell node =
           let low = (between.nodes.nodes k (Cell cell) node).low in
           let done = done_by k cell node (some_base f u between.nodes e k r at) (looking.cells k cell low node) in

@@ -2,45 +2,25 @@
 use Rattle.std.proofs.Common.{◌≡◌, ℕ, Bool, true, false, List, Option, None, Some, refl, sym, ap, ◌∙◌, subst, arith}
 use Rattle.std.specs.Prelude.{option_map, slice_get}
 use Rattle.std.proofs.lemmas.Option.{slice_get-map}
-use Rattle.seam_node_steps.specs.Prelude.{happens, enabled, IsQuiet, LeadsTo, Event, RealView, WitnessView, BaseView, CellView, NodeView}
-use Rattle.seam_node_steps.specs.Prelude.{World, node_steps, node_has_work, Cell, Base, order_if, ordered_at, look_loaded}
-use Rattle.seam_law_flow.specs.Prelude.{comes, slot_at}
-use Rattle.seam_law_calls.specs.Prelude.{Frame, IsInFrame, has_of, has_none, entity_flow, real_in}
+use Rattle.seam_node_steps.specs.Prelude.{IsQuiet, Event, RealView, WitnessView, BaseView, CellView, NodeView, World, node_has_work, Cell}
+use Rattle.seam_node_steps.specs.Prelude.{Base, order_if, ordered_at, look_loaded}
+use Rattle.seam_law_flow.specs.Prelude.{slot_at}
+use Rattle.seam_law_calls.specs.Prelude.{Frame, IsInFrame, has_of, has_none, entity_flow, real_in, RunsTo, real_at}
 use Rattle.seam_law_rounds.specs.Prelude.{IsBetweenRounds}
 use Rattle.seam_law_ghosts.specs.Prelude.{WasThere}
 use Rattle.seam_law_clients.specs.Prelude.{rows_of, FitsWitness, ClientsFit, witness_looked, looked_by, having_looked, HaveRoomToLook}
-use Rattle.seam_machine.proofs.Occurring.{occurs}
-use Rattle.seam_net_runs.proofs.Runs.{leads_keeps}
-use Rattle.seam_law_flow.proofs.Following.{slots_kept}
 use Rattle.seam_call.specs.declared.order.Order.TheVariants as order
-use Rattle.seam_law_calls.proofs.Classify.{event_moves, frame_happens}
 use Rattle.seam_law_rounds.proofs.Giving.{look_framed}
 use Rattle.seam_law_calls.proofs.RoutesKept.{HasRoute, route_moves}
 use Rattle.seam_rule_clients.specs.Clients.{ClientReplica, after_all_shown}
 use Rattle.seam_rule_clients.specs.Looks.{one_look}
 use Rattle.seam_law_clients.proofs.LookRuns.{tick_order}
 use Rattle.seam_law_clients.proofs.LookEnds.{looked}
+use Rattle.seam_law_calls.proofs.Keeping.{all_lead, units}
 
 -- ---- a route stays one
 
 module _ (f : Frame) (u : World) (x : ℕ) where
-  -- each node that had a route in u has one
-  record AreRouted (w : World) : Type 0 where
-    frame : IsInFrame f w
-    each : (k : ℕ) → HasRoute ((entity_flow x u).slot k).base → HasRoute ((entity_flow x w).slot k).base
-
-  routed_more : (w : World) (v : Event) → AreRouted w → enabled node_has_work w v ≡ true → AreRouted (happens node_steps w v)
-  routed_more w v h on =
-      let o = occurs node_has_work w v on in
-      let g = event_moves f w v o h.frame x in
-      record {
-        frame = frame_happens f w v o h.frame;
-        each =
-            slots_kept (λ k s. HasRoute ((entity_flow x u).slot k).base → HasRoute s.base) g h.each
-            (λ had. route_moves f x g.k ((entity_flow x w).slot g.k) (comes g.input) ((entity_flow x (happens node_steps w v)).slot g.k)
-            g.moves.sent g.moves.moves (h.each g.k had));
-      }
-
   order_by : (b : BaseView) (t : Bool) → (has_of x (Base (order_if t b order.Tick))).base.route ≡ (has_of x (Base b)).base.route
   order_by b true = refl
   order_by b false = refl
@@ -56,19 +36,21 @@ module _ (f : Frame) (u : World) (x : ℕ) where
       ap (λ n. (slot_at (has_of x) has_none n).base.route) (slice_get-map (ordered_at tick_order) u.nodes k)
       ∙ loaded_by (slice_get u.nodes k)
 
-  routes_lead : (v : World) (vs : List Event) → IsInFrame f u → LeadsTo node_has_work node_steps (look_loaded u) vs v → (k : ℕ) →
+  routes_lead : (v : World) (vs : List Event) → IsInFrame f u → RunsTo (look_loaded u) vs v → (k : ℕ) →
       HasRoute ((entity_flow x u).slot k).base → HasRoute ((entity_flow x v).slot k).base
   routes_lead v vs frame run =
-      (leads_keeps node_has_work node_steps AreRouted routed_more (look_loaded u) v vs (record {
-        frame = look_framed f u frame tick_order;
-        each = λ k had. (had.0, route_loaded k ∙ had.1);
-      }) run).each
+      (all_lead f x (λ k s. HasRoute ((entity_flow x u).slot k).base → HasRoute s.base) (λ a k m. Unit {0})
+      (λ k s i t sent here come m. ((λ had. route_moves f x k s i t sent m (here had)), units sent)) (look_loaded u) v vs
+      (look_framed f u frame tick_order) run (record {
+        slots = λ k had. (had.0, route_loaded k ∙ had.1);
+        letters = λ a k. units ((entity_flow x (look_loaded u)).mail a k);
+      })).slots
 
 -- ---- the record of clients again
 
 module _ (f : Frame) (u : World) (between : IsBetweenRounds f u) (room : HaveRoomToLook u) (vs : List Event) (v : World)
-    (run : LeadsTo node_has_work node_steps (look_loaded u) vs v) (quiet : IsQuiet node_has_work v)
-    (was : (e k : ℕ) (q : RealView) → real_in ((entity_flow e v).slot k) ≡ Some q → WasThere e k q u) (clients : ℕ → ClientReplica)
+    (run : RunsTo (look_loaded u) vs v) (quiet : IsQuiet node_has_work v)
+    (was : (e k : ℕ) (q : RealView) → real_at e v k ≡ Some q → WasThere e k q u) (clients : ℕ → ClientReplica)
     (fit : ClientsFit f clients u) where
   -- what each client shows after its look
   abbrev pub shows : ℕ → ClientReplica
@@ -92,7 +74,7 @@ module _ (f : Frame) (u : World) (between : IsBetweenRounds f u) (room : HaveRoo
         routes_lead f u x v vs between.nodes run k (fits.others_known x version shown k base);
   }
 
-  module _ (again : (e k : ℕ) (r : RealView) → real_in ((entity_flow e u).slot k) ≡ Some r → (w : WitnessView) →
+  module _ (again : (e k : ℕ) (r : RealView) → real_at e u k ≡ Some r → (w : WitnessView) →
       FitsWitness f u r w (clients e) → (cell : CellView) → slice_get u.nodes k ≡ Some (Cell cell) →
       FitsWitness f u (record r { witness = Some (witness_looked cell e r w) }) (witness_looked cell e r w) (shows e)) where
     cell_of : (e k : ℕ) (r : RealView) (o : Option NodeView) → slice_get u.nodes k ≡ o → real_in (slot_at (has_of e) has_none o) ≡ Some r →
@@ -101,7 +83,7 @@ module _ (f : Frame) (u : World) (between : IsBetweenRounds f u) (room : HaveRoo
     cell_of e k r (Some (Cell c)) at here = (c, at)
     cell_of e k r (Some (Base b)) at here = absurd (let z = here in cc)
 
-    fits_by : (e k : ℕ) (r q : RealView) (w : WitnessView) (cell : CellView) → real_in ((entity_flow e u).slot k) ≡ Some r →
+    fits_by : (e k : ℕ) (r q : RealView) (w : WitnessView) (cell : CellView) → real_at e u k ≡ Some r →
         slice_get u.nodes k ≡ Some (Cell cell) → q.witness ≡ Some w → (o : Option WitnessView) → r.witness ≡ o →
         looked_by cell e r o ≡ q → FitsWitness f v q w (shows e)
     fits_by e k r q w cell at node seen None has is =

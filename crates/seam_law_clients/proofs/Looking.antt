@@ -43,8 +43,7 @@ told_by : (known : List Known) (ls : List Look) (shown : List Shown) (r : RealVi
 told_by known ls shown r v true due = rw due refl
 told_by known ls shown r v false due = rw due refl
 
-module _ (f : Frame) (k e : ℕ) (r : RealView) (v : WitnessView) (c : ClientReplica) (fits : FitsWithin f r v c)
-    (cell : CellView) where
+module _ (f : Frame) (k e : ℕ) (r : RealView) (v : WitnessView) (c : ClientReplica) (fits : FitsWithin f r v c) (cell : CellView) where
   abbrev known : List Known
   known = known_to cell e
 
@@ -153,9 +152,8 @@ module _ (f : Frame) (k e : ℕ) (r : RealView) (v : WitnessView) (c : ClientRep
         own = λ state has. fits.own state (sym (ap (λ (y : ClientReplica). y.own) is ∙ more.own) ∙ has);
       }
 
-  pub look_fits : cell.here ≡ here_at f k →
-      FitsWithin f (with (after (shown_of cell.here r v known))) (after (shown_of cell.here r v known))
-      (after_all_shown c (shown_of cell.here r v known))
+  pub look_fits : cell.here ≡ here_at f k → FitsWithin f (with (after (shown_of cell.here r v known)))
+      (after (shown_of cell.here r v known)) (after_all_shown c (shown_of cell.here r v known))
   look_fits here =
       fits_by (own_due v.told r.version) refl (shown_of cell.here r v known) (after_all_shown c (shown_of cell.here r v known))
       (ap (after_all_shown c)

@@ -1,6 +1,6 @@
 -- A look at a flat table depends on those that are near alone.
-use Rattle.std.proofs.Common.{◌≡◌, ℕ, ◌+◌, Bool, true, false, not, cond, ◌&&◌, T, List, [], ◌∷◌, ◌++◌, map, Option, None, Some}
-use Rattle.std.proofs.Common.{refl, sym, ap, ◌∙◌, subst, arith}
+use Rattle.std.proofs.Common.{◌≡◌, ℕ, ◌+◌, Bool, true, false, not, cond, ◌&&◌, T, List, [], ◌∷◌, ◌++◌, map, Option, None, Some, refl, sym}
+use Rattle.std.proofs.Common.{ap, ◌∙◌, subst, arith}
 use Rattle.std.specs.Prelude.{nat_lt, nat_le, nat_eq, option_map}
 use Rattle.std.specs.List.{AllByRecursion, filter, filter_map, cons_option}
 use Rattle.std.specs.Ordering.{nat_cmp, eq_by_cmp}
@@ -98,8 +98,7 @@ module _ (r : Replica) (own : Pos) where
   gone_by x c true is = refl
   gone_by x c false is = sym is
 
-  gone_near : (x : ℕ) (o : Option GhostCopy) →
-      is_gone r own (option_map (as_seen x) o) ≡ is_gone r own (option_map (as_seen x) (near o))
+  gone_near : (x : ℕ) (o : Option GhostCopy) → is_gone r own (option_map (as_seen x) o) ≡ is_gone r own (option_map (as_seen x) (near o))
   gone_near x None = refl
   gone_near x (Some c) = gone_by x c (is_far r own c.state.pos) refl
 

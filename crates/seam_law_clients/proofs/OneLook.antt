@@ -1,6 +1,6 @@
 -- In a world between rounds a witness tells one look at the flat table.
-use Rattle.std.proofs.Common.{◌≡◌, ℕ, ◌+◌, ◌<◌, ◌≤◌, ◌⊎◌, Bool, true, false, cond, List, [], ◌∷◌, ◌++◌, map, Option, None, Some}
-use Rattle.std.proofs.Common.{refl, sym, ap, ◌∙◌, arith, inl, inr}
+use Rattle.std.proofs.Common.{◌≡◌, ℕ, ◌+◌, ◌<◌, ◌≤◌, ◌⊎◌, Bool, true, false, cond, List, [], ◌∷◌, ◌++◌, map, Option, None, Some, refl, sym}
+use Rattle.std.proofs.Common.{ap, ◌∙◌, arith, inl, inr}
 use Rattle.std.specs.Prelude.{option_map, slice_get, nat_lt, max}
 use Rattle.std.specs.List.{AllByRecursion, filter_map}
 use Rattle.std.specs.Ordering.{nat_cmp}
@@ -13,7 +13,7 @@ use Rattle.seam_node_steps.specs.Prelude.{GhostCopy, Own, Here, cell_count, prop
 use Rattle.seam_node_steps.specs.Prelude.{other_of_real, other_of_copy, shown_for, own_due, all_shown, shown_of, CellView, known_to}
 use Rattle.seam_node_steps.specs.Prelude.{is_another, copy_if, holders, World, node_has_work, Cell}
 use Rattle.seam_law_flow.specs.Prelude.{slot_at, letters_of}
-use Rattle.seam_law_calls.specs.Prelude.{Frame, here_at, has_of, has_none, mine, entity_flow, real_in, real_of}
+use Rattle.seam_law_calls.specs.Prelude.{Frame, here_at, has_of, has_none, mine, real_in, real_of, real_at}
 use Rattle.seam_law_rounds.specs.Prelude.{IsBetweenRounds}
 use Rattle.seam_law_ghosts.specs.Prelude.{present, copy_at, AreCopiesBetweenRounds}
 use Rattle.seam_law_clients.specs.Prelude.{row_of_real, rows_of, version_in, FitsWitness}
@@ -34,7 +34,7 @@ use Rattle.seam_rule_clients.specs.Looks.{Row, row_of, rows_but, seen, is_newer,
 use Rattle.seam_node_steps.proofs.Sorted.{each_found}
 use Rattle.seam_law_clients.proofs.Near.{near, AreAlike, lines_alike}
 use Rattle.seam_node_steps.proofs.Knowing.{known_by, known_at, known_rises, known_to_is}
-use Rattle.seam_law_clients.proofs.Rows.{found_in, IsRowIn, real_at, searched, row_found, others, others_rise, others_found, seen_others}
+use Rattle.seam_law_clients.proofs.Rows.{found_in, IsRowIn, real_among, searched, row_found, others, others_rise, others_found, seen_others}
 use Rattle.seam_law_clients.proofs.Rows.{lines_of_others}
 
 gap_same : (a b : ℕ) → gap a b ≡ gap b a
@@ -51,19 +51,17 @@ shown_now f q = other_of_real (here_at f 0) q
 
 module _ (f : Frame) (w : World) (between : IsBetweenRounds f w) where
   -- the one real of an entity
-  pub same_real : (x j k : ℕ) (q p : RealView) → real_in ((entity_flow x w).slot j) ≡ Some q →
-      real_in ((entity_flow x w).slot k) ≡ Some p → (k ≡ j) × (p ≡ q)
+  pub same_real : (x j k : ℕ) (q p : RealView) → real_at x w j ≡ Some q → real_at x w k ≡ Some p → (k ≡ j) × (p ≡ q)
   same_real x j k q p at too = elim (cases_eq k j) [
-    | inl is ↦ (is, (let z = sym too ∙ ap (λ n. real_in ((entity_flow x w).slot n)) is ∙ at in cc))
+    | inl is ↦ (is, (let z = sym too ∙ ap (λ n. real_at x w n) is ∙ at in cc))
     | inr n ↦ absurd (let z = sym too ∙ (between.settled x j q at).others k n in cc)
   ]
 
-  pub row_there : (x j : ℕ) (q : RealView) → real_in ((entity_flow x w).slot j) ≡ Some q →
-      found_in x w.nodes ≡ Some (row_of_real (here_at f 0) (x, q))
+  pub row_there : (x j : ℕ) (q : RealView) → real_at x w j ≡ Some q → found_in x w.nodes ≡ Some (row_of_real (here_at f 0) (x, q))
   row_there x j q at = by (searched x w.nodes)
     where
       by : ((row : Row) × (found_in x w.nodes ≡ Some row) × IsRowIn x w.nodes row)
-          ⊎ ((found_in x w.nodes ≡ None) × ((k : ℕ) → real_at x w.nodes k ≡ None)) →
+          ⊎ ((found_in x w.nodes ≡ None) × ((k : ℕ) → real_among x w.nodes k ≡ None)) →
           found_in x w.nodes ≡ Some (row_of_real (here_at f 0) (x, q))
       by (inl h) =
           let r = h.2 in
@@ -78,7 +76,7 @@ module _ (f : Frame) (w : World) (between : IsBetweenRounds f w) where
   row_nowhere x n = by (searched x w.nodes)
     where
       by : ((row : Row) × (found_in x w.nodes ≡ Some row) × IsRowIn x w.nodes row)
-          ⊎ ((found_in x w.nodes ≡ None) × ((k : ℕ) → real_at x w.nodes k ≡ None)) → found_in x w.nodes ≡ None
+          ⊎ ((found_in x w.nodes ≡ None) × ((k : ℕ) → real_among x w.nodes k ≡ None)) → found_in x w.nodes ≡ None
       by (inl h) =
           let r = h.2 in
           let too = ap (λ o. real_in (slot_at (has_of x) has_none o)) r.at ∙ r.here in
@@ -101,7 +99,7 @@ module _ (f : Frame) (w : World) (between : IsBetweenRounds f w) where
     low : k < cell_count
     low = (between.nodes.nodes k (Cell cell) node).low
 
-    pub real_is : (x : ℕ) → real_in ((entity_flow x w).slot k) ≡ table.get cell.reals x
+    pub real_is : (x : ℕ) → real_at x w k ≡ table.get cell.reals x
     real_is x = ap (λ o. real_in (slot_at (has_of x) has_none o)) node
 
     copy_is : (x : ℕ) → copy_at x w k ≡ copy_in (table.get cell.ghosts x)
@@ -115,7 +113,7 @@ module _ (f : Frame) (w : World) (between : IsBetweenRounds f w) where
       state = record { pos = q.state.pos; props = ghosts (type_of f.defs q.ty).properties q.state i };
     }
 
-    known_as : (x : ℕ) (r : Option RealView) (c : Option GhostCopy) → real_in ((entity_flow x w).slot k) ≡ r → copy_at x w k ≡ c →
+    known_as : (x : ℕ) (r : Option RealView) (c : Option GhostCopy) → real_at x w k ≡ r → copy_at x w k ≡ c →
         known_at cell x ≡ known_by (here_at f k) r c
     known_as x r c at copy =
         ap (λ h. known_by h (table.get cell.reals x) (copy_in (table.get cell.ghosts x))) here_is
@@ -130,15 +128,15 @@ module _ (f : Frame) (w : World) (between : IsBetweenRounds f w) where
       knows : known_at cell x ≡ Some (shown_now f q) → IsKnown x j q
       knows_not : known_at cell x ≡ None → (k ≡ j → ⊥) → set.contains q.haunts k ≡ false → IsKnown x j q
 
-    away_by : (x j : ℕ) (q : RealView) (b : Bool) → (k ≡ j → ⊥) → real_in ((entity_flow x w).slot k) ≡ None →
+    away_by : (x j : ℕ) (q : RealView) (b : Bool) → (k ≡ j → ⊥) → real_at x w k ≡ None →
         set.contains q.haunts k ≡ b → copy_at x w k ≡ copy_if b (present f q) → IsKnown x j q
     away_by x j q true n none is copy =
         knows (known_as x None (Some (present f q)) none copy ∙ ap (λ y. Some y) (by_copy q))
     away_by x j q false n none is copy = knows_not (known_as x None None none copy) n is
 
-    pub known_there : (x j : ℕ) (q : RealView) → real_in ((entity_flow x w).slot j) ≡ Some q → IsKnown x j q
+    pub known_there : (x j : ℕ) (q : RealView) → real_at x w j ≡ Some q → IsKnown x j q
     known_there x j q at = elim (cases_eq k j) [
-      | inl is ↦ knows (known_as x (Some q) (copy_at x w k) (ap (λ n. real_in ((entity_flow x w).slot n)) is ∙ at) refl)
+      | inl is ↦ knows (known_as x (Some q) (copy_at x w k) (ap (λ n. real_at x w n) is ∙ at) refl)
       | inr n ↦
           away_by x j q (set.contains q.haunts k) n ((between.settled x j q at).others k n) refl
           ((copies.settled x j q at).copies k low)
@@ -150,9 +148,8 @@ abbrev pub table_at : World → ℕ → Option GhostCopy
 table_at w x = option_map (λ r. r.other) (found_in x w.nodes)
 
 pub own_by : (h : Here) (r : RealView) (w : WitnessView) (known : List Known) (looks : List Look) (b : Bool) →
-    own_due w.told r.version ≡ b →
-    all_shown h r w known looks
-    ≡ cond b (Own r.version (own_of (properties h r.ty) r.state) ∷ []) [] ++ filter_map (shown_for known) looks
+    own_due w.told r.version ≡ b → all_shown h r w known looks ≡ cond b (Own r.version (own_of (properties h r.ty) r.state) ∷ []) [] ++
+    filter_map (shown_for known) looks
 own_by h r w known looks true due = rw due refl
 own_by h r w known looks false due = rw due refl
 
@@ -168,19 +165,19 @@ within : (reach d : ℕ) → nat_lt reach d ≡ false → d ≤ reach
 within reach d far = grind (arith, nat_tests, far)
 
 module _ (f : Frame) (w : World) (between : IsBetweenRounds f w) (copies : AreCopiesBetweenRounds f w)
-    (seen_near : (e i : ℕ) (r : RealView) → real_in ((entity_flow e w).slot i) ≡ Some r → (x j : ℕ) (q : RealView) →
-    real_in ((entity_flow x w).slot j) ≡ Some q → distance q.state.pos r.state.pos ≤ f.settings.view_radius + f.settings.view_hysteresis →
+    (seen_near : (e i : ℕ) (r : RealView) → real_at e w i ≡ Some r → (x j : ℕ) (q : RealView) →
+    real_at x w j ≡ Some q → distance q.state.pos r.state.pos ≤ f.settings.view_radius + f.settings.view_hysteresis →
     (i ≡ j) ⊎ (set.contains q.haunts i ≡ true))
     (ghosts : (ps : List Property) (s : State) → projected ps group.Ghost group.Other (ghost_of ps s).props ≡ (other_of ps s).props)
     (plain : (r : Replica) (own : Pos) (known : List Seen) → IsView r → AreNotOlder r known →
     view.one_look r own known ≡ plain_look r own known)
-    (e k : ℕ) (r : RealView) (at : real_in ((entity_flow e w).slot k) ≡ Some r) (v : WitnessView) (c : ClientReplica)
+    (e k : ℕ) (r : RealView) (at : real_at e w k ≡ Some r) (v : WitnessView) (c : ClientReplica)
     (fits : FitsWitness f w r v c) (cell : CellView) (node : slice_get w.nodes k ≡ Some (Cell cell)) where
   abbrev known : List Known
   known = known_to cell e
 
   -- who is not known is far
-  far_by : (x j : ℕ) (q : RealView) (b : Bool) → real_in ((entity_flow x w).slot j) ≡ Some q → (k ≡ j → ⊥) →
+  far_by : (x j : ℕ) (q : RealView) (b : Bool) → real_at x w j ≡ Some q → (k ≡ j → ⊥) →
       set.contains q.haunts k ≡ false → is_far v.view r.state.pos q.state.pos ≡ b → b ≡ true
   far_by x j q true there n none is = refl
   far_by x j q false there n none is = absurd (by (seen_near e k r at x j q there close))
@@ -197,11 +194,10 @@ module _ (f : Frame) (w : World) (between : IsBetweenRounds f w) (copies : AreCo
       by (inl is) = n is
       by (inr has) = let z = sym none ∙ has in cc
 
-  table_there : (x j : ℕ) (q : RealView) → real_in ((entity_flow x w).slot j) ≡ Some q → table_at w x ≡ Some (shown_now f q)
+  table_there : (x j : ℕ) (q : RealView) → real_at x w j ≡ Some q → table_at w x ≡ Some (shown_now f q)
   table_there x j q there = ap (option_map (λ y. y.other)) (row_there f w between x j q there)
 
-  near_by : (x j : ℕ) (q : RealView) → real_in ((entity_flow x w).slot j) ≡ Some q →
-      IsKnown f w between copies ghosts k cell node x j q →
+  near_by : (x j : ℕ) (q : RealView) → real_at x w j ≡ Some q → IsKnown f w between copies ghosts k cell node x j q →
       near v.view r.state.pos (known_at cell x) ≡ near v.view r.state.pos (table_at w x)
   near_by x j q there (knows is) = ap (near v.view r.state.pos) (is ∙ sym (table_there x j q there))
   near_by x j q there (knows_not is n none) =
@@ -234,7 +230,7 @@ module _ (f : Frame) (w : World) (between : IsBetweenRounds f w) (copies : AreCo
   }
 
   -- nothing known is older than what was shown
-  version_by : (x j : ℕ) (q : RealView) (d : GhostCopy) → real_in ((entity_flow x w).slot j) ≡ Some q →
+  version_by : (x j : ℕ) (q : RealView) (d : GhostCopy) → real_at x w j ≡ Some q →
       IsKnown f w between copies ghosts k cell node x j q → known_at cell x ≡ Some d → not_older (table.get v.view.shown x) d.version ≡ true
   version_by x j q d there (knows is) known_is =
       let same : shown_now f q ≡ d = let z = sym is ∙ known_is in cc in

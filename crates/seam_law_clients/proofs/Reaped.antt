@@ -1,19 +1,19 @@
 -- Where entities are reaped, each base part stays as it is, with its client and what that was shown, until it is gone.
-use Rattle.std.proofs.Common.{◌≡◌, ℕ, ◌+◌, ◌≤◌, Bool, true, false, cond, eqb, List, [], ◌∷◌, Option, None, Some, refl, sym}
-use Rattle.std.proofs.Common.{ap, ◌∙◌, ◌++◌, subst, arith, inl, inr, append_assoc}
+use Rattle.std.proofs.Common.{◌≡◌, ℕ, ◌+◌, ◌≤◌, Bool, true, false, cond, eqb, List, [], ◌∷◌, Option, None, Some, refl, sym, ap, ◌∙◌, ◌++◌}
+use Rattle.std.proofs.Common.{subst, arith, inl, inr, append_assoc}
 use Rattle.std.specs.Prelude.{option_map, slice_get}
 use Rattle.std.specs.List.{AllByRecursion}
 use Rattle.std.specs.FinMap as table
 use Rattle.std.proofs.lemmas.Bool.{cases_eq, eq-eqb}
 use Rattle.std.proofs.lemmas.Option.{slice_get-map}
-use Rattle.seam_node_steps.specs.Prelude.{happens, enabled, IsQuiet, LeadsTo, total, Event, OrderView, Call as CallData, Order, Shown}
-use Rattle.seam_node_steps.specs.Prelude.{is_ready, order_or, RealView, WitnessView, Msg, BaseCall, Update, Here, PartView, ProxyView}
-use Rattle.seam_node_steps.specs.Prelude.{holders, NodeView, World, node_steps, node_has_work, with_nodes, reap_ordered_at, reaps_loaded}
+use Rattle.seam_node_steps.specs.Prelude.{happens, enabled, IsQuiet, total, Event, OrderView, Call as CallData, Order, Shown, is_ready}
+use Rattle.seam_node_steps.specs.Prelude.{order_or, RealView, WitnessView, Msg, BaseCall, Update, Here, PartView, ProxyView, holders}
+use Rattle.seam_node_steps.specs.Prelude.{NodeView, World, node_steps, node_has_work, with_nodes, reap_ordered_at, reaps_loaded}
 use Rattle.seam_law_flow.specs.Prelude.{comes, slot_at}
 use Rattle.seam_law_calls.specs.Prelude.{Frame, here_at, IsInFrame, Has, AtBase, times, has_of, has_none, entity_flow, BaseMoves, updated}
-use Rattle.seam_law_calls.specs.Prelude.{Moves, at_a_cell, at_a_base, real_in, base_call_in, update_in, calls_ordered, PartMoves, rests}
-use Rattle.seam_law_calls.specs.Prelude.{refuses, offers, sends, serves, executes, misses, updates, shows, ends, home_of, HasNoBaseCalls}
-use Rattle.seam_law_calls.specs.Prelude.{HasNoPart}
+use Rattle.seam_law_calls.specs.Prelude.{Moves, at_a_cell, at_a_base, base_call_in, update_in, calls_ordered, PartMoves, rests, refuses}
+use Rattle.seam_law_calls.specs.Prelude.{offers, sends, serves, executes, misses, updates, shows, ends, home_of, HasNoBaseCalls, HasNoPart}
+use Rattle.seam_law_calls.specs.Prelude.{RunsTo, real_at}
 use Rattle.seam_law_rounds.specs.Prelude.{IsBetweenRounds, each, AreReapable, AreFor, HasSettledPart, HasPartsBetweenRounds}
 use Rattle.seam_machine.proofs.Occurring.{occurs}
 use Rattle.seam_machine.proofs.Quiet.{quiet_tasks}
@@ -33,6 +33,7 @@ use Rattle.seam_law_calls.proofs.PartSteps.{part_moves}
 use Rattle.seam_law_calls.proofs.BaseQuiet.{no_call_left}
 use Rattle.seam_law_calls.proofs.Reaped.{no_call_comes, reaps_without_calls}
 use Rattle.seam_law_rounds.proofs.Calms.{reaps_part, reaps_tell_none}
+use Rattle.seam_law_calls.proofs.Keeping.{all_lead, units}
 
 -- ---- a part for which nothing waits stays, or ends
 
@@ -142,7 +143,7 @@ module _ (f : Frame) (u : World) (between : IsBetweenRounds f u) (parts : HasPar
 
     -- ---- an entity that was there
 
-    module _ (home : ℕ) (r : RealView) (here : real_in ((entity_flow e u).slot home) ≡ Some r) where
+    module _ (home : ℕ) (r : RealView) (here : real_at e u home ≡ Some r) where
       settled : HasSettledPart f e r.ty u
       settled = parts.parts e home r here
 
@@ -173,7 +174,7 @@ module _ (f : Frame) (u : World) (between : IsBetweenRounds f u) (parts : HasPar
       record AreLeft (w : World) : Type 0 where
         frame : IsInFrame f w
         before : List Event
-        from : LeadsTo node_has_work node_steps start before w
+        from : RunsTo start before w
         none : HasNoBaseCalls e w
         each_part : (k : ℕ) → StaysOrEnds ((entity_flow e u).slot k).base.part ((entity_flow e w).slot k).base.part
 
@@ -199,7 +200,7 @@ module _ (f : Frame) (u : World) (between : IsBetweenRounds f u) (parts : HasPar
                 (part_moves f e g.k s (comes g.input) t g.moves.sent g.moves.moves) (h.each_part g.k));
           }
 
-      module _ (vs : List Event) (v : World) (run : LeadsTo node_has_work node_steps start vs v) where
+      module _ (vs : List Event) (v : World) (run : RunsTo start vs v) where
         are_left : AreLeft v
         are_left =
             leads_keeps node_has_work node_steps AreLeft left_more start v vs (record {
@@ -223,28 +224,12 @@ module _ (f : Frame) (u : World) (between : IsBetweenRounds f u) (parts : HasPar
 
     -- ---- one that is told to be reaped
 
-    record AreWaiting (w : World) : Type 0 where
-      frame : IsInFrame f w
-      each : (k : ℕ) → WaitsOrGone ((entity_flow e w).slot k).base
-
     moves_so : (k : ℕ) (s : Has) (i : Option Msg) (t : Has) (sent : List (ℕ × Msg)) → Moves f e k s i t sent → WaitsOrGone s.base →
         WaitsOrGone t.base
     moves_so k s i t sent (at_a_cell low m same) so = subst WaitsOrGone (sym same) so
     moves_so k s i t sent (at_a_base high m same) so = so_after (here_at f k) _ e s.base i t.base sent m so
 
-    waiting_more : (w : World) (v : Event) → AreWaiting w → enabled node_has_work w v ≡ true → AreWaiting (happens node_steps w v)
-    waiting_more w v h on =
-        let o = occurs node_has_work w v on in
-        let g = event_moves f w v o h.frame e in
-        record {
-          frame = frame_happens f w v o h.frame;
-          each =
-              slots_kept (λ k s. WaitsOrGone s.base) g h.each
-              (moves_so g.k ((entity_flow e w).slot g.k) (comes g.input) ((entity_flow e (happens node_steps w v)).slot g.k) g.moves.sent
-              g.moves.moves (h.each g.k));
-        }
-
-    module _ (home : ℕ) (r : RealView) (here : real_in ((entity_flow e u).slot home) ≡ Some r) (listed : 1 ≤ times e es) where
+    module _ (home : ℕ) (r : RealView) (here : real_at e u home ≡ Some r) (listed : 1 ≤ times e es) where
       at_home : (k : ℕ) (o : Option NodeView) → slice_get u.nodes k ≡ o → k ≡ home_of f e →
           WaitsOrGone (slot_at (has_of e) has_none (option_map turn o)).base
       at_home k None at is = over refl
@@ -259,7 +244,7 @@ module _ (f : Frame) (u : World) (between : IsBetweenRounds f u) (parts : HasPar
         | inr n ↦ over (part_is k ∙ (parts.parts e home r here).others k n)
       ]
 
-      module _ (vs : List Event) (v : World) (run : LeadsTo node_has_work node_steps start vs v) (quiet : IsQuiet node_has_work v) where
+      module _ (vs : List Event) (v : World) (run : RunsTo start vs v) (quiet : IsQuiet node_has_work v) where
         orders_by : (k : ℕ) (o : Option NodeView) → slice_get v.nodes k ≡ o → (slot_at (has_of e) has_none o).base.orders ≡ []
         orders_by k None at = refl
         orders_by k (Some s) at = idle_orders e s (quiet_tasks node_has_work v quiet k s at)
@@ -272,14 +257,13 @@ module _ (f : Frame) (u : World) (between : IsBetweenRounds f u) (parts : HasPar
 
         pub part_gone : HasNoPart e v
         part_gone k =
-            gone_by k ((leads_keeps node_has_work node_steps AreWaiting waiting_more start v vs (record {
-              frame = inside;
-              each = starts_waiting;
-            }) run).each k)
+            gone_by k ((all_lead f e (λ k s. WaitsOrGone s.base) (λ a k m. Unit {0})
+            (λ k s i t sent so come m. (moves_so k s i t sent m so, units sent)) start v vs inside run
+            (record { slots = starts_waiting; letters = λ a k. units ((entity_flow e start).mail a k) })).slots k)
 
   -- ---- all of them
 
-  module _ (vs : List Event) (v : World) (run : LeadsTo node_has_work node_steps start vs v) (quiet : IsQuiet node_has_work v) where
+  module _ (vs : List Event) (v : World) (run : RunsTo start vs v) (quiet : IsQuiet node_has_work v) where
     some_times : (e : ℕ) (first later : List ℕ) → 1 ≤ times e (first ++ e ∷ later)
     some_times e [] later =
         let is = ap (λ b. cond {A = ℕ} b (times e later + 1) (times e later)) (eq-eqb e e refl) in

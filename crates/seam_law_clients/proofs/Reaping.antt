@@ -3,11 +3,11 @@ use Rattle.std.proofs.Common.{◌≡◌, ℕ, ◌≤◌, true, is_some, List, []
 use Rattle.std.specs.Prelude.{option_map, slice_get}
 use Rattle.std.specs.List.{AllByRecursion}
 use Rattle.std.proofs.lemmas.Option.{slice_get-map}
-use Rattle.seam_node_steps.specs.Prelude.{happens, enabled, LeadsTo, Event, RealView, WitnessView, NodeView, World, node_steps}
-use Rattle.seam_node_steps.specs.Prelude.{node_has_work, with_nodes, reap_ordered_at, reaps_loaded}
+use Rattle.seam_node_steps.specs.Prelude.{happens, enabled, Event, RealView, WitnessView, NodeView, World, node_steps, node_has_work}
+use Rattle.seam_node_steps.specs.Prelude.{with_nodes, reap_ordered_at, reaps_loaded}
 use Rattle.seam_law_flow.specs.Prelude.{slot_at, letters_of}
-use Rattle.seam_law_calls.specs.Prelude.{Frame, IsInFrame, mine, has_of, has_none, entity_flow, real_in, real_of, sent_by, tick_in}
-use Rattle.seam_law_calls.specs.Prelude.{EachReal, HasToldAtMost, HasNoLooks}
+use Rattle.seam_law_calls.specs.Prelude.{Frame, IsInFrame, mine, has_of, has_none, entity_flow, real_of, sent_by, tick_in, EachReal}
+use Rattle.seam_law_calls.specs.Prelude.{HasToldAtMost, HasNoLooks, RunsTo, real_at}
 use Rattle.seam_law_rounds.specs.Prelude.{IsBetweenRounds, each, AreReapable}
 use Rattle.seam_law_ghosts.specs.Prelude.{WasThere}
 use Rattle.seam_law_clients.specs.Prelude.{FitsWitness, ClientsFit}
@@ -46,7 +46,7 @@ module _ (f : Frame) (e n : ℕ) (witness : Option WitnessView) where
       }
 
   pub untold_leads : (w v : World) (es : List Event) → IsInFrame f w → HasNoLooks e w → HasToldAtMost e n w →
-      EachReal e (λ r. r.witness ≡ witness) w → LeadsTo node_has_work node_steps w es v → EachReal e (λ r. r.witness ≡ witness) v
+      EachReal e (λ r. r.witness ≡ witness) w → RunsTo w es v → EachReal e (λ r. r.witness ≡ witness) v
   untold_leads w v es frame looks told same run =
       (leads_keeps node_has_work node_steps IsUntold untold_more w v es (record {
         without = record { frame = frame; looks = looks; told = told };
@@ -56,15 +56,15 @@ module _ (f : Frame) (e n : ℕ) (witness : Option WitnessView) where
 -- ---- the phase of reaps
 
 module _ (f : Frame) (u : World) (between : IsBetweenRounds f u) (es : List ℕ) (may : AreReapable u es) (vs : List Event) (v : World)
-    (run : LeadsTo node_has_work node_steps (reaps_loaded u es) vs v) where
+    (run : RunsTo (reaps_loaded u es) vs v) where
   abbrev turn : NodeView → NodeView
   turn = each reap_ordered_at es
 
   abbrev start : World
   start = with_nodes u turn
 
-  turned : LeadsTo node_has_work node_steps start vs v
-  turned = subst (λ w. LeadsTo node_has_work node_steps w vs v) (reaping.loaded_is f u between es may) run
+  turned : RunsTo start vs v
+  turned = subst (λ w. RunsTo w vs v) (reaping.loaded_is f u between es may) run
 
   inside : IsInFrame f start
   inside = reaps_framed f u between.nodes es
@@ -103,7 +103,7 @@ module _ (f : Frame) (u : World) (between : IsBetweenRounds f u) (es : List ℕ)
     route_is k = ap (λ s. s.base.route) (slot_is k) ∙ route_by k (slice_get u.nodes k) refl
 
     -- each real is the one that was there
-    module _ (home : ℕ) (r : RealView) (here : real_in ((entity_flow e u).slot home) ≡ Some r) where
+    module _ (home : ℕ) (r : RealView) (here : real_at e u home ≡ Some r) where
       each_start : (P : RealView → Type 0) → P r → EachReal e P start
       each_start P holds = record {
         cells = λ k q at.
@@ -118,7 +118,7 @@ module _ (f : Frame) (u : World) (between : IsBetweenRounds f u) (es : List ℕ)
           (each_start (λ q. sent_by q ≤ sent_by r) (omega arith)) (each_start (λ q. q.witness ≡ r.witness) refl) turned
 
   -- a real that is left is what it was
-  pub stays : (e k : ℕ) (q : RealView) → real_in ((entity_flow e v).slot k) ≡ Some q → real_in ((entity_flow e u).slot k) ≡ Some q
+  pub stays : (e k : ℕ) (q : RealView) → real_at e v k ≡ Some q → real_at e u k ≡ Some q
   stays e k q at =
       let there : WasThere e k q u = reaps_leave f u between es may vs v run e k q at in
       let witness = (same_witness e k there.real there.here).cells k q at in

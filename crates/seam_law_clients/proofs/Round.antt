@@ -4,7 +4,7 @@ use Rattle.std.specs.Prelude.{slice_get}
 use Rattle.std.proofs.lemmas.List.Sums.{fold-append}
 use Rattle.seam_node_steps.specs.Prelude.{IsQuiet, Batch, RealView, WitnessView, World, node_has_work}
 use Rattle.seam_law_flow.specs.Prelude.{letters_of}
-use Rattle.seam_law_calls.specs.Prelude.{Frame, entity_flow, real_in, home_of, proxy_of, shown_in, lines_in, shown_at}
+use Rattle.seam_law_calls.specs.Prelude.{Frame, entity_flow, home_of, proxy_of, shown_in, lines_in, shown_at, real_at}
 use Rattle.seam_law_rounds.specs.Prelude.{IsBetweenRounds, framed, MayBeLoaded, HasPartsBetweenRounds, HasSmallNumbers}
 use Rattle.seam_law_ghosts.specs.Prelude.{AreCopiesBetweenRounds, GoesThroughRound, WasThere, ArePlaced}
 use Rattle.seam_law_clients.specs.Prelude.{rows_of, FitsWitness, ClientsFit, looked_by, having_looked, HaveRoomToLook, clients_shown}
@@ -31,7 +31,7 @@ module _ (f : Frame) (w : World) (b : Batch) (may : MayBeLoaded f w b) (copies :
   -- ---- the records where the calls end, and where the reaps do
 
   pub called_between : IsBetweenRounds g round.called
-  called_between = calls_end_between f w b may.between may.fits round.called round.call_events round.calls round.calls_done
+  called_between = calls_end_between f w b may.begin round.called round.call_events round.calls round.calls_done
 
   called_parts : HasPartsBetweenRounds g round.called
   called_parts = calls_end_with_parts f w b may round.called round.call_events round.calls round.calls_done
@@ -41,10 +41,10 @@ module _ (f : Frame) (w : World) (b : Batch) (may : MayBeLoaded f w b) (copies :
 
   called_copies : AreCopiesBetweenRounds g round.called
   called_copies =
-      calls_end_copied f w b may.between may.fits copies round.called round.call_events round.calls round.calls_done
+      calls_end_copied f w b may.begin copies round.called round.call_events round.calls round.calls_done
 
   called_placed : ArePlaced g round.called
-  called_placed = calls_place f w b may.between may.fits round.called round.call_events round.calls round.calls_done
+  called_placed = calls_place f w b may.begin round.called round.call_events round.calls round.calls_done
 
   pub reaped_between : IsBetweenRounds g round.reaped
   reaped_between =
@@ -84,7 +84,7 @@ module _ (f : Frame) (w : World) (b : Batch) (may : MayBeLoaded f w b) (copies :
         clients_fit_reaped g round.called called_between round.gone round.may round.reap_events round.reaped round.reaps once_called
 
     -- the lines of a client that is left are those of the calls
-    module _ (e k : ℕ) (r : RealView) (here : real_in ((entity_flow e round.reaped).slot k) ≡ Some r) where
+    module _ (e k : ℕ) (r : RealView) (here : real_at e round.reaped k ≡ Some r) where
       abbrev home : ℕ
       home = home_of g e
 
@@ -100,19 +100,17 @@ module _ (f : Frame) (w : World) (b : Batch) (may : MayBeLoaded f w b) (copies :
 
     module _ (quiet : IsQuiet node_has_work v)
         (fit : ClientsFit g (λ e. after_all_shown (once_called e) (one_look (once_called e) e (rows_of round.reaped))) v)
-        (all : (e k : ℕ) (r : RealView) → real_in ((entity_flow e round.reaped).slot k) ≡ Some r → (x : WitnessView) →
+        (all : (e k : ℕ) (r : RealView) → real_at e round.reaped k ≡ Some r → (x : WitnessView) →
         r.witness ≡ Some x → shown_at ((entity_flow e v).slot (home_of g e))
         ≡ shown_at ((entity_flow e round.reaped).slot (home_of g e)) ++ one_look (once_called e) e (rows_of round.reaped)) where
-      module _ (e k : ℕ) (q : RealView) (at : real_in ((entity_flow e v).slot k) ≡ Some q) (x : WitnessView)
-          (has : q.witness ≡ Some x) where
+      module _ (e k : ℕ) (q : RealView) (at : real_at e v k ≡ Some q) (x : WitnessView) (has : q.witness ≡ Some x) where
         there : WasThere e k q round.reaped
         there = looks_leave g round.reaped reaped_between round.look_events v round.looks e k q at
 
         some_is : {y z : RealView} → Some y ≡ Some z → y ≡ z
         some_is h = cc
 
-        shown_by : (o : Option WitnessView) → there.real.witness ≡ o →
-            FitsWitness g v q x (clients_shown g clients v e)
+        shown_by : (o : Option WitnessView) → there.real.witness ≡ o → FitsWitness g v q x (clients_shown g clients v e)
         shown_by None none =
             let cell = cell_at e k round.reaped there.real (slice_get round.reaped.nodes k) refl there.here in
             let now =

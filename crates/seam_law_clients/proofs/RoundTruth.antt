@@ -1,48 +1,33 @@
 -- In a round each cell knows of others only what they were since the load.
-use Rattle.std.proofs.Common.{◌≡◌, ℕ, ◌≤◌, ◌⊎◌, Bool, true, false, cond, List, [], Option, None, Some, refl, sym, ap, ◌∙◌, subst}
-use Rattle.std.proofs.Common.{arith, inl, inr}
+use Rattle.std.proofs.Common.{◌≡◌, ℕ, ◌≤◌, ◌⊎◌, Bool, true, false, cond, List, [], Option, None, Some, refl, sym, ap, ◌∙◌, subst, arith}
+use Rattle.std.proofs.Common.{inl, inr}
 use Rattle.std.specs.Prelude.{slice_get}
 use Rattle.std.specs.List.{AllByRecursion}
 use Rattle.std.specs.FinMap as table
 use Rattle.std.proofs.lemmas.Bool.{cases_lt}
-use Rattle.seam_node_steps.specs.Prelude.{happens, enabled, LeadsTo, Event, State, Property, ghost_of, other_of, projected, type_of}
-use Rattle.seam_node_steps.specs.Prelude.{copy_in, Batch, GhostCopy, RealView, cell_count, other_of_real, other_of_copy, CellView, known_to}
-use Rattle.seam_node_steps.specs.Prelude.{is_another, holders, loaded, NodeView, World, node_steps, node_has_work, Cell, Base}
+use Rattle.seam_node_steps.specs.Prelude.{Event, State, Property, ghost_of, other_of, projected, type_of, copy_in, Batch, GhostCopy}
+use Rattle.seam_node_steps.specs.Prelude.{RealView, cell_count, other_of_real, other_of_copy, CellView, known_to, is_another, holders}
+use Rattle.seam_node_steps.specs.Prelude.{loaded, NodeView, World, Cell, Base}
 use Rattle.seam_law_flow.specs.Prelude.{slot_at, letters_of}
 use Rattle.seam_law_calls.specs.Prelude.{Frame, here_at, IsInFrame, has_of, has_none, entity_flow, real_in, real_of, IsAbsent, BringsNone}
-use Rattle.seam_law_rounds.specs.Prelude.{IsBetweenRounds, IsFitting, framed}
+use Rattle.seam_law_calls.specs.Prelude.{RunsTo, real_at}
+use Rattle.seam_law_rounds.specs.Prelude.{framed, MayBegin}
 use Rattle.seam_law_ghosts.specs.Prelude.{book_entry, IsTrueCopy, IsTrue, present, copy_at, AreCopiesBetweenRounds}
 use Rattle.seam_law_clients.specs.Prelude.{ComesBetween, IsTrueBetween, WasOther, true_between}
-use Rattle.seam_machine.proofs.Occurring.{occurs}
-use Rattle.seam_net_runs.proofs.Runs.{leads_keeps}
 use Rattle.seam_law_flow.proofs.TokenLemmas.{sole_here}
 use Rattle.seam_defs.specs.declared.flags.Group.TheVariants as group
-use Rattle.seam_law_calls.proofs.Classify.{frame_happens}
 use Rattle.seam_law_calls.proofs.Counting.{none_counts}
 use Rattle.seam_law_rounds.proofs.Loaded.{no_mail}
 use Rattle.seam_law_rounds.proofs.Going.{settled_loaded}
 use Rattle.seam_law_rounds.proofs.Shape.{Somewhere, Nowhere, search_real, frame_leads}
 use Rattle.seam_law_ghosts.proofs.Present.{true_more, present_first}
-use Rattle.seam_law_calls.proofs.Absent.{absent_happens}
+use Rattle.seam_law_calls.proofs.Absent.{absent_leads}
 use Rattle.seam_law_clients.proofs.Near.{known_found}
 use Rattle.seam_node_steps.proofs.Knowing.{known_by, known_at, known_to_is}
 
 -- ---- an entity that is nowhere
 
 module _ (f : Frame) (x : ℕ) where
-  record Away (w : World) : Type 0 where
-    frame : IsInFrame f w
-    absent : IsAbsent x w
-
-  away_more : (w : World) (v : Event) → Away w → enabled node_has_work w v ≡ true → Away (happens node_steps w v)
-  away_more w v h on =
-      let o = occurs node_has_work w v on in
-      record { frame = frame_happens f w v o h.frame; absent = absent_happens f x w v o h.frame h.absent }
-
-  pub absent_leads : (w v : World) (es : List Event) → IsInFrame f w → IsAbsent x w → LeadsTo node_has_work node_steps w es v → IsAbsent x v
-  absent_leads w v es frame absent run =
-      (leads_keeps node_has_work node_steps Away away_more w v es (record { frame = frame; absent = absent }) run).absent
-
   -- a base node has no copy
   base_has_none : (w : World) → IsInFrame f w → (k : ℕ) → cell_count ≤ k → (n : Option NodeView) → slice_get w.nodes k ≡ n →
       copy_in (slot_at (has_of x) has_none n).cell.slot.ghost ≡ None
@@ -57,10 +42,10 @@ module _ (f : Frame) (x : ℕ) where
 
 -- ---- a round
 
-module _ (f : Frame) (w : World) (b : Batch) (between : IsBetweenRounds f w) (fits : IsFitting f w b)
+module _ (f : Frame) (w : World) (b : Batch) (begin : MayBegin f w b)
     (framed_ : IsInFrame (framed f b) (loaded w b)) (copies : AreCopiesBetweenRounds (framed f b) (loaded w b))
-    (truths : (u : World) (us : List Event) → LeadsTo node_has_work node_steps (loaded w b) us u → (x k : ℕ) (r : RealView) →
-    real_in ((entity_flow x (loaded w b)).slot k) ≡ Some r → IsTrue (framed f b) x r.ty r (λ n. present (framed f b) r) u)
+    (truths : (u : World) (us : List Event) → RunsTo (loaded w b) us u → (x k : ℕ) (r : RealView) →
+    real_at x (loaded w b) k ≡ Some r → IsTrue (framed f b) x r.ty r (λ n. present (framed f b) r) u)
     (ghosts : (ps : List Property) (s : State) → projected ps group.Ghost group.Other (ghost_of ps s).props ≡ (other_of ps s).props)
     (v : World) where
   abbrev g : Frame
@@ -72,11 +57,11 @@ module _ (f : Frame) (w : World) (b : Batch) (between : IsBetweenRounds f w) (fi
   pub absent_at_start : (x : ℕ) → Nowhere x start → IsAbsent x start
   absent_at_start x n = record {
     cells = λ k. record { real = n k; copy = none k };
-    letters = λ a k. all_bring_none g x a k start (no_mail f w b between fits x a k);
+    letters = λ a k. all_bring_none g x a k start (no_mail f w b begin x a k);
   }
     where
       zero_ : holders start x ≡ 0
-      zero_ = none_counts start x (record { slots = n; mail = λ a k. ap (letters_of real_of) (no_mail f w b between fits x a k) })
+      zero_ = none_counts start x (record { slots = n; mail = λ a k. ap (letters_of real_of) (no_mail f w b begin x a k) })
 
       none : (k : ℕ) → copy_in ((entity_flow x start).slot k).cell.slot.ghost ≡ None
       none k = elim (cases_lt k cell_count) [
@@ -93,7 +78,7 @@ module _ (f : Frame) (w : World) (b : Batch) (between : IsBetweenRounds f w) (fi
   })
 
   module _ (u : World) (m : ComesBetween start v u) (k : ℕ) (cell : CellView) (node : slice_get u.nodes k ≡ Some (Cell cell)) (x : ℕ) where
-    real_is : real_in ((entity_flow x u).slot k) ≡ table.get cell.reals x
+    real_is : real_at x u k ≡ table.get cell.reals x
     real_is = ap (λ o. real_in (slot_at (has_of x) has_none o)) node
 
     copy_is : copy_at x u k ≡ copy_in (table.get cell.ghosts x)
@@ -104,12 +89,12 @@ module _ (f : Frame) (w : World) (b : Batch) (between : IsBetweenRounds f w) (fi
 
     -- ---- of an entity that was there
 
-    module _ (home : ℕ) (r : RealView) (there : real_in ((entity_flow x start).slot home) ≡ Some r) where
+    module _ (home : ℕ) (r : RealView) (there : real_at x start home ≡ Some r) where
       its : IsTrue g x r.ty r (λ n. present g r) u
       its = truths u m.before m.from x home r there
 
       first_low : r.public ≤ r.version
-      first_low = (settled_loaded f w b between fits x home r there).public
+      first_low = (settled_loaded f w b begin x home r there).public
 
       first_version : (its.table r.beat).version ≡ r.public
       first_version = ap (λ (y : GhostCopy). y.version) (its.kept r.beat (let s : r.beat ≤ r.beat = omega arith in s))

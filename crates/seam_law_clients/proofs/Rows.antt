@@ -17,8 +17,8 @@ use Rattle.seam_view.specs.declared.Look.TheVariants as look
 use Rattle.seam_node_steps.specs.CellLooks as known
 use Rattle.seam_rule_clients.specs.Looks as replica
 use Rattle.seam_rule_clients.specs.Looks.{Row, row_of, rows_but, seen}
-use Rattle.seam_node_steps.proofs.Sorted.{passing, find_filter, sorted_filter, each_found, or_else, find_mapped, sorted_mapped}
-use Rattle.seam_node_steps.proofs.Sorted.{find_append, find_entries}
+use Rattle.seam_node_steps.proofs.Sorted.{passing, find_filter, sorted_filter, each_found, or_else, find_mapped, sorted_mapped, find_append}
+use Rattle.seam_node_steps.proofs.Sorted.{find_entries}
 use Rattle.seam_law_clients.proofs.Near.{lines_agree}
 use Rattle.seam_node_steps.proofs.Knowing.{unless_self, passing_others}
 
@@ -40,11 +40,11 @@ module _ (x : ℕ) where
   abbrev Found : List NodeView → Type 0
   Found ns = (row : Row) × (found_in ns ≡ Some row) × IsRowIn ns row
 
-  abbrev pub real_at : List NodeView → ℕ → Option RealView
-  real_at ns k = real_in (slot_at (has_of x) has_none (slice_get ns k))
+  abbrev pub real_among : List NodeView → ℕ → Option RealView
+  real_among ns k = real_in (slot_at (has_of x) has_none (slice_get ns k))
 
   abbrev Missing : List NodeView → Type 0
-  Missing ns = (found_in ns ≡ None) × ((k : ℕ) → real_at ns k ≡ None)
+  Missing ns = (found_in ns ≡ None) × ((k : ℕ) → real_among ns k ≡ None)
 
   row_at_cell : (c : CellView) → table.find nat_cmp x (rows_at (Cell c)) ≡ option_map (λ r. row_of_real c.here (x, r)) (table.get c.reals x)
   row_at_cell c =
@@ -62,7 +62,7 @@ module _ (x : ℕ) where
   more n ns none away (inr m) =
       inr (find_append x (rows_at n) (flat_map rows_at ns) ∙ ap (λ o. or_else o (found_in ns)) none ∙ m.0, each)
     where
-      each : (k : ℕ) → real_at (n ∷ ns) k ≡ None
+      each : (k : ℕ) → real_among (n ∷ ns) k ≡ None
       each zero = away
       each (suc k) = m.1 k
 
@@ -107,10 +107,9 @@ module _ (e : ℕ) where
       ap (λ n. cond (not (eqb n e)) (p.1 ∷ rows_but e (map row_in es)) (rows_but e (map row_in es))) own.0
       ∙ but_by p es (is_another e p.0) (but_is es own.1)
 
-  known_by : (p : ℕ × Row) (es : List (ℕ × Row)) (b : Bool) →
-      filter (is_of_another e) (map row_known es) ≡ map row_known (filter (is_other e) es) →
-      cond b (row_known p ∷ filter (is_of_another e) (map row_known es)) (filter (is_of_another e) (map row_known es))
-      ≡ map row_known (cond b (p ∷ filter (is_other e) es) (filter (is_other e) es))
+  known_by : (p : ℕ × Row) (es : List (ℕ × Row)) (b : Bool) → filter (is_of_another e) (map row_known es) ≡ map row_known
+      (filter (is_other e) es) → cond b (row_known p ∷ filter (is_of_another e) (map row_known es))
+      (filter (is_of_another e) (map row_known es)) ≡ map row_known (cond b (p ∷ filter (is_other e) es) (filter (is_other e) es))
   known_by p es true h = ap (λ l. row_known p ∷ l) h
   known_by p es false h = h
 
@@ -173,7 +172,7 @@ module _ (w : World) where
   own_of_found p at = by (searched p.0 w.nodes)
     where
       by : ((row : Row) × (found_in p.0 w.nodes ≡ Some row) × IsRowIn p.0 w.nodes row)
-          ⊎ ((found_in p.0 w.nodes ≡ None) × ((k : ℕ) → real_at p.0 w.nodes k ≡ None)) → p.1.entity ≡ p.0
+          ⊎ ((found_in p.0 w.nodes ≡ None) × ((k : ℕ) → real_among p.0 w.nodes k ≡ None)) → p.1.entity ≡ p.0
       by (inl f) =
           let same : p.1 ≡ f.0 = let z = sym at ∙ find_entries (flat_map rows_at w.nodes) p.0 ∙ f.1 in cc in
           ap (λ r. r.entity) (same ∙ f.2.is)

@@ -6,12 +6,13 @@ use Rattle.std.specs.Ordering.{nat_cmp, eq_by_cmp}
 use Rattle.std.specs.FinMap as table
 use Rattle.std.proofs.lemmas.Bool.Decides.{nat_tests}
 use Rattle.std.proofs.lemmas.List.{length-append, append-nil, append_assoc}
-use Rattle.seam_node_steps.specs.Prelude.{IsQuiet, LeadsTo, Event, Shown, cell_count, RealView, WitnessView, has_any, ProxyView, shown_of}
-use Rattle.seam_node_steps.specs.Prelude.{CellView, known_to, cell_has_work, ready_entity, ordered_at, look_loaded, NodeView, World}
-use Rattle.seam_node_steps.specs.Prelude.{node_steps, node_has_work, Cell, Base}
+use Rattle.seam_node_steps.specs.Prelude.{IsQuiet, Event, Shown, cell_count, RealView, WitnessView, has_any, ProxyView, shown_of, CellView}
+use Rattle.seam_node_steps.specs.Prelude.{known_to, cell_has_work, ready_entity, ordered_at, look_loaded, NodeView, World, node_steps}
+use Rattle.seam_node_steps.specs.Prelude.{node_has_work, Cell, Base}
 use Rattle.seam_law_flow.specs.Prelude.{slot_at, letters_of}
 use Rattle.seam_law_calls.specs.Prelude.{Frame, Has, one_more_if, times, has_of, has_none, entity_flow, real_in, real_of, home_of, sent_of}
-use Rattle.seam_law_calls.specs.Prelude.{sent_by, proxy_of, order_in, shown_in, lines_in, shown_at, HasClient, HasToldAtMost}
+use Rattle.seam_law_calls.specs.Prelude.{sent_by, proxy_of, order_in, shown_in, lines_in, shown_at, HasClient, HasToldAtMost, RunsTo}
+use Rattle.seam_law_calls.specs.Prelude.{real_at}
 use Rattle.seam_law_rounds.specs.Prelude.{IsBetweenRounds, HasSettledPart, HasPartsBetweenRounds, HasSmallNumbers, AreInStep, AreFor}
 use Rattle.seam_law_rounds.specs.Prelude.{IsServed, bare, served}
 use Rattle.seam_law_clients.specs.Prelude.{witness_looked, looked_by, having_looked, HaveRoomToLook, ComesBetween}
@@ -68,7 +69,7 @@ cell_at e k u r (Some (Base b)) at here = absurd (let z = here in cc)
 -- ---- the client of an entity
 
 module _ (f : Frame) (u : World) (between : IsBetweenRounds f u) (parts : HasPartsBetweenRounds f u) (small : HasSmallNumbers f u)
-    (room : HaveRoomToLook u) (e home : ℕ) (r : RealView) (here : real_in ((entity_flow e u).slot home) ≡ Some r) (v : WitnessView)
+    (room : HaveRoomToLook u) (e home : ℕ) (r : RealView) (here : real_at e u home ≡ Some r) (v : WitnessView)
     (seen : r.witness ≡ Some v) (cell : CellView) (node : slice_get u.nodes home ≡ Some (Cell cell)) where
   abbrev start : World
   start = look_loaded u
@@ -168,10 +169,9 @@ module _ (f : Frame) (u : World) (between : IsBetweenRounds f u) (parts : HasPar
 
     -- ---- a look
 
-    module _ (w : World) (k : ℕ) (d : CellView) (at_d : slice_get w.nodes k ≡ Some (Cell d)) (q : RealView)
-        (at : real_in ((entity_flow e w).slot k) ≡ Some q) (y : WitnessView) (q_seen : q.witness ≡ Some y) (n : ℕ)
-        (waits : ((entity_flow e w).slot k).cell.looks ≡ n + 1) (us : List Shown) (due : y.sent + 1 ≡ first + length us)
-        (so : IsTold us q y) (c : CellView) (at_c : slice_get u.nodes k ≡ Some (Cell c)) where
+    module _ (w : World) (k : ℕ) (d : CellView) (at_d : slice_get w.nodes k ≡ Some (Cell d)) (q : RealView) (at : real_at e w k ≡ Some q)
+        (y : WitnessView) (q_seen : q.witness ≡ Some y) (n : ℕ) (waits : ((entity_flow e w).slot k).cell.looks ≡ n + 1) (us : List Shown)
+        (due : y.sent + 1 ≡ first + length us) (so : IsTold us q y) (c : CellView) (at_c : slice_get u.nodes k ≡ Some (Cell c)) where
       idle : cell_has_work c ≡ false
       idle = quiet_tasks node_has_work u between.quiet k (Cell c) at_c
 
@@ -218,7 +218,7 @@ module _ (f : Frame) (u : World) (between : IsBetweenRounds f u) (parts : HasPar
 
     -- ---- on the way, and to the quiet end
 
-    module _ (vs : List Event) (end : World) (run : LeadsTo node_has_work node_steps start vs end) where
+    module _ (vs : List Event) (end : World) (run : RunsTo start vs end) where
       most : (w : World) → ComesBetween start end w → HasToldAtMost e (sent_by r + most_told) w
       most w m = (look_numbers f u between parts small m.before w m.from e home r here).most
 
@@ -279,12 +279,11 @@ module _ (f : Frame) (u : World) (between : IsBetweenRounds f u) (parts : HasPar
             (client_leads f e r.ty first (sent_by r + most_told) start end vs client still.spared numbers.room run numbers.most) quiet
             ∙ told_end tells_end.told refl tells_end.holds
 
-  module _ (vs : List Event) (end : World) (run : LeadsTo node_has_work node_steps start vs end) where
+  module _ (vs : List Event) (end : World) (run : RunsTo start vs end) where
     served_at : IsServed f e r.ty start
     served_at = look_serves f u between parts small [] start (leads_nowhere node_has_work node_steps start) e home r here
 
-    part_by : IsServed f e r.ty start →
-        (rest : List Shown) × (shown_at ((entity_flow e end).slot (home_of f e)) ++ rest ≡ before ++ look)
+    part_by : IsServed f e r.ty start → (rest : List Shown) × (shown_at ((entity_flow e end).slot (home_of f e)) ++ rest ≡ before ++ look)
     part_by (bare none unseen) = absurd (let z = sym (none (home_of f e) had.part still.here) ∙ proxy.1 in cc)
     part_by (served first low client some) = shown_part first client vs end run
 

@@ -70,8 +70,7 @@ module _ (seen : Option WitnessView) where
 
     acts_keep : (u : AtCell) (r q : RealView) (changed : Bool) → Acts (here_at f k) e s.cell i r u q changed → q.witness ≡ r.witness
     acts_keep u r q changed (surveys n a b c) = refl
-    acts_keep u r q changed (calls c a x m d) = refl
-    acts_keep u r q changed (readies o c a m at item) = refl
+    acts_keep u r q changed _ = refl
 
     -- a look takes the entry
     takes_it : (n : ℕ) (q : RealView) → i ≡ None → s.cell.looks ≡ n + 1 → t.cell.looks ≡ n → real_in t ≡ Some q →

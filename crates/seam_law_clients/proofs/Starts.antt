@@ -3,7 +3,7 @@ use Rattle.std.proofs.Common.{◌≡◌, ℕ, ◌+◌, List, [], ◌∷◌, leng
 use Rattle.seam_node_steps.specs.Prelude.{IsQuiet, Shown, RealView, WitnessView, World, node_has_work}
 use Rattle.seam_law_flow.specs.Prelude.{Delivery}
 use Rattle.seam_law_calls.specs.Prelude.{Frame, entity_flow, real_in, real_of, sent_of, sent_by, home_of, updates_at, shown_at, tells}
-use Rattle.seam_law_calls.specs.Prelude.{HasClient}
+use Rattle.seam_law_calls.specs.Prelude.{HasClient, real_at}
 use Rattle.seam_law_clients.specs.Prelude.{FitsWithin, TellsRightly}
 use Rattle.seam_law_flow.proofs.TokenLemmas.{sole_here}
 use Rattle.seam_law_calls.proofs.WitnessKept.{each_weaker}
@@ -41,9 +41,8 @@ all_told f e ty first P w h client quiet = all_shown f e w client.one.fits.frame
 
 module _ (f : Frame) (e ty first : ℕ) (t : Truth) (w : World) where
   -- a witness whose next number is the first tells rightly
-  pub rightly_starts : (h : HasClient f e ty first w) (k : ℕ) (r : RealView) → real_in ((entity_flow e w).slot k) ≡ Some r →
-      (x : WitnessView) → r.witness ≡ Some x → x.sent + 1 ≡ first → (c : ClientReplica) → FitsWithin f r x c →
-      TellsRightly f e ty first t c w
+  pub rightly_starts : (h : HasClient f e ty first w) (k : ℕ) (r : RealView) → real_at e w k ≡ Some r → (x : WitnessView) →
+      r.witness ≡ Some x → x.sent + 1 ≡ first → (c : ClientReplica) → FitsWithin f r x c → TellsRightly f e ty first t c w
   rightly_starts h k r here x has due c fits =
       let same : r ≡ h.one.real =
       (sole_here real_in real_of (entity_flow e w) h.one.place h.one.real r k h.one.one here).1 in

@@ -3,14 +3,14 @@ use Rattle.std.proofs.Common.{◌≡◌, ℕ, ◌+◌, true, List, [], ◌∷◌
 use Rattle.std.specs.Prelude.{slice_get}
 use Rattle.std.specs.List.{AllByRecursion}
 use Rattle.std.proofs.lemmas.List.{length-append, append-nil}
-use Rattle.seam_node_steps.specs.Prelude.{happens, enabled, LeadsTo, Occurs, items_to, Event, Shown, RealView, WitnessView, Msg, Hand}
-use Rattle.seam_node_steps.specs.Prelude.{Update, base_of, Known, numbered, shown_of, looks_of, after_looking, CellView, known_to, NodeView}
-use Rattle.seam_node_steps.specs.Prelude.{World, node_steps, node_has_work, Cell, Base, IsNode}
+use Rattle.seam_node_steps.specs.Prelude.{happens, enabled, Occurs, items_to, Event, Shown, RealView, WitnessView, Msg, Hand, Update}
+use Rattle.seam_node_steps.specs.Prelude.{base_of, Known, numbered, shown_of, looks_of, after_looking, CellView, known_to, NodeView, World}
+use Rattle.seam_node_steps.specs.Prelude.{node_steps, node_has_work, Cell, Base, IsNode}
 use Rattle.seam_law_flow.specs.Prelude.{Goes, comes, letter_in, letters_of, IsSilent, carried_in, Delivery, more_issued, number_from}
 use Rattle.seam_law_flow.specs.Prelude.{slot_at}
 use Rattle.seam_law_calls.specs.Prelude.{Frame, here_at, Has, mine, concerning, has_of, entity_flow, MovesTo, real_in, real_of, IsSpared}
 use Rattle.seam_law_calls.specs.Prelude.{OneFrom, update_in, sent_of, sent_by, home_of, updates_at, shown_at, tells, EachReal, HasClient}
-use Rattle.seam_law_calls.specs.Prelude.{HasToldAtMost, HasRoomFor, FindsClient, HasOne, Replays, has_none}
+use Rattle.seam_law_calls.specs.Prelude.{HasToldAtMost, HasRoomFor, FindsClient, HasOne, Replays, has_none, RunsTo, real_at}
 use Rattle.seam_law_clients.specs.Prelude.{ComesBetween}
 use Rattle.seam_machine.proofs.Occurring.{occurs}
 use Rattle.seam_net_runs.proofs.Runs.{leads_nowhere, leads_by_one, leads_join}
@@ -44,7 +44,7 @@ pub record Tells (f : Frame) (e ty first : ℕ) (P : List Shown → RealView →
 -- the look that waits at a cell of node k keeps what is true of what was told
 abbrev pub AsksOfLook : Frame → ℕ → ℕ → (List Shown → RealView → WitnessView → Type 0) → World → ℕ → CellView → Type 0
 AsksOfLook f e first P w k cell =
-    cell.here ≡ here_at f k → (r : RealView) → real_in ((entity_flow e w).slot k) ≡ Some r → (x : WitnessView) → r.witness ≡ Some x →
+    cell.here ≡ here_at f k → (r : RealView) → real_at e w k ≡ Some r → (x : WitnessView) → r.witness ≡ Some x →
     (n : ℕ) → ((entity_flow e w).slot k).cell.looks ≡ n + 1 → (us : List Shown) → x.sent + 1 ≡ first + length us → P us r x →
     P (us ++ shown_of cell.here r x (known_to cell e))
     (record r {
@@ -196,8 +196,8 @@ module _ (f : Frame) (e ty first n : ℕ) (P : List Shown → RealView → Witne
           (sole_here real_in real_of (entity_flow e w) h.one.place h.one.real l.real g.k h.one.one l.was).1 in
           let told_same : h.witness ≡ l.witness =
           let z : Some h.witness ≡ Some l.witness = sym (each_has.cells g.k l.real l.was) ∙ l.seen in cc in
-          let there : real_in ((entity_flow e w).slot v.node) ≡ Some l.real =
-          let at : real_in ((entity_flow e w).slot v.node) ≡ Some fact.real = ap real_in node_is ∙ fact.was in
+          let there : real_at e w v.node ≡ Some l.real =
+          let at : real_at e w v.node ≡ Some fact.real = ap real_in node_is ∙ fact.was in
           let too = (sole_here real_in real_of (entity_flow e w) h.one.place h.one.real fact.real v.node h.one.one at).1 in
           at ∙ ap (λ y. Some y) (too ∙ sym same) in
           let holds : P h.told l.real l.witness =
@@ -270,8 +270,7 @@ module _ (f : Frame) (e ty first n : ℕ) (P : List Shown → RealView → Witne
     spared : IsSpared e w
     room : HasRoomFor e n w
 
-  along_run : (w : World) (us es : List Event) → LeadsTo node_has_work node_steps start us w → Along w →
-      LeadsTo node_has_work node_steps w es end → Along end
+  along_run : (w : World) (us es : List Event) → RunsTo start us w → Along w → RunsTo w es end → Along end
   along_run w us [] so_far h rest = subst Along (sym rest.is_run) h
   along_run w us (v ∷ es) so_far h rest =
       let on : enabled node_has_work w v ≡ true = rest.each.0 in
@@ -292,7 +291,7 @@ module _ (f : Frame) (e ty first n : ℕ) (P : List Shown → RealView → Witne
       (record { each = rest.each.1; is_run = rest.is_run })
 
   pub tells_lead : (es : List Event) → Tells f e ty first P start → HasClient f e ty first start → IsSpared e start →
-      HasRoomFor e n start → LeadsTo node_has_work node_steps start es end → Tells f e ty first P end
+      HasRoomFor e n start → RunsTo start es end → Tells f e ty first P end
   tells_lead es h client spared room run_ =
       (along_run start [] es (leads_nowhere node_has_work node_steps start)
       (record { tells_ = h; client = client; spared = spared; room = room }) run_).tells_

@@ -4,7 +4,7 @@ pub mod Phases
 pub mod Fits
 pub mod Telling
 pub mod RoundTruths
-pub mod Clients
+pub mod Replicas
 pub mod BaseLines
 pub mod Crossing
 pub mod Prelude

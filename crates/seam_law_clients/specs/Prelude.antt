@@ -1,7 +1,7 @@
 -- What the crates above cite of this one and of those below it, gathered, so that one import names it.
 pub use Rattle.seam_law_clients.specs.BaseLines.{ShowsItsPart, base_in, base_lines, first_lines, line_where, lines_after, number_of_line}
 pub use Rattle.seam_law_clients.specs.BaseLines.{state_after, state_with}
-pub use Rattle.seam_law_clients.specs.Clients.{clients_loaded, clients_shown}
+pub use Rattle.seam_law_clients.specs.Replicas.{clients_loaded, clients_shown}
 pub use Rattle.seam_law_clients.specs.Crossing.{batch, look_0, look_11, look_steps, steps}
 pub use Rattle.seam_law_clients.specs.Fits.{FitsWithin, KnowsTruth, truth_of_look}
 pub use Rattle.seam_law_clients.specs.Phases.{HaveRoomToLook, having_looked, looked_by, witness_looked}

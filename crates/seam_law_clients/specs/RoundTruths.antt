@@ -2,7 +2,7 @@
 use Rattle.std.specs.Prelude.{◌≡◌, ℕ, ◌≤◌, Some, slice_get}
 use Rattle.seam_node_steps.specs.Prelude.{State, GhostCopy, RealView, known_of, other_of_copy, CellView, known_to, World, Cell}
 use Rattle.seam_law_flow.specs.Prelude.{TokenPlace}
-use Rattle.seam_law_calls.specs.Prelude.{Frame, here_at, entity_flow, real_in, IsOne, Replays}
+use Rattle.seam_law_calls.specs.Prelude.{Frame, here_at, IsOne, Replays, real_at}
 use Rattle.seam_law_ghosts.specs.Prelude.{IsTrueCopy}
 use Rattle.seam_rule_clients.specs.Lines.{Truth}
 use Rattle.seam_law_clients.specs.Witnesses.{own_now}
@@ -14,7 +14,7 @@ pub record WasOwn (f : Frame) (e : ℕ) (w v : World) (version : ℕ) (state : S
   pub between : ComesBetween w v world
   pub node : ℕ
   pub real : RealView
-  pub here : real_in ((entity_flow e world).slot node) ≡ Some real
+  pub here : real_at e world node ≡ Some real
   pub at : version ≡ real.version
   pub is : state ≡ own_now f real
 
@@ -32,7 +32,7 @@ pub record WasKnown (e : ℕ) (w v : World) (x : ℕ) (d : GhostCopy) : Type 0 w
 pub record WasOther (f : Frame) (w v : World) (x : ℕ) (d : GhostCopy) : Type 0 where
   pub home : ℕ
   pub first : RealView
-  pub at_first : real_in ((entity_flow x w).slot home) ≡ Some first
+  pub at_first : real_at x w home ≡ Some first
   pub world : World
   pub between : ComesBetween w v world
   pub place : TokenPlace

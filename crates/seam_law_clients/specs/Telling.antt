@@ -1,8 +1,8 @@
 -- What a witness tells its client over a list of events, and what its cells know all the while.
 use Rattle.std.specs.Prelude.{◌≡◌, ℕ, ◌+◌, List, length, Some, slice_get}
-use Rattle.seam_node_steps.specs.Prelude.{LeadsTo, Event, Shown, RealView, WitnessView, CellView, World, node_steps, node_has_work, Cell}
+use Rattle.seam_node_steps.specs.Prelude.{Event, Shown, RealView, WitnessView, CellView, World, Cell}
 use Rattle.seam_law_flow.specs.Prelude.{Delivery}
-use Rattle.seam_law_calls.specs.Prelude.{Frame, entity_flow, real_in, HasOne, home_of, updates_at, shown_at, tells}
+use Rattle.seam_law_calls.specs.Prelude.{Frame, entity_flow, HasOne, home_of, updates_at, shown_at, tells, RunsTo, real_at}
 use Rattle.seam_rule_clients.specs.Clients.{ClientReplica, after_all_shown}
 use Rattle.seam_rule_clients.specs.Lines.{Truth, ShowsRightly}
 use Rattle.seam_law_clients.specs.Witnesses.{own_now}
@@ -12,12 +12,12 @@ use Rattle.seam_law_clients.specs.Fits.{FitsWithin, KnowsTruth}
 pub record ComesBetween (w v u : World) : Type 0 where
   pub before : List Event
   pub after : List Event
-  pub from : LeadsTo node_has_work node_steps w before u
-  pub to : LeadsTo node_has_work node_steps u after v
+  pub from : RunsTo w before u
+  pub to : RunsTo u after v
 
 -- In each world between w and v what the client of e is to be shown of its own real is true, and so is what each cell knows of others.
 pub record IsTrueBetween (f : Frame) (e : ℕ) (t : Truth) (w v : World) : Type 0 where
-  pub own : (u : World) → ComesBetween w v u → (k : ℕ) (r : RealView) → real_in ((entity_flow e u).slot k) ≡ Some r →
+  pub own : (u : World) → ComesBetween w v u → (k : ℕ) (r : RealView) → real_at e u k ≡ Some r →
       t.own r.version (own_now f r)
   pub others : (u : World) → ComesBetween w v u → (k : ℕ) (cell : CellView) → slice_get u.nodes k ≡ Some (Cell cell) → KnowsTruth t cell e
 

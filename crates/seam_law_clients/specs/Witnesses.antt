@@ -3,7 +3,7 @@ use Rattle.std.specs.Prelude.{◌≡◌, ℕ, ◌≤◌, Some, option_map}
 use Rattle.std.specs.FinMap as table
 use Rattle.seam_view.specs.Replica.{IsView}
 use Rattle.seam_node_steps.specs.Prelude.{State, own_of, type_of, RealView, WitnessView, RouteView, World}
-use Rattle.seam_law_calls.specs.Prelude.{Frame, entity_flow, real_in, IsBaseNumber}
+use Rattle.seam_law_calls.specs.Prelude.{Frame, entity_flow, IsBaseNumber, real_at}
 use Rattle.seam_rule_clients.specs.Clients.{ClientReplica}
 
 -- the version of an own line
@@ -31,7 +31,7 @@ pub record FitsWitness (f : Frame) (w : World) (r : RealView) (v : WitnessView) 
   pub own : (shown : State) → c.own ≡ Some (r.version, shown) → shown ≡ own_now f r
   -- no other was shown at a version above the public version of its real
   pub others_not_ahead : (x j version : ℕ) (q : RealView) → table.get v.view.shown x ≡ Some version →
-      real_in ((entity_flow x w).slot j) ≡ Some q → version ≤ q.public
+      real_at x w j ≡ Some q → version ≤ q.public
   -- and each other that was ever shown has a route at each base node, also after its end; so it is none that a batch creates later
   pub others_known : (x version : ℕ) → table.get v.view.shown x ≡ Some version → (k : ℕ) → IsBaseNumber f k →
       (route : RouteView) × (((entity_flow x w).slot k).base.route ≡ Some route)
@@ -39,5 +39,5 @@ pub record FitsWitness (f : Frame) (w : World) (r : RealView) (v : WitnessView) 
 -- The record of clients between rounds, beside those of reals, of base parts and of copies: the client of each entity e, which shows
 -- `clients e`, fits the witness of its real.
 pub record ClientsFit (f : Frame) (clients : ℕ → ClientReplica) (w : World) : Type 0 where
-  pub each : (e k : ℕ) (r : RealView) → real_in ((entity_flow e w).slot k) ≡ Some r → (v : WitnessView) → r.witness ≡ Some v →
+  pub each : (e k : ℕ) (r : RealView) → real_at e w k ≡ Some r → (v : WitnessView) → r.witness ≡ Some v →
       FitsWitness f w r v (clients e)

@@ -372,7 +372,8 @@ module _ {S L U : Type 0} (order : S → OrderView U) (delivered : S → List U)
         subst (λ x. Are v x first (us ++ [])) at
         (subst (Are v g.k first) (sym (append-nil us)) (given_here (subst (λ x. Are w x first us) (sym at) d) u due eo line nh o))
 
-  nowhere : (w : Flow S L) (b n : ℕ) (u : U) (p : TokenPlace) → Sole (keeps n) (bears n) w p u → IsToward b p → ((x : ℕ) → w.mail x b ≡ []) →
+  nowhere : (w : Flow S L) (b n : ℕ) (u : U) (p : TokenPlace) → Sole (keeps n) (bears n) w p u → IsToward b p →
+      ((x : ℕ) → w.mail x b ≡ []) →
       keeps n (w.slot b) ≡ None → ⊥
   nowhere w b n u (In k) h d m e = let here = ap (λ j. keeps n (w.slot j)) (sym d) ∙ h.here in cc
   nowhere w b n u (On x y) h d m e =

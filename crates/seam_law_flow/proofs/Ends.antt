@@ -1,8 +1,7 @@
 -- A round begins with calls in turn; what comes to the part is neither late nor held already; and where nothing moves any more, all calls
 -- were executed.
 use Rattle.std.proofs.Common.{◌≡◌, ℕ, ◌+◌, ◌<◌, ◌≤◌, Bool, true, false, cond, eqb, List, [], ◌∷◌, ◌++◌, length, Option, None, Some, refl}
-use Rattle.std.proofs.Common.{sym, ap, ◌∙◌, subst}
-use Rattle.std.proofs.Common.{arith, inl, inr}
+use Rattle.std.proofs.Common.{sym, ap, ◌∙◌, subst, arith, inl, inr}
 use Rattle.std.specs.List.{AllByRecursion}
 use Rattle.std.proofs.lemmas.Bool.{cases_eq, eq-eqb}
 use Rattle.std.proofs.lemmas.List.{append-nil, length-append}
@@ -182,7 +181,8 @@ module _ {U : Type 0} (P : U → Type 0) where
   later_all (x ∷ xs) ys all = later_all xs ys all.1
 
   -- is true of each that waits
-  pub due_is : (first : ℕ) (batch : List U) (w : Flow (Post U) (Mail U)) (place : TokenPlace) (d : Desk U) (b : InTurn first batch w place d) →
+  pub due_is : (first : ℕ) (batch : List U) (w : Flow (Post U) (Mail U)) (place : TokenPlace) (d : Desk U)
+      (b : InTurn first batch w place d) →
       AllByRecursion P batch → (n : ℕ) (u : U) → item_at n (number_from d.order.next b.rest) ≡ Some u → P u
   due_is first batch w place d b all n u e =
       of_all n d.order.next u b.rest (later_all d.done b.rest (subst (AllByRecursion P) b.parts all)) e

@@ -6,9 +6,11 @@ pub mod SendLists
 pub mod TokenCounts
 pub mod TokenLemmas
 pub mod Delivering
+pub mod Unlogging
 pub mod Lasting
 pub mod Lives
 pub mod Numbers
 pub mod Turning
 pub mod Steps
 pub mod Ends
+pub mod Issuing

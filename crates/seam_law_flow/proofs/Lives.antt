@@ -56,7 +56,8 @@ module _ {S L R : Type 0} (held : S → Option R) (carried : L → Option R) {Mo
       }
 
   -- the slot that held it holds it no more
-  pub nobody_ends : {w v : Flow S L} (g : Goes Moves w v) (p : TokenPlace) (x r : R) → Sole held carried w p x → held (w.slot g.k) ≡ Some r →
+  pub nobody_ends : {w v : Flow S L} (g : Goes Moves w v) (p : TokenPlace) (x r : R) → Sole held carried w p x →
+      held (w.slot g.k) ≡ Some r →
       held (v.slot g.k) ≡ None → carried_in carried (comes g.input) ≡ None → SendsNone carried g.out → Nobody held carried v
   nobody_ends {w} {v} g p x r h e f nh o =
       let at = sole_here held carried w p x r g.k h e in

@@ -48,10 +48,9 @@ module _ {U : Type 0} where
       let e : m + 1 + length xs ≡ m + length (x ∷ xs) = omega arith in
       ap (λ l. (m, x) ∷ l) (number_from-append (m + 1) xs ys ∙ ap (λ k. number_from (m + 1) xs ++ number_from k ys) e)
 
-  one_by : (n m : ℕ) (u : U) (us : List U) (t : Bool) → eqb m n ≡ t →
-      letters_of (of_number n) (number_from (m + 1) us) ≡ more_letter (item_at n (number_from (m + 1) us)) [] →
-      more_letter (cond t (Some u) None) (letters_of (of_number n) (number_from (m + 1) us))
-      ≡ more_letter (cond t (Some u) (item_at n (number_from (m + 1) us))) []
+  one_by : (n m : ℕ) (u : U) (us : List U) (t : Bool) → eqb m n ≡ t → letters_of (of_number n) (number_from (m + 1) us) ≡ more_letter
+      (item_at n (number_from (m + 1) us)) [] → more_letter (cond t (Some u) None) (letters_of (of_number n) (number_from (m + 1) us)) ≡
+      more_letter (cond t (Some u) (item_at n (number_from (m + 1) us))) []
   one_by n m u us true t h =
       ap (λ l. u ∷ l) (h ∙ ap (λ o. more_letter o []) (item_early n (m + 1) us (let s = eqb-true m n t in omega (arith, s))))
   one_by n m u us false t h = h

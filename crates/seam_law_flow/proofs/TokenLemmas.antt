@@ -3,8 +3,8 @@ use Rattle.std.proofs.Common.{◌≡◌, ℕ, List, [], ◌∷◌, ◌++◌, Opt
 use Rattle.std.proofs.lemmas.Bool.{cases_eq}
 use Rattle.std.proofs.lemmas.List.{append-nil}
 use Rattle.seam_law_flow.specs.Flows.{Flow, Goes, comes, IsHead, more_letter, letters_of}
-use Rattle.seam_law_flow.specs.Tokens.{carried_in, TokenPlace, In, On, SoleIn, SoleOn, Sole, SendsNone, SendsOne, Turned, Handles, still, turns}
-use Rattle.seam_law_flow.specs.Tokens.{lands, leaves, relays, place_after, token_after, HasOne}
+use Rattle.seam_law_flow.specs.Tokens.{carried_in, TokenPlace, In, On, SoleIn, SoleOn, Sole, SendsNone, SendsOne, Turned, Handles, still}
+use Rattle.seam_law_flow.specs.Tokens.{turns, lands, leaves, relays, place_after, token_after, HasOne}
 use Rattle.seam_law_flow.proofs.Bridge.{letters_of-append}
 use Rattle.seam_law_flow.proofs.Following.{Rest, whole, tail, More, own, none, change}
 
@@ -42,7 +42,8 @@ module _ {S L R : Type 0} (held : S → Option R) (carried : L → Option R) whe
   same_one o r s a b = cc
 
   -- who has a token has the one
-  pub sole_here : (w : Flow S L) (p : TokenPlace) (r s : R) (k : ℕ) → Sole held carried w p r → held (w.slot k) ≡ Some s → (p ≡ In k) × (s ≡ r)
+  pub sole_here : (w : Flow S L) (p : TokenPlace) (r s : R) (k : ℕ) → Sole held carried w p r → held (w.slot k) ≡ Some s → (p ≡ In k) ×
+      (s ≡ r)
   sole_here w (In j) r s k h e = elim (cases_eq k j) [
     | inl f ↦ (ap In (sym f), same_one (held (w.slot k)) r s e (ap (λ x. held (w.slot x)) f ∙ h.here))
     | inr n ↦ let nh = h.others k n in cc
@@ -54,7 +55,8 @@ module _ {S L R : Type 0} (held : S → Option R) (carried : L → Option R) whe
   first_is w k None rest s h e = cc
   first_is w k (Some p) rest s h e = (p.0, p.1, refl, e, h)
 
-  pub sole_first : (w : Flow S L) (p : TokenPlace) (r s : R) (a k : ℕ) (l : L) (rest : List L) → Sole held carried w p r → carried l ≡ Some s →
+  pub sole_first : (w : Flow S L) (p : TokenPlace) (r s : R) (a k : ℕ) (l : L) (rest : List L) → Sole held carried w p r →
+      carried l ≡ Some s →
       w.mail a k ≡ l ∷ rest → (p ≡ On a k) × (s ≡ r)
   sole_first w (In j) r s a k l rest h t e = let nh = h.mail a k in let yes = ap tokens e ∙ one_more l rest (Some s) t in cc
   sole_first w (On b c) r s a k l rest h t e = elim (cases_eq a b) [
@@ -109,7 +111,8 @@ module _ {S L R : Type 0} (held : S → Option R) (carried : L → Option R) whe
         held (v.slot j) ≡ held (w.slot j)
     same_held {w} {v} g e j = elim (cases_eq j g.k) [ inl f ↦ rw f e | inr n ↦ ap held (g.others j n) ]
 
-    sole_turned : {w v : Flow S L} (g : Goes Moves w v) (p : TokenPlace) (x r q : R) → Sole held carried w p x → held (w.slot g.k) ≡ Some r →
+    sole_turned : {w v : Flow S L} (g : Goes Moves w v) (p : TokenPlace) (x r q : R) → Sole held carried w p x →
+        held (w.slot g.k) ≡ Some r →
         held (v.slot g.k) ≡ Some q → carried_in carried (comes g.input) ≡ None → SendsNone carried g.out → Sole held carried v p q
     sole_turned {w} {v} g p x r q h e f nh o =
         let at = sole_here w p x r g.k h e in

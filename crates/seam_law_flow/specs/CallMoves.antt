@@ -46,7 +46,8 @@ pub data Passes {U : Type 0} (k : ℕ) (s : Post U) (i : Option (Mail U)) (t : P
       → Passes k s i t out
 
 -- where the part is after a move
-abbrev pub place_then : {U : Type 0} {k : ℕ} {s t : Post U} {i : Option (Mail U)} {out : ℕ → List (Mail U)} → Passes k s i t out → TokenPlace
+abbrev pub place_then : {U : Type 0} {k : ℕ} {s t : Post U} {i : Option (Mail U)} {out : ℕ → List (Mail U)} → Passes k s i t out →
+    TokenPlace
     → TokenPlace
 place_then {k = k} (lands d a b c) p = In k
 place_then {k = k} (leaves d to a b c e) p = On k to

@@ -40,9 +40,6 @@ pub data Passes {S L U : Type 0} (order : S → OrderView U) (delivered : S → 
 
 -- what the step issued
 abbrev pub more_issued : {S L U : Type 0} {order : S → OrderView U} {delivered : S → List U} {brings : L → Option (ℕ × U)} {b number : ℕ}
-    {s t : S} {i : Option L} {out : ℕ → List L}
-    → Passes order delivered brings b number s i t out → List U
-more_issued (rests a c d e) = []
+    {s t : S} {i : Option L} {out : ℕ → List L} → Passes order delivered brings b number s i t out → List U
 more_issued (issues us a c d e f h) = us
-more_issued (offers n u a c d e) = []
-more_issued (gives u a c d e f) = []
+more_issued _ = []

@@ -4,8 +4,10 @@ pub mod Newest
 pub mod Sent
 pub mod Tokens
 pub mod Deliveries
+pub mod Unlogged
 pub mod Lives
 pub mod Numbered
 pub mod Desks
 pub mod CallMoves
+pub mod Issues
 pub mod Prelude

@@ -65,8 +65,7 @@ pub data Handles {S L R : Type 0} (held : S → Option R) (carried : L → Optio
 
 -- where the token is after a step of node k
 abbrev pub place_after : {S L R : Type 0} {held : S → Option R} {carried : L → Option R} {Acts : R → R → Type 0} {s t : S} {i : Option L}
-    {out : ℕ → List L}
-    → ℕ → Handles held carried Acts s i t out → TokenPlace → TokenPlace
+    {out : ℕ → List L} → ℕ → Handles held carried Acts s i t out → TokenPlace → TokenPlace
 place_after k (still e n o) p = p
 place_after k (turns r q a b c n o) p = p
 place_after k (lands r q a b c o) p = In k
@@ -75,8 +74,7 @@ place_after k (relays r q to a b c o) p = On k to
 
 -- what the token is after the step
 abbrev pub token_after : {S L R : Type 0} {held : S → Option R} {carried : L → Option R} {Acts : R → R → Type 0} {s t : S} {i : Option L}
-    {out : ℕ → List L}
-    → Handles held carried Acts s i t out → R → R
+    {out : ℕ → List L} → Handles held carried Acts s i t out → R → R
 token_after (still e n o) x = x
 token_after (turns r q a b c n o) x = q
 token_after (lands r q a b c o) x = q

@@ -60,10 +60,12 @@ pub fn an_event_is_a_move<N, T, S, L, A: Moves<S, L>>()
 /// A fact about each slot stays true where it is true of the node that made the move; a fact about each letter stays true where it is
 /// true of what was sent; and the letter that came is one that the fact was true of.
 pub fn a_move_keeps_facts<S, L, A: Moves<S, L>, P: SlotFact<S>, Q: LetterFact<L>>()
-    ensures slots { (w v : Flow S L) (g : Goes A.are w v) → ((k : ℕ) → P.is k (w.slot k)) → P.is g.k (v.slot g.k) → (k : ℕ) →
-        P.is k (v.slot k) }
-    ensures letters { (w v : Flow S L) (g : Goes A.are w v) → ((x y : ℕ) → AllByRecursion (Q.is x y) (w.mail x y)) →
-        ((y : ℕ) → AllByRecursion (Q.is g.k y) (g.out y)) → (x y : ℕ) → AllByRecursion (Q.is x y) (v.mail x y) }
+    ensures slots { (w v : Flow S L) (g : Goes A.are w v) → ((k : ℕ) → P.is k (w.slot k)) →
+        P.is g.k (v.slot g.k) → (k : ℕ) → P.is k (v.slot k) }
+    ensures letters { (w v : Flow S L) (g : Goes A.are w v) →
+        ((x y : ℕ) → AllByRecursion (Q.is x y) (w.mail x y)) →
+        ((y : ℕ) → AllByRecursion (Q.is g.k y) (g.out y)) → (x y : ℕ) →
+        AllByRecursion (Q.is x y) (v.mail x y) }
     ensures came { (w v : Flow S L) (g : Goes A.are w v) (l : L) → comes g.input ≡ Some l →
         ((x y : ℕ) → AllByRecursion (Q.is x y) (w.mail x y)) → (a : ℕ) × Q.is a g.k l }
 {}
@@ -79,33 +81,37 @@ pub fn a_flow_is_seen_through_other_eyes<
     C: Moves<S, L>,
 >()
     ensures narrow { (f : S → R) (mine : L → Option K) (w v : Flow S L) (g : Goes A.are w v) →
-        B.are g.k (f (w.slot g.k)) (carried_in mine (comes g.input)) (f (v.slot g.k)) (λ j. letters_of mine (g.out j)) →
-        Goes B.are (narrow f mine w) (narrow f mine v) }
+        B.are g.k (f (w.slot g.k)) (carried_in mine (comes g.input)) (f (v.slot g.k))
+        (λ j. letters_of mine (g.out j)) → Goes B.are (narrow f mine w) (narrow f mine v) }
     ensures toward { (home : ℕ) (w v : Flow S L) (g : Goes A.are w v) →
-        C.are g.k (w.slot g.k) (if g.k == home then comes g.input else None) (v.slot g.k) (λ j. if j == home then g.out j else []) →
-        Goes C.are (toward home w) (toward home v) }
+        C.are g.k (w.slot g.k) (if g.k == home then comes g.input else None) (v.slot g.k)
+        (λ j. if j == home then g.out j else []) → Goes C.are (toward home w) (toward home v) }
 {}
 
 /// Of the entries in a node's register and on their way there, the newest stays what it is where the register keeps the greater one
 /// and nothing newer is sent; a newer one that is sent or written is the newest then; and with nothing on its way the register has it.
 pub fn the_newest_entry_is_kept<S, L, V, A: Moves<S, L>>()
-    ensures stays { (entry : S → ℕ × V) (brings : L → Option (ℕ × V)) (w v : Flow S L) (g : Goes A.are w v) (k key : ℕ) (c : V) →
-        Newest entry brings w k key c →
-        (g.k ≡ k → entry (v.slot k) ≡ greater_entry (entry (w.slot k)) (entry_in brings (comes g.input))) →
-        AllBring brings (NotAbove key c) (g.out k) → Newest entry brings v k key c }
-    ensures rises { (entry : S → ℕ × V) (brings : L → Option (ℕ × V)) (w v : Flow S L) (g : Goes A.are w v) (k key next : ℕ) (c d : V) →
-        Newest entry brings w k key c →
-        key < next → (g.k ≡ k → NotAbove next d (entry (v.slot k))) → AllBring brings (NotAbove next d) (g.out k) →
-        (entry (v.slot k) ≡ (next, d)) ⊎ Has brings (next, d) (g.out k) → Newest entry brings v k next d }
-    ensures rests { (entry : S → ℕ × V) (brings : L → Option (ℕ × V)) (w : Flow S L) (k key : ℕ) (c : V) → Newest entry brings w k key c →
-        ((x : ℕ) → w.mail x k ≡ []) → entry (w.slot k) ≡ (key, c) }
+    ensures stays { (entry : S → ℕ × V) (brings : L → Option (ℕ × V)) (w v : Flow S L)
+        (g : Goes A.are w v) (k key : ℕ) (c : V) → Newest entry brings w k key c →
+        (g.k ≡ k → entry (v.slot k) ≡ greater_entry (entry (w.slot k))
+        (entry_in brings (comes g.input))) → AllBring brings (NotAbove key c) (g.out k) →
+        Newest entry brings v k key c }
+    ensures rises { (entry : S → ℕ × V) (brings : L → Option (ℕ × V)) (w v : Flow S L)
+        (g : Goes A.are w v) (k key next : ℕ) (c d : V) → Newest entry brings w k key c →
+        key < next → (g.k ≡ k → NotAbove next d (entry (v.slot k))) →
+        AllBring brings (NotAbove next d) (g.out k) → (entry (v.slot k) ≡ (next, d)) ⊎
+        Has brings (next, d) (g.out k) → Newest entry brings v k next d }
+    ensures rests { (entry : S → ℕ × V) (brings : L → Option (ℕ × V)) (w : Flow S L) (k key : ℕ)
+        (c : V) → Newest entry brings w k key c → ((x : ℕ) → w.mail x k ≡ []) →
+        entry (w.slot k) ≡ (key, c) }
 {}
 
 /// What a list of sends is to one entity: one item at its target alone, items about others nothing; what is spread over the nodes, or
 /// chosen for each of a range of them, comes to each node.
 pub fn sends_are_seen<T, L>()
     ensures one { (mine : T → Option L) (to j : ℕ) (m : T) →
-        letters_of mine (items_to j ((to, m) ∷ [])) ≡ (if j == to then more_letter (mine m) [] else []) }
+        letters_of mine (items_to j ((to, m) ∷ [])) ≡ (if j == to then more_letter (mine m) []
+        else []) }
     ensures others { (mine : T → Option L) (j : ℕ) (ps qs : List (ℕ × T)) → IsSilent mine ps →
         letters_of mine (items_to j (ps ++ qs)) ≡ letters_of mine (items_to j qs) }
     ensures spread { (f : ℕ → List T) (n j : ℕ) → j < n → items_to j (spread n f) ≡ f j }

@@ -11,37 +11,47 @@
 // nor witnesses come into the law. It asks for room for one number more than the laws of one real, since a call that comes has to raise a
 // version.
 //
-// For callers, of `proofs/`: `Steps` (a step of one or two moves) and `Ends` (the start of a round, what comes to the part, and where
-// nothing moves any more).
+// For callers, of `proofs/`: `Steps` (a step of one or two moves), `Issuing` (a call that a node makes up) and `Ends` (the start of a
+// round, what comes to the part, and where nothing moves any more).
 
-ghost use Rattle.std.specs.Prelude.{◌≡◌, ℕ, ◌+◌, ◌<◌, ◌≤◌, List, ◌∷◌, length, None, Some};
+ghost use Rattle.std.specs.Prelude.{◌≡◌, ℕ, ◌+◌, ◌<◌, ◌≤◌, ◌^◌, List, [], ◌∷◌, ◌++◌, length, None, Some};
 ghost use Rattle.seam_law_flow.specs.Prelude.{Flow, Goes, TokenPlace, Passes, Twice, Desk, Post, Mail, Item, InTurn, AreInTurn, IsStill};
 ghost use Rattle.seam_law_flow.specs.Prelude.{IsLoaded};
+ghost use Rattle.seam_law_flow.specs.Issues.{Issues};
 ghost use Rattle.seam_order.specs.Held.{item_at};
 
 /// Whatever a step does with a sender's calls, they stay in turn.
 pub fn calls_stay_in_turn<U>()
-    ensures { (first : ℕ) (batch : List U) (w v : Flow (Post U) (Mail U)) → Goes (Twice Passes) w v → AreInTurn first batch w →
-        AreInTurn first batch v }
+    ensures { (first : ℕ) (batch : List U) (w v : Flow (Post U) (Mail U)) →
+        Goes (Twice Passes) w v → AreInTurn first batch w → AreInTurn first batch v }
 {}
 
 /// A call that is the first of its link is one of the batch, is not late, and is not held already.
 pub fn a_call_that_comes_is_due<U>()
-    ensures due { (first : ℕ) (batch : List U) (w : Flow (Post U) (Mail U)) (p : TokenPlace) (d : Desk U) → InTurn first batch w p d →
-        (a k n : ℕ) (u : U) (rest : List (Mail U)) → w.mail a k ≡ Item n u ∷ rest → (d.order.next ≤ n) × (n < first + length batch) }
-    ensures new { (first : ℕ) (batch : List U) (w : Flow (Post U) (Mail U)) (p : TokenPlace) (d : Desk U) → InTurn first batch w p d →
-        (a k n : ℕ) (u : U) (rest : List (Mail U)) → w.mail a k ≡ Item n u ∷ rest → (x : Desk U) → (w.slot k).desk ≡ Some x →
+    ensures due { (first : ℕ) (batch : List U) (w : Flow (Post U) (Mail U)) (p : TokenPlace)
+        (d : Desk U) → InTurn first batch w p d → (a k n : ℕ) (u : U) (rest : List (Mail U)) →
+        w.mail a k ≡ Item n u ∷ rest → (d.order.next ≤ n) × (n < first + length batch) }
+    ensures new { (first : ℕ) (batch : List U) (w : Flow (Post U) (Mail U)) (p : TokenPlace)
+        (d : Desk U) → InTurn first batch w p d → (a k n : ℕ) (u : U) (rest : List (Mail U)) →
+        w.mail a k ≡ Item n u ∷ rest → (x : Desk U) → (w.slot k).desk ≡ Some x →
         item_at n x.order.held ≡ None }
 {}
 
 /// Where nothing moves any more, the part executed all calls of the batch, in order.
 pub fn all_calls_are_executed<U>()
-    ensures { (first : ℕ) (batch : List U) (w : Flow (Post U) (Mail U)) (p : TokenPlace) (d : Desk U) → InTurn first batch w p d →
-        IsStill w → d.done ≡ batch }
+    ensures { (first : ℕ) (batch : List U) (w : Flow (Post U) (Mail U)) (p : TokenPlace)
+        (d : Desk U) → InTurn first batch w p d → IsStill w → d.done ≡ batch }
 {}
 
 /// A round begins so, in whatever order its calls are kept.
 pub fn a_round_begins_in_turn<U>()
-    ensures { (first : ℕ) (batch : List U) (w : Flow (Post U) (Mail U)) (home k : ℕ) → IsLoaded first batch w home k →
-        AreInTurn first batch w }
+    ensures { (first : ℕ) (batch : List U) (w : Flow (Post U) (Mail U)) (home k : ℕ) →
+        IsLoaded first batch w home k → AreInTurn first batch w }
+{}
+
+/// A call that a node makes up in a round, with the next number of its sender, is one more of the batch: the calls stay in turn.
+pub fn a_call_that_is_made_stays_in_turn<U>()
+    ensures { (first : ℕ) (batch : List U) (u : U) (w v : Flow (Post U) (Mail U)) →
+        Goes (Issues (first + length batch) u) w v → first + length batch + 1 < 2 ^ 62 →
+        AreInTurn first batch w → AreInTurn first (batch ++ u ∷ []) v }
 {}

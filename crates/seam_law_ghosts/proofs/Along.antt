@@ -1,13 +1,13 @@
 -- The place of a real stays on its way after each event, and so after every list of events.
-use Rattle.std.proofs.Common.{◌≡◌, ℕ, ◌+◌, ◌<◌, ◌≤◌, true, List, [], ◌∷◌, ◌++◌, length, Option, Some, refl, sym, ap, ◌∙◌}
-use Rattle.std.proofs.Common.{subst, arith, inl, inr}
+use Rattle.std.proofs.Common.{◌≡◌, ℕ, ◌+◌, ◌<◌, ◌≤◌, true, List, [], ◌∷◌, ◌++◌, length, Option, Some, refl, sym, ap, ◌∙◌, subst, arith, inl}
+use Rattle.std.proofs.Common.{inr}
 use Rattle.std.proofs.lemmas.Bool.{cases_eq}
-use Rattle.seam_node_steps.specs.Prelude.{Pos, Distances, Place, last_of, after, type_of, happens, enabled, LeadsTo, Occurs, Event, Call}
-use Rattle.seam_node_steps.specs.Prelude.{RealView, limit, Msg, Hand, Reap, may_settle, World, node_steps, node_has_work}
+use Rattle.seam_node_steps.specs.Prelude.{Pos, Distances, Place, last_of, after, type_of, happens, enabled, Occurs, Event, Call, RealView}
+use Rattle.seam_node_steps.specs.Prelude.{limit, Msg, Hand, Reap, may_settle, World, node_steps, node_has_work}
 use Rattle.seam_law_flow.specs.Prelude.{Flow, Goes, comes, letter_in, In, On, Sole, Turned, still, turns, lands, leaves, relays}
 use Rattle.seam_law_flow.specs.Prelude.{place_after, token_after}
 use Rattle.seam_law_calls.specs.Prelude.{Frame, Has, mine, entity_flow, MovesTo, real_burden, Replays, real_in, real_of, IsOne, IsSpared}
-use Rattle.seam_law_calls.specs.Prelude.{AllFits, IsFrame, HasOne, OneFrom}
+use Rattle.seam_law_calls.specs.Prelude.{AllFits, IsFrame, HasOne, OneFrom, RunsTo}
 use Rattle.seam_law_ghosts.specs.Prelude.{distances_of, place_of, path_of, home_of, IsDue, IsOnItsWay, waits, IsPlaced}
 use Rattle.seam_haunt.specs.Places.{settled}
 use Rattle.seam_machine.proofs.Occurring.{occurs}
@@ -195,7 +195,7 @@ module _ (f : Frame) (home : ℕ) (start : RealView) where
     }
 
     pub placed_leads : (w v : World) (es : List Event) → AllFits f e ty w → IsSpared e w → IsOne e w (In home) start →
-        IsDue e w (In home) → LeadsTo node_has_work node_steps w es v → IsPlaced f e ty home start v
+        IsDue e w (In home) → RunsTo w es v → IsPlaced f e ty home start v
     placed_leads w v es fits spared one due run =
         (leads_keeps node_has_work node_steps IsPlacedSpared placed_more w v es
         (record { is = placed_first w fits one due; spared = spared }) run).is

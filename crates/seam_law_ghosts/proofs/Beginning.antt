@@ -1,7 +1,6 @@
 -- What a loaded world has in its lists, and of entities that are not there.
-use Rattle.std.proofs.Common.{◌≡◌, ℕ, ◌≤◌, Bool, true, false, cond, eqb, is_some, ◌||◌, List, [], ◌∷◌, Option, None, Some, refl, sym}
-use Rattle.std.proofs.Common.{ap, ◌∙◌, subst}
-use Rattle.std.proofs.Common.{arith, inl, inr}
+use Rattle.std.proofs.Common.{◌≡◌, ℕ, ◌≤◌, Bool, true, false, cond, eqb, is_some, ◌||◌, List, [], ◌∷◌, Option, None, Some, refl, sym, ap}
+use Rattle.std.proofs.Common.{◌∙◌, subst, arith, inl, inr}
 use Rattle.std.specs.Prelude.{option_map, slice_get}
 use Rattle.std.specs.List.{AllByRecursion}
 use Rattle.std.proofs.lemmas.Bool.{cases_lt, eqb-true}
@@ -10,7 +9,7 @@ use Rattle.seam_node_steps.specs.Prelude.{holders, NodeView, World, node_has_wor
 use Rattle.seam_node_steps.specs.Prelude.{base_round, ordered_at, loaded}
 use Rattle.seam_law_flow.specs.Prelude.{slot_at}
 use Rattle.seam_law_calls.specs.Prelude.{Frame, has_of, has_none, times, order_about, order_concerns, orders_of, real_in}
-use Rattle.seam_law_rounds.specs.Prelude.{IsBetweenRounds, IsFitting, framed, made, node_loaded}
+use Rattle.seam_law_rounds.specs.Prelude.{framed, made, node_loaded, MayBegin}
 use Rattle.seam_machine.proofs.Quiet.{quiet_tasks}
 use Rattle.seam_call.specs.declared.order.Order.TheVariants as order
 use Rattle.seam_law_calls.proofs.Counting.{counted_none}
@@ -89,13 +88,13 @@ empty_lists e (Cell c) h =
 pub none_listed : IsListed has_none.cell
 none_listed = record { survey = λ some. absurd (omega (arith, some)); looks = λ some. absurd (omega (arith, some)) }
 
-module _ (f : Frame) (w : World) (b : Batch) (between : IsBetweenRounds f w) (fits : IsFitting f w b) (e : ℕ) where
+module _ (f : Frame) (w : World) (b : Batch) (begin : MayBegin f w b) (e : ℕ) where
   listed_at : (k : ℕ) (o : Option NodeView) → slice_get w.nodes k ≡ o →
       IsListed (slot_at (has_of e) has_none (option_map (node_loaded b) o)).cell
   listed_at k None at = none_listed
   listed_at k (Some s) at =
       let once = loaded_surveys e b s in
-      let none = loaded_unseen e b s (quiet_tasks node_has_work w between.quiet k s at) in
+      let none = loaded_unseen e b s (quiet_tasks node_has_work w begin.between.quiet k s at) in
       record {
         survey = λ some. one_is (real_in (has_of e (node_loaded b s))) (omega (arith, once, some));
         looks = λ some. absurd (omega (arith, none, some));
@@ -103,7 +102,7 @@ module _ (f : Frame) (w : World) (b : Batch) (between : IsBetweenRounds f w) (fi
 
   pub lists_loaded : AreListed (framed f b) e (loaded w b)
   lists_loaded = record {
-    frame = in_frame f w b between fits;
+    frame = in_frame f w b begin;
     slots = λ k. subst (λ h. IsListed h.cell) (sym (slot_is w b e k)) (listed_at k (slice_get w.nodes k) refl);
   }
 
@@ -127,9 +126,8 @@ module _ (f : Frame) (w : World) (b : Batch) (between : IsBetweenRounds f w) (fi
     item_by o os true known all = tick_by o.1 (orders_of e os) (order_concerns e o.1) refl known all
     item_by o os false known all = all
 
-    ticks_only : (k : ℕ) (os : List (ℕ × Order)) →
-        AllByRecursion (λ o. (x : ℕ) → order_about o.1 ≡ Some x → holders (loaded w b) x ≡ 1) os →
-        AllByRecursion IsTickOrder (orders_of e (items_to k os))
+    ticks_only : (k : ℕ) (os : List (ℕ × Order)) → AllByRecursion (λ o. (x : ℕ) → order_about o.1 ≡ Some x → holders (loaded w b) x ≡ 1) os
+        → AllByRecursion IsTickOrder (orders_of e (items_to k os))
     ticks_only k [] h = tt
     ticks_only k (o ∷ os) h = item_by o (items_to k os) (eqb o.0 k) h.0 (ticks_only k os h.1)
 
@@ -137,18 +135,18 @@ module _ (f : Frame) (w : World) (b : Batch) (between : IsBetweenRounds f w) (fi
         AllByRecursion IsTickOrder (slot_at (has_of e) has_none (option_map (node_loaded b) o)).base.orders
     orders_at k None at = tt
     orders_at k (Some s) at = elim (cases_lt k cell_count) [
-      | inl low ↦ subst (AllByRecursion IsTickOrder) (sym (node_none f w b between fits.tree e k s at low)) tt
-      | inr high ↦ subst (AllByRecursion IsTickOrder) (sym (node_orders f w b between fits.tree e k s at high))
-          (ticks_only k b.orders fits.known)
+      | inl low ↦ subst (AllByRecursion IsTickOrder) (sym (node_none f w b begin.between begin.fits.tree e k s at low)) tt
+      | inr high ↦ subst (AllByRecursion IsTickOrder) (sym (node_orders f w b begin.between begin.fits.tree e k s at high))
+          (ticks_only k b.orders begin.fits.known)
     ]
 
     pub unknown_loaded : IsUnknown (framed f b) e (loaded w b)
     unknown_loaded = record {
-      frame = in_frame f w b between fits;
+      frame = in_frame f w b begin;
       slots = λ k. record {
         real = (counted_none (loaded w b) e nowhere).slots k;
         orders =
             subst (λ h. AllByRecursion IsTickOrder h.base.orders) (sym (slot_is w b e k)) (orders_at k (slice_get w.nodes k) refl);
       };
-      letters = λ a k. subst (AllByRecursion IsTick) (sym (no_mail f w b between fits e a k)) tt;
+      letters = λ a k. subst (AllByRecursion IsTick) (sym (no_mail f w b begin e a k)) tt;
     }

@@ -1,6 +1,6 @@
 -- Where a batch is loaded, each entity is on the survey list of its real's cell; and where reals come from.
-use Rattle.std.proofs.Common.{◌≡◌, ℕ, ◌≤◌, false, cond, eqb, List, [], ◌∷◌, ◌++◌, map, Option, None, Some, refl, sym, ap}
-use Rattle.std.proofs.Common.{◌∙◌, subst, arith, inl, inr}
+use Rattle.std.proofs.Common.{◌≡◌, ℕ, ◌≤◌, false, cond, eqb, List, [], ◌∷◌, ◌++◌, map, Option, None, Some, refl, sym, ap, ◌∙◌, subst, arith}
+use Rattle.std.proofs.Common.{inl, inr}
 use Rattle.std.specs.Prelude.{option_map, slice_get}
 use Rattle.std.specs.List.{AllByRecursion, IsDistinct}
 use Rattle.std.specs.Ordering.{nat_cmp}
@@ -13,8 +13,8 @@ use Rattle.std.proofs.lemmas.Option.{slice_get_cases}
 use Rattle.seam_node_steps.specs.Prelude.{leaf_at, Create, Order, Batch, RealView, WitnessView, real_begins, NodeView, World, Cell, Base}
 use Rattle.seam_node_steps.specs.Prelude.{cell_round, ordered_at, loaded}
 use Rattle.seam_law_flow.specs.Prelude.{slot_at}
-use Rattle.seam_law_calls.specs.Prelude.{Frame, has_of, has_none, times, one_more_if, entity_flow, real_in}
-use Rattle.seam_law_rounds.specs.Prelude.{created_entity, IsBetweenRounds, MayBeMade, IsFitting, made, node_loaded}
+use Rattle.seam_law_calls.specs.Prelude.{Frame, has_of, has_none, times, one_more_if, entity_flow, real_in, real_at}
+use Rattle.seam_law_rounds.specs.Prelude.{created_entity, MayBeMade, made, node_loaded, MayBegin}
 use Rattle.seam_law_ghosts.specs.Prelude.{made_real, BeginsAt}
 use Rattle.seam_tree.proofs.Leaves.{leaf_is_cell}
 use Rattle.seam_law_rounds.proofs.Loading.{each_keeps, Any, any, get-each_value}
@@ -59,13 +59,12 @@ module _ (e : ℕ) where
       each_keeps ordered_at (IsListed e) Any ordered_listed b.orders (any b.orders) (cell_round b.tree (made b s))
       (round_listed b (made b s))
 
-  listed_by : (b : Batch) (o : Option NodeView) (r : RealView) →
-      real_in (slot_at (has_of e) has_none (option_map (node_loaded b) o)) ≡ Some r →
-      1 ≤ (slot_at (has_of e) has_none (option_map (node_loaded b) o)).cell.survey
+  listed_by : (b : Batch) (o : Option NodeView) (r : RealView) → real_in (slot_at (has_of e) has_none (option_map (node_loaded b) o)) ≡ Some
+      r → 1 ≤ (slot_at (has_of e) has_none (option_map (node_loaded b) o)).cell.survey
   listed_by b None r at = cc
   listed_by b (Some s) r at = node_listed b s r at
 
-  pub listed : (w : World) (b : Batch) (k : ℕ) (r : RealView) → real_in ((entity_flow e (loaded w b)).slot k) ≡ Some r →
+  pub listed : (w : World) (b : Batch) (k : ℕ) (r : RealView) → real_at e (loaded w b) k ≡ Some r →
       1 ≤ ((entity_flow e (loaded w b)).slot k).cell.survey
   listed w b k r at =
       let is = slot_is w b e k in
@@ -74,21 +73,21 @@ module _ (e : ℕ) where
 -- ---- reals that were there
 
 begins : (w : World) (b : Batch) (e k : ℕ) (r : RealView) → (x : Option WitnessView)
-    × (real_in ((entity_flow e (loaded w b)).slot k) ≡ Some (record (real_begins r) { witness = x })) → BeginsAt w b e k r
+    × (real_at e (loaded w b) k ≡ Some (record (real_begins r) { witness = x })) → BeginsAt w b e k r
 begins w b e k r p = record { witness = p.0; here = p.1 }
 
-module _ (f : Frame) (w : World) (b : Batch) (between : IsBetweenRounds f w) (fits : IsFitting f w b) where
-  others_by : (e home : ℕ) (r : RealView) → real_in ((entity_flow e w).slot home) ≡ Some r → Creation e b.creates → AreOthers e b.creates
+module _ (f : Frame) (w : World) (b : Batch) (begin : MayBegin f w b) where
+  others_by : (e home : ℕ) (r : RealView) → real_at e w home ≡ Some r → Creation e b.creates → AreOthers e b.creates
   others_by e home r here (nowhere others) = others
   others_by e home r here (once first x later is at before after) =
-      let may = middle (MayBeMade f w) first x later (subst (AllByRecursion (MayBeMade f w)) is fits.creates) in
+      let may = middle (MayBeMade f w) first x later (subst (AllByRecursion (MayBeMade f w)) is begin.fits.creates) in
       absurd (let z = sym (ap real_in (sym (ap (λ q. (entity_flow q w).slot home) at) ∙ may.new home)) ∙ here in cc)
 
-  pub was_begins : (e home : ℕ) (r : RealView) → real_in ((entity_flow e w).slot home) ≡ Some r → BeginsAt w b e home r
+  pub was_begins : (e home : ℕ) (r : RealView) → real_at e w home ≡ Some r → BeginsAt w b e home r
   was_begins e home r here =
-      let others = others_by e home r here (creation_of e b.creates fits.once) in
-      begins w b e home r (kept_some (real_in ((entity_flow e w).slot home)) (real_in ((entity_flow e (loaded w b)).slot home))
-      (slot_becomes w b e fits.spares others home).real r here)
+      let others = others_by e home r here (creation_of e b.creates begin.fits.once) in
+      begins w b e home r (kept_some (real_at e w home) (real_at e (loaded w b) home)
+      (slot_becomes w b e begin.fits.spares others home).real r here)
 
   -- ---- reals that are created
 
@@ -98,17 +97,18 @@ module _ (f : Frame) (w : World) (b : Batch) (between : IsBetweenRounds f w) (fi
     leaf = leaf_at b.tree x.pos
 
     may : MayBeMade f w x
-    may = middle (MayBeMade f w) first x later (subst (AllByRecursion (MayBeMade f w)) is fits.creates)
+    may = middle (MayBeMade f w) first x later (subst (AllByRecursion (MayBeMade f w)) is begin.fits.creates)
 
     made_by : (s : NodeView) → slice_get w.nodes leaf ≡ Some s → BeginsAt w b x.entity leaf (made_real f b.tree x)
     made_by s at =
         let none = sym (ap (slot_at (has_of x.entity) has_none) at) ∙ may.new leaf in
-        let had = node_made f b fits.tree x leaf first later is before after fits.spares s (between.nodes.sound.states leaf s at)
-        (between.nodes.nodes leaf s at) none in
+        let had = node_made f b begin.fits.tree x leaf first later is before after begin.fits.spares s
+        (begin.between.nodes.sound.states leaf s at)
+        (begin.between.nodes.nodes leaf s at) none in
         let real = had.real ∙ ap (λ c. cond c (Some (made_real f b.tree x)) None) (eq-eqb leaf leaf refl) in
-        let kept = kept_some (real_in (has_of x.entity (until f b fits.tree x leaf first later is before after fits.spares s)))
+        let kept = kept_some (real_in (has_of x.entity (until f b begin.fits.tree x leaf first later is before after begin.fits.spares s)))
         (real_in (has_of x.entity (node_loaded b s)))
-        (node_after f b fits.tree x leaf first later is before after fits.spares s).real (made_real f b.tree x) real in
+        (node_after f b begin.fits.tree x leaf first later is before after begin.fits.spares s).real (made_real f b.tree x) real in
         record {
           witness = kept.0;
           here =
@@ -122,8 +122,8 @@ module _ (f : Frame) (w : World) (b : Batch) (between : IsBetweenRounds f w) (fi
       | inr p ↦
           let past = p.0 in
           let low = leaf_is_cell b.tree x.pos in
-          let most = fits.tree.cells_to in
-          let many = between.many in
+          let most = begin.fits.tree.cells_to in
+          let many = begin.between.many in
           absurd (omega (arith, past, many, low, most))
     ]
 
@@ -149,13 +149,13 @@ others_around (y ∷ ys) x later h =
     (((λ is. let no = sym (eq-eqb y.entity x.entity is) ∙ apart in cc), more.0), more.1)
 
 -- so each that the batch creates begins at its leaf
-module _ (f : Frame) (w : World) (b : Batch) (between : IsBetweenRounds f w) (fits : IsFitting f w b) where
+module _ (f : Frame) (w : World) (b : Batch) (begin : MayBegin f w b) where
   each_by : (first xs : List Create) → b.creates ≡ first ++ xs →
       AllByRecursion (λ x. BeginsAt w b x.entity (leaf_at b.tree x.pos) (made_real f b.tree x)) xs
   each_by first [] is = tt
   each_by first (x ∷ xs) is =
-      let others = others_around first x xs (subst (λ l. IsDistinct eqb (map created_entity l)) is fits.once) in (
-        made_begins f w b between fits first x xs is others.0 others.1,
+      let others = others_around first x xs (subst (λ l. IsDistinct eqb (map created_entity l)) is begin.fits.once) in (
+        made_begins f w b begin first x xs is others.0 others.1,
         each_by (first ++ x ∷ []) xs (is ∙ sym (append_assoc first (x ∷ []) xs)),
       )
 

@@ -1,10 +1,9 @@
 -- The beats of books never fall, and so versions of copies do not.
-use Rattle.std.proofs.Common.{◌≡◌, ℕ, ◌+◌, ◌<◌, ◌≤◌, true, List, length, Option, None, Some, sym, ap, ◌∙◌}
-use Rattle.std.proofs.Common.{subst, inl, inr, arith}
+use Rattle.std.proofs.Common.{◌≡◌, ℕ, ◌+◌, ◌<◌, ◌≤◌, true, List, length, Option, None, Some, sym, ap, ◌∙◌, subst, inl, inr, arith}
 use Rattle.std.proofs.lemmas.Bool.{cases_eq}
-use Rattle.seam_node_steps.specs.Prelude.{happens, enabled, LeadsTo, Event, GhostCopy, RealView, Msg, World, node_steps, node_has_work}
+use Rattle.seam_node_steps.specs.Prelude.{happens, enabled, Event, GhostCopy, RealView, Msg, World, node_steps, node_has_work}
 use Rattle.seam_law_flow.specs.Prelude.{comes, greater_entry}
-use Rattle.seam_law_calls.specs.Prelude.{Frame, Has, entity_flow, IsSpared, IsFrame}
+use Rattle.seam_law_calls.specs.Prelude.{Frame, Has, entity_flow, IsSpared, IsFrame, RunsTo}
 use Rattle.seam_law_ghosts.specs.Prelude.{Entry, book_entry, GhostMoves, IsTable, IsTrue}
 use Rattle.seam_machine.proofs.Occurring.{occurs}
 use Rattle.seam_net_runs.proofs.Runs.{leads_keeps}
@@ -65,13 +64,12 @@ module _ (f : Frame) (frame : IsFrame f) (e ty : ℕ) (known : ty < length f.def
         ];
       }
 
-  pub risen_leads : (w v : World) (es : List Event) → HasRisen w → LeadsTo node_has_work node_steps w es v → HasRisen v
+  pub risen_leads : (w v : World) (es : List Event) → HasRisen w → RunsTo w es v → HasRisen v
   risen_leads w v es x run = leads_keeps node_has_work node_steps HasRisen risen_more w v es x run
 
   -- a copy that is in a cell's book now is no older than the one that was there at the origin
   pub copies_rise : (w : World) → HasRisen w → IsTable e origin start first → (k : ℕ) (c d : GhostCopy) →
-      (book_entry ((entity_flow e origin).slot k)).1 ≡ Some c → (book_entry ((entity_flow e w).slot k)).1 ≡ Some d →
-      c.version ≤ d.version
+      (book_entry ((entity_flow e origin).slot k)).1 ≡ Some c → (book_entry ((entity_flow e w).slot k)).1 ≡ Some d → c.version ≤ d.version
   copies_rise w x told k c d was now =
       let old = told.books k in
       let new = x.is.told.books k in

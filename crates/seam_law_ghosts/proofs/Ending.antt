@@ -1,11 +1,10 @@
 -- The record of copies holds of an opened world, and again at the end of each phase; and what a phase of reaps leaves.
 use Rattle.std.proofs.Common.{◌≡◌, ℕ, ◌<◌, ◌≤◌, false, List, [], ◌∷◌, None, Some, sym, ap, ◌∙◌}
 use Rattle.std.specs.List.{AllByRecursion}
-use Rattle.seam_node_steps.specs.Prelude.{IsQuiet, LeadsTo, Event, Settings, TypeDef, RealView, cell_count, holders, NodeView, World}
-use Rattle.seam_node_steps.specs.Prelude.{node_steps, node_has_work, with_nodes, reap_ordered_at, ordered_at, opened, reaps_loaded}
-use Rattle.seam_node_steps.specs.Prelude.{look_loaded}
+use Rattle.seam_node_steps.specs.Prelude.{IsQuiet, Event, Settings, TypeDef, RealView, cell_count, holders, NodeView, World, node_has_work}
+use Rattle.seam_node_steps.specs.Prelude.{with_nodes, reap_ordered_at, ordered_at, opened, reaps_loaded, look_loaded}
 use Rattle.seam_law_flow.specs.Prelude.{In}
-use Rattle.seam_law_calls.specs.Prelude.{Frame, entity_flow, real_in, IsFrame}
+use Rattle.seam_law_calls.specs.Prelude.{Frame, entity_flow, real_in, IsFrame, RunsTo, real_at}
 use Rattle.seam_law_rounds.specs.Prelude.{IsBetweenRounds, each, first_frame, AreReapable}
 use Rattle.seam_law_ghosts.specs.Prelude.{book_entry, copy_at, AreTold, IsForgotten, AreCopiesBetweenRounds}
 use Rattle.seam_law_rounds.proofs.Giving.{reaps_cell, look_cell, reals_stay}
@@ -29,7 +28,7 @@ opened_copied defs settings frame bases = record {
 -- ---- a phase of reaps
 
 module _ (f : Frame) (u : World) (between : IsBetweenRounds f u) (copies : AreCopiesBetweenRounds f u) (es : List ℕ)
-    (may : AreReapable u es) (vs : List Event) (v : World) (run : LeadsTo node_has_work node_steps (reaps_loaded u es) vs v) where
+    (may : AreReapable u es) (vs : List Event) (v : World) (run : RunsTo (reaps_loaded u es) vs v) where
   abbrev turn : NodeView → NodeView
   turn = each reap_ordered_at es
 
@@ -39,8 +38,8 @@ module _ (f : Frame) (u : World) (between : IsBetweenRounds f u) (copies : AreCo
   books : (e k : ℕ) → book_entry ((entity_flow e (reaps_loaded u es)).slot k) ≡ book_entry ((entity_flow e u).slot k)
   books e k = ap (λ w. book_entry ((entity_flow e w).slot k)) is_loaded ∙ books_turned e turn (reaps_cell e es) u k
 
-  stay : (e k : ℕ) → real_in ((entity_flow e (reaps_loaded u es)).slot k) ≡ real_in ((entity_flow e u).slot k)
-  stay e k = ap (λ w. real_in ((entity_flow e w).slot k)) is_loaded ∙ reals_stay e turn (reaps_cell e es) u k
+  stay : (e k : ℕ) → real_at e (reaps_loaded u es) k ≡ real_at e u k
+  stay e k = ap (λ w. real_at e w k) is_loaded ∙ reals_stay e turn (reaps_cell e es) u k
 
   idle : (e x y : ℕ) → (entity_flow e (reaps_loaded u es)).mail x y ≡ []
   idle e x y =
@@ -48,16 +47,14 @@ module _ (f : Frame) (u : World) (between : IsBetweenRounds f u) (copies : AreCo
       ∙ quiet_mail f u between.nodes between.quiet e x y
 
   -- while the real is there, each cell is told what it wants
-  pub reaps_told : (e home : ℕ) (r q : RealView) → real_in ((entity_flow e u).slot home) ≡ Some r →
-      real_in ((entity_flow e v).slot home) ≡ Some q → AreTold f e v (In home) q
+  pub reaps_told : (e home : ℕ) (r q : RealView) → real_at e u home ≡ Some r → real_at e v home ≡ Some q → AreTold f e v (In home) q
   reaps_told e home r q there at =
       phase_told f u between copies (reaps_loaded u es) (frame_reaps f u between es may) (λ e. reaping.is_told e es)
       (reaping.small f u between es may) (reaping.calm f u between es may) (unknown_reaps f u between es may) books stay idle v vs run
       e home r there q at
 
   -- once it is gone, each cell is told that
-  pub reaps_forgotten : (e home : ℕ) (r : RealView) → real_in ((entity_flow e u).slot home) ≡ Some r →
-      real_in ((entity_flow e v).slot home) ≡ None → IsForgotten e v
+  pub reaps_forgotten : (e home : ℕ) (r : RealView) → real_at e u home ≡ Some r → real_at e v home ≡ None → IsForgotten e v
   reaps_forgotten e home r there at =
       phase_forgotten f u between copies (reaps_loaded u es) (frame_reaps f u between es may) (λ e. reaping.is_told e es)
       (reaping.small f u between es may) (reaping.calm f u between es may) (unknown_reaps f u between es may) books stay idle v vs run
@@ -90,18 +87,17 @@ module _ (f : Frame) (u : World) (between : IsBetweenRounds f u) (copies : AreCo
 -- ---- a phase of looks
 
 module _ (f : Frame) (u : World) (between : IsBetweenRounds f u) (copies : AreCopiesBetweenRounds f u) (vs : List Event) (v : World)
-    (run : LeadsTo node_has_work node_steps (look_loaded u) vs v) where
+    (run : RunsTo (look_loaded u) vs v) where
   look_idle : (e x y : ℕ) → (entity_flow e (look_loaded u)).mail x y ≡ []
   look_idle = quiet_mail f u between.nodes between.quiet
 
   look_books : (e k : ℕ) → book_entry ((entity_flow e (look_loaded u)).slot k) ≡ book_entry ((entity_flow e u).slot k)
   look_books e k = books_turned e (ordered_at looking.tick) (look_cell e looking.tick) u k
 
-  look_stay : (e k : ℕ) → real_in ((entity_flow e (look_loaded u)).slot k) ≡ real_in ((entity_flow e u).slot k)
+  look_stay : (e k : ℕ) → real_at e (look_loaded u) k ≡ real_at e u k
   look_stay e k = reals_stay e (ordered_at looking.tick) (look_cell e looking.tick) u k
 
-  pub looks_told : (e home : ℕ) (r q : RealView) → real_in ((entity_flow e u).slot home) ≡ Some r →
-      real_in ((entity_flow e v).slot home) ≡ Some q → AreTold f e v (In home) q
+  pub looks_told : (e home : ℕ) (r q : RealView) → real_at e u home ≡ Some r → real_at e v home ≡ Some q → AreTold f e v (In home) q
   looks_told e home r q there at =
       phase_told f u between copies (look_loaded u) (frame_look f u between) (λ e. false) (λ e home r here. looking.small f u between r)
       (looking.calm f u between) (unknown_look f u between) look_books look_stay look_idle v vs run e home r there q at

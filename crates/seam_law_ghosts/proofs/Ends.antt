@@ -1,12 +1,11 @@
 -- Where a loaded world is quiet again, each place is one that the rounds allow; and the last phases leave places.
-use Rattle.std.proofs.Common.{◌≡◌, ℕ, ◌≤◌, ◌⊎◌, Bool, false, List, [], ◌∷◌, ◌++◌, Some, refl, sym, ap, ◌∙◌, subst, arith}
-use Rattle.std.proofs.Common.{inl, inr}
+use Rattle.std.proofs.Common.{◌≡◌, ℕ, ◌≤◌, ◌⊎◌, Bool, false, List, [], ◌∷◌, ◌++◌, Some, refl, sym, ap, ◌∙◌, subst, arith, inl, inr}
 use Rattle.std.specs.List.{AllByRecursion}
-use Rattle.seam_node_steps.specs.Prelude.{leaf_at, Place, IsPlaceAfter, last_of, IsQuiet, LeadsTo, Event, Create, Batch, RealView, holders}
-use Rattle.seam_node_steps.specs.Prelude.{NodeView, World, node_steps, node_has_work, Cell, Base, loaded, reaps_loaded, look_loaded}
+use Rattle.seam_node_steps.specs.Prelude.{leaf_at, Place, IsPlaceAfter, last_of, IsQuiet, Event, Create, Batch, RealView, holders, NodeView}
+use Rattle.seam_node_steps.specs.Prelude.{World, node_has_work, Cell, Base, loaded, reaps_loaded, look_loaded}
 use Rattle.seam_law_flow.specs.Prelude.{letters_of, In}
-use Rattle.seam_law_calls.specs.Prelude.{Frame, mine, times, has_of, entity_flow, real_in, real_of, HasOne}
-use Rattle.seam_law_rounds.specs.Prelude.{IsBetweenRounds, IsFitting, framed, AreReapable}
+use Rattle.seam_law_calls.specs.Prelude.{Frame, mine, times, has_of, entity_flow, real_in, real_of, HasOne, RunsTo, real_at}
+use Rattle.seam_law_rounds.specs.Prelude.{IsBetweenRounds, framed, AreReapable, MayBegin}
 use Rattle.seam_law_ghosts.specs.Prelude.{distances_of, place_of, first_place, path_of, made_real, home_of, IsDue, IsPlaced, IsRightPlace}
 use Rattle.seam_law_ghosts.specs.Prelude.{BeginsAt, WasThere, ArePlaced}
 use Rattle.seam_haunt.specs.Places.{settled}
@@ -44,7 +43,7 @@ none_due e v quiet k =
 -- ---- a place at the end of its way
 
 module _ (f : Frame) (e ty home : ℕ) (start : RealView) (v : World) (x : IsPlaced f e ty home start v) (quiet : IsQuiet node_has_work v)
-    (k : ℕ) (q : RealView) (at : real_in ((entity_flow e v).slot k) ≡ Some q) where
+    (k : ℕ) (q : RealView) (at : real_at e v k ≡ Some q) where
   abbrev has : HasOne f e ty v
   has = x.one.has
 
@@ -89,33 +88,32 @@ module _ (f : Frame) (e ty home : ℕ) (start : RealView) (v : World) (x : IsPla
 
 -- ---- a loaded world
 
-module _ (f : Frame) (w : World) (b : Batch) (between : IsBetweenRounds f w) (fits : IsFitting f w b) where
-  module _ (v : World) (es : List Event) (run : LeadsTo node_has_work node_steps (loaded w b) es v) where
+module _ (f : Frame) (w : World) (b : Batch) (begin : MayBegin f w b) where
+  module _ (v : World) (es : List Event) (run : RunsTo (loaded w b) es v) where
     -- each place is on its way
-    pub placed_loaded : (e home : ℕ) (r : RealView) → real_in ((entity_flow e (loaded w b)).slot home) ≡ Some r →
-        IsPlaced (framed f b) e r.ty home r v
+    pub placed_loaded : (e home : ℕ) (r : RealView) → real_at e (loaded w b) home ≡ Some r → IsPlaced (framed f b) e r.ty home r v
     placed_loaded e home r here =
-        let settled = settled_loaded f w b between fits e home r here in
-        placed_leads (framed f b) home r (frame_loaded f w b between fits) e r.ty settled.type (loaded w b) v es
-        (one_loaded f w b between fits e home r here).fits (spared_loaded f w b between fits e home r here)
-        (one_at_home (framed f b) (loaded w b) e home r settled (no_mail f w b between fits e)) (listed e w b home r here) run
+        let settled = settled_loaded f w b begin e home r here in
+        placed_leads (framed f b) home r (frame_loaded f w b begin) e r.ty settled.type (loaded w b) v es
+        (one_loaded f w b begin e home r here).fits (spared_loaded f w b begin e home r here)
+        (one_at_home (framed f b) (loaded w b) e home r settled (no_mail f w b begin e)) (listed e w b home r here) run
 
     module _ (quiet : IsQuiet node_has_work v) where
-      pub right_loaded : (e home : ℕ) (r : RealView) → real_in ((entity_flow e (loaded w b)).slot home) ≡ Some r → (k : ℕ)
-          (q : RealView) → real_in ((entity_flow e v).slot k) ≡ Some q → IsRightPlace f b.tree (place_of home r) r k q
+      pub right_loaded : (e home : ℕ) (r : RealView) → real_at e (loaded w b) home ≡ Some r → (k : ℕ)
+          (q : RealView) → real_at e v k ≡ Some q → IsRightPlace f b.tree (place_of home r) r k q
       right_loaded e home r here k q at =
-          right_place (framed f b) e r.ty home r v (placed_loaded e home r here) quiet k q at (its f w b between fits e home r here).idle
+          right_place (framed f b) e r.ty home r v (placed_loaded e home r here) quiet k q at (its f w b begin e home r here).idle
 
       -- of an entity that was there
-      pub right_kept : (e home : ℕ) (r : RealView) → real_in ((entity_flow e w).slot home) ≡ Some r → (k : ℕ) (q : RealView) →
-          real_in ((entity_flow e v).slot k) ≡ Some q → IsRightPlace f b.tree (place_of home r) r k q
+      pub right_kept : (e home : ℕ) (r : RealView) → real_at e w home ≡ Some r → (k : ℕ) (q : RealView) →
+          real_at e v k ≡ Some q → IsRightPlace f b.tree (place_of home r) r k q
       right_kept e home r here k q at =
-          let begins = was_begins f w b between fits e home r here in
+          let begins = was_begins f w b begin e home r here in
           right_loaded e home _ begins.here k q at
 
       -- of one that is created
       abbrev pub MadeRight : Create → Type 0
-      MadeRight x = (k : ℕ) (q : RealView) → real_in ((entity_flow x.entity v).slot k) ≡ Some q →
+      MadeRight x = (k : ℕ) (q : RealView) → real_at x.entity v k ≡ Some q →
           IsRightPlace f b.tree (first_place b.tree x) (made_real f b.tree x) k q
 
       made_by : (xs : List Create) → AllByRecursion (λ x. BeginsAt w b x.entity (leaf_at b.tree x.pos) (made_real f b.tree x)) xs →
@@ -124,22 +122,22 @@ module _ (f : Frame) (w : World) (b : Batch) (between : IsBetweenRounds f w) (fi
       made_by (x ∷ xs) h = ((λ k q at. right_loaded x.entity (leaf_at b.tree x.pos) _ h.0.here k q at), made_by xs h.1)
 
       pub right_made : AllByRecursion MadeRight b.creates
-      right_made = made_by b.creates (each_begins f w b between fits)
+      right_made = made_by b.creates (each_begins f w b begin)
 
       -- ---- the record of places
 
-      placed_by : (e k : ℕ) (q : RealView) → real_in ((entity_flow e v).slot k) ≡ Some q → Somewhere e (loaded w b) ⊎ Nowhere e
+      placed_by : (e k : ℕ) (q : RealView) → real_at e v k ≡ Some q → Somewhere e (loaded w b) ⊎ Nowhere e
           (loaded w b) → settled (distances_of f.settings) b.tree (place_of k q) q.state.pos ≡ place_of k q
       placed_by e k q at (inl p) =
           settled_there (framed f b) e p.1.ty p.0 p.1 v (placed_loaded e p.0 p.1 p.2) quiet k q at
       placed_by e k q at (inr n) =
-          let gone = gone_leads (framed f b) (frame_loaded f w b between fits) e (loaded w b) v es (in_frame f w b between fits)
-          (record { slots = n; mail = λ x y. ap (letters_of real_of) (no_mail f w b between fits e x y) }) run in
+          let gone = gone_leads (framed f b) (frame_loaded f w b begin) e (loaded w b) v es (in_frame f w b begin)
+          (record { slots = n; mail = λ x y. ap (letters_of real_of) (no_mail f w b begin e x y) }) run in
           absurd (let z = sym (gone.slots k) ∙ at in cc)
 
       pub calls_place : ArePlaced (framed f b) v
       calls_place = record {
-        space = fits.space;
+        space = begin.fits.space;
         settled = λ e k q at. placed_by e k q at (search_real e (loaded w b));
       }
 
@@ -155,22 +153,21 @@ module _ (f : Frame) (u : World) (between : IsBetweenRounds f u) where
       })
 
   -- a real of a calm entity was there
-  calm_was : (e home : ℕ) (r : RealView) → real_in ((entity_flow e u).slot home) ≡ Some r → (told : Bool) (v : World) →
-      IsCalm f e home r u told v → (k : ℕ) (q : RealView) → real_in ((entity_flow e v).slot k) ≡ Some q → WasThere e k q u
+  calm_was : (e home : ℕ) (r : RealView) → real_at e u home ≡ Some r → (told : Bool) (v : World) →
+      IsCalm f e home r u told v → (k : ℕ) (q : RealView) → real_at e v k ≡ Some q → WasThere e k q u
   calm_was e home r here told v calm k q at =
       let is = (calm.nodes k).real q at in
       record {
         real = r;
-        here = ap (λ j. real_in ((entity_flow e u).slot j)) is.0 ∙ here;
+        here = ap (λ j. real_at e u j) is.0 ∙ here;
         same = sym is.1.1 ∙ ap (λ x. let now : RealView = record r { witness = x } in now) (ap (λ (y : RealView). y.witness) is.1.1);
       }
 
-  nowhere_then : (v : World) (e k : ℕ) (q : RealView) → real_in ((entity_flow e v).slot k) ≡ Some q → holders v e ≡ 0 → WasThere e k q u
+  nowhere_then : (v : World) (e k : ℕ) (q : RealView) → real_at e v k ≡ Some q → holders v e ≡ 0 → WasThere e k q u
   nowhere_then v e k q at none = absurd (let z = sym ((counted_none v e none).slots k) ∙ at in cc)
 
-  module _ (es : List ℕ) (may : AreReapable u es) (vs : List Event) (v : World)
-      (run : LeadsTo node_has_work node_steps (reaps_loaded u es) vs v) where
-    reaps_by : (e k : ℕ) (q : RealView) → real_in ((entity_flow e v).slot k) ≡ Some q → Somewhere e u ⊎ Nowhere e u → WasThere e k q u
+  module _ (es : List ℕ) (may : AreReapable u es) (vs : List Event) (v : World) (run : RunsTo (reaps_loaded u es) vs v) where
+    reaps_by : (e k : ℕ) (q : RealView) → real_at e v k ≡ Some q → Somewhere e u ⊎ Nowhere e u → WasThere e k q u
     reaps_by e k q at (inl p) =
         calm_was e p.0 p.1 p.2 (reaping.is_told e es) v
         (calm_leads f between.frame u between e p.0 p.1 p.2 (reaping.is_told e es)
@@ -178,22 +175,22 @@ module _ (f : Frame) (u : World) (between : IsBetweenRounds f u) where
         k q at
     reaps_by e k q at (inr n) = nowhere_then v e k q at (reaping.none_come f u between es may vs v run e (nobody_there e n))
 
-    pub reaps_leave : (e k : ℕ) (q : RealView) → real_in ((entity_flow e v).slot k) ≡ Some q → WasThere e k q u
+    pub reaps_leave : (e k : ℕ) (q : RealView) → real_at e v k ≡ Some q → WasThere e k q u
     reaps_leave e k q at = reaps_by e k q at (search_real e u)
 
-  module _ (vs : List Event) (v : World) (run : LeadsTo node_has_work node_steps (look_loaded u) vs v) where
-    looks_by : (e k : ℕ) (q : RealView) → real_in ((entity_flow e v).slot k) ≡ Some q → Somewhere e u ⊎ Nowhere e u → WasThere e k q u
+  module _ (vs : List Event) (v : World) (run : RunsTo (look_loaded u) vs v) where
+    looks_by : (e k : ℕ) (q : RealView) → real_at e v k ≡ Some q → Somewhere e u ⊎ Nowhere e u → WasThere e k q u
     looks_by e k q at (inl p) =
         calm_was e p.0 p.1 p.2 false v
         (calm_leads f between.frame u between e p.0 p.1 p.2 false (looking.small f u between p.1) (look_loaded u) v vs
         (looking.calm f u between e p.0 p.1 p.2) run) k q at
     looks_by e k q at (inr n) = nowhere_then v e k q at (looking.look_makes_none f u between vs v run e (nobody_there e n))
 
-    pub looks_leave : (e k : ℕ) (q : RealView) → real_in ((entity_flow e v).slot k) ≡ Some q → WasThere e k q u
+    pub looks_leave : (e k : ℕ) (q : RealView) → real_at e v k ≡ Some q → WasThere e k q u
     looks_leave e k q at = looks_by e k q at (search_real e u)
 
 -- a world whose reals were all there keeps the record of places
-pub stays_placed : (f : Frame) (u v : World) → ((e k : ℕ) (q : RealView) → real_in ((entity_flow e v).slot k) ≡ Some q → WasThere e k q u) →
+pub stays_placed : (f : Frame) (u v : World) → ((e k : ℕ) (q : RealView) → real_at e v k ≡ Some q → WasThere e k q u) →
     ArePlaced f u → ArePlaced f v
 stays_placed f u v was placed = record {
   space = placed.space;

@@ -1,22 +1,22 @@
 -- A worked run from an opened world: its batch fits, and at its end a cell has the present copy of the entity.
-use Rattle.std.proofs.Common.{◌≡◌, ℕ, zero, suc, ◌+◌, ◌<◌, ◌≤◌, Bool, true, false, eqb, List, [], ◌∷◌, ◌++◌, map, length, None, Some}
-use Rattle.std.proofs.Common.{refl, sym, ap, ◌∙◌, subst, arith, inl, inr}
+use Rattle.std.proofs.Common.{◌≡◌, ℕ, zero, suc, ◌+◌, ◌<◌, ◌≤◌, Bool, true, false, eqb, List, [], ◌∷◌, ◌++◌, map, length, None, Some, refl}
+use Rattle.std.proofs.Common.{sym, ap, ◌∙◌, subst, arith, inl, inr}
 use Rattle.std.specs.List.{IsDistinct, range_with_len}
 use Rattle.std.specs.Ordering.{nat_cmp}
 use Rattle.std.specs.FinMap as table
 use Rattle.std.proofs.lemmas.Bool.{cases_eq, ne_eqb}
-use Rattle.seam_node_steps.specs.Prelude.{IsProper, area, cut_after, IsTree, builtin, standard, IsQuiet, LeadsTo, order_or, RealView}
-use Rattle.seam_node_steps.specs.Prelude.{may_rise, holders, NodeView, node_steps, node_has_work, one_cell, loaded, empty_world, idle}
-use Rattle.seam_node_steps.specs.Prelude.{IsRow, three_cells, batch, move_1, move_2}
+use Rattle.seam_node_steps.specs.Prelude.{IsProper, area, cut_after, IsTree, builtin, standard, IsQuiet, order_or, RealView, may_rise}
+use Rattle.seam_node_steps.specs.Prelude.{holders, NodeView, node_has_work, one_cell, loaded, empty_world, idle, IsRow, three_cells, batch}
+use Rattle.seam_node_steps.specs.Prelude.{move_1, move_2}
 use Rattle.seam_law_flow.specs.Prelude.{number_from}
-use Rattle.seam_law_calls.specs.Prelude.{Frame, Has, has_of, entity_flow, events_of, real_in, IsFrame}
+use Rattle.seam_law_calls.specs.Prelude.{Frame, Has, has_of, entity_flow, events_of, real_in, IsFrame, RunsTo, real_at}
 use Rattle.seam_law_rounds.specs.Prelude.{AreNumbered, IsForReal, IsBetweenRounds, IsFitting, framed, next_from, calls_of, calls_at}
-use Rattle.seam_law_rounds.specs.Prelude.{first_frame, AreReapable}
+use Rattle.seam_law_rounds.specs.Prelude.{first_frame, AreReapable, MayBegin}
 use Rattle.seam_law_ghosts.specs.Prelude.{copy_at, AreCopiesBetweenRounds}
 use Rattle.seam_call.specs.declared.order.Order.TheVariants as order
 use Rattle.seam_node_steps.specs.Rows as rows
-use Rattle.seam_node_steps.specs.LateGhost.{made, moved_on, at_home, left, away, heard, base_16, base_17, new_parts}
-use Rattle.seam_node_steps.specs.LateGhost.{with_cells, world_0, world_14, steps}
+use Rattle.seam_node_steps.specs.LateGhost.{made, moved_on, at_home, left, away, heard, base_16, base_17, new_parts, with_cells, world_0}
+use Rattle.seam_node_steps.specs.LateGhost.{world_14, steps}
 use Rattle.seam_node_steps.proofs.Tables.{computing}
 use Rattle.seam_law_calls.proofs.ExampleMet.{EachFrom, each_node, slots, none_there, one_is, number_is, row_leads, frame_is}
 use Rattle.seam_law_rounds.proofs.Opened.{opened_is_new, opened_has_none, opened_between}
@@ -161,7 +161,7 @@ numbered s = subst (AreNumbered first batch 1 s) (sym (from_one s)) (elim (cases
 for_made : IsForReal first batch 1 made
 for_made = record { fit = (λ e. refl, (λ e. refl, tt)); numbered = numbered }
 
-no_real : (e k : ℕ) (r : RealView) → real_in ((entity_flow e empty_world).slot k) ≡ Some r → ⊥
+no_real : (e k : ℕ) (r : RealView) → real_at e empty_world k ≡ Some r → ⊥
 no_real e k r at = let z = sym (opened_has_none builtin standard first_is (omega arith) e k) ∙ at in cc
 
 pub between : IsBetweenRounds first empty_world
@@ -217,17 +217,20 @@ module _ (load : loaded empty_world batch ≡ world_0) (row : IsRow 1 1 world_0 
     spares = (refl, (refl, tt));
     known = (known, (known, tt));
     calls = λ e k r at.
-        let is = is_made e k r (ap (λ w. real_in ((entity_flow e w).slot k)) (sym load) ∙ at) in
+        let is = is_made e k r (ap (λ w. real_at e w k) (sym load) ∙ at) in
         subst (λ x. IsForReal first batch x r) (sym is.0) (subst (IsForReal first batch 1) is.1 for_made);
     few = omega arith;
     small = λ e k r at. absurd (no_real e k r at);
   }
 
-  pub run : LeadsTo node_has_work node_steps (loaded empty_world batch) (events_of steps) world_14
-  run = subst (λ w. LeadsTo node_has_work node_steps w (events_of steps) world_14) (sym load) (row_leads 1 1 world_0 steps row)
+  begin : MayBegin first empty_world batch
+  begin = record { between = between; fits = opened_fits }
+
+  pub run : RunsTo (loaded empty_world batch) (events_of steps) world_14
+  run = subst (λ w. RunsTo w (events_of steps) world_14) (sym load) (row_leads 1 1 world_0 steps row)
 
   pub ends_between : IsBetweenRounds (framed first batch) world_14
-  ends_between = calls_end_between first empty_world batch between opened_fits world_14 (events_of steps) run quiet
+  ends_between = calls_end_between first empty_world batch begin world_14 (events_of steps) run quiet
 
   pub ends_copied : AreCopiesBetweenRounds (framed first batch) world_14
-  ends_copied = calls_end_copied first empty_world batch between opened_fits copies world_14 (events_of steps) run quiet
+  ends_copied = calls_end_copied first empty_world batch begin copies world_14 (events_of steps) run quiet

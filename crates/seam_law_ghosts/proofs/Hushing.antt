@@ -1,13 +1,11 @@
 -- What comes to the cell where the real is has no newer beat than the book there.
-use Rattle.std.proofs.Common.{◌≡◌, ℕ, ◌<◌, ◌≤◌, true, List, [], ◌∷◌, length, Option, None, Some, refl, sym, ap}
-use Rattle.std.proofs.Common.{subst, inl, inr, arith}
+use Rattle.std.proofs.Common.{◌≡◌, ℕ, ◌<◌, ◌≤◌, true, List, [], ◌∷◌, length, Option, None, Some, refl, sym, ap, subst, inl, inr, arith}
 use Rattle.std.proofs.lemmas.Bool.{cases_eq}
 use Rattle.std.specs.List.{AllByRecursion}
-use Rattle.seam_node_steps.specs.Prelude.{happens, enabled, LeadsTo, items_to, Event, GhostCopy, RealView, Msg, World, node_steps}
-use Rattle.seam_node_steps.specs.Prelude.{node_has_work}
+use Rattle.seam_node_steps.specs.Prelude.{happens, enabled, items_to, Event, GhostCopy, RealView, Msg, World, node_steps, node_has_work}
 use Rattle.seam_law_flow.specs.Prelude.{Goes, comes, OfEntry, AllBring, TokenPlace, In, On, Sole, still, turns, lands, leaves, relays}
 use Rattle.seam_law_flow.specs.Prelude.{place_after}
-use Rattle.seam_law_calls.specs.Prelude.{Frame, Has, entity_flow, real_in, real_of, IsSpared, IsFrame}
+use Rattle.seam_law_calls.specs.Prelude.{Frame, Has, entity_flow, real_in, real_of, IsSpared, IsFrame, RunsTo, real_at}
 use Rattle.seam_law_ghosts.specs.Prelude.{Entry, brings, book_entry, IsOfTable, IsTrue, IsHushed}
 use Rattle.seam_machine.proofs.Occurring.{occurs}
 use Rattle.seam_net_runs.proofs.Runs.{leads_keeps}
@@ -88,8 +86,7 @@ module _ (f : Frame) (e ty : ℕ) (start : RealView) (first : ℕ → GhostCopy)
   abbrev book_then : ℕ → ℕ
   book_then k = (book_entry ((entity_flow e next).slot k)).0
 
-  place_is : (p : TokenPlace) (r : RealView) → Sole real_in real_of (entity_flow e w) p before →
-      real_in ((entity_flow e w).slot g.k) ≡ Some r → p ≡ In g.k
+  place_is : (p : TokenPlace) (r : RealView) → Sole real_in real_of (entity_flow e w) p before → real_at e w g.k ≡ Some r → p ≡ In g.k
   place_is p r one at = (sole_here real_in real_of (entity_flow e w) p before r g.k one at).0
 
   hushed_by : (m : Did_it) → ToldBy m → (p : TokenPlace) → Sole real_in real_of (entity_flow e w) p before → IsHushed e w p →
@@ -145,12 +142,11 @@ module _ (f : Frame) (frame : IsFrame f) (e ty : ℕ) (known : ty < length f.def
             has.one x.hushed);
       }
 
-  pub quelled_leads : (w v : World) (es : List Event) → IsQuelled w → LeadsTo node_has_work node_steps w es v → IsQuelled v
+  pub quelled_leads : (w v : World) (es : List Event) → IsQuelled w → RunsTo w es v → IsQuelled v
   quelled_leads w v es x run = leads_keeps node_has_work node_steps IsQuelled quelled_more w v es x run
 
   -- so it is where the real is found
-  pub hushed_where : (v : World) (x : IsQuelled v) (k : ℕ) (r : RealView) → real_in ((entity_flow e v).slot k) ≡ Some r →
-      IsHushed e v (In k)
+  pub hushed_where : (v : World) (x : IsQuelled v) (k : ℕ) (r : RealView) → real_at e v k ≡ Some r → IsHushed e v (In k)
   hushed_where v x k r at =
       subst (IsHushed e v) (sole_here real_in real_of (entity_flow e v) x.is.one.has.place x.is.one.has.real r k x.is.one.has.one at).0
       x.hushed

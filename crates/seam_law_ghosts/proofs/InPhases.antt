@@ -1,12 +1,11 @@
 -- Where entities are reaped, and where witnesses look, no message to a cell is stray.
-use Rattle.std.proofs.Common.{◌≡◌, ℕ, ◌+◌, ◌<◌, ◌≤◌, Bool, true, false, not, List, [], ◌∷◌, Option, None, Some, refl, ap, ◌∙◌, subst}
-use Rattle.std.proofs.Common.{arith}
+use Rattle.std.proofs.Common.{◌≡◌, ℕ, ◌+◌, ◌<◌, ◌≤◌, Bool, true, false, not, List, [], ◌∷◌, Option, None, Some, refl, ap, ◌∙◌, subst, arith}
 use Rattle.std.specs.Prelude.{slice_get}
 use Rattle.std.specs.List.{AllByRecursion}
 use Rattle.std.proofs.lemmas.Bool.Decides.{nat_tests}
-use Rattle.seam_node_steps.specs.Prelude.{link, RealView, Msg, GhostDrop, Tick, Reap, Update, limit}
-use Rattle.seam_node_steps.specs.Prelude.{is_small, may_rise, cell_count, about, is_stray, stray_reap, NodeView, World, RouteView, order_or}
-use Rattle.seam_law_calls.specs.Prelude.{Frame, here_at, entity_flow, real_in}
+use Rattle.seam_node_steps.specs.Prelude.{link, RealView, Msg, GhostDrop, Tick, Reap, Update, limit, is_small, may_rise, cell_count, about}
+use Rattle.seam_node_steps.specs.Prelude.{is_stray, stray_reap, NodeView, World, RouteView, order_or}
+use Rattle.seam_law_calls.specs.Prelude.{Frame, here_at, entity_flow, real_at}
 use Rattle.seam_law_rounds.proofs.Calm.{IsCalmTo, IsCalm}
 use Rattle.seam_law_rounds.proofs.CalmRuns.{found_home}
 use Rattle.std.specs.FinMap as table
@@ -40,7 +39,7 @@ module _ (f : Frame) (e home : ℕ) (r : RealView) (cell : home < cell_count) (n
       let q = found_home f e home r cell none was leads told small v (record { node = k; from = Some a }) (feeds v a k s
       (Reap x) ms node at)
       calm x (mine_is e (Reap x) is) in
-      reap_by ((entity_flow e v).slot k).cell.slot.real q.0 (ap (λ j. real_in ((entity_flow e v).slot j)) h ∙ q.1) q.2
+      reap_by ((entity_flow e v).slot k).cell.slot.real q.0 (ap (λ j. real_at e v j) h ∙ q.1) q.2
   kind_by (Update u) ms at is h = absurd (omega (arith, h, low))
   kind_by _ ms at is h = absurd h
 

@@ -1,15 +1,13 @@
 -- In a round no message to a cell is stray.
-use Rattle.std.proofs.Common.{◌≡◌, ℕ, ◌<◌, ◌≤◌, ◌⊎◌, false, List, ◌∷◌, None, Some, refl, sym}
-use Rattle.std.proofs.Common.{ap, ◌∙◌, subst, inl, inr}
+use Rattle.std.proofs.Common.{◌≡◌, ℕ, ◌<◌, ◌≤◌, ◌⊎◌, false, List, ◌∷◌, None, Some, refl, sym, ap, ◌∙◌, subst, inl, inr}
 use Rattle.std.specs.Prelude.{slice_get}
 use Rattle.std.specs.List.{AllByRecursion}
-use Rattle.seam_node_steps.specs.Prelude.{link, LeadsTo, Event, Batch, RealView, Msg, Hand, Tick}
-use Rattle.seam_node_steps.specs.Prelude.{limit, cell_count, about, is_stray, CellView, slot_of, holders, NodeView, World}
-use Rattle.seam_node_steps.specs.Prelude.{node_steps, node_has_work, Cell, loaded}
+use Rattle.seam_node_steps.specs.Prelude.{link, Event, Batch, RealView, Msg, Hand, Tick, limit, cell_count, about, is_stray, CellView}
+use Rattle.seam_node_steps.specs.Prelude.{slot_of, holders, NodeView, World, Cell, loaded}
 use Rattle.seam_law_flow.specs.Prelude.{letters_of, slot_at, TokenPlace, In, On}
 use Rattle.seam_law_calls.specs.Prelude.{Frame, here_at, mine, has_of, has_none, entity_flow, RealFits, IsFitHand, real_burden, real_in}
-use Rattle.seam_law_calls.specs.Prelude.{real_of, IsOne, reaped_by}
-use Rattle.seam_law_rounds.specs.Prelude.{IsSettled, IsBetweenRounds, IsFitting, framed, calls_of, next_from}
+use Rattle.seam_law_calls.specs.Prelude.{real_of, IsOne, reaped_by, RunsTo, real_at}
+use Rattle.seam_law_rounds.specs.Prelude.{IsSettled, framed, calls_of, next_from, MayBegin}
 use Rattle.seam_law_flow.proofs.TokenLemmas.{sole_here}
 use Rattle.seam_law_calls.proofs.Counting.{none_counts}
 use Rattle.seam_law_calls.proofs.Easing.{came_small}
@@ -27,7 +25,7 @@ use Rattle.seam_law_ghosts.proofs.Strays.{mine_is, seen_first, feeds, kind_fits}
 
 -- the first letter carries the one real, so no node has it
 free_by : (e : ℕ) (w : World) (p : TokenPlace) (r q : RealView) (a k : ℕ) (ms : List Msg) → IsOne e w p r →
-    (entity_flow e w).mail a k ≡ Hand q ∷ ms → (j : ℕ) → real_in ((entity_flow e w).slot j) ≡ None
+    (entity_flow e w).mail a k ≡ Hand q ∷ ms → (j : ℕ) → real_at e w j ≡ None
 free_by e w (On x y) r q a k ms one at j = one.slots j
 free_by e w (In x) r q a k ms one at j =
     let some = sym (ap (letters_of real_of) at) ∙ one.mail a k in
@@ -43,35 +41,34 @@ pub unknown_gets_none : (f : Frame) (e : ℕ) (w : World) → IsUnknown f e w �
 unknown_gets_none f e w h a k m ms at is =
     no_tick e m is (subst (AllByRecursion IsTick) (seen_first e w a k m ms at is) (h.letters a k)).0
 
-module _ (f : Frame) (w : World) (b : Batch) (between : IsBetweenRounds f w) (fits : IsFitting f w b) (v : World) (es : List Event)
-    (run : LeadsTo node_has_work node_steps (loaded w b) es v) where
+module _ (f : Frame) (w : World) (b : Batch) (begin : MayBegin f w b) (v : World) (es : List Event) (run : RunsTo (loaded w b) es v) where
   abbrev g : Frame
   g = framed f b
 
-  module _ (e home : ℕ) (r : RealView) (here : real_in ((entity_flow e (loaded w b)).slot home) ≡ Some r) where
+  module _ (e home : ℕ) (r : RealView) (here : real_at e (loaded w b) home ≡ Some r) where
     abbrev settled : IsSettled g e home r (loaded w b)
-    settled = settled_loaded f w b between fits e home r here
+    settled = settled_loaded f w b begin e home r here
 
     abbrev start : RealView
-    start = (one_loaded f w b between fits e home r here).real
+    start = (one_loaded f w b begin e home r here).real
 
     start_is : r ≡ start
     start_is =
-        let one = one_loaded f w b between fits e home r here in
+        let one = one_loaded f w b begin e home r here in
         (sole_here real_in real_of (entity_flow e (loaded w b)) one.place one.real r home one.one here).1
 
     start_low : start.public ≤ start.version
     start_low = subst (λ (x : RealView). x.public ≤ x.version) start_is settled.public
 
     abbrev Fair : World → Type 0
-    Fair x = IsFair g (frame_loaded f w b between fits) e r.ty settled.type start start_low x
+    Fair x = IsFair g (frame_loaded f w b begin) e r.ty settled.type start start_low x
 
     fair : Fair v
     fair =
-        fair_leads g (frame_loaded f w b between fits) e r.ty settled.type start start_low (loaded w b) v es (record {
-          one = record { has = one_loaded f w b between fits e home r here; replays = replays_none g start };
-          spared = spared_loaded f w b between fits e home r here;
-          letters = λ a k. subst (AllByRecursion (FitsNode g k)) (sym (no_mail f w b between fits e a k)) tt;
+        fair_leads g (frame_loaded f w b begin) e r.ty settled.type start start_low (loaded w b) v es (record {
+          one = record { has = one_loaded f w b begin e home r here; replays = replays_none g start };
+          spared = spared_loaded f w b begin e home r here;
+          letters = λ a k. subst (AllByRecursion (FitsNode g k)) (sym (no_mail f w b begin e a k)) tt;
         }) run
 
     module _ (a k : ℕ) (s : NodeView) (node : slice_get v.nodes k ≡ Some s) (low : k < cell_count) (m : Msg) (ms : List Msg)
@@ -79,8 +76,7 @@ module _ (f : Frame) (w : World) (b : Batch) (between : IsBetweenRounds f w) (fi
       seen : (entity_flow e v).mail a k ≡ m ∷ letters_of (mine e) ms
       seen = seen_first e v a k m ms at is
 
-      hand_fits : (q : RealView) → m ≡ Hand q →
-          (real_in ((entity_flow e v).slot k) ≡ None) × RealFits g e r.ty k q × (real_burden q < limit)
+      hand_fits : (q : RealView) → m ≡ Hand q → (real_at e v k ≡ None) × RealFits g e r.ty k q × (real_burden q < limit)
       hand_fits q same =
           let has = fair.one.has in
           let there = seen ∙ ap (λ x. x ∷ letters_of (mine e) ms) same in (
@@ -96,22 +92,22 @@ module _ (f : Frame) (w : World) (b : Batch) (between : IsBetweenRounds f w) (fi
           (subst (AllByRecursion (FitsNode g k)) seen (fair.letters a k)).0
           (subst (AllByRecursion (λ x. reaped_by x ≡ None)) seen (fair.spared.letters a k)).0
           (λ c same.
-          finds g (frame_loaded f w b between fits) e r.ty settled.type (λ s. next_from s r) (calls_of b e)
-          (are_calls f w b between fits e home r here) v (kept_after f w b between fits e home r here v es run) a k c
+          finds g (frame_loaded f w b begin) e r.ty settled.type (λ s. next_from s r) (calls_of b e)
+          (are_calls f w b begin e home r here) v (kept_after f w b begin e home r here v es run) a k c
           (letters_of (mine e) ms) (seen ∙ ap (λ x. x ∷ letters_of (mine e) ms) same))
           hand_fits
 
   pub nobody : (e : ℕ) → Nowhere e (loaded w b) → holders (loaded w b) e ≡ 0
   nobody e n =
       none_counts (loaded w b) e
-      (record { slots = n; mail = λ x y. ap (letters_of real_of) (no_mail f w b between fits e x y) })
+      (record { slots = n; mail = λ x y. ap (letters_of real_of) (no_mail f w b begin e x y) })
 
   pub free_by_place : (a k : ℕ) (c : CellView) (m : Msg) (ms : List Msg) (e : ℕ) → slice_get v.nodes k ≡ Some (Cell c) →
       link v.rows a k ≡ m ∷ ms → about m ≡ Some e → k < cell_count → Somewhere e (loaded w b) ⊎ Nowhere e (loaded w b) →
       is_stray (here_at g k) g.tree ((entity_flow e v).slot k).cell.slot m ≡ false
   free_by_place a k c m ms e node at is low (inl p) = present_free e p.0 p.1 p.2 a k (Cell c) node low m ms at is
   free_by_place a k c m ms e node at is low (inr n) =
-      absurd (unknown_gets_none g e v (unknown_leads g e (loaded w b) v es (unknown_loaded f w b between fits e
+      absurd (unknown_gets_none g e v (unknown_leads g e (loaded w b) v es (unknown_loaded f w b begin e
       (nobody e n)) run) a k m ms at is)
 
 -- what is said of a cell by its entity's flow, said of the cell

@@ -1,13 +1,12 @@
 -- Over every list of events an entity that has its real is in lists only where that is, and what is on its way fits.
-use Rattle.std.proofs.Common.{◌≡◌, ℕ, ◌<◌, ◌≤◌, true, List, length, Option, None, Some, refl}
-use Rattle.std.proofs.Common.{sym, ap, subst, arith}
+use Rattle.std.proofs.Common.{◌≡◌, ℕ, ◌<◌, ◌≤◌, true, List, length, Option, None, Some, refl, sym, ap, subst, arith}
 use Rattle.std.specs.Prelude.{slice_get}
 use Rattle.std.specs.List.{AllByRecursion}
-use Rattle.seam_node_steps.specs.Prelude.{happens, enabled, LeadsTo, Occurs, Task, Event, RealView, limit, NodeView, World, node_steps}
+use Rattle.seam_node_steps.specs.Prelude.{happens, enabled, Occurs, Task, Event, RealView, limit, NodeView, World, node_steps}
 use Rattle.seam_node_steps.specs.Prelude.{node_has_work}
 use Rattle.seam_law_flow.specs.Prelude.{comes, slot_at}
 use Rattle.seam_law_calls.specs.Prelude.{Frame, IsInFrame, has_of, has_none, entity_flow, real_burden, has_burden, node_burden, mine_burden}
-use Rattle.seam_law_calls.specs.Prelude.{burden, real_in, real_of, IsSpared, IsFrame, OneFrom}
+use Rattle.seam_law_calls.specs.Prelude.{burden, real_in, real_of, IsSpared, IsFrame, OneFrom, RunsTo, real_at}
 use Rattle.seam_machine.proofs.Occurring.{occurs}
 use Rattle.seam_net_runs.specs.Sums.{weight_or}
 use Rattle.seam_net_runs.proofs.Runs.{leads_keeps}
@@ -39,7 +38,7 @@ module _ (f : Frame) (e : ℕ) where
             (stays_listed f e g.k _ (comes g.input) _ g.moves.sent (a.slots g.k) g.moves.moves);
       }
 
-  pub listed_leads : (w v : World) (es : List Event) → AreListed w → LeadsTo node_has_work node_steps w es v → AreListed v
+  pub listed_leads : (w v : World) (es : List Event) → AreListed w → RunsTo w es v → AreListed v
   listed_leads w v es a run = leads_keeps node_has_work node_steps AreListed listed_more w v es a run
 
 -- ---- numbers are small
@@ -56,7 +55,7 @@ module _ (e : ℕ) (w : World) where
   pub slot_bound : (k : ℕ) → has_burden ((entity_flow e w).slot k) ≤ burden e w
   slot_bound k = bound_by k (slice_get w.nodes k) refl
 
-  pub real_bound : (k : ℕ) (r : RealView) → real_in ((entity_flow e w).slot k) ≡ Some r → real_burden r ≤ burden e w
+  pub real_bound : (k : ℕ) (r : RealView) → real_at e w k ≡ Some r → real_burden r ≤ burden e w
   real_bound k r at = let a = slot_bound k in let b = ap (weight_or real_burden) at in omega (arith, a, b)
 
 -- ---- an entity that no one reaps
@@ -68,11 +67,10 @@ module _ (f : Frame) (frame : IsFrame f) (e ty : ℕ) (known : ty < length f.def
     pub spared : IsSpared e w
     pub letters : (a k : ℕ) → AllByRecursion (FitsNode f k) ((entity_flow e w).mail a k)
 
-  real_is : (w : World) (h : IsFair w) (k : ℕ) (r : RealView) → real_in ((entity_flow e w).slot k) ≡ Some r → r ≡ h.one.has.real
+  real_is : (w : World) (h : IsFair w) (k : ℕ) (r : RealView) → real_at e w k ≡ Some r → r ≡ h.one.has.real
   real_is w h k r at = (sole_here real_in real_of (entity_flow e w) h.one.has.place h.one.has.real r k h.one.has.one at).1
 
-  numbers : (w : World) (h : IsFair w) (k : ℕ) (r : RealView) → real_in ((entity_flow e w).slot k) ≡ Some r →
-      (r.public ≤ r.version) × (r.version < limit)
+  numbers : (w : World) (h : IsFair w) (k : ℕ) (r : RealView) → real_at e w k ≡ Some r → (r.public ≤ r.version) × (r.version < limit)
   numbers w h k r at =
       let few = h.one.has.fits.room in
       let part = real_bound e w k r at in (
@@ -98,5 +96,5 @@ module _ (f : Frame) (frame : IsFrame f) (e ty : ℕ) (known : ty < length f.def
             g.moves.0.sent (has.fits.reals g.k) (numbers w h g.k) g.moves.0.moves)));
       }
 
-  pub fair_leads : (w v : World) (es : List Event) → IsFair w → LeadsTo node_has_work node_steps w es v → IsFair v
+  pub fair_leads : (w v : World) (es : List Event) → IsFair w → RunsTo w es v → IsFair v
   fair_leads w v es h run = leads_keeps node_has_work node_steps IsFair fair_more w v es h run

@@ -30,5 +30,6 @@ pub mod Loading
 pub mod Rounding
 pub mod Phasing
 pub mod Ending
+pub mod Copied
 pub mod Routing
 pub mod ExampleCopies

@@ -1,6 +1,6 @@
 -- An entity in a cell's survey list has its real there, and one in its look list has a witness too.
-use Rattle.std.proofs.Common.{◌≡◌, ℕ, ◌≤◌, Bool, true, false, cond, is_some, List, Option, Some, ◌⊎◌, inl, inr, refl, sym, ap}
-use Rattle.std.proofs.Common.{◌∙◌, subst, arith}
+use Rattle.std.proofs.Common.{◌≡◌, ℕ, ◌≤◌, Bool, true, false, cond, is_some, List, Option, Some, ◌⊎◌, inl, inr, refl, sym, ap, ◌∙◌, subst}
+use Rattle.std.proofs.Common.{arith}
 use Rattle.seam_node_steps.specs.Prelude.{RealView, Msg, Here, SlotStep, slot_after}
 use Rattle.seam_law_calls.specs.Prelude.{Frame, here_at, Has, AtCell, unlisted_if, Does, Acts, surveys, calls, readies, has_witness}
 use Rattle.seam_law_calls.specs.Prelude.{looks_after_tick, CellMoves, Moves, at_a_cell, at_a_base, real_in}

@@ -1,6 +1,5 @@
 -- What a load leaves of copies: all books, and what each real wants of them.
-use Rattle.std.proofs.Common.{◌≡◌, ◌⊎◌, inl, inr, ℕ, Bool, true, false, cond, eqb, Option, None, Some, refl, sym, ap, ◌∙◌}
-use Rattle.std.proofs.Common.{subst, arith}
+use Rattle.std.proofs.Common.{◌≡◌, ◌⊎◌, inl, inr, ℕ, Bool, true, false, cond, eqb, Option, None, Some, refl, sym, ap, ◌∙◌, subst, arith}
 use Rattle.std.specs.Prelude.{option_map, slice_get}
 use Rattle.std.specs.List.{AllByRecursion}
 use Rattle.std.specs.Ordering.{nat_cmp, eq_by_cmp}
@@ -12,8 +11,8 @@ use Rattle.seam_node_steps.specs.Prelude.{Division, leaf_at, cells_of, Create, O
 use Rattle.seam_node_steps.specs.Prelude.{NodeView, World, Cell, Base, with_nodes, real_if, created_at, with_witness, attached, cell_round}
 use Rattle.seam_node_steps.specs.Prelude.{base_round, ordered_at, loaded, holders}
 use Rattle.seam_law_flow.specs.Prelude.{slot_at, letters_of}
-use Rattle.seam_law_calls.specs.Prelude.{Frame, Has, has_of, has_none, entity_flow, real_in, real_of}
-use Rattle.seam_law_rounds.specs.Prelude.{IsNew, MayBeMade, IsBetweenRounds, IsFitting, framed, made, node_loaded}
+use Rattle.seam_law_calls.specs.Prelude.{Frame, Has, has_of, has_none, entity_flow, real_in, real_of, real_at}
+use Rattle.seam_law_rounds.specs.Prelude.{IsNew, MayBeMade, IsFitting, framed, made, node_loaded, MayBegin}
 use Rattle.seam_law_ghosts.specs.Prelude.{book_entry, present, wanted, AreSettled, AreCopiesBetweenRounds}
 use Rattle.seam_node_steps.proofs.Slots.{get-set_at}
 use Rattle.seam_law_rounds.proofs.Loading.{each_keeps, Any, any, get-each_value}
@@ -182,11 +181,11 @@ came_by f w e b may (Some s) r at =
 -- ---- what it is to have
 
 module _ (f : Frame) (w : World) (b : Batch) (fits : IsFitting f w b) (copies : AreCopiesBetweenRounds f w) (e k : ℕ) (r : RealView)
-    (here : real_in ((entity_flow e (loaded w b)).slot k) ≡ Some r) where
-  from : ComesFrom w e (real_in ((entity_flow e w).slot k)) r
+    (here : real_at e (loaded w b) k ≡ Some r) where
+  from : ComesFrom w e (real_at e w k) r
   from = came_by f w e b fits.creates (slice_get w.nodes k) r (ap real_in (sym (slot_is w b e k)) ∙ here)
 
-  settled_from : ComesFrom w e (real_in ((entity_flow e w).slot k)) r → AreSettled (framed f b) e k r (loaded w b)
+  settled_from : ComesFrom w e (real_at e w k) r → AreSettled (framed f b) e k r (loaded w b)
   settled_from (was q at same) =
       let old = copies.settled e k q at in
       let wants : (j : ℕ) → wanted f q j ≡ wanted f r j =
@@ -223,12 +222,12 @@ module _ (f : Frame) (w : World) (b : Batch) (fits : IsFitting f w b) (copies : 
 
 -- ---- where the one holder of a loaded world is
 
-module _ (f : Frame) (w : World) (b : Batch) (between : IsBetweenRounds f w) (fits : IsFitting f w b) where
+module _ (f : Frame) (w : World) (b : Batch) (begin : MayBegin f w b) where
   home_by : (e : ℕ) → holders (loaded w b) e ≡ 1 → Somewhere e (loaded w b) ⊎ Nowhere e (loaded w b) → Somewhere e (loaded w b)
   home_by e one (inl p) = p
   home_by e one (inr n) =
       let zero = none_counts (loaded w b) e
-      (record { slots = n; mail = λ x y. ap (letters_of real_of) (no_mail f w b between fits e x y) }) in
+      (record { slots = n; mail = λ x y. ap (letters_of real_of) (no_mail f w b begin e x y) }) in
       absurd (omega (arith, zero, one))
 
   pub home_loaded : (e : ℕ) → holders (loaded w b) e ≡ 1 → Somewhere e (loaded w b)

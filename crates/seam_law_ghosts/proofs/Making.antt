@@ -1,14 +1,13 @@
 -- What a move makes of the real, and what it writes and sends to books.
-use Rattle.std.proofs.Common.{◌≡◌, ℕ, ◌+◌, ◌≤◌, ◌⊎◌, Bool, true, false, ltb, cond, eqb, ◌||◌}
-use Rattle.std.proofs.Common.{List, [], ◌∷◌, ◌++◌, Option, None, Some, refl, sym, ap, ◌∙◌}
-use Rattle.std.proofs.Common.{subst, inl, inr}
+use Rattle.std.proofs.Common.{◌≡◌, ℕ, ◌+◌, ◌≤◌, ◌⊎◌, Bool, true, false, ltb, cond, eqb, ◌||◌, List, [], ◌∷◌, ◌++◌, Option, None, Some, refl}
+use Rattle.std.proofs.Common.{sym, ap, ◌∙◌, subst, inl, inr}
 use Rattle.std.specs.Prelude.{filter_map}
 use Rattle.std.specs.List.{AllByRecursion}
 use Rattle.std.specs.FinSet as set
 use Rattle.std.proofs.lemmas.Bool.{eqb-true, eqb-false}
-use Rattle.seam_node_steps.specs.Prelude.{Cells, items_to, part_of_deed, type_of, Call as CallData, GhostCopy, RealView, Msg}
-use Rattle.seam_node_steps.specs.Prelude.{Hand, GhostSet, GhostDrop, Reap, cell_numbers, copy_of_real, settled_to}
-use Rattle.seam_node_steps.specs.Prelude.{told, told_unless, ghost_message, ghost_messages, beat_after, copy_if}
+use Rattle.seam_node_steps.specs.Prelude.{Cells, items_to, part_of_deed, type_of, Call as CallData, GhostCopy, RealView, Msg, Hand}
+use Rattle.seam_node_steps.specs.Prelude.{GhostSet, GhostDrop, Reap, cell_numbers, copy_of_real, settled_to, told, told_unless}
+use Rattle.seam_node_steps.specs.Prelude.{ghost_message, ghost_messages, beat_after, copy_if}
 use Rattle.seam_law_flow.specs.Prelude.{letters_of, OfEntry, AllBring, entry_in, greater_entry, IsSilent, carried_in, SendsNone, Handles}
 use Rattle.seam_law_flow.specs.Prelude.{still, turns, lands, leaves, relays}
 use Rattle.seam_law_calls.specs.Prelude.{Frame, here_at, Has, account_of, after_call, real_in, real_of}
@@ -92,8 +91,7 @@ none_brought P (p ∷ ps) h = (subst (OfEntry P) (sym h.0) tt, none_brought P ps
 
 -- of what is chosen from a list each is such
 module _ {A B : Type 0} (P : B → Type 0) (g : A → Option B) (each : (a : A) (b : B) → g a ≡ Some b → P b) where
-  chosen_by : (a : A) (xs : List A) (o : Option B) → g a ≡ o → AllByRecursion P (filter_map g xs) →
-      AllByRecursion P (filter_map g (a ∷ xs))
+  chosen_by : (a : A) (xs : List A) (o : Option B) → g a ≡ o → AllByRecursion P (filter_map g xs) → AllByRecursion P (filter_map g (a ∷ xs))
   chosen_by a xs None is more = rw is more
   chosen_by a xs (Some b) is more = rw is (each a b is, more)
 
@@ -191,9 +189,8 @@ module _ (f : Frame) (e k : ℕ) (s : Has) (i : Option Msg) (t : Has) (sent : Li
   ]
 
   stays_by : (r q : RealView) (changed : Bool) (ms : List (ℕ × Msg)) → told_staying f k q changed ≡ ms → entry_in brings i ≡ None →
-      real_in s ≡ Some r → Executes f r q changed →
-      real_in t ≡ Some (settled_to q (haunts_staying f k q) (beat_after ms q.beat) q.generation) → book_entry t ≡ book_entry s →
-      sent ≡ ms → Handled
+      real_in s ≡ Some r → Executes f r q changed → real_in t ≡ Some
+      (settled_to q (haunts_staying f k q) (beat_after ms q.beat) q.generation) → book_entry t ≡ book_entry s → sent ≡ ms → Handled
   stays_by r q changed [] is none has acts real book z = (
     turns r (settled_to q (haunts_staying f k q) q.beat q.generation) has real
         (inr (settled_did f r q changed (haunts_staying f k q) q.beat q.generation acts)) (none_carried i none)

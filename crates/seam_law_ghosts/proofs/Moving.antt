@@ -161,8 +161,7 @@ module _ (f : Frame) (e : ℕ) (w v : World) {Moves : ℕ → Has → Option Msg
   abbrev Any : RealView → RealView → Type 0
   Any r q = Unit {0}
 
-  module _ (p : TokenPlace) (r : RealView) (one : IsOne e w p r) (told : AreTold f e w p r)
-      (fresh : IsFresh)
+  module _ (p : TokenPlace) (r : RealView) (one : IsOne e w p r) (told : AreTold f e w p r) (fresh : IsFresh)
       (hushed : (n : ℕ) (c : GhostCopy) (q : RealView) → i ≡ Some (GhostSet e n c) → real_in s ≡ Some q → n ≤ (book_entry s).0) where
     unmoved : carried_in real_of i ≡ None → real_in t ≡ real_in s → IsSilent brings sent →
         (g.k < cell_count → book_entry t ≡ greater_entry (book_entry s) (entry_in brings i)) → After
@@ -417,8 +416,7 @@ module _ (f : Frame) (e : ℕ) (w v : World) {Moves : ℕ → Has → Option Msg
 
   -- ---- an entity that is nowhere stays forgotten
 
-  module _ (free : real_in s ≡ None) (none_lands : (r : RealView) → i ≡ Some (Hand r) → ⊥) (was : IsForgotten e w)
-      (fresh : IsFresh) where
+  module _ (free : real_in s ≡ None) (none_lands : (r : RealView) → i ≡ Some (Hand r) → ⊥) (was : IsForgotten e w) (fresh : IsFresh) where
     never : (r : RealView) → real_in s ≡ Some r → ⊥
     never r has = let z = sym free ∙ has in cc
 

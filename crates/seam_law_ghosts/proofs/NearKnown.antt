@@ -5,7 +5,7 @@ use Rattle.std.proofs.lemmas.Bool.{cases_eq}
 use Rattle.std.proofs.lemmas.Bool.Decides.{nat_tests}
 use Rattle.seam_node_steps.specs.Prelude.{Pos, distance, Area, distance_to, Division, area, leaf_at, cells_of, IsInSpace, IsTree}
 use Rattle.seam_node_steps.specs.Prelude.{distance_to_cell, Place, home_at, GhostsReach, RealView, is_inside, World}
-use Rattle.seam_law_calls.specs.Prelude.{Frame, entity_flow, real_in}
+use Rattle.seam_law_calls.specs.Prelude.{Frame, real_at}
 use Rattle.seam_law_rounds.specs.Prelude.{IsBetweenRounds}
 use Rattle.seam_law_ghosts.specs.Prelude.{distances_of, place_of, ArePlaced}
 use Rattle.seam_geo.specs.Rect.{Holds}
@@ -34,7 +34,7 @@ near_by kept t home p false near at tree inside =
     omega (arith, none)
 
 module _ (f : Frame) (w : World) (between : IsBetweenRounds f w) (placed : ArePlaced f w) (e k : ℕ) (r : RealView)
-    (at : real_in ((entity_flow e w).slot k) ≡ Some r) where
+    (at : real_at e w k ≡ Some r) where
   home_is : home_at f.settings.offload_hysteresis f.tree k r.state.pos ≡ k
   home_is = ap (λ (p : Place). p.home) (placed.settled e k r at)
 
@@ -72,9 +72,8 @@ module _ (f : Frame) (w : World) (between : IsBetweenRounds f w) (placed : ArePl
 
 module _ (over : (a : Area) (p q : Pos) → distance_to a p ≤ distance p q + distance_to a q) (f : Frame) (w : World)
     (between : IsBetweenRounds f w) (placed : ArePlaced f w) (reach : GhostsReach f.settings) where
-  pub known_within : (e i : ℕ) (r : RealView) → real_in ((entity_flow e w).slot i) ≡ Some r → (x j : ℕ) (q : RealView) →
-      real_in ((entity_flow x w).slot j) ≡ Some q → distance q.state.pos r.state.pos ≤ f.settings.view_radius + f.settings.view_hysteresis →
-      (i ≡ j) ⊎ (set.contains q.haunts i ≡ true)
+  pub known_within : (e i : ℕ) (r : RealView) → real_at e w i ≡ Some r → (x j : ℕ) (q : RealView) → real_at x w j ≡ Some q →
+      distance q.state.pos r.state.pos ≤ f.settings.view_radius + f.settings.view_hysteresis → (i ≡ j) ⊎ (set.contains q.haunts i ≡ true)
   known_within e i r here x j q there near = elim (cases_eq i j) [
     | inl is ↦ inl is
     | inr n ↦

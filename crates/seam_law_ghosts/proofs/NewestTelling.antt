@@ -52,8 +52,7 @@ right_true false b h = h
 
 -- the real q settles in cell j, with these haunts
 module _ (h : Here) (q : RealView) (j : ℕ) (haunts : Cells) (changed : Bool) where
-  items : (k : ℕ) → k < cell_count →
-      items_to k (ghost_messages h q j haunts changed) ≡ item_of (ghost_message h q j haunts changed k)
+  items : (k : ℕ) → k < cell_count → items_to k (ghost_messages h q j haunts changed) ≡ item_of (ghost_message h q j haunts changed k)
   items k low =
       chosen_at (ghost_message h q j haunts changed) 0 cell_count k (λ x p is. target_by _ x _ p is) (omega arith) (omega (arith, low))
 
@@ -65,9 +64,8 @@ module _ (h : Here) (q : RealView) (j : ℕ) (haunts : Cells) (changed : Bool) w
       (set.contains q.haunts j) changed)))
       (right_true (eqb j h.me) (eqb j j) (eq-eqb j j refl))
 
-  pub gets : (k : ℕ) → k < cell_count → (k ≡ h.me → ⊥) → (k ≡ j → ⊥) →
-      Gets (q.beat + 1) (copy_of_real h q) (set.contains q.haunts k) (set.contains haunts k) changed
-      (items_to k (ghost_messages h q j haunts changed))
+  pub gets : (k : ℕ) → k < cell_count → (k ≡ h.me → ⊥) → (k ≡ j → ⊥) → Gets (q.beat + 1) (copy_of_real h q) (set.contains q.haunts k)
+      (set.contains haunts k) changed (items_to k (ghost_messages h q j haunts changed))
   gets k low own goal =
       let both : (eqb k h.me || eqb k j) ≡ false = ap (λ b. b || eqb k j) (ne_eqb k h.me own) ∙ ne_eqb k j goal in
       let is = items k low

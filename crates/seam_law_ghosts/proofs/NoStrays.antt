@@ -1,21 +1,21 @@
 -- No input of a cell is stray: in a round, where entities are reaped, and where witnesses look.
-use Rattle.std.proofs.Common.{◌≡◌, ℕ, ◌+◌, ◌<◌, ◌≤◌, ◌⊎◌, Bool, true, false, cond, eqb, not, nat_lt, is_some, List, [], ◌∷◌, Option}
-use Rattle.std.proofs.Common.{None, Some, refl, sym, ap, ◌∙◌, subst, arith, inl, inr}
+use Rattle.std.proofs.Common.{◌≡◌, ℕ, ◌+◌, ◌<◌, ◌≤◌, ◌⊎◌, Bool, true, false, cond, eqb, not, nat_lt, is_some, List, [], ◌∷◌, Option, None}
+use Rattle.std.proofs.Common.{Some, refl, sym, ap, ◌∙◌, subst, arith, inl, inr}
 use Rattle.std.specs.Prelude.{slice_get}
 use Rattle.std.specs.List.{AllByRecursion}
 use Rattle.std.specs.FinMap as table
 use Rattle.std.proofs.lemmas.Bool.{eq-eqb}
 use Rattle.std.proofs.lemmas.Bool.Decides.{nat_tests}
 use Rattle.std.proofs.lemmas.Option.{slice_get-map}
-use Rattle.seam_node_steps.specs.Prelude.{link, LeadsTo, total, Event, OrderView, next_item, Call as CallData, Order, Batch, Orders}
-use Rattle.seam_node_steps.specs.Prelude.{order_or, RealView, Msg, limit, may_rise, cell_count, base_of, order_is_ready, has_ready}
-use Rattle.seam_node_steps.specs.Prelude.{ready_order, may_settle, may_execute, about, is_stray, stray_survey, CellView, slot_of, holders}
-use Rattle.seam_node_steps.specs.Prelude.{NodeView, World, node_steps, node_has_work, Cell, with_nodes, ordered_at, reap_ordered_at, loaded}
-use Rattle.seam_node_steps.specs.Prelude.{reaps_loaded, look_loaded}
+use Rattle.seam_node_steps.specs.Prelude.{link, total, Event, OrderView, next_item, Call as CallData, Order, Batch, Orders, order_or}
+use Rattle.seam_node_steps.specs.Prelude.{RealView, Msg, limit, may_rise, cell_count, base_of, order_is_ready, has_ready, ready_order}
+use Rattle.seam_node_steps.specs.Prelude.{may_settle, may_execute, about, is_stray, stray_survey, CellView, slot_of, holders, NodeView}
+use Rattle.seam_node_steps.specs.Prelude.{World, node_has_work, Cell, with_nodes, ordered_at, reap_ordered_at, loaded, reaps_loaded}
+use Rattle.seam_node_steps.specs.Prelude.{look_loaded}
 use Rattle.seam_law_flow.specs.Prelude.{letters_of, slot_at}
 use Rattle.seam_law_calls.specs.Prelude.{Frame, here_at, IsInFrame, mine, times, has_of, has_none, entity_flow, has_witness, real_burden}
-use Rattle.seam_law_calls.specs.Prelude.{real_in, real_of}
-use Rattle.seam_law_rounds.specs.Prelude.{IsBetweenRounds, IsFitting, framed, each, AreReapable}
+use Rattle.seam_law_calls.specs.Prelude.{real_in, real_of, RunsTo, real_at}
+use Rattle.seam_law_rounds.specs.Prelude.{IsBetweenRounds, framed, each, AreReapable, MayBegin}
 use Rattle.seam_law_ghosts.specs.Prelude.{HasNoStrayTask}
 use Rattle.seam_machine.proofs.Quiet.{quiet_links, quiet_tasks}
 use Rattle.seam_table.proofs.Found.{found}
@@ -65,10 +65,8 @@ looks_by (Some r) h = (r, refl, h)
 -- where lists are as they should be, and each real may do what is asked of it, no task is stray
 module _ (v : World) (k : ℕ) (c : CellView) (node : slice_get v.nodes k ≡ Some (Cell c))
     (lists : (e : ℕ) → IsListed ((entity_flow e v).slot k).cell)
-    (settles : (e : ℕ) (r : RealView) → 1 ≤ ((entity_flow e v).slot k).cell.survey → real_in ((entity_flow e v).slot k) ≡ Some r →
-    may_settle r ≡ true)
-    (executes : (e : ℕ) (r : RealView) → real_in ((entity_flow e v).slot k) ≡ Some r → has_ready r.orders ≡ true →
-    may_execute r ≡ true) where
+    (settles : (e : ℕ) (r : RealView) → 1 ≤ ((entity_flow e v).slot k).cell.survey → real_at e v k ≡ Some r → may_settle r ≡ true)
+    (executes : (e : ℕ) (r : RealView) → real_at e v k ≡ Some r → has_ready r.orders ≡ true → may_execute r ≡ true) where
   has_is : (e : ℕ) → (entity_flow e v).slot k ≡ has_of e (Cell c)
   has_is e = ap (slot_at (has_of e) has_none) node
 
@@ -88,36 +86,35 @@ module _ (v : World) (k : ℕ) (c : CellView) (node : slice_get v.nodes k ≡ So
 
 -- ---- a round
 
-module _ (f : Frame) (w : World) (b : Batch) (between : IsBetweenRounds f w) (fits : IsFitting f w b) (v : World) (es : List Event)
-    (run : LeadsTo node_has_work node_steps (loaded w b) es v) where
+module _ (f : Frame) (w : World) (b : Batch) (begin : MayBegin f w b) (v : World) (es : List Event) (run : RunsTo (loaded w b) es v) where
   frame_then : IsInFrame (framed f b) v
-  frame_then = frame_leads (framed f b) (loaded w b) v es (in_frame f w b between fits) run
+  frame_then = frame_leads (framed f b) (loaded w b) v es (in_frame f w b begin) run
 
   pub round_free : (a k : ℕ) (c : CellView) (m : Msg) (ms : List Msg) (e : ℕ) → slice_get v.nodes k ≡ Some (Cell c) →
       link v.rows a k ≡ m ∷ ms → about m ≡ Some e → is_stray c.here c.tree (slot_of c e) m ≡ false
   round_free a k c m ms e node at is =
       let q = frame_then.nodes k (Cell c) node in
       of_cell (framed f b) v k c e m node q.here q.tree
-      (free_by_place f w b between fits v es run a k c m ms e node at is q.low (search_real e (loaded w b)))
+      (free_by_place f w b begin v es run a k c m ms e node at is q.low (search_real e (loaded w b)))
 
-  room_by : (e k : ℕ) (r : RealView) → real_in ((entity_flow e v).slot k) ≡ Some r → Somewhere e (loaded w b) ⊎ Nowhere e (loaded w b) →
+  room_by : (e k : ℕ) (r : RealView) → real_at e v k ≡ Some r → Somewhere e (loaded w b) ⊎ Nowhere e (loaded w b) →
       real_burden r + 1 < limit
   room_by e k r at (inl p) =
-      let few = (kept_after f w b between fits e p.0 p.1 p.2 v es run).room in
+      let few = (kept_after f w b begin e p.0 p.1 p.2 v es run).room in
       let part = real_bound e v k r at in
       omega (arith, few, part)
   room_by e k r at (inr n) =
       let u = unknown_leads (framed f b) e (loaded w b) v es
-      (unknown_loaded f w b between fits e (nobody f w b between fits v es run e n)) run in
+      (unknown_loaded f w b begin e (nobody f w b begin v es run e n)) run in
       absurd (let z = sym (u.slots k).real ∙ at in cc)
 
-  executes : (e k : ℕ) (r : RealView) → real_in ((entity_flow e v).slot k) ≡ Some r → may_execute r ≡ true
+  executes : (e k : ℕ) (r : RealView) → real_at e v k ≡ Some r → may_execute r ≡ true
   executes e k r at =
       let few = room_by e k r at (search_real e (loaded w b)) in
       all_two _ _ (below_is (r.version + 1) limit (omega (arith, few)))
       (all_two _ _ (below_is (r.beat + 1) limit (omega (arith, few))) (below_is (r.generation + 1) limit (omega (arith, few))))
 
-  settles : (e k : ℕ) (r : RealView) → real_in ((entity_flow e v).slot k) ≡ Some r → may_settle r ≡ true
+  settles : (e k : ℕ) (r : RealView) → real_at e v k ≡ Some r → may_settle r ≡ true
   settles e k r at =
       let few = room_by e k r at (search_real e (loaded w b)) in
       all_two _ _ (below_is (r.beat + 1) limit (omega (arith, few))) (below_is (r.generation + 1) limit (omega (arith, few)))
@@ -125,7 +122,7 @@ module _ (f : Frame) (w : World) (b : Batch) (between : IsBetweenRounds f w) (fi
   pub round_tasks : (k : ℕ) (c : CellView) → slice_get v.nodes k ≡ Some (Cell c) → HasNoStrayTask c
   round_tasks k c node =
       tasks_free v k c node
-      (λ e. (listed_leads (framed f b) e (loaded w b) v es (lists_loaded f w b between fits e) run).slots k)
+      (λ e. (listed_leads (framed f b) e (loaded w b) v es (lists_loaded f w b begin e) run).slots k)
       (λ e r some at. settles e k r at) (λ e r at ready. executes e k r at)
 
 -- ---- the other phases
@@ -188,11 +185,11 @@ no_ready_by os none (Some o) at h = item_by (next_item o.1) refl
 
 -- a phase whose load only gives orders
 module _ (f : Frame) (u : World) (between : IsBetweenRounds f u) (w : World) (frame : IsInFrame f w) (told : ℕ → Bool)
-    (small : (e home : ℕ) (r : RealView) → real_in ((entity_flow e u).slot home) ≡ Some r → told e ≡ true → may_rise r.beat ≡ true)
-    (calm : (e home : ℕ) (r : RealView) → real_in ((entity_flow e u).slot home) ≡ Some r → IsCalm f e home r u (told e) w)
+    (small : (e home : ℕ) (r : RealView) → real_at e u home ≡ Some r → told e ≡ true → may_rise r.beat ≡ true)
+    (calm : (e home : ℕ) (r : RealView) → real_at e u home ≡ Some r → IsCalm f e home r u (told e) w)
     (unknown : (e : ℕ) → Nowhere e u → IsUnknown f e w) (lists : (e : ℕ) → AreListed f e w) (v : World) (vs : List Event)
-    (run : LeadsTo node_has_work node_steps w vs v) where
-  calm_then : (e home : ℕ) (r : RealView) → real_in ((entity_flow e u).slot home) ≡ Some r → IsCalm f e home r u (told e) v
+    (run : RunsTo w vs v) where
+  calm_then : (e home : ℕ) (r : RealView) → real_at e u home ≡ Some r → IsCalm f e home r u (told e) v
   calm_then e home r here =
       calm_leads f between.frame u between e home r here (told e) (small e home r here) w v vs (calm e home r here) run
 
@@ -213,7 +210,7 @@ module _ (f : Frame) (u : World) (between : IsBetweenRounds f u) (w : World) (fr
       let q = (frame_leads f w v vs frame run).nodes k (Cell c) node in
       of_cell f v k c e m node q.here q.tree (phase_by a k (Cell c) m ms e node at is q.low (search_real e u))
 
-  settles_never : (e k : ℕ) (r : RealView) → 1 ≤ ((entity_flow e v).slot k).cell.survey → real_in ((entity_flow e v).slot k) ≡ Some r →
+  settles_never : (e k : ℕ) (r : RealView) → 1 ≤ ((entity_flow e v).slot k).cell.survey → real_at e v k ≡ Some r →
       Somewhere e u ⊎ Nowhere e u → may_settle r ≡ true
   settles_never e k r some at (inl p) =
       let zero = ((calm_then e p.0 p.1 p.2).nodes k).survey in
@@ -221,7 +218,7 @@ module _ (f : Frame) (u : World) (between : IsBetweenRounds f u) (w : World) (fr
   settles_never e k r some at (inr n) =
       absurd (let z = sym ((unknown_leads f e w v vs (unknown e n) run).slots k).real ∙ at in cc)
 
-  executes_never : (e k : ℕ) (r : RealView) → real_in ((entity_flow e v).slot k) ≡ Some r → has_ready r.orders ≡ true →
+  executes_never : (e k : ℕ) (r : RealView) → real_at e v k ≡ Some r → has_ready r.orders ≡ true →
       Somewhere e u ⊎ Nowhere e u → may_execute r ≡ true
   executes_never e k r at ready (inl p) =
       let same = (((calm_then e p.0 p.1 p.2).nodes k).real r at).1 in
@@ -279,7 +276,7 @@ module _ (f : Frame) (u : World) (between : IsBetweenRounds f u) (es : List ℕ)
   pub frame_reaps : IsInFrame f (reaps_loaded u es)
   frame_reaps = subst (IsInFrame f) (sym (reaping.loaded_is f u between es may)) (reaps_framed f u between.nodes es)
 
-  module _ (vs : List Event) (v : World) (run : LeadsTo node_has_work node_steps (reaps_loaded u es) vs v) where
+  module _ (vs : List Event) (v : World) (run : RunsTo (reaps_loaded u es) vs v) where
     pub reaps_free : (a k : ℕ) (c : CellView) (m : Msg) (ms : List Msg) (e : ℕ) → slice_get v.nodes k ≡ Some (Cell c) →
         link v.rows a k ≡ m ∷ ms → about m ≡ Some e → is_stray c.here c.tree (slot_of c e) m ≡ false
     reaps_free =
@@ -303,7 +300,7 @@ module _ (f : Frame) (u : World) (between : IsBetweenRounds f u) where
   lists_look : (e : ℕ) → AreListed f e (look_loaded u)
   lists_look e = lists_turned f u between (ordered_at looking.tick) frame_look e (look_cell e looking.tick)
 
-  module _ (vs : List Event) (v : World) (run : LeadsTo node_has_work node_steps (look_loaded u) vs v) where
+  module _ (vs : List Event) (v : World) (run : RunsTo (look_loaded u) vs v) where
     pub look_free : (a k : ℕ) (c : CellView) (m : Msg) (ms : List Msg) (e : ℕ) → slice_get v.nodes k ≡ Some (Cell c) →
         link v.rows a k ≡ m ∷ ms → about m ≡ Some e → is_stray c.here c.tree (slot_of c e) m ≡ false
     look_free =

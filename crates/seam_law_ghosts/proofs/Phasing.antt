@@ -1,11 +1,10 @@
 -- Where entities are reaped, and where witnesses look, copies stay what they are, but for those of an entity whose Reap comes.
-use Rattle.std.proofs.Common.{◌≡◌, ℕ, ◌<◌, ◌⊎◌, Bool, true, List, [], ◌∷◌, Option, None, Some, refl, sym, ap, ◌∙◌}
-use Rattle.std.proofs.Common.{subst, arith, inl, inr}
-use Rattle.seam_node_steps.specs.Prelude.{happens, enabled, IsQuiet, LeadsTo, Event, RealView, WitnessView, Msg, Hand}
-use Rattle.seam_node_steps.specs.Prelude.{GhostSet, GhostDrop, Tick, Reap, Update, is_small, may_rise, cell_count, is_stray, holders, World}
-use Rattle.seam_node_steps.specs.Prelude.{node_steps, node_has_work}
+use Rattle.std.proofs.Common.{◌≡◌, ℕ, ◌<◌, ◌⊎◌, Bool, true, List, [], ◌∷◌, Option, None, Some, refl, sym, ap, ◌∙◌, subst, arith, inl, inr}
+use Rattle.seam_node_steps.specs.Prelude.{happens, enabled, IsQuiet, Event, RealView, WitnessView, Msg, Hand, GhostSet, GhostDrop, Tick}
+use Rattle.seam_node_steps.specs.Prelude.{Reap, Update, is_small, may_rise, cell_count, is_stray, holders, World, node_steps, node_has_work}
 use Rattle.seam_law_flow.specs.Prelude.{Goes, comes, TokenPlace, In, On}
 use Rattle.seam_law_calls.specs.Prelude.{Frame, here_at, IsInFrame, Has, entity_flow, MovesTo, RealFits, real_in, real_of, IsOne, IsFrame}
+use Rattle.seam_law_calls.specs.Prelude.{RunsTo, real_at}
 use Rattle.seam_law_rounds.specs.Prelude.{IsSettled, IsBetweenRounds}
 use Rattle.seam_law_ghosts.specs.Prelude.{Entry, brings, book_entry, GhostMoves, wanted, copy_at, AreTold, IsForgotten, AreSettled}
 use Rattle.seam_law_ghosts.specs.Prelude.{AreCopiesBetweenRounds}
@@ -30,7 +29,7 @@ use Rattle.seam_law_ghosts.proofs.Still.{quiet_mail, nowhere_counts, forgotten_s
 use Rattle.seam_law_ghosts.proofs.Rounding.{lost_leads}
 
 module _ (f : Frame) (frame : IsFrame f) (u : World) (between : IsBetweenRounds f u) (e home : ℕ) (r : RealView)
-    (there : real_in ((entity_flow e u).slot home) ≡ Some r) (is_told : Bool) (small : is_told ≡ true → may_rise r.beat ≡ true) where
+    (there : real_at e u home ≡ Some r) (is_told : Bool) (small : is_told ≡ true → may_rise r.beat ≡ true) where
   abbrev settled : IsSettled f e home r u
   settled = between.settled e home r there
 
@@ -40,12 +39,12 @@ module _ (f : Frame) (frame : IsFrame f) (u : World) (between : IsBetweenRounds 
   -- the real is at home, and each cell is told what it wants
   pub record Alive (w : World) : Type 0 where
     pub real : RealView
-    pub at : real_in ((entity_flow e w).slot home) ≡ Some real
+    pub at : real_at e w home ≡ Some real
     pub told : AreTold f e w (In home) real
 
   -- the real is gone, and each cell is told that
   pub record Forgot (w : World) : Type 0 where
-    pub gone : real_in ((entity_flow e w).slot home) ≡ None
+    pub gone : real_at e w home ≡ None
     pub forgotten : IsForgotten e w
 
   pub record IsLeaving (w : World) : Type 0 where
@@ -82,7 +81,7 @@ module _ (f : Frame) (frame : IsFrame f) (u : World) (between : IsBetweenRounds 
     abbrev next : World
     next = happens node_steps w v
 
-    once : LeadsTo node_has_work node_steps w (v ∷ []) next
+    once : RunsTo w (v ∷ []) next
     once = record { each = (on, tt); is_run = refl }
 
     calm_next : Calm next
@@ -104,8 +103,8 @@ module _ (f : Frame) (frame : IsFrame f) (u : World) (between : IsBetweenRounds 
         (λ q is. absurd (comes_calm (Hand q) is)) (λ q at. fits_by g.k q ((calm.nodes g.k).real q at)) g.moves.moves
 
     -- one that is somewhere is at home
-    home_by : (o : Option RealView) → real_in ((entity_flow e next).slot home) ≡ o → (p : TokenPlace) (q : RealView) → IsOne e next p q →
-        (p ≡ In home) × (real_in ((entity_flow e next).slot home) ≡ Some q)
+    home_by : (o : Option RealView) → real_at e next home ≡ o → (p : TokenPlace) (q : RealView) → IsOne e next p q →
+        (p ≡ In home) × (real_at e next home ≡ Some q)
     home_by (Some x) at p q one =
         let is = sole_here real_in real_of (entity_flow e next) p q x home one at in
         (is.0, at ∙ ap Some is.1)
@@ -116,11 +115,11 @@ module _ (f : Frame) (frame : IsFrame f) (u : World) (between : IsBetweenRounds 
 
     state_by : After f e w next g g.moves.sent g.moves.items → Alive next ⊎ Forgot next
     state_by (here p q one told) =
-        let is = home_by (real_in ((entity_flow e next).slot home)) refl p q one in
+        let is = home_by (real_at e next home) refl p q one in
         inl (record { real = q; at = is.1; told = subst (λ x. AreTold f e next x q) is.0 told })
     state_by (gone is none forgotten) =
         let same : g.k ≡ home = comes_calm (Reap e) is in
-        inr (record { gone = ap (λ k. real_in ((entity_flow e next).slot k)) (sym same) ∙ none; forgotten = forgotten })
+        inr (record { gone = ap (λ k. real_at e next k) (sym same) ∙ none; forgotten = forgotten })
 
     state_next : Alive w ⊎ Forgot w → Alive next ⊎ Forgot next
     state_next (inl a) =
@@ -139,21 +138,19 @@ module _ (f : Frame) (frame : IsFrame f) (u : World) (between : IsBetweenRounds 
   leaving_more : (w : World) (v : Event) → IsLeaving w → enabled node_has_work w v ≡ true → IsLeaving (happens node_steps w v)
   leaving_more w v x on = record { calm = calm_next w v x.calm on; state = state_next w v x.calm on x.state }
 
-  pub leaving_leads : (w v : World) (es : List Event) → IsLeaving w → LeadsTo node_has_work node_steps w es v → IsLeaving v
+  pub leaving_leads : (w v : World) (es : List Event) → IsLeaving w → RunsTo w es v → IsLeaving v
   leaving_leads w v es x run = leads_keeps node_has_work node_steps IsLeaving leaving_more w v es x run
 
 -- ---- a phase whose load only gives orders
 
 module _ (f : Frame) (u : World) (between : IsBetweenRounds f u) (copies : AreCopiesBetweenRounds f u) (w : World) (frame : IsInFrame f w)
-    (told : ℕ → Bool)
-    (small : (e home : ℕ) (r : RealView) → real_in ((entity_flow e u).slot home) ≡ Some r → told e ≡ true → may_rise r.beat ≡ true)
-    (calm : (e home : ℕ) (r : RealView) → real_in ((entity_flow e u).slot home) ≡ Some r → IsCalm f e home r u (told e) w)
+    (told : ℕ → Bool) (small : (e home : ℕ) (r : RealView) → real_at e u home ≡ Some r → told e ≡ true → may_rise r.beat ≡ true)
+    (calm : (e home : ℕ) (r : RealView) → real_at e u home ≡ Some r → IsCalm f e home r u (told e) w)
     (unknown : (e : ℕ) → Nowhere e u → IsUnknown f e w)
     (books : (e k : ℕ) → book_entry ((entity_flow e w).slot k) ≡ book_entry ((entity_flow e u).slot k))
-    (stay : (e k : ℕ) → real_in ((entity_flow e w).slot k) ≡ real_in ((entity_flow e u).slot k))
-    (idle : (e x y : ℕ) → (entity_flow e w).mail x y ≡ []) (v : World) (vs : List Event)
-    (run : LeadsTo node_has_work node_steps w vs v) where
-  module _ (e home : ℕ) (r : RealView) (there : real_in ((entity_flow e u).slot home) ≡ Some r) where
+    (stay : (e k : ℕ) → real_at e w k ≡ real_at e u k) (idle : (e x y : ℕ) → (entity_flow e w).mail x y ≡ []) (v : World) (vs : List Event)
+    (run : RunsTo w vs v) where
+  module _ (e home : ℕ) (r : RealView) (there : real_at e u home ≡ Some r) where
     starts : IsLeaving f between.frame u between e home r there (told e) (small e home r there) w
     starts =
         let old = copies.settled e home r there in
@@ -182,20 +179,20 @@ module _ (f : Frame) (u : World) (between : IsBetweenRounds f u) (copies : AreCo
     abbrev IsGone : Type 0
     IsGone = Forgot f between.frame u between e home r there (told e) (small e home r there) v
 
-    told_by : (q : RealView) → real_in ((entity_flow e v).slot home) ≡ Some q → IsAlive ⊎ IsGone → AreTold f e v (In home) q
+    told_by : (q : RealView) → real_at e v home ≡ Some q → IsAlive ⊎ IsGone → AreTold f e v (In home) q
     told_by q at (inl a) = let same : a.real ≡ q = let z = sym a.at ∙ at in cc in subst (AreTold f e v (In home)) same a.told
     told_by q at (inr x) = absurd (let z = sym x.gone ∙ at in cc)
 
     -- while the real is there, each cell is told what it wants
-    pub phase_told : (q : RealView) → real_in ((entity_flow e v).slot home) ≡ Some q → AreTold f e v (In home) q
+    pub phase_told : (q : RealView) → real_at e v home ≡ Some q → AreTold f e v (In home) q
     phase_told q at = told_by q at leaving_then.state
 
-    forgotten_by : real_in ((entity_flow e v).slot home) ≡ None → IsAlive ⊎ IsGone → IsForgotten e v
+    forgotten_by : real_at e v home ≡ None → IsAlive ⊎ IsGone → IsForgotten e v
     forgotten_by at (inl a) = absurd (let z = sym at ∙ a.at in cc)
     forgotten_by at (inr x) = x.forgotten
 
     -- once it is gone, each cell is told that
-    pub phase_forgotten : real_in ((entity_flow e v).slot home) ≡ None → IsForgotten e v
+    pub phase_forgotten : real_at e v home ≡ None → IsForgotten e v
     phase_forgotten at = forgotten_by at leaving_then.state
 
   pub forgotten_then : (e : ℕ) → Nowhere e u → IsForgotten e v
@@ -209,31 +206,28 @@ module _ (f : Frame) (u : World) (between : IsBetweenRounds f u) (copies : AreCo
     still : (e x y : ℕ) → (entity_flow e v).mail x y ≡ []
     still = quiet_mail f v (frame_leads f w v vs frame run) quiet
 
-    module _ (e home : ℕ) (r : RealView) (there : real_in ((entity_flow e u).slot home) ≡ Some r) where
+    module _ (e home : ℕ) (r : RealView) (there : real_at e u home ≡ Some r) where
       abbrev leaving : IsLeaving f between.frame u between e home r there (told e) (small e home r there) v
       leaving = leaving_then e home r there
 
-      settled_at : (k : ℕ) (q : RealView) → real_in ((entity_flow e v).slot k) ≡ Some q →
-          IsAlive e home r there ⊎ IsGone e home r there → AreSettled f e k q v
+      settled_at : (k : ℕ) (q : RealView) → real_at e v k ≡ Some q → IsAlive e home r there ⊎ IsGone e home r there → AreSettled f e k q v
       settled_at k q at (inl a) =
           let is : k ≡ home = ((leaving.calm.nodes k).real q at).0 in
-          let same : a.real ≡ q = let z = sym a.at ∙ (ap (λ j. real_in ((entity_flow e v).slot j)) (sym is) ∙ at) in cc in
+          let same : a.real ≡ q = let z = sym a.at ∙ (ap (λ j. real_at e v j) (sym is) ∙ at) in cc in
           subst (λ j. AreSettled f e j q v) (sym is)
           (subst (λ x. AreSettled f e home x v) same (settled_still f e v (still e) home a.real a.told))
       settled_at k q at (inr x) =
           let is : k ≡ home = ((leaving.calm.nodes k).real q at).0 in
-          absurd (let z = sym x.gone ∙ (ap (λ j. real_in ((entity_flow e v).slot j)) (sym is) ∙ at) in cc)
+          absurd (let z = sym x.gone ∙ (ap (λ j. real_at e v j) (sym is) ∙ at) in cc)
 
-      none_at : holders v e ≡ 0 → (k : ℕ) → k < cell_count →
-          IsAlive e home r there ⊎ IsGone e home r there → copy_at e v k ≡ None
+      none_at : holders v e ≡ 0 → (k : ℕ) → k < cell_count → IsAlive e home r there ⊎ IsGone e home r there → copy_at e v k ≡ None
       none_at zero k low (inl a) =
           let one = one_counts v e (In home) a.real
           (calm_one f e home r u (between.settled e home r there) (told e) v leaving.calm a.real a.at) in
           absurd (omega (arith, one, zero))
       none_at zero k low (inr x) = none_still f e v (still e) x.forgotten k low
 
-    settled_by : (e k : ℕ) (q : RealView) → real_in ((entity_flow e v).slot k) ≡ Some q → Somewhere e u ⊎ Nowhere e u →
-        AreSettled f e k q v
+    settled_by : (e k : ℕ) (q : RealView) → real_at e v k ≡ Some q → Somewhere e u ⊎ Nowhere e u → AreSettled f e k q v
     settled_by e k q at (inl p) = settled_at e p.0 p.1 p.2 k q at (leaving e p.0 p.1 p.2).state
     settled_by e k q at (inr n) =
         absurd (let z = sym ((unknown_leads f e w v vs (unknown e n) run).slots k).real ∙ at in cc)
@@ -249,7 +243,7 @@ module _ (f : Frame) (u : World) (between : IsBetweenRounds f u) (copies : AreCo
     }
 
     -- the copies of an entity whose real is there are what they were
-    stays_by : (e home : ℕ) (r : RealView) (there : real_in ((entity_flow e u).slot home) ≡ Some r) → holders v e ≡ 1 →
+    stays_by : (e home : ℕ) (r : RealView) (there : real_at e u home ≡ Some r) → holders v e ≡ 1 →
         IsAlive e home r there ⊎ IsGone e home r there → (k : ℕ) → k < cell_count → copy_at e v k ≡ copy_at e u k
     stays_by e home r there one (inl a) k low =
         let same = (((leaving e home r there).calm.nodes home).real a.real a.at).1 in

@@ -2,27 +2,26 @@
 use Rattle.std.proofs.Common.{◌≡◌, ℕ, ◌≤◌, List, [], ◌∷◌, Some, refl, sym, ◌∙◌}
 use Rattle.std.specs.List.{AllByRecursion}
 use Rattle.seam_node_steps.specs.Prelude.{Settings, TypeDef, Place, Create, Batch, RealView, World, opened}
-use Rattle.seam_law_calls.specs.Prelude.{Frame, entity_flow, real_in, IsFrame}
-use Rattle.seam_law_rounds.specs.Prelude.{IsBetweenRounds, IsFitting, framed, first_frame}
+use Rattle.seam_law_calls.specs.Prelude.{Frame, IsFrame, real_at}
+use Rattle.seam_law_rounds.specs.Prelude.{IsBetweenRounds, framed, first_frame, MayBegin}
 use Rattle.seam_law_ghosts.specs.Prelude.{place_of, first_place, made_real, IsRightPlace, GoesThroughRound, WasThere, ArePlaced}
 use Rattle.seam_law_rounds.proofs.CallsEnd.{calls_end_between}
 use Rattle.seam_law_rounds.proofs.Reaping.{reaps_end_between}
 use Rattle.seam_law_rounds.proofs.Opened.{opened_has_none}
 use Rattle.seam_law_ghosts.proofs.Ends.{MadeRight, right_kept, right_made, calls_place, reaps_leave, looks_leave, stays_placed, stays_right}
 
-module _ (f : Frame) (w : World) (b : Batch) (between : IsBetweenRounds f w) (fits : IsFitting f w b) (v : World)
-    (round : GoesThroughRound w b v) where
+module _ (f : Frame) (w : World) (b : Batch) (begin : MayBegin f w b) (v : World) (round : GoesThroughRound w b v) where
   abbrev g : Frame
   g = framed f b
 
   called : IsBetweenRounds g round.called
-  called = calls_end_between f w b between fits round.called round.call_events round.calls round.calls_done
+  called = calls_end_between f w b begin round.called round.call_events round.calls round.calls_done
 
   reaped : IsBetweenRounds g round.reaped
   reaped = reaps_end_between g round.called called round.gone round.may round.reap_events round.reaped round.reaps round.reaps_done
 
   -- where a real was after the calls
-  module _ (e k : ℕ) (q : RealView) (at : real_in ((entity_flow e v).slot k) ≡ Some q) where
+  module _ (e k : ℕ) (q : RealView) (at : real_at e v k ≡ Some q) where
     looked : WasThere e k q round.reaped
     looked = looks_leave g round.reaped reaped round.look_events v round.looks e k q at
 
@@ -33,18 +32,18 @@ module _ (f : Frame) (w : World) (b : Batch) (between : IsBetweenRounds f w) (fi
     right_then place r is =
         stays_right f b place r e k q round.reaped looked (stays_right f b place r e k looked.real round.called was is)
 
-  pub round_kept : (e home : ℕ) (r : RealView) → real_in ((entity_flow e w).slot home) ≡ Some r → (k : ℕ) (q : RealView) →
-      real_in ((entity_flow e v).slot k) ≡ Some q → IsRightPlace f b.tree (place_of home r) r k q
+  pub round_kept : (e home : ℕ) (r : RealView) → real_at e w home ≡ Some r → (k : ℕ) (q : RealView) →
+      real_at e v k ≡ Some q → IsRightPlace f b.tree (place_of home r) r k q
   round_kept e home r here k q at =
       let there = was e k q at in
       right_then e k q at (place_of home r) r
-      (right_kept f w b between fits round.called round.call_events round.calls round.calls_done e home r here k there.real there.here)
+      (right_kept f w b begin round.called round.call_events round.calls round.calls_done e home r here k there.real there.here)
 
   abbrev Made : Create → Type 0
-  Made x = (k : ℕ) (q : RealView) → real_in ((entity_flow x.entity v).slot k) ≡ Some q →
+  Made x = (k : ℕ) (q : RealView) → real_at x.entity v k ≡ Some q →
       IsRightPlace f b.tree (first_place b.tree x) (made_real f b.tree x) k q
 
-  each_made : (xs : List Create) → AllByRecursion (MadeRight f w b between fits round.called round.call_events round.calls
+  each_made : (xs : List Create) → AllByRecursion (MadeRight f w b begin round.called round.call_events round.calls
       round.calls_done) xs → AllByRecursion Made xs
   each_made [] h = tt
   each_made (x ∷ xs) h = (
@@ -56,14 +55,14 @@ module _ (f : Frame) (w : World) (b : Batch) (between : IsBetweenRounds f w) (fi
 
   pub round_made : AllByRecursion Made b.creates
   round_made =
-      each_made b.creates (right_made f w b between fits round.called round.call_events round.calls round.calls_done)
+      each_made b.creates (right_made f w b begin round.called round.call_events round.calls round.calls_done)
 
   pub round_places : ArePlaced g v
   round_places =
       stays_placed g round.reaped v (looks_leave g round.reaped reaped round.look_events v round.looks)
       (stays_placed g round.called round.reaped
       (reaps_leave g round.called called round.gone round.may round.reap_events round.reaped round.reaps)
-      (calls_place f w b between fits round.called round.call_events round.calls round.calls_done))
+      (calls_place f w b begin round.called round.call_events round.calls round.calls_done))
 
 pub opened_places : (defs : List TypeDef) (settings : Settings) → IsFrame (first_frame defs settings) → 1 ≤ settings.bases →
     ArePlaced (first_frame defs settings) (opened defs settings)

@@ -1,6 +1,6 @@
 -- What each move does with the place of the entity's real: it stays, settles in its cell, lands, or settles and leaves.
-use Rattle.std.proofs.Common.{◌≡◌, ℕ, ◌+◌, ◌≤◌, ◌⊎◌, Bool, true, List, [], ◌∷◌, ◌++◌, Option, None, Some, refl, sym, ap, ◌∙◌}
-use Rattle.std.proofs.Common.{subst, arith, inl, inr}
+use Rattle.std.proofs.Common.{◌≡◌, ℕ, ◌+◌, ◌≤◌, ◌⊎◌, Bool, true, List, [], ◌∷◌, ◌++◌, Option, None, Some, refl, sym, ap, ◌∙◌, subst, arith}
+use Rattle.std.proofs.Common.{inl, inr}
 use Rattle.std.specs.FinSet as set
 use Rattle.seam_node_steps.specs.Prelude.{Pos, Cells, Place, after, type_of, AreDefs, items_to, Call as CallData, RealView, Msg, Hand}
 use Rattle.seam_node_steps.specs.Prelude.{GhostSet, GhostDrop, Tick, Reap, cell_count, may_settle, settled_to, SlotStep, slot_after}

@@ -137,9 +137,8 @@ module _ (f : Frame) (start : RealView) where
       (public, same_shown_of r q t public (unseen ∙ ap (λ x. ghost_of (type_of f.defs r.ty).properties x.state) (sym is)))
 
   one_by : (r q : RealView) (a : Replays f start r) (c : Call) (n : q.entity ≡ r.entity) (t : q.ty ≡ r.ty)
-      (part : part_of_deed (type_of f.defs r.ty) c.deed ≡ part.Cell)
-      (is : account_of q ≡ after_call (type_of f.defs r.ty) (account_of r) c) → IsTrueCopy f start a.further (shown_of r) →
-      (b : Bool) → changes (type_of f.defs r.ty) r.state c.deed ≡ b →
+      (part : part_of_deed (type_of f.defs r.ty) c.deed ≡ part.Cell) (is : account_of q ≡ after_call (type_of f.defs r.ty) (account_of r) c)
+      → IsTrueCopy f start a.further (shown_of r) → (b : Bool) → changes (type_of f.defs r.ty) r.state c.deed ≡ b →
       IsTrueCopy f start (a.further ++ c ∷ []) (shown_of q) × (r.public ≤ q.public)
   one_by r q a c n t part is h true b =
       let public : q.public ≡ r.version + 1 = ap (λ x. x.public) is ∙ ap (λ x. public_after x (r.version + 1) r.public) b in

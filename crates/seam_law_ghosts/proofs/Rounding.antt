@@ -1,12 +1,10 @@
 -- A loaded world, and a round's calls: each cell is told what the real wants, and has it where the world is quiet again.
-use Rattle.std.proofs.Common.{◌≡◌, ℕ, ◌<◌, ◌≤◌, ◌⊎◌, true, List, [], ◌∷◌, None, Some, refl, sym, ap, ◌∙◌}
-use Rattle.std.proofs.Common.{subst, arith, inl, inr}
-use Rattle.seam_node_steps.specs.Prelude.{happens, enabled, IsQuiet, LeadsTo, Event, Batch, GhostCopy, RealView, Msg, Hand}
-use Rattle.seam_node_steps.specs.Prelude.{Tick, cell_count, holders, World, node_steps}
-use Rattle.seam_node_steps.specs.Prelude.{node_has_work, loaded}
+use Rattle.std.proofs.Common.{◌≡◌, ℕ, ◌<◌, ◌≤◌, ◌⊎◌, true, List, [], ◌∷◌, None, Some, refl, sym, ap, ◌∙◌, subst, arith, inl, inr}
+use Rattle.seam_node_steps.specs.Prelude.{happens, enabled, IsQuiet, Event, Batch, GhostCopy, RealView, Msg, Hand, Tick, cell_count}
+use Rattle.seam_node_steps.specs.Prelude.{holders, World, node_steps, node_has_work, loaded}
 use Rattle.seam_law_flow.specs.Prelude.{comes, letters_of, TokenPlace, In}
-use Rattle.seam_law_calls.specs.Prelude.{Frame, entity_flow, real_in, real_of, IsOne, HasOne}
-use Rattle.seam_law_rounds.specs.Prelude.{IsSettled, IsBetweenRounds, IsFitting, framed}
+use Rattle.seam_law_calls.specs.Prelude.{Frame, entity_flow, real_in, real_of, IsOne, HasOne, RunsTo, real_at}
+use Rattle.seam_law_rounds.specs.Prelude.{IsSettled, framed, MayBegin}
 use Rattle.seam_law_ghosts.specs.Prelude.{Entry, brings, IsTrue, IsHushed, present, copy_at, AreTold, IsForgotten, AreSettled}
 use Rattle.seam_law_ghosts.specs.Prelude.{AreCopiesBetweenRounds}
 use Rattle.seam_machine.proofs.Occurring.{occurs}
@@ -56,20 +54,18 @@ module _ (f : Frame) (e : ℕ) where
             (λ r is. absurd (ticks (Hand r) is)) (λ r at. absurd (let z = sym free ∙ at in cc)) g.moves.moves);
       }
 
-  pub lost_leads : (w v : World) (es : List Event) → IsUnknown f e w → IsForgotten e w → LeadsTo node_has_work node_steps w es v →
-      IsForgotten e v
+  pub lost_leads : (w v : World) (es : List Event) → IsUnknown f e w → IsForgotten e w → RunsTo w es v → IsForgotten e v
   lost_leads w v es unknown forgotten run =
       (leads_keeps node_has_work node_steps IsLost lost_more w v es (record { unknown = unknown; forgotten = forgotten }) run).forgotten
 
 -- ---- a loaded world
 
-module _ (f : Frame) (w : World) (b : Batch) (between : IsBetweenRounds f w) (fits : IsFitting f w b)
-    (copies : AreCopiesBetweenRounds f w) where
+module _ (f : Frame) (w : World) (b : Batch) (begin : MayBegin f w b) (copies : AreCopiesBetweenRounds f w) where
   none_before : (e : ℕ) → holders (loaded w b) e ≡ 0 → Somewhere e w ⊎ Nowhere e w → holders w e ≡ 0
-  none_before e zero (inr none) = nowhere_counts f w between e none
+  none_before e zero (inr none) = nowhere_counts f w begin.between e none
   none_before e zero (inl p) =
-      let one = holds_kept f w b between fits e
-      (one_holder f w e p.0 p.1 (between.settled e p.0 p.1 p.2) (quiet_mail f w between.nodes between.quiet e)) in
+      let one = holds_kept f w b begin e
+      (one_holder f w e p.0 p.1 (begin.between.settled e p.0 p.1 p.2) (quiet_mail f w begin.between.nodes begin.between.quiet e)) in
       absurd (omega (arith, one, zero))
 
   none_loaded : (e : ℕ) → holders (loaded w b) e ≡ 0 → (k : ℕ) → k < cell_count → copy_at e (loaded w b) k ≡ None
@@ -77,24 +73,24 @@ module _ (f : Frame) (w : World) (b : Batch) (between : IsBetweenRounds f w) (fi
       ap (λ p. p.1) (books_loaded e w b k) ∙ copies.none e (none_before e zero (search_real e w)) k low
 
   pub loaded_copied : AreCopiesBetweenRounds (framed f b) (loaded w b)
-  loaded_copied = record { settled = copies_loaded f w b fits copies; none = none_loaded }
+  loaded_copied = record { settled = copies_loaded f w b begin.fits copies; none = none_loaded }
 
 -- ---- a round
 
-module _ (f : Frame) (w : World) (b : Batch) (between : IsBetweenRounds f w) (fits : IsFitting f w b)
-    (copies : AreCopiesBetweenRounds f w) (v : World) (es : List Event) (run : LeadsTo node_has_work node_steps (loaded w b) es v) where
+module _ (f : Frame) (w : World) (b : Batch) (begin : MayBegin f w b)
+    (copies : AreCopiesBetweenRounds f w) (v : World) (es : List Event) (run : RunsTo (loaded w b) es v) where
   abbrev g : Frame
   g = framed f b
 
   abbrev start : World
   start = loaded w b
 
-  module _ (e home : ℕ) (r : RealView) (here : real_in ((entity_flow e start).slot home) ≡ Some r) where
+  module _ (e home : ℕ) (r : RealView) (here : real_at e start home ≡ Some r) where
     abbrev settled : IsSettled g e home r start
-    settled = settled_loaded f w b between fits e home r here
+    settled = settled_loaded f w b begin e home r here
 
     abbrev one : HasOne g e r.ty start
-    one = one_loaded f w b between fits e home r here
+    one = one_loaded f w b begin e home r here
 
     pub real_is : r ≡ one.real
     real_is = (sole_here real_in real_of (entity_flow e start) one.place one.real r home one.one here).1
@@ -104,79 +100,77 @@ module _ (f : Frame) (w : World) (b : Batch) (between : IsBetweenRounds f w) (fi
 
     abbrev Informed : World → Type 0
     Informed =
-        IsInformed g (frame_loaded f w b between fits) e r.ty settled.type one.real start_low (λ n. present g one.real)
+        IsInformed g (frame_loaded f w b begin) e r.ty settled.type one.real start_low (λ n. present g one.real)
 
-    at_home : real_in ((entity_flow e start).slot home) ≡ Some one.real
+    at_home : real_at e start home ≡ Some one.real
     at_home = here ∙ ap Some real_is
 
     copied : AreSettled g e home one.real start
-    copied = subst (λ x. AreSettled g e home x start) real_is (copies_loaded f w b fits copies e home r here)
+    copied = subst (λ x. AreSettled g e home x start) real_is (copies_loaded f w b begin.fits copies e home r here)
 
     pub informed : Informed v
     informed =
-        informed_from g (frame_loaded f w b between fits) e r.ty settled.type start one (spared_loaded f w b between fits e home r here)
-        start_low (no_mail f w b between fits e) home at_home copied v es run
+        informed_from g (frame_loaded f w b begin) e r.ty settled.type start one (spared_loaded f w b begin e home r here)
+        start_low (no_mail f w b begin e) home at_home copied v es run
 
     told_then : (p : TokenPlace) (q : RealView) → IsOne e v p q → AreTold g e v p q
     told_then =
-        told_of g (frame_loaded f w b between fits) e r.ty settled.type start one (spared_loaded f w b between fits e home r here)
-        start_low (no_mail f w b between fits e) home at_home copied v es run
+        told_of g (frame_loaded f w b begin) e r.ty settled.type start one (spared_loaded f w b begin e home r here)
+        start_low (no_mail f w b begin e) home at_home copied v es run
 
-    hushed_then : (k : ℕ) (q : RealView) → real_in ((entity_flow e v).slot k) ≡ Some q → IsHushed e v (In k)
+    hushed_then : (k : ℕ) (q : RealView) → real_at e v k ≡ Some q → IsHushed e v (In k)
     hushed_then =
-        hushed_of g (frame_loaded f w b between fits) e r.ty settled.type start one (spared_loaded f w b between fits e home r here)
-        start_low (no_mail f w b between fits e) home at_home copied v es run
+        hushed_of g (frame_loaded f w b begin) e r.ty settled.type start one (spared_loaded f w b begin e home r here)
+        start_low (no_mail f w b begin e) home at_home copied v es run
 
-    later_then : (u : World) (gs : List Event) → LeadsTo node_has_work node_steps v gs u → (k : ℕ) (c d : GhostCopy) →
+    later_then : (u : World) (gs : List Event) → RunsTo v gs u → (k : ℕ) (c d : GhostCopy) →
         copy_at e v k ≡ Some c → copy_at e u k ≡ Some d → c.version ≤ d.version
     later_then u gs more =
-        later_of g (frame_loaded f w b between fits) e r.ty settled.type start one (spared_loaded f w b between fits e home r here)
-        start_low (no_mail f w b between fits e) home at_home copied v u es gs run more
+        later_of g (frame_loaded f w b begin) e r.ty settled.type start one (spared_loaded f w b begin e home r here)
+        start_low (no_mail f w b begin e) home at_home copied v u es gs run more
 
     pub true_then : IsTrue g e r.ty r (λ n. present g r) v
     true_then = subst (λ x. IsTrue g e r.ty x (λ n. present g x) v) (sym real_is) informed.quelled.is
 
   pub told_each : (e : ℕ) → holders start e ≡ 1 → (p : TokenPlace) (q : RealView) → IsOne e v p q → AreTold g e v p q
-  told_each e one = let h = home_loaded f w b between fits e one in told_then e h.0 h.1 h.2
+  told_each e one = let h = home_loaded f w b begin e one in told_then e h.0 h.1 h.2
 
-  pub hushed_each : (e : ℕ) → holders start e ≡ 1 → (k : ℕ) (q : RealView) → real_in ((entity_flow e v).slot k) ≡ Some q →
-      IsHushed e v (In k)
-  hushed_each e one = let h = home_loaded f w b between fits e one in hushed_then e h.0 h.1 h.2
+  pub hushed_each : (e : ℕ) → holders start e ≡ 1 → (k : ℕ) (q : RealView) → real_at e v k ≡ Some q → IsHushed e v (In k)
+  hushed_each e one = let h = home_loaded f w b begin e one in hushed_then e h.0 h.1 h.2
 
-  pub later_each : (u : World) (gs : List Event) → LeadsTo node_has_work node_steps v gs u → (e : ℕ) → holders start e ≡ 1 →
+  pub later_each : (u : World) (gs : List Event) → RunsTo v gs u → (e : ℕ) → holders start e ≡ 1 →
       (k : ℕ) (c d : GhostCopy) → copy_at e v k ≡ Some c → copy_at e u k ≡ Some d → c.version ≤ d.version
-  later_each u gs more e one = let h = home_loaded f w b between fits e one in later_then e h.0 h.1 h.2 u gs more
+  later_each u gs more e one = let h = home_loaded f w b begin e one in later_then e h.0 h.1 h.2 u gs more
 
   -- ---- an entity that is not there
 
   pub lost_then : (e : ℕ) → holders start e ≡ 0 → IsForgotten e v
   lost_then e zero =
-      lost_leads g e start v es (unknown_loaded f w b between fits e zero)
-      (forgotten_still g e start (no_mail f w b between fits e) (none_loaded f w b between fits copies e zero)) run
+      lost_leads g e start v es (unknown_loaded f w b begin e zero)
+      (forgotten_still g e start (no_mail f w b begin e) (none_loaded f w b begin copies e zero)) run
 
   -- ---- where it is quiet
 
   module _ (quiet : IsQuiet node_has_work v) where
     still : (e x y : ℕ) → (entity_flow e v).mail x y ≡ []
-    still = quiet_mail g v (frame_leads g start v es (in_frame f w b between fits) run) quiet
+    still = quiet_mail g v (frame_leads g start v es (in_frame f w b begin) run) quiet
 
-    settled_by : (e k : ℕ) (q : RealView) → real_in ((entity_flow e v).slot k) ≡ Some q → Somewhere e start ⊎ Nowhere e start →
-        AreSettled g e k q v
+    settled_by : (e k : ℕ) (q : RealView) → real_at e v k ≡ Some q → Somewhere e start ⊎ Nowhere e start → AreSettled g e k q v
     settled_by e k q at (inl p) =
         let has = (informed e p.0 p.1 p.2).quelled.is.one.has in
         let same = sole_here real_in real_of (entity_flow e v) has.place has.real q k has.one at in
         settled_still g e v (still e) k q
         (told_then e p.0 p.1 p.2 (In k) q (subst (λ x. IsOne e v x q) same.0 (subst (IsOne e v has.place) (sym same.1) has.one)))
     settled_by e k q at (inr n) =
-        let gone = gone_leads g (frame_loaded f w b between fits) e start v es (in_frame f w b between fits)
-        (record { slots = n; mail = λ x y. ap (letters_of real_of) (no_mail f w b between fits e x y) }) run in
+        let gone = gone_leads g (frame_loaded f w b begin) e start v es (in_frame f w b begin)
+        (record { slots = n; mail = λ x y. ap (letters_of real_of) (no_mail f w b begin e x y) }) run in
         absurd (let z = sym (gone.slots k) ∙ at in cc)
 
     none_by : (e : ℕ) → holders v e ≡ 0 → (k : ℕ) → k < cell_count → Somewhere e start ⊎ Nowhere e start → copy_at e v k ≡ None
     none_by e zero k low (inl p) =
-        let one = one_after f w b between fits e p.0 p.1 p.2 v es run in
+        let one = one_after f w b begin e p.0 p.1 p.2 v es run in
         absurd (omega (arith, one, zero))
-    none_by e zero k low (inr n) = none_still g e v (still e) (lost_then e (nobody f w b between fits v es run e n)) k low
+    none_by e zero k low (inr n) = none_still g e v (still e) (lost_then e (nobody f w b begin v es run e n)) k low
 
     pub calls_end_copied : AreCopiesBetweenRounds g v
     calls_end_copied = record {

@@ -1,14 +1,11 @@
 -- Over every list of events the newest entry of each cell is what the real wants.
-use Rattle.std.proofs.Common.{◌≡◌, ℕ, ◌<◌, ◌≤◌, true, ◌&&◌, List, [], ◌∷◌, length, Option, None, Some, refl, sym}
-use Rattle.std.proofs.Common.{◌∙◌, subst}
-use Rattle.std.proofs.Common.{arith}
+use Rattle.std.proofs.Common.{◌≡◌, ℕ, ◌<◌, ◌≤◌, true, ◌&&◌, List, [], ◌∷◌, length, Option, None, Some, refl, sym, ◌∙◌, subst, arith}
 use Rattle.std.specs.List.{AllByRecursion}
-use Rattle.seam_node_steps.specs.Prelude.{happens, enabled, LeadsTo, Event, Occurs, GhostCopy, RealView, Msg, Hand}
-use Rattle.seam_node_steps.specs.Prelude.{GhostSet, GhostDrop, Reap, is_small, fits_copy, is_stray, World, node_steps}
-use Rattle.seam_node_steps.specs.Prelude.{node_has_work, limit}
+use Rattle.seam_node_steps.specs.Prelude.{happens, enabled, Event, Occurs, GhostCopy, RealView, Msg, Hand, GhostSet, GhostDrop, Reap}
+use Rattle.seam_node_steps.specs.Prelude.{is_small, fits_copy, is_stray, World, node_steps, node_has_work, limit}
 use Rattle.seam_law_flow.specs.Prelude.{Goes, comes, letter_in, AllBring, TokenPlace, In}
 use Rattle.seam_law_calls.specs.Prelude.{Frame, here_at, Has, mine, entity_flow, MovesTo, real_in, real_of, IsOne, IsSpared, IsFrame}
-use Rattle.seam_law_calls.specs.Prelude.{HasOne, real_burden}
+use Rattle.seam_law_calls.specs.Prelude.{HasOne, real_burden, RunsTo, real_at}
 use Rattle.seam_law_ghosts.specs.Prelude.{Entry, brings, book_entry, IsTable, IsTrue, IsHushed, present, copy_at, AreTold, AreSettled}
 use Rattle.seam_machine.proofs.Occurring.{occurs}
 use Rattle.seam_net_runs.proofs.Runs.{leads_keeps}
@@ -53,7 +50,7 @@ module _ (f : Frame) (frame : IsFrame f) (e ty : ℕ) (known : ty < length f.def
     abbrev next : World
     next = happens node_steps w v
 
-    one : LeadsTo node_has_work node_steps w (v ∷ []) next
+    one : RunsTo w (v ∷ []) next
     one = record { each = (on, tt); is_run = refl }
 
     abbrev o : Occurs w v
@@ -96,14 +93,14 @@ module _ (f : Frame) (frame : IsFrame f) (e ty : ℕ) (known : ty < length f.def
       told = told_by step;
     }
 
-  pub informed_leads : (w v : World) (es : List Event) → IsInformed w → LeadsTo node_has_work node_steps w es v → IsInformed v
+  pub informed_leads : (w v : World) (es : List Event) → IsInformed w → RunsTo w es v → IsInformed v
   informed_leads w v es x run = leads_keeps node_has_work node_steps IsInformed informed_more w v es x run
 
 -- ---- it begins where nothing is on its way
 
 module _ (f : Frame) (frame : IsFrame f) (e ty : ℕ) (known : ty < length f.defs) (w : World) (h : HasOne f e ty w) (spared : IsSpared e w)
     (low : h.real.public ≤ h.real.version) (still : (x y : ℕ) → (entity_flow e w).mail x y ≡ []) (home : ℕ)
-    (at_home : real_in ((entity_flow e w).slot home) ≡ Some h.real) (copies : AreSettled f e home h.real w) where
+    (at_home : real_at e w home ≡ Some h.real) (copies : AreSettled f e home h.real w) where
   abbrev pub table : ℕ → GhostCopy
   table b = present f h.real
 
@@ -143,24 +140,22 @@ module _ (f : Frame) (frame : IsFrame f) (e ty : ℕ) (known : ty < length f.def
       one : IsOne e w (In home) h.real
       one = subst (λ p. IsOne e w p h.real) home_is h.one
 
-  pub informed_from : (v : World) (es : List Event) → LeadsTo node_has_work node_steps w es v → Informed v
+  pub informed_from : (v : World) (es : List Event) → RunsTo w es v → Informed v
   informed_from v es run = informed_leads f frame e ty known h.real low table w v es informed_start run
 
   -- wherever the real is then
-  pub told_of : (v : World) (es : List Event) → LeadsTo node_has_work node_steps w es v → (p : TokenPlace) (q : RealView) → IsOne e v p q →
-      AreTold f e v p q
+  pub told_of : (v : World) (es : List Event) → RunsTo w es v → (p : TokenPlace) (q : RealView) → IsOne e v p q → AreTold f e v p q
   told_of v es run p q is =
       let x = informed_from v es run in
       placed f frame e ty known h.real low table v x.quelled.is.one.has.place p x.quelled.is.one.has.real q x.quelled.is.one.has.one is
       x.told
 
   -- what comes to its cell has no newer beat than the book there
-  pub hushed_of : (v : World) (es : List Event) → LeadsTo node_has_work node_steps w es v → (k : ℕ) (q : RealView) →
-      real_in ((entity_flow e v).slot k) ≡ Some q → IsHushed e v (In k)
+  pub hushed_of : (v : World) (es : List Event) → RunsTo w es v → (k : ℕ) (q : RealView) → real_at e v k ≡ Some q → IsHushed e v (In k)
   hushed_of v es run = hushed_where f frame e ty known h.real table v (informed_from v es run).quelled
 
   -- a copy in a book is of no older version than one that was there before
-  pub later_of : (v u : World) (es gs : List Event) → LeadsTo node_has_work node_steps w es v → LeadsTo node_has_work node_steps v gs u →
+  pub later_of : (v u : World) (es gs : List Event) → RunsTo w es v → RunsTo v gs u →
       (k : ℕ) (c d : GhostCopy) → copy_at e v k ≡ Some c → copy_at e u k ≡ Some d → c.version ≤ d.version
   later_of v u es gs to run k c d was now =
       let x = (informed_from v es to).quelled in

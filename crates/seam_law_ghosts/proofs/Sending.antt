@@ -1,17 +1,16 @@
 -- What is sent fits where it comes: a copy fits the definitions, and each number is small.
-use Rattle.std.proofs.Common.{◌≡◌, ℕ, zero, suc, ◌+◌, ◌<◌, ◌≤◌, Bool, true, false, ◌||◌, eqb, nat_lt, List, [], ◌∷◌, map, length}
-use Rattle.std.proofs.Common.{Option, None, Some}
-use Rattle.std.proofs.Common.{refl, sym, subst, arith}
+use Rattle.std.proofs.Common.{◌≡◌, ℕ, zero, suc, ◌+◌, ◌<◌, ◌≤◌, Bool, true, false, ◌||◌, eqb, nat_lt, List, [], ◌∷◌, map, length, Option}
+use Rattle.std.proofs.Common.{None, Some, refl, sym, subst, arith}
 use Rattle.std.specs.List.{AllByRecursion, filter_map, range_with_len}
 use Rattle.std.specs.FinSet as set
 use Rattle.std.proofs.lemmas.Bool.Decides.{nat_tests}
-use Rattle.seam_node_steps.specs.Prelude.{Cells, AreDefs, GhostCopy, Shown, RealView, Msg, BaseCall, Current, GhostSet, GhostDrop}
-use Rattle.seam_node_steps.specs.Prelude.{Update, limit, is_small, may_rise, Here, cell_count, cell_numbers, base_of}
-use Rattle.seam_node_steps.specs.Prelude.{properties, fits_copy, copy_of_real, may_settle, may_execute, fits_cell_part, shows, public_after}
-use Rattle.seam_node_steps.specs.Prelude.{may_offer, order_of, haunts_at, told, told_unless, ghost_message, ghost_messages, drop_if}
-use Rattle.seam_node_steps.specs.Prelude.{drop_at, drops, current_to, tick_to, numbered, shown_of}
-use Rattle.seam_law_calls.specs.Prelude.{Frame, here_at, Has, AtCell, Acts, surveys, calls, readies, CellMoves, BaseMoves, Moves}
-use Rattle.seam_law_calls.specs.Prelude.{at_a_cell, at_a_base, RealFits, real_in}
+use Rattle.seam_node_steps.specs.Prelude.{Cells, AreDefs, GhostCopy, Shown, RealView, Msg, GhostSet, GhostDrop, BaseCall, Current, Update}
+use Rattle.seam_node_steps.specs.Prelude.{limit, is_small, may_rise, Here, cell_count, cell_numbers, base_of, properties, fits_copy}
+use Rattle.seam_node_steps.specs.Prelude.{copy_of_real, may_settle, may_execute, fits_cell_part, shows, public_after, may_offer, order_of}
+use Rattle.seam_node_steps.specs.Prelude.{haunts_at, told, told_unless, ghost_message, ghost_messages, drop_if, drop_at, drops, current_to}
+use Rattle.seam_node_steps.specs.Prelude.{tick_to, numbered, shown_of}
+use Rattle.seam_law_calls.specs.Prelude.{Frame, here_at, Has, AtCell, Acts, surveys, calls, readies, CellMoves, BaseMoves, Moves, at_a_cell}
+use Rattle.seam_law_calls.specs.Prelude.{at_a_base, RealFits, real_in}
 use Rattle.seam_defs.specs.declared.flags.Part.TheVariants as part
 use Rattle.seam_defs.specs.declared.flags.Group.TheVariants as group
 use Rattle.seam_defs.proofs.GroupsOfGroups.{projected_of_group}
@@ -19,17 +18,18 @@ use Rattle.seam_defs.proofs.Running.{shown-within}
 use Rattle.seam_defs.proofs.TestLemmas.{of_group-Decides}
 use Rattle.seam_law_flow.proofs.Following.{all_append}
 use Rattle.seam_law_calls.specs.CellMoves as move
-use Rattle.seam_law_calls.specs.BaseMoves as base_move
 use Rattle.seam_law_calls.proofs.Holds.{both, all_two}
 use Rattle.seam_law_calls.proofs.RealsKept.{executed_fits, ready_fits}
+use Rattle.seam_law_calls.proofs.BaseDeeds.{base_keeps}
+use Rattle.seam_law_calls.proofs.Keeping.{units}
 
 -- what a message to node k brings fits: a copy fits the definitions, a beat and a version are small, and only base nodes are told what
 -- is for them
 abbrev pub FitsNode : Frame → ℕ → Msg → Type 0
-FitsNode f k (BaseCall c) = cell_count ≤ k
-FitsNode f k (Current e j g) = cell_count ≤ k
 FitsNode f k (GhostSet e n c) = (is_small n ≡ true) × (is_small c.version ≡ true) × (fits_copy (here_at f 0) c ≡ true)
 FitsNode f k (GhostDrop e n) = is_small n ≡ true
+FitsNode f k (BaseCall c) = cell_count ≤ k
+FitsNode f k (Current e j g) = cell_count ≤ k
 FitsNode f k (Update u) = cell_count ≤ k
 FitsNode f k _ = Unit {0}
 
@@ -44,8 +44,7 @@ below_is a b lt = grind (arith, nat_tests)
 
 -- of what is chosen from a list each is such
 module _ {A B : Type 0} (P : B → Type 0) (g : A → Option B) (each : (a : A) (b : B) → g a ≡ Some b → P b) where
-  chosen_by : (a : A) (xs : List A) (o : Option B) → g a ≡ o → AllByRecursion P (filter_map g xs) →
-      AllByRecursion P (filter_map g (a ∷ xs))
+  chosen_by : (a : A) (xs : List A) (o : Option B) → g a ≡ o → AllByRecursion P (filter_map g xs) → AllByRecursion P (filter_map g (a ∷ xs))
   chosen_by a xs None is more = rw is more
   chosen_by a xs (Some b) is more = rw is (each a b is, more)
 
@@ -194,21 +193,9 @@ module _ (f : Frame) where
     cell_sends (move.stuck r is has ready may d) = of [] d.sends tt
 
     base_sends : (cells : ℕ) → BaseMoves h cells e s.base i t.base sent → AllByRecursion FitsTo sent
-    base_sends cells (base_move.rests n a z) = of [] z tt
-    base_sends cells (base_move.strays m n b a z) = of [] z tt
-    base_sends cells (base_move.reroutes new r n has b a z) = of [] z tt
-    base_sends cells (base_move.offers c p n own has may a z) = of [] z tt
-    base_sends cells (base_move.updates u n own b a z) = of [] z tt
-    base_sends cells (base_move.orders_call c os r n at own has a z) = of _ z (tt, tt)
-    base_sends cells (base_move.orders_base_call c os n at own b a z) = of _ z ((omega arith), tt)
-    base_sends cells (base_move.offers_own c os p n at own b has may a z) = of [] z tt
-    base_sends cells (base_move.orders_tick os n at a z) = of _ z (ticks_fit (range_with_len 0 cells))
-    base_sends cells (base_move.orders_reap os r n at has a z) = of _ z (tt, tt)
-    base_sends cells (base_move.stuck_order o os n at b a z) = of [] z tt
-    base_sends cells (base_move.executes p o c n has may at item a z) = of [] z tt
-    base_sends cells (base_move.stuck_part p n has v may a z) = of [] z tt
-    base_sends cells (base_move.shows p n has v may a z) = of [] z tt
-    base_sends cells (base_move.stuck_client p n has v may a z) = of [] z tt
+    base_sends cells m = (base_keeps (λ o. Unit {0}) (λ j x. FitsNode f j x) m
+        (record { calls = λ c r at is. tt; base_calls = λ c is. omega arith; ticks = λ is j lt. tt; reaps = λ r at is. tt })
+        (units s.base.orders)).1
 
     pub sends_fit : Moves f e k s i t sent → AllByRecursion FitsTo sent
     sends_fit (at_a_cell low m same) = cell_sends m

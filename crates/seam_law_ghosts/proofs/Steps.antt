@@ -1,6 +1,6 @@
 -- Each move of a node is one of those of what ghosts are told.
-use Rattle.std.proofs.Common.{◌≡◌, ℕ, ◌+◌, ◌≤◌, Bool, true, false, ltb, cond, List, [], ◌∷◌, Option, None, Some, refl, sym, ap, ◌∙◌}
-use Rattle.std.proofs.Common.{subst, inl, inr, arith}
+use Rattle.std.proofs.Common.{◌≡◌, ℕ, ◌+◌, ◌≤◌, Bool, true, false, ltb, cond, List, [], ◌∷◌, Option, None, Some, refl, sym, ap, ◌∙◌, subst}
+use Rattle.std.proofs.Common.{inl, inr, arith}
 use Rattle.std.specs.List.{range_with_len}
 use Rattle.std.specs.FinMap as table
 use Rattle.seam_node_steps.specs.Prelude.{Ghost, beat_in, copy_in, ghost_after, Part, part_of_deed, is_for, Call as CallData, GhostCopy}
@@ -77,8 +77,7 @@ module _ (f : Frame) (e ty k : ℕ) (s : Has) (i : Option Msg) (t : Has) (sent :
 
   acts_slot : (u : AtCell) (r q : RealView) (changed : Bool) → Acts (here_at f k) e s.cell i r u q changed → u.slot ≡ s.cell.slot
   acts_slot u r q changed (surveys n a b c) = refl
-  acts_slot u r q changed (calls c a b d g) = refl
-  acts_slot u r q changed (readies o c a b d g) = refl
+  acts_slot u r q changed _ = refl
 
   module _ (x : SlotStep) (u : AtCell) (d : Does u x t.cell sent) where
     real_is : real_in t ≡ (slot_after x.slot u.slot).real
@@ -99,19 +98,14 @@ module _ (f : Frame) (e ty k : ℕ) (s : Has) (i : Option Msg) (t : Has) (sent :
   -- stray input at a cell
   strays_by : ((r : RealView) → i ≡ Some (Hand r) → FindsRoom f k s r) → (m : Msg) → i ≡ Some m →
       is_stray (here_at f k) f.tree s.cell.slot m ≡ true → real_in t ≡ real_in s → book_entry t ≡ book_entry s → IsSilent brings sent → Its
-  strays_by room (Call c) h b x y z = ghost.rests (came_none (Call c) h refl) x y z
-  strays_by room (BaseCall c) h b x y z = ghost.rests (came_none (BaseCall c) h refl) x y z
   strays_by room (Hand r) h b x y z =
       let p = room r h in
       absurd (not_both (may_come (here_at f k) f.tree r) p.may
       (sym (ap (λ o. is_stray (here_at f k) f.tree (record { real = o; next = s.cell.slot.next; ghost = s.cell.slot.ghost }) (Hand r))
       p.free) ∙ b))
-  strays_by room (Current q j g) h b x y z = ghost.rests (came_none (Current q j g) h refl) x y z
   strays_by room (GhostSet q n c) h b x y z = ghost.misses (GhostSet q n c) h refl (inr b) x y z
   strays_by room (GhostDrop q n) h b x y z = ghost.misses (GhostDrop q n) h refl (inr b) x y z
-  strays_by room Tick h b x y z = ghost.rests (came_none Tick h refl) x y z
-  strays_by room (Reap q) h b x y z = ghost.rests (came_none (Reap q) h refl) x y z
-  strays_by room (Update u) h b x y z = ghost.rests (came_none (Update u) h refl) x y z
+  strays_by room m h b x y z = ghost.rests (came_none m h refl) x y z
 
   cell_step : ((r : RealView) → i ≡ Some (Hand r) → FindsRoom f k s r) → ((r : RealView) → real_in s ≡ Some r → RealFits f e ty k r) →
       CellMoves (here_at f k) f.tree e s.cell i t.cell sent → Its
@@ -173,15 +167,10 @@ module _ (f : Frame) (e ty k : ℕ) (s : Has) (i : Option Msg) (t : Has) (sent :
         (quiet z)
 
     base_strays : ((r : RealView) → i ≡ Some (Hand r) → FindsRoom f k s r) → (m : Msg) → i ≡ Some m → sent ≡ [] → Its
-    base_strays room (Call c) n z = idle (came_none (Call c) n refl) (quiet z)
-    base_strays room (BaseCall c) n z = idle (came_none (BaseCall c) n refl) (quiet z)
     base_strays room (Hand r) n z = let low = (room r n).cell in absurd (omega (arith, low, high))
-    base_strays room (Current x j g) n z = idle (came_none (Current x j g) n refl) (quiet z)
     base_strays room (GhostSet x m c) n z = missed (GhostSet x m c) n refl z
     base_strays room (GhostDrop x m) n z = missed (GhostDrop x m) n refl z
-    base_strays room Tick n z = idle (came_none Tick n refl) (quiet z)
-    base_strays room (Reap x) n z = idle (came_none (Reap x) n refl) (quiet z)
-    base_strays room (Update u) n z = idle (came_none (Update u) n refl) (quiet z)
+    base_strays room m n z = idle (came_none m n refl) (quiet z)
 
     base_step : ((r : RealView) → i ≡ Some (Hand r) → FindsRoom f k s r) → (cells : ℕ) →
         BaseMoves (here_at f k) cells e s.base i t.base sent → Its

@@ -1,6 +1,6 @@
 -- A message to a cell is never stray, nor a task of one: for an entity that no one reaps, in a round.
-use Rattle.std.proofs.Common.{◌≡◌, ℕ, ◌<◌, ◌⊎◌, Bool, true, false, not, ◌&&◌, ◌||◌, is_some, List, ◌∷◌, length, Option}
-use Rattle.std.proofs.Common.{None, Some, refl, ap, ◌∙◌, arith, inl, inr}
+use Rattle.std.proofs.Common.{◌≡◌, ℕ, ◌<◌, ◌⊎◌, Bool, true, false, not, ◌&&◌, ◌||◌, is_some, List, ◌∷◌, length, Option, None, Some, refl}
+use Rattle.std.proofs.Common.{ap, ◌∙◌, arith, inl, inr}
 use Rattle.std.specs.Prelude.{slice_get}
 use Rattle.std.proofs.lemmas.Bool.{eq-eqb}
 use Rattle.seam_node_steps.specs.Prelude.{link, letter, Occurs, From, Call as CallData, RealView, Msg, BaseCall, Hand, Current, GhostSet}
@@ -65,14 +65,12 @@ module _ (f : Frame) (e ty k : ℕ) (known : ty < length f.defs) (low : k < cell
   kind_fits (Call c) fits spared turn hand =
       let t = turn c refl in
       call_by c s.cell.slot.real s.cell.slot.next (either (is_some s.cell.slot.real) (is_some s.cell.slot.next) t.place) t.may
-  kind_fits (BaseCall c) fits spared turn hand = absurd (omega (arith, fits, low))
   kind_fits (Hand r) fits spared turn hand =
       let h = hand r refl in
       hand_by r s.cell.slot.real h.0 (may_land f e ty k r known h.1 h.2)
-  kind_fits (Current x j g) fits spared turn hand = absurd (omega (arith, fits, low))
   kind_fits (GhostSet x n c) fits spared turn hand =
       not_true (is_small n && (is_small c.version && fits_copy (here_at f k) c)) (all_two _ _ fits.0 (all_two _ _ fits.1 fits.2))
   kind_fits (GhostDrop x n) fits spared turn hand = not_true (is_small n) fits
   kind_fits Tick fits spared turn hand = refl
   kind_fits (Reap x) fits spared turn hand = cc
-  kind_fits (Update u) fits spared turn hand = absurd (omega (arith, fits, low))
+  kind_fits _ fits spared turn hand = absurd (omega (arith, fits, low))

@@ -1,15 +1,14 @@
 -- Over every list of events the copies that were told are true.
-use Rattle.std.proofs.Common.{◌≡◌, ℕ, ◌+◌, ◌<◌, ◌≤◌, ◌⊎◌, true, false, ltb, cond, List, []}
-use Rattle.std.proofs.Common.{◌∷◌, ◌++◌, length, Option, None, Some, refl, sym, ap, ◌∙◌}
-use Rattle.std.proofs.Common.{subst, inl, inr, arith}
+use Rattle.std.proofs.Common.{◌≡◌, ℕ, ◌+◌, ◌<◌, ◌≤◌, ◌⊎◌, true, false, ltb, cond, List, [], ◌∷◌, ◌++◌, length, Option, None, Some, refl}
+use Rattle.std.proofs.Common.{sym, ap, ◌∙◌, subst, inl, inr, arith}
 use Rattle.std.proofs.lemmas.Bool.{cases_eq}
 use Rattle.std.proofs.lemmas.Bool.Decides.{nat_tests}
-use Rattle.seam_node_steps.specs.Prelude.{happens, enabled, LeadsTo, Occurs, Event, items_to, Call, GhostCopy, RealView, Msg, Reap, World}
+use Rattle.seam_node_steps.specs.Prelude.{happens, enabled, Occurs, Event, items_to, Call, GhostCopy, RealView, Msg, Reap, World}
 use Rattle.seam_node_steps.specs.Prelude.{node_steps, node_has_work}
 use Rattle.seam_law_flow.specs.Prelude.{Goes, comes, letter_in, OfEntry, AllBring, entry_in, Turned, still, turns, lands, leaves, relays}
 use Rattle.seam_law_flow.specs.Prelude.{place_after, token_after}
 use Rattle.seam_law_calls.specs.Prelude.{Frame, Has, mine, entity_flow, real_in, real_of, IsSpared, AllFits, IsFrame, HasOne, OneFrom}
-use Rattle.seam_law_calls.specs.Prelude.{account_of}
+use Rattle.seam_law_calls.specs.Prelude.{account_of, RunsTo}
 use Rattle.seam_law_ghosts.specs.Prelude.{Entry, brings, book_entry, IsTrueCopy, IsOfTable, IsTable, IsTrue}
 use Rattle.seam_machine.proofs.Occurring.{occurs}
 use Rattle.seam_net_runs.proofs.Runs.{leads_keeps}
@@ -17,8 +16,8 @@ use Rattle.seam_law_flow.proofs.Following.{slots_kept, letters_kept, came}
 use Rattle.seam_law_flow.proofs.TokenLemmas.{sole_here, sole_came, sole_goes, token_turns}
 use Rattle.seam_law_calls.proofs.OneReal.{goes, room, one_happens, calm_of, spared_happens}
 use Rattle.seam_law_ghosts.proofs.Steps.{ghost_moves}
-use Rattle.seam_law_ghosts.proofs.Making.{Did, same, did_calls, NoEntry, IsFresh, Makes, Tells}
-use Rattle.seam_law_ghosts.proofs.Making.{silent, fresh, Does_it, TellsBy, Handled, told_of}
+use Rattle.seam_law_ghosts.proofs.Making.{Did, same, did_calls, NoEntry, IsFresh, Makes, Tells, silent, fresh, Does_it, TellsBy, Handled}
+use Rattle.seam_law_ghosts.proofs.Making.{told_of}
 use Rattle.seam_law_ghosts.proofs.Present.{shown_of, true_more, replays_then, present_after, present_first}
 
 -- ---- a table with one beat more
@@ -255,7 +254,7 @@ module _ (f : Frame) (frame : IsFrame f) (e ty : ℕ) (known : ty < length f.def
       }
 
   pub true_leads : (w v : World) (es : List Event) → IsTrue f e ty start first w → IsSpared e w →
-      LeadsTo node_has_work node_steps w es v → IsTrue f e ty start first v
+      RunsTo w es v → IsTrue f e ty start first v
   true_leads w v es x spared run =
       (leads_keeps node_has_work node_steps IsTrueSpared true_spared w v es (record { is = x; spared = spared }) run).is
 

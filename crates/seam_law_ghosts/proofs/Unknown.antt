@@ -1,26 +1,19 @@
 -- Of an entity that is nowhere, and that no order is about, nothing is on its way but ticks.
-use Rattle.std.proofs.Common.{◌≡◌, ℕ, true, List, [], ◌∷◌, map, Option, None, Some, refl, sym, ap, ◌∙◌, subst}
-use Rattle.std.specs.List.{AllByRecursion, range_with_len}
-use Rattle.seam_node_steps.specs.Prelude.{happens, enabled, LeadsTo, Event, Order, RealView, Msg, BaseCall, Hand, GhostSet}
-use Rattle.seam_node_steps.specs.Prelude.{GhostDrop, Tick, Update, tick_to, World, node_steps, node_has_work}
-use Rattle.seam_law_flow.specs.Prelude.{comes}
+use Rattle.std.proofs.Common.{◌≡◌, ℕ, List, [], Option, None, Some, sym, ap, ◌∙◌, subst}
+use Rattle.std.specs.List.{AllByRecursion}
+use Rattle.seam_node_steps.specs.Prelude.{Event, Order, RealView, Msg, Hand, GhostSet, GhostDrop, Tick, World}
 use Rattle.seam_law_calls.specs.Prelude.{Frame, here_at, IsInFrame, Has, AtBase, AtCell, entity_flow, CellMoves, BaseMoves, Moves}
-use Rattle.seam_law_calls.specs.Prelude.{at_a_cell, at_a_base, real_in}
-use Rattle.seam_machine.proofs.Occurring.{occurs}
-use Rattle.seam_net_runs.proofs.Runs.{leads_keeps}
-use Rattle.seam_law_flow.proofs.Following.{slots_kept, letters_kept, came}
+use Rattle.seam_law_calls.specs.Prelude.{at_a_cell, at_a_base, real_in, RunsTo}
 use Rattle.seam_call.specs.declared.order.Order.TheVariants as order
 use Rattle.seam_entity.specs.declared.message.Msg.TheVariants.{Call}
 use Rattle.seam_law_calls.specs.CellMoves as move
-use Rattle.seam_law_calls.specs.BaseMoves as base_move
-use Rattle.seam_law_calls.proofs.Classify.{frame_happens, event_moves}
-use Rattle.seam_law_calls.proofs.Sparing.{items_all}
+use Rattle.seam_law_calls.proofs.Keeping.{all_lead}
+use Rattle.seam_law_rounds.proofs.Shape.{frame_leads}
+use Rattle.seam_law_calls.proofs.BaseDeeds.{base_keeps}
 
 abbrev pub IsTickOrder : Order → Type 0
-IsTickOrder (order.Cell c) = ⊥
-IsTickOrder (order.Base c) = ⊥
 IsTickOrder order.Tick = Unit {0}
-IsTickOrder (order.Reap e) = ⊥
+IsTickOrder _ = ⊥
 
 abbrev pub IsTick : Msg → Type 0
 IsTick Tick = Unit {0}
@@ -66,44 +59,15 @@ module _ (f : Frame) (e k : ℕ) (s : Has) (i : Option Msg) (t : Has) (sent : Li
   real_of_cell : t.cell ≡ s.cell → real_in t ≡ None
   real_of_cell cell = ap (λ (c : AtCell). c.slot.real) cell ∙ here.real
 
-  kept : t.cell ≡ s.cell → (b : AtBase) → t.base ≡ b → b.orders ≡ s.base.orders → sent ≡ [] → Stays
-  kept cell b a same z = (
-    record {
-      real = real_of_cell cell;
-      orders = subst (AllByRecursion IsTickOrder) (sym (ap (λ (x : AtBase). x.orders) a ∙ same)) here.orders;
-    },
-    subst (AllByRecursion (λ p. IsTick p.1)) (sym z) tt,
-  )
-
-  first_of : (o : Order) (os : List Order) → s.base.orders ≡ o ∷ os → AllByRecursion IsTickOrder (o ∷ os)
-  first_of o os at = subst (AllByRecursion IsTickOrder) at here.orders
-
-  all_ticks : (js : List ℕ) → AllByRecursion {X = ℕ × Msg} (λ p. IsTick p.1) (map tick_to js)
-  all_ticks [] = tt
-  all_ticks (j ∷ js) = (tt, all_ticks js)
-
   base_silent : (cells : ℕ) → t.cell ≡ s.cell → BaseMoves (here_at f k) cells e s.base i t.base sent → Stays
-  base_silent cells cell (base_move.rests n a z) = kept cell s.base a refl z
-  base_silent cells cell (base_move.strays m n b a z) = kept cell s.base a refl z
-  base_silent cells cell (base_move.reroutes new r n has b a z) = absurd (come _ n)
-  base_silent cells cell (base_move.offers c p n own has may a z) = absurd (come (BaseCall c) n)
-  base_silent cells cell (base_move.updates u n own b a z) = absurd (come (Update u) n)
-  base_silent cells cell (base_move.orders_call c os r n at own has a z) = absurd (first_of (order.Cell c) os at).0
-  base_silent cells cell (base_move.orders_base_call c os n at own b a z) = absurd (first_of (order.Base c) os at).0
-  base_silent cells cell (base_move.offers_own c os p n at own b has may a z) = absurd (first_of (order.Base c) os at).0
-  base_silent cells cell (base_move.orders_tick os n at a z) = (
-    record {
-      real = real_of_cell cell;
-      orders = subst (AllByRecursion IsTickOrder) (sym (ap (λ (x : AtBase). x.orders) a)) (first_of order.Tick os at).1;
-    },
-    subst (AllByRecursion (λ p. IsTick p.1)) (sym z) (all_ticks (range_with_len 0 cells)),
-  )
-  base_silent cells cell (base_move.orders_reap os r n at has a z) = absurd (first_of (order.Reap e) os at).0
-  base_silent cells cell (base_move.stuck_order o os n at b a z) = kept cell s.base a refl z
-  base_silent cells cell (base_move.executes p o c n has may at item a z) = kept cell _ a refl z
-  base_silent cells cell (base_move.stuck_part p n has v may a z) = kept cell s.base a refl z
-  base_silent cells cell (base_move.shows p n has v may a z) = kept cell _ a refl z
-  base_silent cells cell (base_move.stuck_client p n has v may a z) = kept cell s.base a refl z
+  base_silent cells cell m =
+      let b = base_keeps IsTickOrder (λ j x. IsTick x) m (record {
+        calls = λ c r at is. absurd is;
+        base_calls = λ c is. absurd is;
+        ticks = λ is j lt. tt;
+        reaps = λ r at is. absurd is;
+      }) here.orders in
+      (record { real = real_of_cell cell; orders = b.0 }, b.1)
 
   pub stays_silent : Moves f e k s i t sent → Stays
   stays_silent (at_a_cell low m same) = cell_silent same m
@@ -115,18 +79,9 @@ module _ (f : Frame) (e : ℕ) where
     pub slots : (k : ℕ) → OnlyTicks ((entity_flow e w).slot k)
     pub letters : (a k : ℕ) → AllByRecursion IsTick ((entity_flow e w).mail a k)
 
-  unknown_more : (w : World) (v : Event) → IsUnknown w → enabled node_has_work w v ≡ true → IsUnknown (happens node_steps w v)
-  unknown_more w v h on =
-      let o = occurs node_has_work w v on in
-      let g = event_moves f w v o h.frame e in
-      let all = stays_silent f e g.k ((entity_flow e w).slot g.k) (comes g.input) ((entity_flow e (happens node_steps w v)).slot g.k)
-      g.moves.sent (h.slots g.k) (λ m is. (came (λ a k m. IsTick m) g m is h.letters).1) g.moves.moves in
-      record {
-        frame = frame_happens f w v o h.frame;
-        slots = slots_kept (λ k s. OnlyTicks s) g h.slots all.0;
-        letters = letters_kept (λ a k m. IsTick m) g h.letters (λ j.
-            subst (AllByRecursion IsTick) (sym (g.moves.items j)) (items_all IsTick j g.moves.sent all.1));
-      }
-
-  pub unknown_leads : (w v : World) (es : List Event) → IsUnknown w → LeadsTo node_has_work node_steps w es v → IsUnknown v
-  unknown_leads w v es h run = leads_keeps node_has_work node_steps IsUnknown unknown_more w v es h run
+  pub unknown_leads : (w v : World) (es : List Event) → IsUnknown w → RunsTo w es v → IsUnknown v
+  unknown_leads w v es h run =
+      let all = all_lead f e (λ k s. OnlyTicks s) (λ a k m. IsTick m)
+      (λ k s i t sent here come m. stays_silent f e k s i t sent here (λ x is. (come x is).1) m) w v es h.frame run
+      (record { slots = h.slots; letters = h.letters }) in
+      record { frame = frame_leads f w v es h.frame run; slots = all.slots; letters = all.letters }

@@ -49,8 +49,7 @@ module _ (d : Distances) (t : Division) where
         ∙ ap (λ ps. settled d t (settled_all d t was ps) p) (sym none) ∙ sym (settled_last was path p))
 
     -- where no survey is to come, it is at an end of the way
-    pub way_ends : (path : List Pos) (place : Place) (due : Type 0) → (due → ⊥) → Way path place due →
-        IsPlaceAfter d t was start path place
+    pub way_ends : (path : List Pos) (place : Place) (due : Type 0) → (due → ⊥) → Way path place due → IsPlaceAfter d t was start path place
     way_ends path place due never (surveyed is) = inl is
     way_ends path place due never (called some is) = inr (some, is)
     way_ends path place due never (waits none is on) = absurd (never on)

@@ -3,7 +3,7 @@ use Rattle.std.specs.Prelude.{◌≡◌, ℕ, ◌<◌, ◌≤◌, false, Option,
 use Rattle.std.specs.FinSet as set
 use Rattle.seam_node_steps.specs.Prelude.{GhostCopy, RealView, cell_count, copy_if, holders, World}
 use Rattle.seam_law_flow.specs.Prelude.{Newest, TokenPlace, In, On}
-use Rattle.seam_law_calls.specs.Prelude.{Frame, entity_flow, real_in}
+use Rattle.seam_law_calls.specs.Prelude.{Frame, entity_flow, real_at}
 use Rattle.seam_law_ghosts.specs.Entries.{brings, book_entry}
 use Rattle.seam_law_ghosts.specs.Truths.{shown_at}
 
@@ -61,7 +61,7 @@ pub record AreSettled (f : Frame) (e home : ℕ) (r : RealView) (w : World) : Ty
 -- the record of copies between rounds
 pub record AreCopiesBetweenRounds (f : Frame) (w : World) : Type 0 where
   -- each real has its copies
-  pub settled : (e k : ℕ) (r : RealView) → real_in ((entity_flow e w).slot k) ≡ Some r → AreSettled f e k r w
+  pub settled : (e k : ℕ) (r : RealView) → real_at e w k ≡ Some r → AreSettled f e k r w
   -- and of an entity that has no holder no cell has one
   pub none : (e : ℕ) → holders w e ≡ 0 → (k : ℕ) → k < cell_count → copy_at e w k ≡ None
 

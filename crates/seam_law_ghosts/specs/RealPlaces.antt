@@ -2,10 +2,10 @@
 use Rattle.std.specs.Prelude.{◌≡◌, ℕ, ◌+◌, ◌≤◌, List, [], ◌∷◌, length, Option, Some}
 use Rattle.std.specs.FinSet as set
 use Rattle.seam_node_steps.specs.Prelude.{Pos, Division, leaf_at, Distances, Place, settled_all, IsPlaceAfter, Settings, State, TypeDef}
-use Rattle.seam_node_steps.specs.Prelude.{after, type_of, IsQuiet, LeadsTo, Event, Call, Create, Batch, RealView, WitnessView, created}
-use Rattle.seam_node_steps.specs.Prelude.{real_begins, World, node_steps, node_has_work, loaded, reaps_loaded, look_loaded}
+use Rattle.seam_node_steps.specs.Prelude.{after, type_of, IsQuiet, Event, Call, Create, Batch, RealView, WitnessView, created, real_begins}
+use Rattle.seam_node_steps.specs.Prelude.{World, node_has_work, loaded, reaps_loaded, look_loaded}
 use Rattle.seam_law_flow.specs.Prelude.{In, On}
-use Rattle.seam_law_calls.specs.Prelude.{Frame, here_at, entity_flow, real_in, OneFrom}
+use Rattle.seam_law_calls.specs.Prelude.{Frame, here_at, entity_flow, OneFrom, RunsTo, real_at}
 use Rattle.seam_law_rounds.specs.Prelude.{AreReapable}
 use Rattle.seam_haunt.specs.Places.{settled}
 use Rattle.seam_law_flow.specs.Tokens as token
@@ -38,7 +38,7 @@ made_real f t x = created (here_at f (leaf_at t x.pos)) x.entity x.ty x.pos
 -- where the batch is loaded, the real r is in cell k, with no calls done and perhaps with a witness
 pub record BeginsAt (w : World) (b : Batch) (e k : ℕ) (r : RealView) : Type 0 where
   pub witness : Option WitnessView
-  pub here : real_in ((entity_flow e (loaded w b)).slot k) ≡ Some (record (real_begins r) { witness = witness })
+  pub here : real_at e (loaded w b) k ≡ Some (record (real_begins r) { witness = witness })
 
 -- ---- within a round
 
@@ -82,7 +82,7 @@ IsRightPlace f t was r k q = IsPlaceAfter (distances_of f.settings) t was r.stat
 -- the real q of cell k was there in world u, and is the same but for its witness
 pub record WasThere (e k : ℕ) (q : RealView) (u : World) : Type 0 where
   pub real : RealView
-  pub here : real_in ((entity_flow e u).slot k) ≡ Some real
+  pub here : real_at e u k ≡ Some real
   pub same : q ≡ record real { witness = q.witness }
 
 -- a round from world w, with the batch b, to v: it is loaded and runs until the world is quiet, then entities are reaped until it is
@@ -90,16 +90,16 @@ pub record WasThere (e k : ℕ) (q : RealView) (u : World) : Type 0 where
 pub record GoesThroughRound (w : World) (b : Batch) (v : World) : Type 0 where
   pub called : World
   pub call_events : List Event
-  pub calls : LeadsTo node_has_work node_steps (loaded w b) call_events called
+  pub calls : RunsTo (loaded w b) call_events called
   pub calls_done : IsQuiet node_has_work called
   pub gone : List ℕ
   pub may : AreReapable called gone
   pub reaped : World
   pub reap_events : List Event
-  pub reaps : LeadsTo node_has_work node_steps (reaps_loaded called gone) reap_events reaped
+  pub reaps : RunsTo (reaps_loaded called gone) reap_events reaped
   pub reaps_done : IsQuiet node_has_work reaped
   pub look_events : List Event
-  pub looks : LeadsTo node_has_work node_steps (look_loaded reaped) look_events v
+  pub looks : RunsTo (look_loaded reaped) look_events v
 
 -- ---- between rounds
 
@@ -110,5 +110,5 @@ IsOfSpace g t = t.size ≡ g.size
 -- the record of places between rounds: the tree is of the settings' space, and each place is settled where its entity is
 pub record ArePlaced (f : Frame) (w : World) : Type 0 where
   pub space : IsOfSpace f.settings f.tree
-  pub settled : (e k : ℕ) (r : RealView) → real_in ((entity_flow e w).slot k) ≡ Some r →
+  pub settled : (e k : ℕ) (r : RealView) → real_at e w k ≡ Some r →
       settled (distances_of f.settings) f.tree (place_of k r) r.state.pos ≡ place_of k r

@@ -29,7 +29,8 @@ mod truths;
 pub use newest::{
     a_worked_round_keeps_the_records, copies_go_from_record_to_record,
     each_cell_is_told_what_the_real_wants, ghosts_of_a_round_are_true, near_entities_are_known,
-    no_cell_keeps_a_copy_of_the_reaped, quiet_means_settled, the_newest_route_leads_to_the_real,
+    no_cell_keeps_a_copy_of_the_reaped, no_copy_comes_in_the_last_phases, quiet_means_settled,
+    the_newest_route_leads_to_the_real,
 };
 pub use places::{
     a_load_begins_at_former_places, a_round_keeps_the_record_of_places,

@@ -11,37 +11,39 @@
 //! tasks about one entity), `InRound` (a round) and `NoStrays` (each phase).
 
 ghost use Rattle.std.specs.Prelude.{◌≡◌, ℕ, false, List, ◌∷◌, Some, slice_get};
-ghost use Rattle.seam_node_steps.specs.Prelude.{link, LeadsTo, Event, Batch, Msg, about, is_stray, CellView, slot_of, World, node_steps};
-ghost use Rattle.seam_node_steps.specs.Prelude.{node_has_work, Cell, loaded, reaps_loaded, look_loaded};
-ghost use Rattle.seam_law_calls.specs.Prelude.{Frame};
-ghost use Rattle.seam_law_rounds.specs.Prelude.{IsBetweenRounds, IsFitting, AreReapable};
+ghost use Rattle.seam_node_steps.specs.Prelude.{link, Event, Batch, Msg, about, is_stray, CellView, slot_of, World};
+ghost use Rattle.seam_node_steps.specs.Prelude.{Cell, loaded, reaps_loaded, look_loaded};
+ghost use Rattle.seam_law_calls.specs.Prelude.{Frame, RunsTo};
+ghost use Rattle.seam_law_rounds.specs.Prelude.{IsBetweenRounds, AreReapable, MayBegin};
 ghost use Rattle.seam_law_ghosts.specs.Prelude.{HasNoStrayTask};
 
 /// A message that is the first of its link to a cell is not stray there: in a round, where entities are reaped, and where witnesses look.
 pub fn no_message_to_a_cell_is_stray()
-    ensures round { (f : Frame) (w : World) (b : Batch) → IsBetweenRounds f w → IsFitting f w b → (v : World) (es : List Event) →
-        LeadsTo node_has_work node_steps (loaded w b) es v → (a k : ℕ) (c : CellView) (m : Msg) (ms : List Msg) (e : ℕ) →
+    ensures round { (f : Frame) (w : World) (b : Batch) → MayBegin f w b →
+        (v : World) (es : List Event) → RunsTo (loaded w b) es v →
+        (a k : ℕ) (c : CellView) (m : Msg) (ms : List Msg) (e : ℕ) →
         slice_get v.nodes k ≡ Some (Cell c) → link v.rows a k ≡ m ∷ ms → about m ≡ Some e →
         is_stray c.here c.tree (slot_of c e) m ≡ false }
-    ensures reaps { (f : Frame) (u : World) → IsBetweenRounds f u → (es : List ℕ) → AreReapable u es → (vs : List Event) (v : World) →
-        LeadsTo node_has_work node_steps (reaps_loaded u es) vs v → (a k : ℕ) (c : CellView) (m : Msg) (ms : List Msg) (e : ℕ) →
+    ensures reaps { (f : Frame) (u : World) → IsBetweenRounds f u → (es : List ℕ) →
+        AreReapable u es → (vs : List Event) (v : World) → RunsTo (reaps_loaded u es) vs v →
+        (a k : ℕ) (c : CellView) (m : Msg) (ms : List Msg) (e : ℕ) →
         slice_get v.nodes k ≡ Some (Cell c) → link v.rows a k ≡ m ∷ ms → about m ≡ Some e →
         is_stray c.here c.tree (slot_of c e) m ≡ false }
     ensures looks { (f : Frame) (u : World) → IsBetweenRounds f u → (vs : List Event) (v : World) →
-        LeadsTo node_has_work node_steps (look_loaded u) vs v → (a k : ℕ) (c : CellView) (m : Msg) (ms : List Msg) (e : ℕ) →
+        RunsTo (look_loaded u) vs v → (a k : ℕ) (c : CellView) (m : Msg) (ms : List Msg) (e : ℕ) →
         slice_get v.nodes k ≡ Some (Cell c) → link v.rows a k ≡ m ∷ ms → about m ≡ Some e →
         is_stray c.here c.tree (slot_of c e) m ≡ false }
 {}
 
 /// Nor is a task of a cell.
 pub fn no_task_of_a_cell_is_stray()
-    ensures round { (f : Frame) (w : World) (b : Batch) → IsBetweenRounds f w → IsFitting f w b → (v : World) (es : List Event) →
-        LeadsTo node_has_work node_steps (loaded w b) es v → (k : ℕ) (c : CellView) → slice_get v.nodes k ≡ Some (Cell c) →
-        HasNoStrayTask c }
-    ensures reaps { (f : Frame) (u : World) → IsBetweenRounds f u → (es : List ℕ) → AreReapable u es → (vs : List Event) (v : World) →
-        LeadsTo node_has_work node_steps (reaps_loaded u es) vs v → (k : ℕ) (c : CellView) → slice_get v.nodes k ≡ Some (Cell c) →
-        HasNoStrayTask c }
+    ensures round { (f : Frame) (w : World) (b : Batch) → MayBegin f w b →
+        (v : World) (es : List Event) → RunsTo (loaded w b) es v → (k : ℕ) (c : CellView) →
+        slice_get v.nodes k ≡ Some (Cell c) → HasNoStrayTask c }
+    ensures reaps { (f : Frame) (u : World) → IsBetweenRounds f u → (es : List ℕ) →
+        AreReapable u es → (vs : List Event) (v : World) → RunsTo (reaps_loaded u es) vs v →
+        (k : ℕ) (c : CellView) → slice_get v.nodes k ≡ Some (Cell c) → HasNoStrayTask c }
     ensures looks { (f : Frame) (u : World) → IsBetweenRounds f u → (vs : List Event) (v : World) →
-        LeadsTo node_has_work node_steps (look_loaded u) vs v → (k : ℕ) (c : CellView) → slice_get v.nodes k ≡ Some (Cell c) →
+        RunsTo (look_loaded u) vs v → (k : ℕ) (c : CellView) → slice_get v.nodes k ≡ Some (Cell c) →
         HasNoStrayTask c }
 {}

@@ -1,6 +1,6 @@
 -- In a loaded world each real has a witness exactly where its part has a client, in step with it.
-use Rattle.std.proofs.Common.{◌≡◌, ℕ, ◌^◌, ◌<◌, ◌≤◌, Bool, true, false, cond, [], length, Option, None, Some, refl, sym, ap, ◌∙◌}
-use Rattle.std.proofs.Common.{subst, arith}
+use Rattle.std.proofs.Common.{◌≡◌, ℕ, ◌^◌, ◌<◌, ◌≤◌, Bool, true, false, cond, [], length, Option, None, Some, refl, sym, ap, ◌∙◌, subst}
+use Rattle.std.proofs.Common.{arith}
 use Rattle.std.specs.Prelude.{option_map, slice_get}
 use Rattle.std.specs.List.{AllByRecursion, IsDistinct}
 use Rattle.seam_node_steps.specs.Prelude.{Batch, ClientText, RealView, WitnessView, Here, real_begins, PartView, ProxyView, line_if}
@@ -9,13 +9,12 @@ use Rattle.seam_node_steps.specs.Prelude.{loaded}
 use Rattle.seam_law_flow.specs.Prelude.{slot_at, more_letter}
 use Rattle.seam_law_calls.specs.Prelude.{Frame, here_at, Has, has_of, has_none, entity_flow, real_in, home_of, sent_of, sent_by, IsFewView}
 use Rattle.seam_law_calls.specs.Prelude.{SeesFew}
-use Rattle.seam_law_rounds.specs.Prelude.{IsBetweenRounds, MayBeMade, IsFitting, node_loaded, AreInStep, AreFor, HasPartsBetweenRounds}
-use Rattle.seam_law_rounds.specs.Prelude.{lines_of, FitsParts}
+use Rattle.seam_law_rounds.specs.Prelude.{MayBeMade, node_loaded, AreInStep, AreFor, HasPartsBetweenRounds, lines_of, FitsParts, MayBegin}
 use Rattle.seam_law_rounds.proofs.Making.{Creation, nowhere, once, creation_of, middle}
 use Rattle.seam_law_rounds.proofs.Loaded.{slot_is}
-use Rattle.seam_law_calls.specs.Clients.{shown_by}
+use Rattle.seam_law_calls.specs.ClientUpdates.{shown_by}
 use Rattle.seam_law_rounds.proofs.PartLoads.{part_at}
-use Rattle.seam_law_rounds.proofs.Joining.{is_among, joined_if, peopled, real_at, real_joined, part_joined, real_peopled, part_peopled}
+use Rattle.seam_law_rounds.proofs.Joining.{is_among, joined_if, peopled, real_in_node, real_joined, part_joined, real_peopled, part_peopled}
 use Rattle.seam_law_rounds.proofs.Joining.{unseen_peopled, bare_peopled}
 
 -- ---- a witness and a client
@@ -81,15 +80,13 @@ part_from true h (Some q) p is = (q, refl, (let z = is in cc))
 part_from false h None p is = absurd (let z = is in cc)
 part_from false h (Some q) p is = (q, refl, (let z = is in cc))
 
-begun_from : (o : Option PartView) (p : PartView) → option_map part_begins o ≡ Some p →
-    (q : PartView) × (o ≡ Some q) × (part_begins q ≡ p)
+begun_from : (o : Option PartView) (p : PartView) → option_map part_begins o ≡ Some p → (q : PartView) × (o ≡ Some q) × (part_begins q ≡ p)
 begun_from None p is = absurd (let z = is in cc)
 begun_from (Some q) p is = (q, refl, (let z = is in cc))
 
 -- ---- in a loaded world
 
-module _ (f : Frame) (w : World) (b : Batch) (between : IsBetweenRounds f w) (fits : IsFitting f w b) (had : HasPartsBetweenRounds f w)
-    (e : ℕ) where
+module _ (f : Frame) (w : World) (b : Batch) (begin : MayBegin f w b) (had : HasPartsBetweenRounds f w) (e : ℕ) where
   abbrev home : ℕ
   home = home_of f e
 
@@ -99,8 +96,7 @@ module _ (f : Frame) (w : World) (b : Batch) (between : IsBetweenRounds f w) (fi
   abbrev then : ℕ → Has
   then k = (entity_flow e (loaded w b)).slot k
 
-  slot_there : (k : ℕ) (o : Option NodeView) → slice_get w.nodes k ≡ o →
-      then k ≡ slot_at (has_of e) has_none (option_map (node_loaded b) o)
+  slot_there : (k : ℕ) (o : Option NodeView) → slice_get w.nodes k ≡ o → then k ≡ slot_at (has_of e) has_none (option_map (node_loaded b) o)
   slot_there k o at = slot_is w b e k ∙ ap (λ x. slot_at (has_of e) has_none (option_map (node_loaded b) x)) at
 
   -- the node of a real, and the real before clients were attached
@@ -108,15 +104,15 @@ module _ (f : Frame) (w : World) (b : Batch) (between : IsBetweenRounds f w) (fi
     pub node : NodeView
     pub there : slice_get w.nodes k ≡ Some node
     pub real : RealView
-    pub was : real_at e (peopled b node) ≡ Some real
+    pub was : real_in_node e (peopled b node) ≡ Some real
     pub is : real_begins (real_if joins (here_at f k) real) ≡ r
 
   pub real_there : (k : ℕ) (r : RealView) (o : Option NodeView) → slice_get w.nodes k ≡ o → real_in (then k) ≡ Some r → RealFrom k r
   real_there k r None at has = absurd (let z = sym (ap real_in (slot_there k None at)) ∙ has in cc)
   real_there k r (Some s) at has =
       let q =
-      real_from joins (here_at f k) (real_at e (peopled b s)) r
-      (sym (real_joined e f b k s (between.nodes.nodes k s at)) ∙ (sym (ap real_in (slot_there k (Some s) at)) ∙ has)) in
+      real_from joins (here_at f k) (real_in_node e (peopled b s)) r
+      (sym (real_joined e f b k s (begin.between.nodes.nodes k s at)) ∙ (sym (ap real_in (slot_there k (Some s) at)) ∙ has)) in
       record { node = s; there = at; real = q.0; was = q.1; is = q.2 }
 
   -- the node of a part, and the part before clients were attached
@@ -132,7 +128,7 @@ module _ (f : Frame) (w : World) (b : Batch) (between : IsBetweenRounds f w) (fi
   part_there k p (Some s) at has =
       let q =
       part_from joins (here_at f k) (part_at e (peopled b s)) p
-      (sym (part_joined e f b k s (between.nodes.nodes k s at)) ∙ (sym (ap (λ h. h.base.part) (slot_there k (Some s) at)) ∙ has)) in
+      (sym (part_joined e f b k s (begin.between.nodes.nodes k s at)) ∙ (sym (ap (λ h. h.base.part) (slot_there k (Some s) at)) ∙ has)) in
       record { node = s; there = at; part = q.0; was = q.1; is = q.2 }
 
   -- before they were attached
@@ -146,7 +142,7 @@ module _ (f : Frame) (w : World) (b : Batch) (between : IsBetweenRounds f w) (fi
       subst (λ (z : PartView). AreFor x.real.witness z.proxy z.version) part.2
       (begin_for x.real.witness part.0.proxy part.0.version was)
   before_by k r x p y (once first c later is at others more) =
-      let may : MayBeMade f w c = middle (MayBeMade f w) first c later (subst (AllByRecursion (MayBeMade f w)) is fits.creates) in
+      let may : MayBeMade f w c = middle (MayBeMade f w) first c later (subst (AllByRecursion (MayBeMade f w)) is begin.fits.creates) in
       let new : (j : ℕ) → (entity_flow e w).slot j ≡ has_none = subst (λ q. (j : ℕ) → (entity_flow q w).slot j ≡ has_none) at may.new in
       let no_real = ap (λ o. real_in (slot_at (has_of e) has_none o)) (sym x.there) ∙ ap real_in (new k) in
       let no_part =
@@ -160,7 +156,7 @@ module _ (f : Frame) (w : World) (b : Batch) (between : IsBetweenRounds f w) (fi
       let x = real_there k r (slice_get w.nodes k) refl has in
       let y = part_there home p (slice_get w.nodes home) refl there in
       let are =
-      join_for joins (here_at f k) (here_at f home) x.real y.part (before_by k r x p y (creation_of e b.creates fits.once)) in
+      join_for joins (here_at f k) (here_at f home) x.real y.part (before_by k r x p y (creation_of e b.creates begin.fits.once)) in
       subst (λ (q : RealView). AreFor q.witness p.proxy p.version) x.is
       (subst (λ (z : PartView). AreFor (real_if joins (here_at f k) x.real).witness z.proxy z.version) y.is are)
 
@@ -189,7 +185,7 @@ module _ (f : Frame) (w : World) (b : Batch) (between : IsBetweenRounds f w) (fi
       let was = ap (λ (z : PartView). z.version) part.2 in
       omega (arith, small, told, same, version, is, was)
   lines_by brings k r x p y few (once first c later is at others more) =
-      let may : MayBeMade f w c = middle (MayBeMade f w) first c later (subst (AllByRecursion (MayBeMade f w)) is fits.creates) in
+      let may : MayBeMade f w c = middle (MayBeMade f w) first c later (subst (AllByRecursion (MayBeMade f w)) is begin.fits.creates) in
       let new : (j : ℕ) → (entity_flow e w).slot j ≡ has_none = subst (λ q. (j : ℕ) → (entity_flow q w).slot j ≡ has_none) at may.new in
       let no_real = ap (λ o. real_in (slot_at (has_of e) has_none o)) (sym x.there) ∙ ap real_in (new k) in
       let none = ap sent_of (unseen_peopled e b x.node no_real x.real x.was) in
@@ -201,7 +197,7 @@ module _ (f : Frame) (w : World) (b : Batch) (between : IsBetweenRounds f w) (fi
       (then home).base.part ≡ Some p → p.version < 2 ^ 61 → lines_of r p < 2 ^ 61
   lines_loaded brings k r has p there few =
       lines_by brings k r (real_there k r (slice_get w.nodes k) refl has) p (part_there home p (slice_get w.nodes home) refl there) few
-      (creation_of e b.creates fits.once)
+      (creation_of e b.creates begin.fits.once)
 
   -- ---- its view
 
@@ -223,7 +219,7 @@ module _ (f : Frame) (w : World) (b : Batch) (between : IsBetweenRounds f w) (fi
   sees_by k r x (nowhere others) =
       had.views e k x.real (ap (λ o. real_in (slot_at (has_of e) has_none o)) x.there ∙ (sym (real_peopled e b x.node others) ∙ x.was))
   sees_by k r x (once first c later is at others more) =
-      let may : MayBeMade f w c = middle (MayBeMade f w) first c later (subst (AllByRecursion (MayBeMade f w)) is fits.creates) in
+      let may : MayBeMade f w c = middle (MayBeMade f w) first c later (subst (AllByRecursion (MayBeMade f w)) is begin.fits.creates) in
       let new : (j : ℕ) → (entity_flow e w).slot j ≡ has_none = subst (λ q. (j : ℕ) → (entity_flow q w).slot j ≡ has_none) at may.new in
       let no_real = ap (λ o. real_in (slot_at (has_of e) has_none o)) (sym x.there) ∙ ap real_in (new k) in
       λ y seen. absurd (let z = sym (unseen_peopled e b x.node no_real x.real x.was) ∙ seen in cc)
@@ -231,4 +227,4 @@ module _ (f : Frame) (w : World) (b : Batch) (between : IsBetweenRounds f w) (fi
   pub sees_loaded : (k : ℕ) (r : RealView) → real_in (then k) ≡ Some r → SeesFew r
   sees_loaded k r has =
       let x = real_there k r (slice_get w.nodes k) refl has in
-      subst SeesFew x.is (sees_if joins (here_at f k) x.real (sees_by k r x (creation_of e b.creates fits.once)))
+      subst SeesFew x.is (sees_if joins (here_at f k) x.real (sees_by k r x (creation_of e b.creates begin.fits.once)))

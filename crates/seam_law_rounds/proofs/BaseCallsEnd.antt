@@ -3,11 +3,11 @@ use Rattle.std.proofs.Common.{◌≡◌, ℕ, ◌≤◌, ◌+◌, ◌^◌, ◌<�
 use Rattle.std.specs.FinMap as table
 use Rattle.std.proofs.lemmas.Bool.{eq-eqb}
 use Rattle.std.proofs.lemmas.List.{append-nil, append_cancel_left}
-use Rattle.seam_node_steps.specs.Prelude.{IsQuiet, LeadsTo, Event, item_at, Call as CallData, Batch, order_or, RealView, PartView, World}
-use Rattle.seam_node_steps.specs.Prelude.{node_steps, node_has_work, loaded}
+use Rattle.seam_node_steps.specs.Prelude.{IsQuiet, Event, item_at, Call as CallData, Batch, order_or, RealView, PartView, World}
+use Rattle.seam_node_steps.specs.Prelude.{node_has_work, loaded}
 use Rattle.seam_law_flow.specs.Prelude.{Flow, letters_of, number_from, Desk, Post, Mail, desk_of, parcel_of, AreInTurn}
-use Rattle.seam_law_calls.specs.Prelude.{Frame, entity_flow, real_in, real_of, desk_for, part_desk, as_base_sender, home_of, HasBaseCalls}
-use Rattle.seam_law_calls.specs.Prelude.{SeesFew}
+use Rattle.seam_law_calls.specs.Prelude.{Frame, entity_flow, real_of, desk_for, part_desk, as_base_sender, home_of, HasBaseCalls, SeesFew}
+use Rattle.seam_law_calls.specs.Prelude.{RunsTo, real_at}
 use Rattle.seam_law_rounds.specs.Prelude.{framed, numbers_of, next_to, base_calls_of, HasSettledPart, HasPartsBetweenRounds, MayBeLoaded}
 use Rattle.seam_law_rounds.specs.Prelude.{AreFor, lines_of, HasSmallNumbers}
 use Rattle.seam_law_flow.proofs.TokenLemmas.{sole_here}
@@ -88,12 +88,11 @@ module _ (f : Frame) (e ty : ℕ) (first : ℕ → ℕ) (batch : ℕ → List Ca
 
 -- ---- after a round's calls
 
-module _ (f : Frame) (w : World) (b : Batch) (may : MayBeLoaded f w b) (v : World) (es : List Event)
-    (run : LeadsTo node_has_work node_steps (loaded w b) es v) where
+module _ (f : Frame) (w : World) (b : Batch) (may : MayBeLoaded f w b) (v : World) (es : List Event) (run : RunsTo (loaded w b) es v) where
   abbrev g : Frame
   g = framed f b
 
-  module _ (e home : ℕ) (r : RealView) (here : real_in ((entity_flow e (loaded w b)).slot home) ≡ Some r) where
+  module _ (e home : ℕ) (r : RealView) (here : real_at e (loaded w b) home ≡ Some r) where
     abbrev its : LoadedPart f w b e r.ty
     its = its_part f w b may e home r here
 
@@ -101,51 +100,48 @@ module _ (f : Frame) (w : World) (b : Batch) (may : MayBeLoaded f w b) (v : Worl
     first s = next_to s its.settled.part
 
     -- its real keeps its type
-    same_type : (k : ℕ) (q : RealView) → real_in ((entity_flow e v).slot k) ≡ Some q → r.ty ≡ q.ty
+    same_type : (k : ℕ) (q : RealView) → real_at e v k ≡ Some q → r.ty ≡ q.ty
     same_type k q at =
-        let kept : Keeps f w b may.between may.fits e home r here v =
-        kept_after f w b may.between may.fits e home r here v es run in
+        let kept : Keeps f w b may.begin e home r here v =
+        kept_after f w b may.begin e home r here v es run in
         sym (kept.has.fits.reals k q at).type
 
   -- what is true of an entity of the loaded world and its real in v is true of each real in v
   each_by : (P : ℕ → ℕ → RealView → Type 0) →
-      ((e home : ℕ) (r : RealView) → real_in ((entity_flow e (loaded w b)).slot home) ≡ Some r → (k : ℕ) (q : RealView) →
-      real_in ((entity_flow e v).slot k) ≡ Some q → P e k q) → (e k : ℕ) (q : RealView) →
-      real_in ((entity_flow e v).slot k) ≡ Some q → Somewhere e (loaded w b) ⊎ Nowhere e (loaded w b) → P e k q
+      ((e home : ℕ) (r : RealView) → real_at e (loaded w b) home ≡ Some r → (k : ℕ) (q : RealView) → real_at e v k ≡ Some q → P e k q) →
+      (e k : ℕ) (q : RealView) → real_at e v k ≡ Some q → Somewhere e (loaded w b) ⊎ Nowhere e (loaded w b) → P e k q
   each_by P its e k q at (inl p) = its e p.0 p.1 p.2 k q at
   each_by P its e k q at (inr n) =
-      let gone = gone_leads g (frame_loaded f w b may.between may.fits) e (loaded w b) v es (in_frame f w b may.between may.fits)
-      (record { slots = n; mail = λ x y. ap (letters_of real_of) (no_mail f w b may.between may.fits e x y) }) run in
+      let gone = gone_leads g (frame_loaded f w b may.begin) e (loaded w b) v es (in_frame f w b may.begin)
+      (record { slots = n; mail = λ x y. ap (letters_of real_of) (no_mail f w b may.begin e x y) }) run in
       absurd (let z = sym (gone.slots k) ∙ at in cc)
 
   each : (P : ℕ → ℕ → RealView → Type 0) →
-      ((e home : ℕ) (r : RealView) → real_in ((entity_flow e (loaded w b)).slot home) ≡ Some r → (k : ℕ) (q : RealView) →
-      real_in ((entity_flow e v).slot k) ≡ Some q → P e k q) → (e k : ℕ) (q : RealView) →
-      real_in ((entity_flow e v).slot k) ≡ Some q → P e k q
+      ((e home : ℕ) (r : RealView) → real_at e (loaded w b) home ≡ Some r → (k : ℕ) (q : RealView) → real_at e v k ≡ Some q → P e k q) →
+      (e k : ℕ) (q : RealView) → real_at e v k ≡ Some q → P e k q
   each P its e k q at = each_by P its e k q at (search_real e (loaded w b))
 
-  calls_of_it : (e home : ℕ) (r : RealView) (here : real_in ((entity_flow e (loaded w b)).slot home) ≡ Some r) →
+  calls_of_it : (e home : ℕ) (r : RealView) (here : real_at e (loaded w b) home ≡ Some r) →
       HasBaseCalls g e r.ty (first e home r here) (base_calls_of b e) v
   calls_of_it e home r here = calls_then f w b may e home r here v es run
 
   -- ---- its numbers
 
-  few_numbers : (e home : ℕ) (r : RealView) → real_in ((entity_flow e (loaded w b)).slot home) ≡ Some r → (k : ℕ) (q : RealView) →
-      real_in ((entity_flow e v).slot k) ≡ Some q → numbers_of q < 2 ^ 61 + 2 ^ 60
+  few_numbers : (e home : ℕ) (r : RealView) → real_at e (loaded w b) home ≡ Some r → (k : ℕ) (q : RealView) →
+      real_at e v k ≡ Some q → numbers_of q < 2 ^ 61 + 2 ^ 60
   few_numbers e home r here k q at =
-      let few = few_burden f w b may.between may.fits e home r (real_loaded f w b may.between may.fits e home r here) in
-      let less = burden_leads g e (loaded w b) v es (in_frame f w b may.between may.fits) run in
+      let few = few_burden f w b may.begin e home r (real_loaded f w b may.begin e home r here) in
+      let less = burden_leads g e (loaded w b) v es (in_frame f w b may.begin) run in
       let its = real_room e v k q at in
       omega (arith, few, less, its)
 
-  few_shown : (e home : ℕ) (r : RealView) → real_in ((entity_flow e (loaded w b)).slot home) ≡ Some r → (k : ℕ) (q : RealView) →
-      real_in ((entity_flow e v).slot k) ≡ Some q → (p : PartView) → ((entity_flow e v).slot (home_of g e)).base.part ≡ Some p →
-      lines_of q p < 2 ^ 61 + 2 ^ 60
+  few_shown : (e home : ℕ) (r : RealView) → real_at e (loaded w b) home ≡ Some r → (k : ℕ) (q : RealView) → real_at e v k ≡ Some q →
+      (p : PartView) → ((entity_flow e v).slot (home_of g e)).base.part ≡ Some p → lines_of q p < 2 ^ 61 + 2 ^ 60
   few_shown e home r here k q at p there =
       let few = few_lines f w b may e home r here in
       let sent = (told f w b may e home r here v es run).cells k q at in
       let more = few_more f w b may e home r here (its e home r here) in
-      let less = base_burden_leads g e (loaded w b) v es (in_frame f w b may.between may.fits) run in
+      let less = base_burden_leads g e (loaded w b) v es (in_frame f w b may.begin) run in
       let version = version_room e v (home_of g e) p there in
       omega (arith, few, sent, more, less, version)
 
@@ -159,15 +155,14 @@ module _ (f : Frame) (w : World) (b : Batch) (may : MayBeLoaded f w b) (v : Worl
   }
 
   module _ (quiet : IsQuiet node_has_work v) where
-    settled_at : (e home : ℕ) (r : RealView) → real_in ((entity_flow e (loaded w b)).slot home) ≡ Some r → (k : ℕ) (q : RealView) →
-        real_in ((entity_flow e v).slot k) ≡ Some q → HasSettledPart g e q.ty v
+    settled_at : (e home : ℕ) (r : RealView) → real_at e (loaded w b) home ≡ Some r → (k : ℕ) (q : RealView) →
+        real_at e v k ≡ Some q → HasSettledPart g e q.ty v
     settled_at e home r here k q at =
         subst (λ t. HasSettledPart g e t v) (same_type e home r here k q at)
         (quiet_settled g e r.ty (first e home r here) (base_calls_of b e) v (calls_of_it e home r here) quiet)
 
-    are_at : (e home : ℕ) (r : RealView) → real_in ((entity_flow e (loaded w b)).slot home) ≡ Some r → (k : ℕ) (q : RealView) →
-        real_in ((entity_flow e v).slot k) ≡ Some q → (p : PartView) → ((entity_flow e v).slot (home_of g e)).base.part ≡ Some p →
-        AreFor q.witness p.proxy p.version
+    are_at : (e home : ℕ) (r : RealView) → real_at e (loaded w b) home ≡ Some r → (k : ℕ) (q : RealView) → real_at e v k ≡ Some q →
+        (p : PartView) → ((entity_flow e v).slot (home_of g e)).base.part ≡ Some p → AreFor q.witness p.proxy p.version
     are_at e home r here k q at p there =
         ends g e r.ty v (calls_of_it e home r here).part.frame quiet k q at p there
         (serves_after f w b may e home r here v es run)
@@ -180,7 +175,7 @@ module _ (f : Frame) (w : World) (b : Batch) (may : MayBeLoaded f w b) (v : Worl
           (λ e k q. (p : PartView) → ((entity_flow e v).slot (home_of g e)).base.part ≡ Some p → AreFor q.witness p.proxy p.version)
           are_at;
       entities = λ e le.
-          (few_leads g (loaded w b) v es (in_frame f w b may.between may.fits)
-          (few_loaded f w b may.between may.fits may.parts may.brings) run e le).cells;
+          (few_leads g (loaded w b) v es (in_frame f w b may.begin)
+          (few_loaded f w b may.begin may.parts may.brings) run e le).cells;
       views = each (λ e k q. SeesFew q) (λ e home r here. sees_after f w b may e home r here v es run);
     }

@@ -1,18 +1,18 @@
 -- Where the calls of a batch leave the world quiet, the record between rounds holds again.
-use Rattle.std.proofs.Common.{◌≡◌, ℕ, ◌+◌, ◌<◌, ◌≤◌, ◌⊎◌, cond, is_some, List, [], ◌∷◌, None, Some, refl, sym, ap}
-use Rattle.std.proofs.Common.{◌∙◌, subst, arith, inl, inr}
+use Rattle.std.proofs.Common.{◌≡◌, ℕ, ◌+◌, ◌<◌, ◌≤◌, ◌⊎◌, cond, is_some, List, [], ◌∷◌, None, Some, refl, sym, ap, ◌∙◌, subst, arith, inl}
+use Rattle.std.proofs.Common.{inr}
 use Rattle.std.specs.List.{AllByRecursion}
 use Rattle.std.specs.FinMap as table
 use Rattle.std.proofs.lemmas.Bool.{eq-eqb}
 use Rattle.std.proofs.lemmas.List.{append-nil, append_cancel_left}
-use Rattle.seam_node_steps.specs.Prelude.{IsQuiet, LeadsTo, Event, item_at, Call as CallData, Batch, order_or, RealView, Msg, cell_count}
-use Rattle.seam_node_steps.specs.Prelude.{World, node_steps, node_has_work, loaded}
+use Rattle.seam_node_steps.specs.Prelude.{IsQuiet, Event, item_at, Call as CallData, Batch, order_or, RealView, Msg, cell_count, World}
+use Rattle.seam_node_steps.specs.Prelude.{node_has_work, loaded}
 use Rattle.seam_law_flow.specs.Prelude.{Flow, letters_of, NotAbove, AllBring, TokenPlace, In, On, number_from, Desk, desk_of, parcel_of}
 use Rattle.seam_law_flow.specs.Prelude.{AreInTurn}
 use Rattle.seam_law_calls.specs.Prelude.{Frame, Has, mine, entity_flow, RealFits, real_in, real_of, IsOne, OneFrom, desk_for, real_desk}
-use Rattle.seam_law_calls.specs.Prelude.{as_sender}
-use Rattle.seam_law_rounds.specs.Prelude.{calls_of, next_from, IsSettled, IsBetweenRounds, IsFitting, framed, as_entry, route_entry}
-use Rattle.seam_law_rounds.specs.Prelude.{brings_route}
+use Rattle.seam_law_calls.specs.Prelude.{as_sender, RunsTo, real_at}
+use Rattle.seam_law_rounds.specs.Prelude.{calls_of, next_from, IsSettled, IsBetweenRounds, framed, as_entry, route_entry, brings_route}
+use Rattle.seam_law_rounds.specs.Prelude.{MayBegin}
 use Rattle.seam_machine.proofs.Quiet.{quiet_links}
 use Rattle.seam_law_flow.proofs.TokenLemmas.{sole_here}
 use Rattle.seam_law_flow.proofs.Ends.{held_is_due}
@@ -29,19 +29,19 @@ use Rattle.seam_law_rounds.proofs.RoadRuns.{IsRouted, routed_leads, quiet_route}
 
 -- where there is one real, no other node has one
 others_by : (e : ℕ) (w : World) (p : TokenPlace) (r : RealView) (k : ℕ) → IsOne e w p r → p ≡ In k → (j : ℕ) → (j ≡ k → ⊥) →
-    real_in ((entity_flow e w).slot j) ≡ None
+    real_at e w j ≡ None
 others_by e w (In x) r k one is j n = one.others j (λ at. n (let same : x ≡ k = let z = is in cc in at ∙ same))
 others_by e w (On x y) r k one is j n = cc
 
-module _ (f : Frame) (w : World) (b : Batch) (between : IsBetweenRounds f w) (fits : IsFitting f w b) where
+module _ (f : Frame) (w : World) (b : Batch) (begin : MayBegin f w b) where
   abbrev pub g : Frame
   g = framed f b
 
   -- ---- routes
 
-  module _ (e home : ℕ) (r : RealView) (here : real_in ((entity_flow e (loaded w b)).slot home) ≡ Some r) where
+  module _ (e home : ℕ) (r : RealView) (here : real_at e (loaded w b) home ≡ Some r) where
     abbrev pub settled : IsSettled g e home r (loaded w b)
-    settled = settled_loaded f w b between fits e home r here
+    settled = settled_loaded f w b begin e home r here
 
     abbrev pub then : Flow Has Msg
     then = entity_flow e (loaded w b)
@@ -53,26 +53,26 @@ module _ (f : Frame) (w : World) (b : Batch) (between : IsBetweenRounds f w) (fi
     routed_loaded = record {
       place = In home;
       real = r;
-      one = one_at_home g (loaded w b) e home r settled (no_mail f w b between fits e);
-      good = λ a k. subst (AllByRecursion IsGoodRoute) (sym (no_mail f w b between fits e a k)) tt;
+      one = one_at_home g (loaded w b) e home r settled (no_mail f w b begin e);
+      good = λ a k. subst (AllByRecursion IsGoodRoute) (sym (no_mail f w b begin e a k)) tt;
       there = λ k high low. ap is_some (settled.routes k high low);
       known = λ k high low. record {
         here = subst (NotAbove r.generation home) (sym (entry_is k high low)) (inr (refl, refl));
-        away = λ x. subst (AllBring brings_route (NotAbove r.generation home)) (sym (no_mail f w b between fits e x k)) tt;
+        away = λ x. subst (AllBring brings_route (NotAbove r.generation home)) (sym (no_mail f w b begin e x k)) tt;
         is_there = inl (entry_is k high low);
       };
     }
 
-  module _ (v : World) (es : List Event) (run : LeadsTo node_has_work node_steps (loaded w b) es v) (quiet : IsQuiet node_has_work v) where
+  module _ (v : World) (es : List Event) (run : RunsTo (loaded w b) es v) (quiet : IsQuiet node_has_work v) where
     still : (e x y : ℕ) → (entity_flow e v).mail x y ≡ []
     still e x y =
         ap (letters_of (mine e))
-        (quiet_links node_has_work v (frame_leads g (loaded w b) v es (in_frame f w b between fits) run).sound.square quiet x y)
+        (quiet_links node_has_work v (frame_leads g (loaded w b) v es (in_frame f w b begin) run).sound.square quiet x y)
 
-    module _ (e home : ℕ) (r : RealView) (here : real_in ((entity_flow e (loaded w b)).slot home) ≡ Some r) (k : ℕ) (q : RealView)
-        (at : real_in ((entity_flow e v).slot k) ≡ Some q) where
-      abbrev kept : Keeps f w b between fits e home r here v
-      kept = kept_after f w b between fits e home r here v es run
+    module _ (e home : ℕ) (r : RealView) (here : real_at e (loaded w b) home ≡ Some r) (k : ℕ) (q : RealView)
+        (at : real_at e v k ≡ Some q) where
+      abbrev kept : Keeps f w b begin e home r here v
+      kept = kept_after f w b begin e home r here v es run
 
       -- ---- its calls
 
@@ -90,7 +90,7 @@ module _ (f : Frame) (w : World) (b : Batch) (between : IsBetweenRounds f w) (fi
 
         rest_none : turn.in_turn.rest ≡ []
         rest_none =
-            let all = all_were_executed f w b between fits e home r here v es run quiet k q at s in
+            let all = all_were_executed f w b begin e home r here v es run quiet k q at s in
             let done : turn.desk.done ≡ calls_of b e s = sym (ap (λ (d : Desk CallData). d.done) desk_is) ∙ all in
             append_cancel_left turn.desk.done turn.in_turn.rest []
             (sym turn.in_turn.parts ∙ (sym done ∙ sym (append-nil turn.desk.done)))
@@ -116,14 +116,14 @@ module _ (f : Frame) (w : World) (b : Batch) (between : IsBetweenRounds f w) (fi
 
       -- ---- its real
 
-      replayed : OneFrom g e r.ty (one_loaded f w b between fits e home r here).real v
+      replayed : OneFrom g e r.ty (one_loaded f w b begin e home r here).real v
       replayed =
-          one_leads g (frame_loaded f w b between fits) e r.ty (settled e home r here).type (loaded w b) v es
-          (one_loaded f w b between fits e home r here) (spared_loaded f w b between fits e home r here) run
+          one_leads g (frame_loaded f w b begin) e r.ty (settled e home r here).type (loaded w b) v es
+          (one_loaded f w b begin e home r here) (spared_loaded f w b begin e home r here) run
 
-      start_low : (one_loaded f w b between fits e home r here).real.public ≤ (one_loaded f w b between fits e home r here).real.version
+      start_low : (one_loaded f w b begin e home r here).real.public ≤ (one_loaded f w b begin e home r here).real.version
       start_low =
-          let one = one_loaded f w b between fits e home r here in
+          let one = one_loaded f w b begin e home r here in
           let same = (sole_here real_in real_of (entity_flow e (loaded w b)) one.place one.real r home one.one here).1 in
           subst (λ (x : RealView). x.public ≤ x.version) same (settled e home r here).public
 
@@ -147,26 +147,24 @@ module _ (f : Frame) (w : World) (b : Batch) (between : IsBetweenRounds f w) (fi
             fits = subst (λ t. RealFits g e t k q) (sym type) fit;
             public = public_then;
             routes = quiet_route g e v
-                (routed_leads g e (frame_loaded f w b between fits) r.ty old (loaded w b) v es (one_loaded f w b between fits e home r here)
-                (spared_loaded f w b between fits e home r here) (routed_loaded e home r here) run) (still e) k q at;
+                (routed_leads g e (frame_loaded f w b begin) r.ty old (loaded w b) v es (one_loaded f w b begin e home r here)
+                (spared_loaded f w b begin e home r here) (routed_loaded e home r here) run) (still e) k q at;
             none_held = held_none;
             from_one = next_one;
           }
 
-    settled_by : (e k : ℕ) (q : RealView) → real_in ((entity_flow e v).slot k) ≡ Some q → Somewhere e (loaded w b) ⊎ Nowhere e
-        (loaded w b) →
-        IsSettled g e k q v
+    settled_by : (e k : ℕ) (q : RealView) → real_at e v k ≡ Some q → Somewhere e (loaded w b) ⊎ Nowhere e (loaded w b) → IsSettled g e k q v
     settled_by e k q at (inl p) = settled_then e p.0 p.1 p.2 k q at
     settled_by e k q at (inr n) =
-        let gone = gone_leads g (frame_loaded f w b between fits) e (loaded w b) v es (in_frame f w b between fits)
-        (record { slots = n; mail = λ x y. ap (letters_of real_of) (no_mail f w b between fits e x y) }) run in
+        let gone = gone_leads g (frame_loaded f w b begin) e (loaded w b) v es (in_frame f w b begin)
+        (record { slots = n; mail = λ x y. ap (letters_of real_of) (no_mail f w b begin e x y) }) run in
         absurd (let z = sym (gone.slots k) ∙ at in cc)
 
     pub calls_end_between : IsBetweenRounds g v
     calls_end_between = record {
-      frame = frame_loaded f w b between fits;
-      nodes = frame_leads g (loaded w b) v es (in_frame f w b between fits) run;
-      many = many_leads (loaded w b) v es run ∙ many_loaded f w b between;
+      frame = frame_loaded f w b begin;
+      nodes = frame_leads g (loaded w b) v es (in_frame f w b begin) run;
+      many = many_leads (loaded w b) v es run ∙ many_loaded f w b begin.between;
       quiet = quiet;
       settled = λ e k q at. settled_by e k q at (search_real e (loaded w b));
     }

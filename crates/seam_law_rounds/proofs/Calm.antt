@@ -1,9 +1,9 @@
 -- A calm entity: its real stays where it is until its Reap comes, and no one calls it.
-use Rattle.std.proofs.Common.{◌≡◌, ℕ, ◌+◌, ◌≤◌, Bool, cond, Option, None, Some, true}
+use Rattle.std.proofs.Common.{◌≡◌, ℕ, ◌+◌, ◌<◌, ◌≤◌, Bool, cond, Option, None, Some, true}
 use Rattle.std.specs.List.{AllByRecursion}
-use Rattle.seam_node_steps.specs.Prelude.{total, Order, RealView, WitnessView, Msg, GhostDrop, Tick}
-use Rattle.seam_node_steps.specs.Prelude.{Reap, Update, cell_count, NodeView, World}
-use Rattle.seam_law_calls.specs.Prelude.{Frame, IsInFrame, Has, mine, has_of, entity_flow, real_in}
+use Rattle.seam_node_steps.specs.Prelude.{total, Order, RealView, WitnessView, Msg, GhostDrop, Tick, Reap, Update, cell_count, NodeView}
+use Rattle.seam_node_steps.specs.Prelude.{World, cells_of}
+use Rattle.seam_law_calls.specs.Prelude.{Frame, IsInFrame, Has, mine, has_of, entity_flow, real_in, real_at}
 use Rattle.seam_net_runs.specs.Sums.{weight_or}
 use Rattle.seam_net_runs.specs.Weights.{weight}
 use Rattle.seam_call.specs.declared.order.Order.TheVariants as order
@@ -27,8 +27,8 @@ pub record IsCalmAt (e home : ℕ) (r : RealView) (u : World) (k : ℕ) (h : Has
 
 -- what is on its way to node k
 abbrev pub IsCalmTo : Bool → ℕ → RealView → ℕ → Msg → Type 0
-IsCalmTo told home r k (GhostDrop e n) = (told ≡ true) × (n ≤ r.beat + 1)
-IsCalmTo told home r k Tick = Unit {0}
+IsCalmTo told home r k (GhostDrop e n) = (told ≡ true) × (n ≤ r.beat + 1) × (k < cell_count)
+IsCalmTo told home r k Tick = k < cell_count
 IsCalmTo told home r k (Reap e) = k ≡ home
 IsCalmTo told home r k (Update u) = cell_count ≤ k
 IsCalmTo told home r k _ = ⊥
@@ -36,10 +36,8 @@ IsCalmTo told home r k _ = ⊥
 -- ---- how many reaps of it wait
 
 abbrev pub order_reaps : Order → ℕ
-order_reaps (order.Cell c) = 0
-order_reaps (order.Base c) = 0
-order_reaps order.Tick = 0
 order_reaps (order.Reap e) = 1
+order_reaps _ = 0
 
 abbrev pub letter_reaps : Msg → ℕ
 letter_reaps (Reap e) = 1
@@ -64,6 +62,7 @@ one_if (Some r) = 1
 -- a world in which the entity is calm; its Reap waits as long as its real is there, where it was told to be reaped
 pub record IsCalm (f : Frame) (e home : ℕ) (r : RealView) (u : World) (is_told : Bool) (w : World) : Type 0 where
   pub frame : IsInFrame f w
+  pub cells : cells_of f.tree ≤ cell_count
   pub nodes : (k : ℕ) → IsCalmAt e home r u k ((entity_flow e w).slot k)
   pub mail : (a k : ℕ) → AllByRecursion (IsCalmTo is_told home r k) ((entity_flow e w).mail a k)
-  pub reaps : reaps_of e w ≡ cond is_told (one_if (real_in ((entity_flow e w).slot home))) 0
+  pub reaps : reaps_of e w ≡ cond is_told (one_if (real_at e w home)) 0

@@ -1,14 +1,14 @@
 -- What a move does with a calm entity.
-use Rattle.std.proofs.Common.{◌≡◌, ℕ, ◌+◌, ◌<◌, ◌≤◌, Bool, true, false, not, List, [], ◌∷◌, map, filter_map, Option, None, Some, refl, sym}
-use Rattle.std.proofs.Common.{ap, ◌∙◌, subst, arith}
+use Rattle.std.proofs.Common.{◌≡◌, ℕ, zero, suc, ◌+◌, ◌<◌, ◌≤◌, Bool, true, false, not, List, [], ◌∷◌, map, filter_map, Option}
+use Rattle.std.proofs.Common.{None, Some, refl, sym, ap, ◌∙◌, subst, arith}
 use Rattle.std.specs.List.{AllByRecursion, range_with_len}
 use Rattle.std.specs.FinMap as table
 use Rattle.std.specs.FinSet as set
 use Rattle.seam_table.proofs.Found.{found}
 use Rattle.seam_node_steps.specs.Prelude.{total, OrderView, next_item, Call as CallData, Order, Shown, Orders, order_or, RealView}
-use Rattle.seam_node_steps.specs.Prelude.{WitnessView, Msg, BaseCall, Hand, Current, GhostSet, GhostDrop, Tick, Reap, Update, may_rise}
+use Rattle.seam_node_steps.specs.Prelude.{WitnessView, Msg, BaseCall, Hand, GhostSet, GhostDrop, Tick, Reap, Update, may_rise}
 use Rattle.seam_node_steps.specs.Prelude.{cell_count, cell_numbers, base_of, order_is_ready, ready_order, SlotStep, slot_after, is_stray}
-use Rattle.seam_node_steps.specs.Prelude.{drop_at, tick_to, RouteView, numbered, shown_of, looks_with, World}
+use Rattle.seam_node_steps.specs.Prelude.{drop_at, tick_to, RouteView, numbered, shown_of, looks_with, World, cells_of, Current}
 use Rattle.seam_law_calls.specs.Prelude.{Frame, here_at, Has, AtCell, AtBase, entity_flow, unlisted_if, Does, Acts, surveys, calls, readies}
 use Rattle.seam_law_calls.specs.Prelude.{CellMoves, BaseMoves, Moves, at_a_cell, at_a_base, real_in}
 use Rattle.seam_call.specs.declared.order.Order.TheVariants as order
@@ -20,6 +20,11 @@ use Rattle.seam_law_rounds.proofs.Calm.{IsSame, IsCalmOrder, IsCalmAt, IsCalmTo,
 not_yes : (b : Bool) → b ≡ true → not b ≡ true → ⊥
 not_yes true h k = cc
 not_yes false h k = cc
+
+-- numbers of cells
+all_below : (a n : ℕ) → a + n ≤ cell_count → AllByRecursion (λ j. j < cell_count) (range_with_len a n)
+all_below a zero h = tt
+all_below a (suc n) h = (omega (arith, h), all_below (a + 1) n (omega (arith, h)))
 
 -- where no call is held, none is ready
 pub none_ready : (os : Orders) → ((s : ℕ) → (order_or (table.get os s)).held ≡ []) → (o : ℕ × OrderView CallData) (c : CallData) →
@@ -113,27 +118,23 @@ module _ (f : Frame) (e home : ℕ) (r : RealView) (was : World) (none : (s : �
 
     stray_by : (m : Msg) → i ≡ Some m → is_stray (here_at f k) f.tree s.cell.slot m ≡ true → real_in t ≡ real_in s → t.cell.survey ≡ 0 →
         t.base ≡ s.base → sent ≡ [] → Calmed
-    stray_by (Call c) is b same survey base z = absurd (come.letter (Call c) is)
-    stray_by (BaseCall c) is b same survey base z = absurd (come.letter (BaseCall c) is)
-    stray_by (Hand q) is b same survey base z = absurd (come.letter (Hand q) is)
-    stray_by (Current x j g) is b same survey base z = absurd (come.letter (Current x j g) is)
-    stray_by (GhostSet x n c) is b same survey base z = absurd (come.letter (GhostSet x n c) is)
     stray_by (GhostDrop x n) is b same survey base z = unchanged (other_reaps (GhostDrop x n) is (λ h. cc)) same survey base z
     stray_by Tick is b same survey base z = unchanged (other_reaps Tick is (λ h. cc)) same survey base z
     stray_by (Reap x) is b same survey base z = absurd (stray_reap x is b)
     stray_by (Update u) is b same survey base z = unchanged (other_reaps (Update u) is (λ h. cc)) same survey base z
+    stray_by m is b same survey base z = absurd (come.letter m is)
 
     drop_by : told ≡ true → (q : RealView) (j : ℕ) (b : Bool) (js : List ℕ) → q.beat ≡ r.beat →
-        AllByRecursion To (filter_map (drop_at q) js) × (sent_reaps (filter_map (drop_at q) js) ≡ 0) →
+        j < cell_count → AllByRecursion To (filter_map (drop_at q) js) × (sent_reaps (filter_map (drop_at q) js) ≡ 0) →
         set.contains q.haunts j ≡ b → AllByRecursion To (filter_map (drop_at q) (j ∷ js)) × (sent_reaps (filter_map (drop_at q)
         (j ∷ js)) ≡ 0)
-    drop_by it q j true js beat more is = let none = more.1 in rw is (((it, omega (arith, beat)), more.0), omega (arith, none))
-    drop_by it q j false js beat more is = rw is more
+    drop_by it q j true js beat low more is = let none = more.1 in rw is (((it, omega (arith, beat), low), more.0), omega (arith, none))
+    drop_by it q j false js beat low more is = rw is more
 
-    drops_calm : told ≡ true → (q : RealView) (js : List ℕ) → q.beat ≡ r.beat →
+    drops_calm : told ≡ true → (q : RealView) (js : List ℕ) → q.beat ≡ r.beat → AllByRecursion (λ j. j < cell_count) js →
         AllByRecursion To (filter_map (drop_at q) js) × (sent_reaps (filter_map (drop_at q) js) ≡ 0)
-    drops_calm is q [] beat = (tt, refl)
-    drops_calm is q (j ∷ js) beat = drop_by is q j (set.contains q.haunts j) js beat (drops_calm is q js beat) refl
+    drops_calm is q [] beat low = (tt, refl)
+    drops_calm is q (j ∷ js) beat low = drop_by is q j (set.contains q.haunts j) js beat low.0 (drops_calm is q js beat low.1) refl
 
     updates_calm : (b x n : ℕ) (ss : List Shown) → cell_count ≤ b → AllByRecursion To (numbered b x n ss) × (sent_reaps
         (numbered b x n ss) ≡ 0)
@@ -178,7 +179,7 @@ module _ (f : Frame) (e home : ℕ) (r : RealView) (was : World) (none : (s : �
     cell_calmed base (move.reaped q n has own may d) =
         let same = (here.real q has).1 in
         let beat : q.beat ≡ r.beat = sym (ap (λ (y : RealView). y.beat) same.1) in
-        let gone = drops_calm (come.found e n).3 q cell_numbers beat in
+        let gone = drops_calm (come.found e n).3 q cell_numbers beat (all_below 0 cell_count (omega arith)) in
         ends n (record {
           at = record {
             survey = survey_after _ s.cell d refl;
@@ -260,37 +261,38 @@ module _ (f : Frame) (e home : ℕ) (r : RealView) (was : World) (none : (s : �
           real = ap (λ (c : AtCell). one_if c.slot.real) cell;
         })
 
-    ticks_calm : (js : List ℕ) → AllByRecursion To (map tick_to js) × (sent_reaps (map tick_to js) ≡ 0)
-    ticks_calm [] = (tt, refl)
-    ticks_calm (j ∷ js) = let more = ticks_calm js in let none = more.1 in ((tt, more.0), omega (arith, none))
+    ticks_calm : (js : List ℕ) → AllByRecursion (λ j. j < cell_count) js →
+        AllByRecursion To (map tick_to js) × (sent_reaps (map tick_to js) ≡ 0)
+    ticks_calm [] low = (tt, refl)
+    ticks_calm (j ∷ js) low = let more = ticks_calm js low.1 in let none = more.1 in ((low.0, more.0), omega (arith, none))
 
-    base_calmed : home < cell_count → cell_count ≤ k → (cells : ℕ) → t.cell ≡ s.cell →
+    base_calmed : home < cell_count → cell_count ≤ k → (cells : ℕ) → cells ≤ cell_count → t.cell ≡ s.cell →
         BaseMoves (here_at f k) cells e s.base i t.base sent → Calmed
-    base_calmed low high cells cell (base_move.rests n a z) = keeps (none_reaps n) cell s.base a refl refl z
-    base_calmed low high cells cell (base_move.strays m n b a z) =
+    base_calmed low high cells few cell (base_move.rests n a z) = keeps (none_reaps n) cell s.base a refl refl z
+    base_calmed low high cells few cell (base_move.strays m n b a z) =
         keeps (λ is. let at = come.letter (Reap e) is in omega (arith, at, low, high)) cell s.base a refl refl z
-    base_calmed low high cells cell (base_move.reroutes new x n has b a z) = absurd (come.letter _ n)
-    base_calmed low high cells cell (base_move.offers c p n is has may a z) = absurd (come.letter (BaseCall c) n)
-    base_calmed low high cells cell (base_move.updates u n is b a z) = keeps (other_reaps (Update u) n (λ h. cc)) cell _ a refl refl z
-    base_calmed low high cells cell (base_move.orders_call c os x n at is has a z) = absurd (tail_of (order.Cell c) os at).0
-    base_calmed low high cells cell (base_move.orders_base_call c os n at is b a z) = absurd (tail_of (order.Base c) os at).0
-    base_calmed low high cells cell (base_move.offers_own c os p n at is b has may a z) = absurd (tail_of (order.Base c) os at).0
-    base_calmed low high cells cell (base_move.orders_tick os n at a z) =
-        let all = ticks_calm (range_with_len 0 cells) in
+    base_calmed low high cells few cell (base_move.reroutes new x n has b a z) = absurd (come.letter _ n)
+    base_calmed low high cells few cell (base_move.offers c p n is has may a z) = absurd (come.letter (BaseCall c) n)
+    base_calmed low high cells few cell (base_move.updates u n is b a z) = keeps (other_reaps (Update u) n (λ h. cc)) cell _ a refl refl z
+    base_calmed low high cells few cell (base_move.orders_call c os x n at is has a z) = absurd (tail_of (order.Cell c) os at).0
+    base_calmed low high cells few cell (base_move.orders_base_call c os n at is b a z) = absurd (tail_of (order.Base c) os at).0
+    base_calmed low high cells few cell (base_move.offers_own c os p n at is b has may a z) = absurd (tail_of (order.Base c) os at).0
+    base_calmed low high cells few cell (base_move.orders_tick os n at a z) =
+        let all = ticks_calm (range_with_len 0 cells) (all_below 0 cells (omega (arith, few))) in
         takes (none_reaps n) cell order.Tick os at _ a refl refl (subst (AllByRecursion To) (sym z) all.0) (ap sent_reaps z ∙ all.1)
-    base_calmed low high cells cell (base_move.orders_reap os x n at has a z) =
+    base_calmed low high cells few cell (base_move.orders_reap os x n at has a z) =
         takes (none_reaps n) cell (order.Reap e) os at _ a refl refl (subst (AllByRecursion To) (sym z) (
           leads k x (sym here.route
               ∙ has),
           tt,
         ))
         (ap sent_reaps z)
-    base_calmed low high cells cell (base_move.stuck_order o os n at b a z) = keeps (none_reaps n) cell s.base a refl refl z
-    base_calmed low high cells cell (base_move.executes p o c n has may at item a z) = keeps (none_reaps n) cell _ a refl refl z
-    base_calmed low high cells cell (base_move.stuck_part p n has is may a z) = keeps (none_reaps n) cell s.base a refl refl z
-    base_calmed low high cells cell (base_move.shows p n has is may a z) = keeps (none_reaps n) cell _ a refl refl z
-    base_calmed low high cells cell (base_move.stuck_client p n has is may a z) = keeps (none_reaps n) cell s.base a refl refl z
+    base_calmed low high cells few cell (base_move.stuck_order o os n at b a z) = keeps (none_reaps n) cell s.base a refl refl z
+    base_calmed low high cells few cell (base_move.executes p o c n has may at item a z) = keeps (none_reaps n) cell _ a refl refl z
+    base_calmed low high cells few cell (base_move.stuck_part p n has is may a z) = keeps (none_reaps n) cell s.base a refl refl z
+    base_calmed low high cells few cell (base_move.shows p n has is may a z) = keeps (none_reaps n) cell _ a refl refl z
+    base_calmed low high cells few cell (base_move.stuck_client p n has is may a z) = keeps (none_reaps n) cell s.base a refl refl z
 
-    pub calmed : home < cell_count → Moves f e k s i t sent → Calmed
-    calmed low (at_a_cell in_cell m same) = cell_calmed same m
-    calmed low (at_a_base high m same) = base_calmed low high _ same m
+    pub calmed : home < cell_count → cells_of f.tree ≤ cell_count → Moves f e k s i t sent → Calmed
+    calmed low few (at_a_cell in_cell m same) = cell_calmed same m
+    calmed low few (at_a_base high m same) = base_calmed low high _ few same m

@@ -9,6 +9,7 @@ use Rattle.seam_node_steps.specs.Prelude.{BaseCall, Hand, Current, GhostSet, Gho
 use Rattle.seam_node_steps.specs.Prelude.{World, node_steps}
 use Rattle.seam_law_flow.specs.Prelude.{Flow, Goes, comes, letter_in, letters_of, more_letter, slot_at}
 use Rattle.seam_law_calls.specs.Prelude.{Frame, Has, concerns, kept_if, mine, concerning, has_of, has_none, entity_flow, MovesTo, real_in}
+use Rattle.seam_law_calls.specs.Prelude.{real_at}
 use Rattle.seam_net_runs.specs.Sums.{weight_or}
 use Rattle.seam_net_runs.specs.Weights.{input_weight}
 use Rattle.seam_net_runs.proofs.Soundness.{sound_sends}
@@ -32,15 +33,9 @@ reap_by e x true is n = absurd (n (ap (λ y. Some (Reap y)) (eqb-true x e is)))
 reap_by e x false is n = refl
 
 light : (e : ℕ) (m : Msg) → (mine e m ≡ Some (Reap e) → ⊥) → weight_or letter_reaps (mine e m) ≡ 0
-light e (Call c) n = light_by (concerns e (Call c)) (Call c) refl
-light e (BaseCall c) n = light_by (concerns e (BaseCall c)) (BaseCall c) refl
-light e (Hand r) n = light_by (concerns e (Hand r)) (Hand r) refl
-light e (Current x j g) n = light_by (concerns e (Current x j g)) (Current x j g) refl
-light e (GhostSet x b c) n = light_by (concerns e (GhostSet x b c)) (GhostSet x b c) refl
-light e (GhostDrop x b) n = light_by (concerns e (GhostDrop x b)) (GhostDrop x b) refl
 light e Tick n = refl
 light e (Reap x) n = reap_by e x (eqb x e) refl n
-light e (Update u) n = light_by (concerns e (Update u)) (Update u) refl
+light e m n = light_by (concerns e m) m refl
 
 no_reap_weighs : (e k : ℕ) (i : Input Msg) → (letter_in (mine e) i ≡ Some (Reap e) → ⊥) → input_weight (mine_reaps e) k i ≡ 0
 no_reap_weighs e k Task n = refl
@@ -129,17 +124,15 @@ module _ (f : Frame) (e home : ℕ) (r : RealView) (low : home < cell_count) (no
     what =
         calmed f e home r was none leads told goes.k (flow.slot goes.k) (comes goes.input)
         ((entity_flow e next).slot goes.k) goes.moves.0.sent
-        (c.nodes goes.k) (comes_to goes.k came_to (flow.slot goes.k) refl (comes goes.input) goes.moves.1) low goes.moves.0.moves
+        (c.nodes goes.k) (comes_to goes.k came_to (flow.slot goes.k) refl (comes goes.input) goes.moves.1) low c.cells goes.moves.0.moves
 
-    at_of : Calmed f e home r was none leads told goes.k (flow.slot goes.k) (comes goes.input)
-        ((entity_flow e next).slot goes.k) goes.moves.0.sent →
-        IsCalmAt e home r was goes.k ((entity_flow e next).slot goes.k)
+    at_of : Calmed f e home r was none leads told goes.k (flow.slot goes.k) (comes goes.input) ((entity_flow e next).slot goes.k)
+        goes.moves.0.sent → IsCalmAt e home r was goes.k ((entity_flow e next).slot goes.k)
     at_of (stays n x) = x.at
     at_of (ends n x) = x.at
 
-    calm_of : Calmed f e home r was none leads told goes.k (flow.slot goes.k) (comes goes.input)
-        ((entity_flow e next).slot goes.k) goes.moves.0.sent →
-        AllByRecursion (λ p. IsCalmTo told home r p.0 p.1) goes.moves.0.sent
+    calm_of : Calmed f e home r was none leads told goes.k (flow.slot goes.k) (comes goes.input) ((entity_flow e next).slot goes.k)
+        goes.moves.0.sent → AllByRecursion (λ p. IsCalmTo told home r p.0 p.1) goes.moves.0.sent
     calm_of (stays n x) = x.calm
     calm_of (ends n x) = x.calm
 
@@ -156,7 +149,7 @@ module _ (f : Frame) (e home : ℕ) (r : RealView) (low : home < cell_count) (no
     node_what =
         calmed f e home r was none leads told v.node (has_of e o.node) fed (has_of e (node_steps o.node o.input).state)
         (concerning e (node_steps o.node o.input).sent) (subst (IsCalmAt e home r was v.node) (sym node_is) (c.nodes v.node))
-        (comes_to v.node fed_to (has_of e o.node) node_is fed refl) low
+        (comes_to v.node fed_to (has_of e o.node) node_is fed refl) low c.cells
         (node_moves f e v.node o.node o.input (c.frame.sound.states v.node o.node o.is_node) (c.frame.nodes v.node o.node o.is_node))
 
     weighs_by : Calmed f e home r was none leads told v.node (has_of e o.node) fed (has_of e (node_steps o.node o.input).state)
@@ -177,25 +170,25 @@ module _ (f : Frame) (e home : ℕ) (r : RealView) (low : home < cell_count) (no
 
     -- whether the entity's Reap came, and what the home has then
     pub data Left : Type 0 where
-      alive : (fed ≡ Some (Reap e) → ⊥) → one_if (real_in ((entity_flow e next).slot home)) ≡ one_if (real_in (flow.slot home)) → Left
-      dead : fed ≡ Some (Reap e) → real_in ((entity_flow e next).slot home) ≡ None → Left
+      alive : (fed ≡ Some (Reap e) → ⊥) → one_if (real_at e next home) ≡ one_if (real_in (flow.slot home)) → Left
+      dead : fed ≡ Some (Reap e) → real_at e next home ≡ None → Left
 
     left_by : Calmed f e home r was none leads told goes.k (flow.slot goes.k) (comes goes.input)
         ((entity_flow e next).slot goes.k) goes.moves.0.sent → Left
     left_by (stays n x) = alive (λ is. n (goes.moves.1 ∙ is)) (elim (cases_eq home goes.k) [
       | inl is ↦
-          ap (λ j. one_if (real_in ((entity_flow e next).slot j))) is ∙ (x.real ∙ sym (ap (λ j. one_if (real_in (flow.slot j))) is))
+          ap (λ j. one_if (real_at e next j)) is ∙ (x.real ∙ sym (ap (λ j. one_if (real_in (flow.slot j))) is))
       | inr m ↦ ap (λ h. one_if (real_in h)) (goes.others home m)
     ])
     left_by (ends n x) =
         let is = sym goes.moves.1 ∙ n in
         let same : goes.k ≡ home = came_to (Reap e) is in
-        dead is (ap (λ j. real_in ((entity_flow e next).slot j)) (sym same) ∙ x.real)
+        dead is (ap (λ j. real_at e next j) (sym same) ∙ x.real)
 
     pub left : Left
     left = left_by what
 
-    reaps_by : Left → reaps_of e next ≡ cond told (one_if (real_in ((entity_flow e next).slot home))) 0
+    reaps_by : Left → reaps_of e next ≡ cond told (one_if (real_at e next home)) 0
     reaps_by (alive n is) =
         let a = weighs in
         let b = no_reap_weighs e v.node o.input n in
@@ -206,13 +199,14 @@ module _ (f : Frame) (e home : ℕ) (r : RealView) (low : home < cell_count) (no
         let a = weighs in
         let b = input_is letter_reaps e v.node o.input ∙ ap (weight_or letter_reaps) is in
         let q = waits_by told (real_in (flow.slot home)) (reaps_of e w) (reap_waits e is) c.reaps in
-        let zero = ap (λ x. cond {A = ℕ} x (one_if (real_in ((entity_flow e next).slot home))) 0) q.2 ∙ ap one_if gone in
+        let zero = ap (λ x. cond {A = ℕ} x (one_if (real_at e next home)) 0) q.2 ∙ ap one_if gone in
         let one = q.3 in
         omega (arith, a, b, zero, one)
 
     pub calm_happens : IsCalm f e home r was told next
     calm_happens = record {
       frame = frame_happens f w v o c.frame;
+      cells = c.cells;
       nodes = slots_kept (λ k h. IsCalmAt e home r was k h) goes c.nodes (at_of what);
       mail = letters_kept (λ a k m. IsCalmTo told home r k m) goes c.mail (λ j.
           subst (AllByRecursion (IsCalmTo told home r j)) (sym (goes.moves.0.items j)) (items_each

@@ -1,20 +1,21 @@
 -- The phases of reaps and of looks keep the record of base parts.
 use Rattle.std.proofs.Common.{◌≡◌, ℕ, ◌+◌, ◌*◌, ◌^◌, ◌<◌, ◌≤◌, ◌⊎◌, Bool, true, false, cond, eqb, List, [], ◌∷◌, ◌++◌, length, None, Some}
-use Rattle.std.proofs.Common.{refl, sym, ap, ◌∙◌, subst}
-use Rattle.std.proofs.Common.{arith, inl, inr}
+use Rattle.std.proofs.Common.{refl, sym, ap, ◌∙◌, subst, arith, inl, inr}
 use Rattle.std.specs.Prelude.{slice_get}
 use Rattle.std.specs.List.{AllByRecursion}
+use Rattle.std.proofs.lemmas.Bool.{cases_eq}
 use Rattle.std.proofs.lemmas.Bool.Decides.{nat_tests}
 use Rattle.std.proofs.lemmas.List.Elements.{filter-append}
-use Rattle.seam_node_steps.specs.Prelude.{IsQuiet, LeadsTo, items_to, Event, RealView, Msg, Update, base_of, cell_count, BaseView, PartView}
-use Rattle.seam_node_steps.specs.Prelude.{holders, NodeView, World, node_steps, node_has_work, Cell, Base, with_nodes, order_if, ordered_at}
-use Rattle.seam_node_steps.specs.Prelude.{reap_ordered_at, reaps_loaded, look_loaded}
+use Rattle.seam_node_steps.specs.Prelude.{IsQuiet, items_to, Event, RealView, Msg, Update, base_of, cell_count, BaseView, PartView}
+use Rattle.seam_node_steps.specs.Prelude.{holders, NodeView, World, node_has_work, Cell, Base, with_nodes, order_if, ordered_at}
+use Rattle.seam_node_steps.specs.Prelude.{reap_ordered_at, reaps_loaded, look_loaded, LeadsTo, limit, may_rise, may_show, node_steps}
 use Rattle.seam_law_flow.specs.Prelude.{letters_of}
 use Rattle.seam_law_calls.specs.Prelude.{Frame, here_at, IsAt, IsInFrame, mine, times, order_concerns, orders_of, has_of, entity_flow}
-use Rattle.seam_law_calls.specs.Prelude.{real_in, real_of, sent_by, base_burden, home_of, FindsClient, is_tick_order, HasToldAtMost}
-use Rattle.seam_law_calls.specs.Prelude.{most_entities, IsBlank, SeesFew, HasFewEntities, looks_left, most_shown, update_in, IsToldNothing}
+use Rattle.seam_law_calls.specs.Prelude.{real_of, sent_by, base_burden, home_of, FindsClient, is_tick_order, HasToldAtMost, most_entities}
+use Rattle.seam_law_calls.specs.Prelude.{IsBlank, SeesFew, HasFewEntities, looks_left, most_shown, update_in, IsToldNothing, RunsTo}
+use Rattle.seam_law_calls.specs.Prelude.{real_at, real_in}
 use Rattle.seam_law_rounds.specs.Prelude.{numbers_of, IsBetweenRounds, each, AreReapable, HasSettledPart, HasPartsBetweenRounds, AreFor}
-use Rattle.seam_law_rounds.specs.Prelude.{lines_of, HasSmallNumbers, IsServed}
+use Rattle.seam_law_rounds.specs.Prelude.{lines_of, HasSmallNumbers, IsServed, bare, served}
 use Rattle.seam_machine.proofs.Quiet.{quiet_links, quiet_tasks}
 use Rattle.seam_law_flow.proofs.Following.{all_append}
 use Rattle.seam_call.specs.declared.order.Order.TheVariants as order
@@ -29,6 +30,9 @@ use Rattle.seam_law_rounds.proofs.Reaping as reaping
 use Rattle.seam_law_rounds.proofs.Reaping.{is_told, none_come}
 use Rattle.seam_law_rounds.proofs.Looking as looking
 use Rattle.seam_law_rounds.proofs.Looking.{tick, look_makes_none}
+use Rattle.seam_node_steps.specs.BaseCases.{may_execute}
+use Rattle.seam_law_calls.proofs.Holds.{all_two, below_is}
+use Rattle.seam_law_calls.proofs.ClientRuns.{part_may_show}
 use Rattle.seam_law_calls.proofs.BaseRuns.{version_room}
 use Rattle.seam_law_calls.proofs.StrayRuns.{base_burden_leads}
 use Rattle.seam_law_calls.proofs.NoLooks.{NoTicks}
@@ -57,13 +61,12 @@ zero_of f u between e n =
           ap (λ l. letters_of real_of (letters_of (mine e) l)) (quiet_links node_has_work u between.nodes.sound.square between.quiet x y);
     })
 
-no_real : (v : World) (e k : ℕ) (q : RealView) → holders v e ≡ 0 → real_in ((entity_flow e v).slot k) ≡ Some q → ⊥
+no_real : (v : World) (e k : ℕ) (q : RealView) → holders v e ≡ 0 → real_at e v k ≡ Some q → ⊥
 no_real v e k q zero at = let z = sym ((counted_none v e zero).slots k) ∙ at in cc
 
 -- ---- reaps give no part
 
-reap_if : (e q : ℕ) (n : BaseView) (b : Bool) → part_at e (Base (order_if b n (order.Reap q)))
-    ≡ part_at e (Base n)
+reap_if : (e q : ℕ) (n : BaseView) (b : Bool) → part_at e (Base (order_if b n (order.Reap q))) ≡ part_at e (Base n)
 reap_if e q n true = refl
 reap_if e q n false = refl
 
@@ -118,7 +121,7 @@ module _ (f : Frame) (u : World) (between : IsBetweenRounds f u) (parts : HasPar
     (turn : NodeView → NodeView) (frame : IsInFrame f (with_nodes u turn))
     (cells : (e : ℕ) (s : NodeView) → (has_of e (turn s)).cell ≡ (has_of e s).cell)
     (same : (e : ℕ) (s : NodeView) → part_at e (turn s) ≡ part_at e s) (v : World) (vs : List Event)
-    (run : LeadsTo node_has_work node_steps (with_nodes u turn) vs v) where
+    (run : RunsTo (with_nodes u turn) vs v) where
   few : HasFewEntities (with_nodes u turn)
   few = few_turned f u between parts turn cells
 
@@ -131,7 +134,7 @@ module _ (f : Frame) (u : World) (between : IsBetweenRounds f u) (parts : HasPar
     left : looks_left e (with_nodes u turn) ≤ n
     few_left : n ≤ 2 ^ 23
 
-  module _ (e home : ℕ) (r : RealView) (here : real_in ((entity_flow e u).slot home) ≡ Some r) (n : ℕ) (given : IsGiven e n)
+  module _ (e home : ℕ) (r : RealView) (here : real_at e u home ≡ Some r) (n : ℕ) (given : IsGiven e n)
       (calm : IsCalm f e home r u false (with_nodes u turn)) where
     abbrev had : HasSettledPart f e r.ty u
     had = parts.parts e home r here
@@ -151,7 +154,7 @@ module _ (f : Frame) (u : World) (between : IsBetweenRounds f u) (parts : HasPar
     told : HasToldAtMost e (sent_by r + most_shown * n) v
     told = tells_most f e r.ty r had.part (with_nodes u turn) still few (parts.views e home r here) n given.left given.few_left v vs run
 
-    sees_few : (k : ℕ) (q : RealView) → real_in ((entity_flow e v).slot k) ≡ Some q → SeesFew q
+    sees_few : (k : ℕ) (q : RealView) → real_at e v k ≡ Some q → SeesFew q
     sees_few =
         (sees_then f e r.ty r had.part (with_nodes u turn) still few (parts.views e home r here) n given.left given.few_left v vs run).cells
 
@@ -179,12 +182,33 @@ module _ (f : Frame) (u : World) (between : IsBetweenRounds f u) (parts : HasPar
         update_finds f e r.ty (with_nodes u turn) v vs run frame still.spared (sent_by r + most_told) numbers still.still a k m ms at
         first_serves
 
+    -- its part may execute a call, and its client be shown a line
+    shows_by : IsServed f e r.ty v → (p : PartView) → ((entity_flow e v).slot (home_of f e)).base.part ≡ Some p → may_show p.proxy ≡ true
+    shows_by (bare none unseen) p at = ap may_show (none (home_of f e) p at)
+    shows_by (served first low client seen) p at =
+        let room = numbers.room in
+        let less = base_burden_leads f e (with_nodes u turn) v vs frame run in
+        part_may_show f e r.ty first (sent_by r + most_told) v client numbers.most (omega (arith, room, less)) p at
+
+    may_act : (k : ℕ) (p : PartView) → ((entity_flow e v).slot k).base.part ≡ Some p → may_execute p ≡ true
+    may_act k p at = elim (cases_eq k (home_of f e)) [
+      | inl is ↦
+          let there = ap (λ j. ((entity_flow e v).slot j).base.part) (sym is) ∙ at in
+          let part = part_first in
+          let first = few_first in
+          let less = base_burden_leads f e (with_nodes u turn) v vs frame run in
+          let version = version_room e v (home_of f e) p there in
+          all_two (may_rise p.version) (may_show p.proxy) (below_is (p.version + 1) limit (omega (arith, part, first, less, version)))
+          (shows_by serves p there)
+      | inr away ↦ absurd (let z = sym (settles.others k away) ∙ at in cc)
+    ]
+
     are_for : IsInFrame f v → IsQuiet node_has_work v → (k : ℕ) (q : RealView) →
         real_in ((entity_flow e v).slot k) ≡ Some q → (p : PartView) → ((entity_flow e v).slot (home_of f e)).base.part ≡ Some p →
         AreFor q.witness p.proxy p.version
     are_for framed quiet k q at p there = ends f e r.ty v framed quiet k q at p there serves
 
-    lines_then : (k : ℕ) (q : RealView) → real_in ((entity_flow e v).slot k) ≡ Some q → (p : PartView) →
+    lines_then : (k : ℕ) (q : RealView) → real_at e v k ≡ Some q → (p : PartView) →
         ((entity_flow e v).slot (home_of f e)).base.part ≡ Some p → lines_of q p ≤ lines_of r had.part + most_shown * n
     lines_then k q at p there =
         let part = part_first in
@@ -197,7 +221,7 @@ module _ (f : Frame) (u : World) (between : IsBetweenRounds f u) (parts : HasPar
 
 -- no one is told anything
 module _ (f : Frame) (u : World) (between : IsBetweenRounds f u) (parts : HasPartsBetweenRounds f u) (es : List ℕ)
-    (may : AreReapable u es) (vs : List Event) (v : World) (run : LeadsTo node_has_work node_steps (reaps_loaded u es) vs v) (e : ℕ) where
+    (may : AreReapable u es) (vs : List Event) (v : World) (run : RunsTo (reaps_loaded u es) vs v) (e : ℕ) where
   pub reaps_tell_none : IsToldNothing e v
   reaps_tell_none =
       let turn : NodeView → NodeView = each reap_ordered_at es in
@@ -210,16 +234,16 @@ module _ (f : Frame) (u : World) (between : IsBetweenRounds f u) (parts : HasPar
       tells_none f between.frame.tree.cells_to e (with_nodes u turn) v vs (reaps_framed f u between.nodes es) (omega (arith, left))
       (λ a k. subst (AllByRecursion (λ m. update_in m ≡ None))
       (sym (ap (letters_of (mine e)) (quiet_links node_has_work u between.nodes.sound.square between.quiet a k))) tt)
-      (subst (λ w. LeadsTo node_has_work node_steps w vs v) (reaping.loaded_is f u between es may) run)
+      (subst (λ w. RunsTo w vs v) (reaping.loaded_is f u between es may) run)
 
 module _ (f : Frame) (u : World) (between : IsBetweenRounds f u) (parts : HasPartsBetweenRounds f u) (es : List ℕ)
     (small : HasSmallNumbers f u) (may : AreReapable u es) (vs : List Event) (v : World)
-    (run : LeadsTo node_has_work node_steps (reaps_loaded u es) vs v) (quiet : IsQuiet node_has_work v) where
+    (run : RunsTo (reaps_loaded u es) vs v) (quiet : IsQuiet node_has_work v) where
   abbrev turn : NodeView → NodeView
   turn = each reap_ordered_at es
 
-  turned : LeadsTo node_has_work node_steps (with_nodes u turn) vs v
-  turned = subst (λ w. LeadsTo node_has_work node_steps w vs v) (reaping.loaded_is f u between es may) run
+  turned : RunsTo (with_nodes u turn) vs v
+  turned = subst (λ w. RunsTo w vs v) (reaping.loaded_is f u between es may) run
 
   inside : IsInFrame f (with_nodes u turn)
   inside = reaps_framed f u between.nodes es
@@ -233,7 +257,7 @@ module _ (f : Frame) (u : World) (between : IsBetweenRounds f u) (parts : HasPar
   abbrev parts_stay : (e : ℕ) (s : NodeView) → part_at e (turn s) ≡ part_at e s
   parts_stay e s = reaps_part e es s
 
-  module _ (e home : ℕ) (r : RealView) (here : real_in ((entity_flow e u).slot home) ≡ Some r) where
+  module _ (e home : ℕ) (r : RealView) (here : real_at e u home ≡ Some r) where
     calm : IsCalm f e home r u (is_told e es) v
     calm =
         calm_leads f between.frame u between e home r here (is_told e es) (reaping.small f u between es may e home r here)
@@ -270,14 +294,14 @@ module _ (f : Frame) (u : World) (between : IsBetweenRounds f u) (parts : HasPar
       untold : HasSettledPart f e r.ty v
       untold = settles f u between parts small turn inside cells_stay parts_stay v vs turned e home r here 0 given calm_out
 
-      are_untold : (k : ℕ) (q : RealView) → real_in ((entity_flow e v).slot k) ≡ Some q → (p : PartView) →
+      are_untold : (k : ℕ) (q : RealView) → real_at e v k ≡ Some q → (p : PartView) →
           ((entity_flow e v).slot (home_of f e)).base.part ≡ Some p → AreFor q.witness p.proxy p.version
       are_untold = are_for f u between parts small turn inside cells_stay parts_stay v vs turned e home r here 0 given calm_out framed quiet
 
-      sees_untold : (k : ℕ) (q : RealView) → real_in ((entity_flow e v).slot k) ≡ Some q → SeesFew q
+      sees_untold : (k : ℕ) (q : RealView) → real_at e v k ≡ Some q → SeesFew q
       sees_untold = sees_few f u between parts small turn inside cells_stay parts_stay v vs turned e home r here 0 given calm_out
 
-      small_untold : (k : ℕ) (q : RealView) → real_in ((entity_flow e v).slot k) ≡ Some q → (p : PartView) →
+      small_untold : (k : ℕ) (q : RealView) → real_at e v k ≡ Some q → (p : PartView) →
           ((entity_flow e v).slot (home_of f e)).base.part ≡ Some p → lines_of q p < 2 ^ 61 + 2 ^ 60
       small_untold k q at p there =
           let first = few_first f u between parts small turn inside cells_stay parts_stay v vs turned e home r here 0 given calm_out in
@@ -286,21 +310,20 @@ module _ (f : Frame) (u : World) (between : IsBetweenRounds f u) (parts : HasPar
           omega (arith, first, last)
 
     -- what is true of it where it was not told is true where it is there
-    there_by : (P : ℕ → RealView → Type 0) → (is_told e es ≡ false → (k : ℕ) (q : RealView) →
-        real_in ((entity_flow e v).slot k) ≡ Some q → P k q) → (b : Bool) → is_told e es ≡ b → (k : ℕ) (q : RealView) →
-        real_in ((entity_flow e v).slot k) ≡ Some q → P k q
+    there_by : (P : ℕ → RealView → Type 0) → (is_told e es ≡ false → (k : ℕ) (q : RealView) → real_at e v k ≡ Some q → P k q) → (b : Bool) →
+        is_told e es ≡ b → (k : ℕ) (q : RealView) → real_at e v k ≡ Some q → P k q
     there_by P its true is k q at =
         absurd (no_real v e k q (told_is_gone f between.frame u between e home r here (is_told e es)
         (reaping.small f u between es may e home r here) v calm quiet is) at)
     there_by P its false is k q at = its is k q at
 
-    same_real : (k : ℕ) (q : RealView) → real_in ((entity_flow e v).slot k) ≡ Some q → IsSame r q
+    same_real : (k : ℕ) (q : RealView) → real_at e v k ≡ Some q → IsSame r q
     same_real k q at = ((calm.nodes k).real q at).1
 
   -- what is true of each that was not told is true of each that is there
-  each_by : (P : ℕ → ℕ → RealView → Type 0) → ((e home : ℕ) (r : RealView) (here : real_in ((entity_flow e u).slot home) ≡ Some r) →
-      is_told e es ≡ false → (k : ℕ) (q : RealView) → real_in ((entity_flow e v).slot k) ≡ Some q → P e k q) → (e k : ℕ) (q : RealView) →
-      real_in ((entity_flow e v).slot k) ≡ Some q → Somewhere e u ⊎ Nowhere e u → P e k q
+  each_by : (P : ℕ → ℕ → RealView → Type 0) → ((e home : ℕ) (r : RealView) (here : real_at e u home ≡ Some r) →
+      is_told e es ≡ false → (k : ℕ) (q : RealView) → real_at e v k ≡ Some q → P e k q) → (e k : ℕ) (q : RealView) →
+      real_at e v k ≡ Some q → Somewhere e u ⊎ Nowhere e u → P e k q
   each_by P its e k q at (inl p) = there_by e p.0 p.1 p.2 (P e) (its e p.0 p.1 p.2) (is_told e es) refl k q at
   each_by P its e k q at (inr n) =
       absurd (no_real v e k q (none_come f u between es may vs v run e (zero_of f u between e n)) at)
@@ -334,7 +357,7 @@ module _ (f : Frame) (u : World) (between : IsBetweenRounds f u) (parts : HasPar
 -- ---- the phase of looks
 
 module _ (f : Frame) (u : World) (between : IsBetweenRounds f u) (parts : HasPartsBetweenRounds f u) (small : HasSmallNumbers f u)
-    (vs : List Event) (v : World) (run : LeadsTo node_has_work node_steps (look_loaded u) vs v) where
+    (vs : List Event) (v : World) (run : RunsTo (look_loaded u) vs v) where
   in_looks : IsInFrame f (look_loaded u)
   in_looks = look_framed f u between.nodes tick
 
@@ -347,7 +370,7 @@ module _ (f : Frame) (u : World) (between : IsBetweenRounds f u) (parts : HasPar
   abbrev look_parts : (e : ℕ) (s : NodeView) → part_at e (ordered_at tick s) ≡ part_at e s
   look_parts e s = parts_ordered e (tick ∷ []) s
 
-  module _ (e home : ℕ) (r : RealView) (here : real_in ((entity_flow e u).slot home) ≡ Some r) where
+  module _ (e home : ℕ) (r : RealView) (here : real_at e u home ≡ Some r) where
     looked : IsCalm f e home r u false v
     looked =
         calm_leads f between.frame u between e home r here false (looking.small f u between r) (look_loaded u) v vs
@@ -367,7 +390,7 @@ module _ (f : Frame) (u : World) (between : IsBetweenRounds f u) (parts : HasPar
         settles f u between parts small (ordered_at tick) in_looks look_cells look_parts v vs run e home r here 16 looks_given
         (looking.calm f u between e home r here)
 
-    look_settled : (k : ℕ) (q : RealView) → real_in ((entity_flow e v).slot k) ≡ Some q → HasSettledPart f e q.ty v
+    look_settled : (k : ℕ) (q : RealView) → real_at e v k ≡ Some q → HasSettledPart f e q.ty v
     look_settled k q at =
         subst (λ t. HasSettledPart f e t v) (same_type r q ((looked.nodes k).real q at).1) look_settles
 
@@ -375,6 +398,11 @@ module _ (f : Frame) (u : World) (between : IsBetweenRounds f u) (parts : HasPar
         FindsClient f e k ((entity_flow e v).slot k).base m
     look_finds =
         finds_it f u between parts small (ordered_at tick) in_looks look_cells look_parts v vs run e home r here 16 looks_given
+        (looking.calm f u between e home r here)
+
+    pub look_acts : (k : ℕ) (p : PartView) → ((entity_flow e v).slot k).base.part ≡ Some p → may_execute p ≡ true
+    look_acts =
+        may_act f u between parts small (ordered_at tick) in_looks look_cells look_parts v vs run e home r here 16 looks_given
         (looking.calm f u between e home r here)
 
     -- its client has numbers for all that its witness tells
@@ -388,20 +416,20 @@ module _ (f : Frame) (u : World) (between : IsBetweenRounds f u) (parts : HasPar
         serves f u between parts small (ordered_at tick) in_looks look_cells look_parts v vs run e home r here 16 looks_given
         (looking.calm f u between e home r here)
 
-    look_are : IsQuiet node_has_work v → (k : ℕ) (q : RealView) → real_in ((entity_flow e v).slot k) ≡ Some q → (p : PartView) →
+    look_are : IsQuiet node_has_work v → (k : ℕ) (q : RealView) → real_at e v k ≡ Some q → (p : PartView) →
         ((entity_flow e v).slot (home_of f e)).base.part ≡ Some p → AreFor q.witness p.proxy p.version
     look_are quiet =
         are_for f u between parts small (ordered_at tick) in_looks look_cells look_parts v vs run e home r here 16 looks_given
         (looking.calm f u between e home r here) looks_framed quiet
 
-    look_sees : (k : ℕ) (q : RealView) → real_in ((entity_flow e v).slot k) ≡ Some q → SeesFew q
+    look_sees : (k : ℕ) (q : RealView) → real_at e v k ≡ Some q → SeesFew q
     look_sees =
         sees_few f u between parts small (ordered_at tick) in_looks look_cells look_parts v vs run e home r here 16 looks_given
         (looking.calm f u between e home r here)
 
-  look_by : (P : ℕ → ℕ → RealView → Type 0) → ((e home : ℕ) (r : RealView) → real_in ((entity_flow e u).slot home) ≡ Some r →
-      (k : ℕ) (q : RealView) → real_in ((entity_flow e v).slot k) ≡ Some q → P e k q) → (e k : ℕ) (q : RealView) →
-      real_in ((entity_flow e v).slot k) ≡ Some q → Somewhere e u ⊎ Nowhere e u → P e k q
+  look_by : (P : ℕ → ℕ → RealView → Type 0) → ((e home : ℕ) (r : RealView) → real_at e u home ≡ Some r →
+      (k : ℕ) (q : RealView) → real_at e v k ≡ Some q → P e k q) → (e k : ℕ) (q : RealView) →
+      real_at e v k ≡ Some q → Somewhere e u ⊎ Nowhere e u → P e k q
   look_by P its e k q at (inl p) = its e p.0 p.1 p.2 k q at
   look_by P its e k q at (inr n) =
       absurd (no_real v e k q (look_makes_none f u between vs v run e (zero_of f u between e n)) at)

@@ -3,10 +3,9 @@ use Rattle.std.proofs.Common.{◌≡◌, ℕ, Bool, List, [], ◌∷◌, ◌++�
 use Rattle.std.specs.List.{AllByRecursion}
 use Rattle.std.specs.FinMap as table
 use Rattle.std.proofs.lemmas.Bool.{cases_eq}
-use Rattle.seam_node_steps.specs.Prelude.{item_at, Order, order_or, RealView, WitnessView, Msg}
-use Rattle.seam_node_steps.specs.Prelude.{GhostDrop, Tick, Reap, Update, World}
+use Rattle.seam_node_steps.specs.Prelude.{item_at, Order, order_or, RealView, WitnessView, Msg, GhostDrop, Tick, Reap, Update, World}
 use Rattle.seam_law_flow.specs.Prelude.{letters_of, more_letter, In, Nobody, held_in, packed, bears, of_number}
-use Rattle.seam_law_calls.specs.Prelude.{Frame, entity_flow, real_in, real_of, IsOne, cell_order_from, real_desk, cell_mail}
+use Rattle.seam_law_calls.specs.Prelude.{Frame, entity_flow, real_in, real_of, IsOne, cell_order_from, real_desk, cell_mail, real_at}
 use Rattle.seam_law_rounds.specs.Prelude.{IsSettled, HasNoCalls}
 use Rattle.seam_call.specs.declared.order.Order.TheVariants as order
 use Rattle.seam_law_rounds.proofs.Calm.{IsSame, IsCalmOrder, IsCalmTo, IsCalm}
@@ -23,26 +22,26 @@ module _ (f : Frame) (e home : ℕ) (r : RealView) (u : World) (settled : IsSett
   no_hands k (Update m ∷ ms) h = no_hands k ms h.1
   no_hands k (_ ∷ ms) h = absurd h.0
 
-  elsewhere_by : (j : ℕ) (o : Option RealView) → real_in ((entity_flow e v).slot j) ≡ o → (j ≡ home → ⊥) → o ≡ None
+  elsewhere_by : (j : ℕ) (o : Option RealView) → real_at e v j ≡ o → (j ≡ home → ⊥) → o ≡ None
   elsewhere_by j None at n = refl
   elsewhere_by j (Some q) at n = absurd (n ((calm.nodes j).real q at).0)
 
-  elsewhere : (j : ℕ) → (j ≡ home → ⊥) → real_in ((entity_flow e v).slot j) ≡ None
-  elsewhere j n = elsewhere_by j (real_in ((entity_flow e v).slot j)) refl n
+  elsewhere : (j : ℕ) → (j ≡ home → ⊥) → real_at e v j ≡ None
+  elsewhere j n = elsewhere_by j (real_at e v j) refl n
 
-  pub calm_one : (q : RealView) → real_in ((entity_flow e v).slot home) ≡ Some q → IsOne e v (In home) q
+  pub calm_one : (q : RealView) → real_at e v home ≡ Some q → IsOne e v (In home) q
   calm_one q at = record { here = at; others = elsewhere; mail = λ x y. no_hands y ((entity_flow e v).mail x y) (calm.mail x y) }
 
-  pub calm_none : real_in ((entity_flow e v).slot home) ≡ None → Nobody real_in real_of (entity_flow e v)
+  pub calm_none : real_at e v home ≡ None → Nobody real_in real_of (entity_flow e v)
   calm_none at = record {
     slots = λ j. elim (cases_eq j home) [
-      | inl is ↦ ap (λ i. real_in ((entity_flow e v).slot i)) is ∙ at
+      | inl is ↦ ap (λ i. real_at e v i) is ∙ at
       | inr n ↦ elsewhere j n
     ];
     mail = λ x y. no_hands y ((entity_flow e v).mail x y) (calm.mail x y);
   }
 
-  seen_settled : (x : Option WitnessView) → real_in ((entity_flow e v).slot home) ≡ Some (record r { witness = x }) →
+  seen_settled : (x : Option WitnessView) → real_at e v home ≡ Some (record r { witness = x }) →
       IsSettled f e home (record r { witness = x }) v
   seen_settled x at = record {
     here = at;
@@ -65,10 +64,10 @@ module _ (f : Frame) (e home : ℕ) (r : RealView) (u : World) (settled : IsSett
     from_one = settled.from_one;
   }
 
-  pub still_settled : (k : ℕ) (q : RealView) → real_in ((entity_flow e v).slot k) ≡ Some q → IsSettled f e k q v
+  pub still_settled : (k : ℕ) (q : RealView) → real_at e v k ≡ Some q → IsSettled f e k q v
   still_settled k q at =
       let is = (calm.nodes k).real q at in
-      let there = ap (λ j. real_in ((entity_flow e v).slot j)) (sym is.0) ∙ at in
+      let there = ap (λ j. real_at e v j) (sym is.0) ∙ at in
       subst (λ j. IsSettled f e j q v) (sym is.0)
       (subst (λ p. IsSettled f e home p v) is.1.1 (seen_settled is.1.0 (there ∙ ap Some (sym is.1.1))))
 
@@ -100,8 +99,8 @@ module _ (f : Frame) (e home : ℕ) (r : RealView) (u : World) (settled : IsSett
   calls_none s n = record {
     slots = λ k.
         let h = calm.nodes k in
-        ap packed (ap (λ l. letters_of (of_number n) l ++ held_in n (real_desk s (real_in ((entity_flow e v).slot k))))
+        ap packed (ap (λ l. letters_of (of_number n) l ++ held_in n (real_desk s (real_at e v k)))
         (no_orders s ((entity_flow e v).slot k).base.orders h.orders)
-        ∙ held_by s n (real_in ((entity_flow e v).slot k)) (λ q at. (h.real q at).1));
+        ∙ held_by s n (real_at e v k) (λ q at. (h.real q at).1));
     mail = λ x y. ap (letters_of (bears n)) (no_letters s y ((entity_flow e v).mail x y) (calm.mail x y));
   }

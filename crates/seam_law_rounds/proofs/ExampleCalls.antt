@@ -1,18 +1,18 @@
 -- The next round of that world: a call to an entity that its client has in view.
-use Rattle.std.proofs.Common.{◌≡◌, ℕ, ◌≤◌, Bool, true, false, cond, eqb, [], ◌∷◌, length, Option, None, Some, refl, sym, ap}
-use Rattle.std.proofs.Common.{◌∙◌, subst, arith, inl, inr}
+use Rattle.std.proofs.Common.{◌≡◌, ℕ, ◌≤◌, Bool, true, false, cond, eqb, [], ◌∷◌, length, Option, None, Some, refl, sym, ap, ◌∙◌, subst}
+use Rattle.std.proofs.Common.{arith, inl, inr}
 use Rattle.std.specs.Prelude.{option_map, slice_get}
 use Rattle.std.specs.List.{IsDistinct}
 use Rattle.std.specs.Ordering.{nat_cmp, eq_by_cmp}
 use Rattle.std.specs.Cmp.{nat_cmp_total}
 use Rattle.std.specs.FinMap as table
 use Rattle.std.proofs.lemmas.Bool.{cases_eq, ne_eqb}
-use Rattle.seam_node_steps.specs.Prelude.{LeadsTo, Call as CallData, Batch, RealView, fits_cell_part, Map, PartView, holders, new_part}
-use Rattle.seam_node_steps.specs.Prelude.{part_begins, loaded, look_loaded, NodeView, node_steps, node_has_work, Cell, no, here, cell, idle}
-use Rattle.seam_node_steps.specs.Prelude.{space, both, batch_of, move_to, watcher, entered, still, part_of, second_0, second_4, base_line}
-use Rattle.seam_node_steps.specs.Prelude.{line, own, enter_2, second_look_0, second_look_4, second_steps, second_looks}
+use Rattle.seam_node_steps.specs.Prelude.{Call as CallData, Batch, RealView, fits_cell_part, Map, PartView, holders, new_part, part_begins}
+use Rattle.seam_node_steps.specs.Prelude.{loaded, look_loaded, NodeView, Cell, no, here, cell, idle, space, both, batch_of, move_to}
+use Rattle.seam_node_steps.specs.Prelude.{watcher, entered, still, part_of, second_0, second_4, base_line, line, own, enter_2}
+use Rattle.seam_node_steps.specs.Prelude.{second_look_0, second_look_4, second_steps, second_looks}
 use Rattle.seam_law_flow.specs.Prelude.{slot_at, number_from}
-use Rattle.seam_law_calls.specs.Prelude.{here_at, Has, has_of, has_none, entity_flow, events_of, real_in, home_of, sent_by}
+use Rattle.seam_law_calls.specs.Prelude.{here_at, Has, has_of, has_none, entity_flow, events_of, real_in, home_of, sent_by, RunsTo, real_at}
 use Rattle.seam_law_rounds.specs.Prelude.{IsBetweenRounds, IsFitting, IsForReal, AreNumbered, numbers_of, calls_of, calls_at, node_loaded}
 use Rattle.seam_law_rounds.specs.Prelude.{opening, base_calls_of, base_calls_at, AreBaseNumbered, IsForPart, FitsParts}
 use Rattle.seam_law_rounds.specs.Prelude.{HasPartsBetweenRounds, HasSmallNumbers, MayBeLoaded}
@@ -177,8 +177,7 @@ module _ (e : ℕ) where
 
 -- ---- what is loaded
 
-real_loaded : (e k : ℕ) (r : RealView) → real_in ((entity_flow e (loaded first_look_5 batch)).slot k) ≡ Some r →
-    (r.orders ≡ table.empty) × (r.ty ≡ 0)
+real_loaded : (e k : ℕ) (r : RealView) → real_at e (loaded first_look_5 batch) k ≡ Some r → (r.orders ≡ table.empty) × (r.ty ≡ 0)
 real_loaded e k r at =
     let q = real_was first_look_5 batch e (refl, tt) tt k r at in
     let y = (young e k).real q.0 q.2 in
@@ -250,7 +249,7 @@ numbered e s = elim (cases_eq 2 e) [
   | inr n ↦ none_numbered e s (λ z at. let no_two = ne_eqb 2 e n in absurd (let y = sym z ∙ no_two in cc))
 ]
 
-for_real : (e k : ℕ) (r : RealView) → real_in ((entity_flow e (loaded first_look_5 batch)).slot k) ≡ Some r → IsForReal opening batch e r
+for_real : (e k : ℕ) (r : RealView) → real_at e (loaded first_look_5 batch) k ≡ Some r → IsForReal opening batch e r
 for_real e k r at =
     let young = real_loaded e k r at in
     record {
@@ -325,23 +324,24 @@ brings = record {
 }
 
 pub next_may_be_loaded : MayBeLoaded opening first_look_5 batch
-next_may_be_loaded = record { between = after_looks.0; parts = after_looks.1; fits = fits; brings = brings }
+next_may_be_loaded = record { begin = record { between = after_looks.0; fits = fits }; parts = after_looks.1; brings = brings }
 
 -- ---- the events of its calls, and of its looks
 
-pub next_leads : LeadsTo node_has_work node_steps (loaded first_look_5 batch) (events_of second_steps) second_4
+pub next_leads : RunsTo (loaded first_look_5 batch) (events_of second_steps) second_4
 next_leads =
-    subst (λ w. LeadsTo node_has_work node_steps w (events_of second_steps) second_4) (sym views.second_load)
+    subst (λ w. RunsTo w (events_of second_steps) second_4) (sym views.second_load)
     (row_leads 2 1 second_0 second_steps views.second_row)
 
-pub next_looks_lead : LeadsTo node_has_work node_steps (look_loaded second_4) (events_of second_looks) second_look_4
+pub next_looks_lead : RunsTo (look_loaded second_4) (events_of second_looks) second_look_4
 next_looks_lead =
-    subst (λ w. LeadsTo node_has_work node_steps w (events_of second_looks) second_look_4) (sym views.second_look_load)
+    subst (λ w. RunsTo w (events_of second_looks) second_look_4) (sym views.second_look_load)
     (row_leads 2 1 second_look_0 second_looks views.second_look_row)
 
 calls_between : IsBetweenRounds opening second_4
 calls_between =
-    calls_end_between opening first_look_5 batch after_looks.0 fits second_4 (events_of second_steps) next_leads views.second_quiet
+    calls_end_between opening first_look_5 batch (record { between = after_looks.0; fits = fits }) second_4 (events_of second_steps)
+    next_leads views.second_quiet
 
 calls_parts : HasPartsBetweenRounds opening second_4
 calls_parts =

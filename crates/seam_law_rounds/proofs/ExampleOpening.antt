@@ -1,11 +1,8 @@
 -- A world as it is opened with the built-in definitions, where the worked rounds begin: it keeps both records, and nothing is there.
-use Rattle.std.proofs.Common.{◌≡◌, ℕ, zero, suc, ◌<◌}
-use Rattle.std.proofs.Common.{Some, sym, ap, ◌∙◌, arith}
-use Rattle.seam_node_steps.specs.Prelude.{area, IsTree, IsProper, builtin, standard, copy_in}
-use Rattle.seam_node_steps.specs.Prelude.{RealView, one_cell, empty_world}
-use Rattle.seam_law_calls.specs.Prelude.{has_none, entity_flow, real_in, IsFrame}
-use Rattle.seam_law_rounds.specs.Prelude.{IsBetweenRounds}
-use Rattle.seam_law_rounds.specs.Prelude.{HasPartsBetweenRounds, opening}
+use Rattle.std.proofs.Common.{◌≡◌, ℕ, zero, suc, ◌<◌, Some, sym, ap, ◌∙◌, arith}
+use Rattle.seam_node_steps.specs.Prelude.{area, IsTree, IsProper, builtin, standard, copy_in, RealView, one_cell, empty_world}
+use Rattle.seam_law_calls.specs.Prelude.{has_none, entity_flow, real_in, IsFrame, real_at}
+use Rattle.seam_law_rounds.specs.Prelude.{IsBetweenRounds, HasPartsBetweenRounds, opening}
 use Rattle.seam_law_calls.proofs.ExampleMet.{frame_is}
 use Rattle.seam_law_rounds.proofs.Opened.{opened_is_new, opened_has_none, opened_between}
 
@@ -31,7 +28,7 @@ between = opened_between builtin standard opening_is (omega arith)
 pub is_new : (e k : ℕ) → (entity_flow e empty_world).slot k ≡ has_none
 is_new = opened_is_new builtin standard opening_is (omega arith)
 
-pub no_real : (e k : ℕ) (r : RealView) → real_in ((entity_flow e empty_world).slot k) ≡ Some r → ⊥
+pub no_real : (e k : ℕ) (r : RealView) → real_at e empty_world k ≡ Some r → ⊥
 no_real e k r at = let z = sym (opened_has_none builtin standard opening_is (omega arith) e k) ∙ at in cc
 
 pub parts_between : HasPartsBetweenRounds opening empty_world

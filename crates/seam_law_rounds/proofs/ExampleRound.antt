@@ -1,15 +1,13 @@
 -- A whole round of an entity with a client: an opened world, a batch that creates it, and the events of calls and of looks.
-use Rattle.std.proofs.Common.{◌≡◌, ℕ, Bool, true, false, Option, None, Some, refl, sym, ap, ◌∙◌}
-use Rattle.std.proofs.Common.{subst, arith}
+use Rattle.std.proofs.Common.{◌≡◌, ℕ, Bool, true, false, Option, None, Some, refl, sym, ap, ◌∙◌, subst, arith}
 use Rattle.std.specs.Prelude.{option_map, slice_get}
 use Rattle.std.specs.List.{IsDistinct}
 use Rattle.std.specs.Ordering.{nat_cmp}
 use Rattle.std.specs.FinMap as table
-use Rattle.seam_node_steps.specs.Prelude.{LeadsTo, Orders, order_or, Here, real_begins, RealView, PartView, holders, loaded, look_loaded}
-use Rattle.seam_node_steps.specs.Prelude.{NodeView, node_steps, node_has_work, empty_world, batch_1, first_0, first_2, first_look_0}
-use Rattle.seam_node_steps.specs.Prelude.{first_look_5, first_steps, first_looks}
+use Rattle.seam_node_steps.specs.Prelude.{Orders, order_or, Here, real_begins, RealView, PartView, holders, loaded, look_loaded, NodeView}
+use Rattle.seam_node_steps.specs.Prelude.{empty_world, batch_1, first_0, first_2, first_look_0, first_look_5, first_steps, first_looks}
 use Rattle.seam_law_flow.specs.Prelude.{slot_at}
-use Rattle.seam_law_calls.specs.Prelude.{here_at, has_of, has_none, entity_flow, events_of, real_in, home_of}
+use Rattle.seam_law_calls.specs.Prelude.{here_at, has_of, has_none, entity_flow, events_of, real_in, home_of, RunsTo, real_at}
 use Rattle.seam_law_rounds.specs.Prelude.{IsBetweenRounds, IsFitting, IsForReal, node_loaded, opening, IsForPart, FitsParts}
 use Rattle.seam_law_rounds.specs.Prelude.{HasPartsBetweenRounds, HasSmallNumbers, MayBeLoaded}
 use Rattle.seam_node_steps.proofs.Tables.{computing}
@@ -19,7 +17,7 @@ use Rattle.seam_law_rounds.proofs.Loaded.{slot_is}
 use Rattle.seam_law_rounds.proofs.CallsEnd.{calls_end_between}
 use Rattle.seam_law_rounds.proofs.Looking.{look_ends_between}
 use Rattle.seam_law_rounds.proofs.PartLoads.{part_at}
-use Rattle.seam_law_rounds.proofs.Joining.{is_among, peopled, real_at, real_joined, part_joined, made_peopled, new_peopled}
+use Rattle.seam_law_rounds.proofs.Joining.{is_among, peopled, real_in_node, real_joined, part_joined, made_peopled, new_peopled}
 use Rattle.seam_law_rounds.proofs.Attaching.{real_if, real_from, part_if, part_from}
 use Rattle.seam_law_rounds.proofs.ExampleOpening.{between, one_is_tree, is_new, no_real, parts_between}
 use Rattle.seam_law_rounds.proofs.BaseCallsEnd.{calls_end_with_parts, calls_end_small}
@@ -53,17 +51,17 @@ module _ (e k : ℕ) where
   slot_there o at = slot_is empty_world batch_1 e k ∙ ap (λ x. slot_at (has_of e) has_none (option_map (node_loaded batch_1) x)) at
 
   real_by : (o : Option NodeView) → slice_get empty_world.nodes k ≡ o → (r : RealView) →
-      real_in ((entity_flow e (loaded empty_world batch_1)).slot k) ≡ Some r → HasNoOrders r
+      real_at e (loaded empty_world batch_1) k ≡ Some r → HasNoOrders r
   real_by None at r has = absurd (let z = sym (ap real_in (slot_there None at)) ∙ has in cc)
   real_by (Some s) at r has =
       let q =
-      real_from (is_among e batch_1.clients) (here_at opening k) (real_at e (peopled batch_1 s)) r
+      real_from (is_among e batch_1.clients) (here_at opening k) (real_in_node e (peopled batch_1 s)) r
       (sym (real_joined e opening batch_1 k s (between.nodes.nodes k s at)) ∙ (sym (ap real_in (slot_there (Some s) at)) ∙ has)) in
       subst HasNoOrders q.2
       (real_none (is_among e batch_1.clients) (here_at opening k) q.0
       (made_peopled e HasNoOrders (λ h x. refl) batch_1 s (ap real_in (new_at s at)) q.0 q.1))
 
-  real_is_new : (r : RealView) → real_in ((entity_flow e (loaded empty_world batch_1)).slot k) ≡ Some r → HasNoOrders r
+  real_is_new : (r : RealView) → real_at e (loaded empty_world batch_1) k ≡ Some r → HasNoOrders r
   real_is_new = real_by (slice_get empty_world.nodes k) refl
 
   part_by : (o : Option NodeView) → slice_get empty_world.nodes k ≡ o → (p : PartView) →
@@ -86,8 +84,7 @@ next_is_one os s none = ap (λ o. (order_or (table.get o s)).next) none ∙ ap (
 
 -- ---- so the batch, which has no orders, fits
 
-for_real : (e k : ℕ) (r : RealView) → real_in ((entity_flow e (loaded empty_world batch_1)).slot k) ≡ Some r →
-    IsForReal opening batch_1 e r
+for_real : (e k : ℕ) (r : RealView) → real_at e (loaded empty_world batch_1) k ≡ Some r → IsForReal opening batch_1 e r
 for_real e k r at = record {
   fit = tt;
   numbered = λ s.
@@ -145,22 +142,23 @@ brings : FitsParts opening empty_world batch_1
 brings = record { numbers = (omega arith, (omega arith, tt)); calls = for_part; small = λ e k r at. absurd (no_real e k r at) }
 
 pub may_be_loaded : MayBeLoaded opening empty_world batch_1
-may_be_loaded = record { between = between; parts = parts_between; fits = fits; brings = brings }
+may_be_loaded = record { begin = record { between = between; fits = fits }; parts = parts_between; brings = brings }
 
 -- ---- the events of its calls, and of its looks
 
-pub round_leads : LeadsTo node_has_work node_steps (loaded empty_world batch_1) (events_of first_steps) first_2
+pub round_leads : RunsTo (loaded empty_world batch_1) (events_of first_steps) first_2
 round_leads =
-    subst (λ w. LeadsTo node_has_work node_steps w (events_of first_steps) first_2) (sym views.first_load)
+    subst (λ w. RunsTo w (events_of first_steps) first_2) (sym views.first_load)
     (row_leads 2 1 first_0 first_steps views.first_row)
 
-pub looks_lead : LeadsTo node_has_work node_steps (look_loaded first_2) (events_of first_looks) first_look_5
+pub looks_lead : RunsTo (look_loaded first_2) (events_of first_looks) first_look_5
 looks_lead =
-    subst (λ w. LeadsTo node_has_work node_steps w (events_of first_looks) first_look_5) (sym views.first_look_load)
+    subst (λ w. RunsTo w (events_of first_looks) first_look_5) (sym views.first_look_load)
     (row_leads 2 1 first_look_0 first_looks views.first_look_row)
 
 calls_between : IsBetweenRounds opening first_2
-calls_between = calls_end_between opening empty_world batch_1 between fits first_2 (events_of first_steps) round_leads views.first_quiet
+calls_between =
+    calls_end_between opening empty_world batch_1 may_be_loaded.begin first_2 (events_of first_steps) round_leads views.first_quiet
 
 calls_parts : HasPartsBetweenRounds opening first_2
 calls_parts =

@@ -1,6 +1,5 @@
 -- A loaded world goes by the batch's tree.
-use Rattle.std.proofs.Common.{◌≡◌, ℕ, ◌+◌, ◌<◌, Bool, true, false, List, length, Option, None, Some, refl, sym, ap, ◌∙◌, subst}
-use Rattle.std.proofs.Common.{arith}
+use Rattle.std.proofs.Common.{◌≡◌, ℕ, ◌+◌, ◌<◌, Bool, true, false, List, length, Option, None, Some, refl, sym, ap, ◌∙◌, subst, arith}
 use Rattle.std.specs.Prelude.{option_map, slice_get, slice_index_or}
 use Rattle.std.specs.List.{All}
 use Rattle.std.specs.Ordering.{nat_cmp}
@@ -13,7 +12,7 @@ use Rattle.seam_node_steps.specs.Prelude.{CellView, BaseView, RouteView, NodeVie
 use Rattle.seam_node_steps.specs.Prelude.{with_nodes, real_if, part_if, with_route, created_at, with_witness, attached, cell_round}
 use Rattle.seam_node_steps.specs.Prelude.{base_round, order_if, ordered_at, loaded, IsCell, IsBase, IsNode}
 use Rattle.seam_law_calls.specs.Prelude.{Frame, here_at, IsBaseAt, IsAt, IsInFrame}
-use Rattle.seam_law_rounds.specs.Prelude.{IsBetweenRounds, IsFitting, framed, each, made, node_loaded}
+use Rattle.seam_law_rounds.specs.Prelude.{IsBetweenRounds, framed, each, made, node_loaded, MayBegin}
 use Rattle.seam_tree.proofs.Leaves.{leaf_is_cell}
 use Rattle.seam_law_rounds.proofs.Loading.{each_keeps, Any, any, loaded_is, node_there, set_keeps, get-each_value}
 
@@ -168,8 +167,7 @@ pub peers_at : (f : Frame) (k : ℕ) (s : NodeView) → IsAt f k s → node_peer
 peers_at f k (Cell c) h = ap (λ x. cell_count + x.settings.bases) h.here
 peers_at f k (Base n) h = ap (λ x. cell_count + x.settings.bases) h.here
 
-pub many_loaded : (f : Frame) (w : World) (b : Batch) → IsBetweenRounds f w →
-    length (loaded w b).nodes ≡ cell_count + f.settings.bases
+pub many_loaded : (f : Frame) (w : World) (b : Batch) → IsBetweenRounds f w → length (loaded w b).nodes ≡ cell_count + f.settings.bases
 many_loaded f w b r = ap (λ v. length v.nodes) (loaded_is w b) ∙ (length-map w.nodes (node_loaded b) ∙ r.many)
 
 -- a world whose nodes all change by themselves, each into one of the other frame
@@ -205,7 +203,7 @@ module _ (f g : Frame) (bases : g.settings.bases ≡ f.settings.bases) (turn : N
     nodes = λ k t at. (goes_at k t at).1;
   }
 
-pub in_frame : (f : Frame) (w : World) (b : Batch) → IsBetweenRounds f w → IsFitting f w b → IsInFrame (framed f b) (loaded w b)
-in_frame f w b r fits =
+pub in_frame : (f : Frame) (w : World) (b : Batch) → MayBegin f w b → IsInFrame (framed f b) (loaded w b)
+in_frame f w b begin =
     subst (IsInFrame (framed f b)) (sym (loaded_is w b))
-    (frame_turns f (framed f b) refl (node_loaded b) (node_goes f b fits.tree) w r.nodes)
+    (frame_turns f (framed f b) refl (node_loaded b) (node_goes f b begin.fits.tree) w begin.between.nodes)

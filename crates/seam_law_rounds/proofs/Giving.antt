@@ -1,6 +1,6 @@
 -- What the loads of reaps and looks give to a node.
-use Rattle.std.proofs.Common.{◌≡◌, ℕ, ◌+◌, ◌≤◌, Bool, true, false, cond, eqb, List, [], ◌∷◌, ◌++◌, Option, None, Some, refl, sym, ap}
-use Rattle.std.proofs.Common.{◌∙◌, subst, arith, inl, inr}
+use Rattle.std.proofs.Common.{◌≡◌, ℕ, ◌+◌, ◌≤◌, Bool, true, false, cond, eqb, List, [], ◌∷◌, ◌++◌, Option, None, Some, refl, sym, ap, ◌∙◌}
+use Rattle.std.proofs.Common.{subst, arith, inl, inr}
 use Rattle.std.specs.Prelude.{option_map, slice_get}
 use Rattle.std.proofs.lemmas.Option.{slice_get-map}
 use Rattle.std.specs.List.{AllByRecursion}
@@ -11,7 +11,7 @@ use Rattle.seam_node_steps.specs.Prelude.{total, Order, RealView, base_of, CellV
 use Rattle.seam_node_steps.specs.Prelude.{with_nodes, order_if, ordered_at, reap_ordered_at, IsNode}
 use Rattle.seam_law_flow.specs.Prelude.{slot_at}
 use Rattle.seam_law_calls.specs.Prelude.{Frame, here_at, IsBaseAt, IsAt, IsInFrame, order_concerns, orders_of, times, has_of, has_none}
-use Rattle.seam_law_calls.specs.Prelude.{entity_flow, real_in}
+use Rattle.seam_law_calls.specs.Prelude.{real_in, real_at}
 use Rattle.seam_law_rounds.specs.Prelude.{each}
 use Rattle.seam_machine.proofs.Totals.{total-append}
 use Rattle.seam_law_flow.proofs.Following.{all_append}
@@ -60,7 +60,7 @@ module _ (f : Frame) (u : World) (q : IsInFrame f u) where
       let same = ap (λ h. h.settings.bases) (q.nodes home (Cell c) at).here in
       omega (arith, one, same)
 
-  pub some_base : (e home : ℕ) (r : RealView) → real_in ((entity_flow e u).slot home) ≡ Some r → 1 ≤ f.settings.bases
+  pub some_base : (e home : ℕ) (r : RealView) → real_at e u home ≡ Some r → 1 ≤ f.settings.bases
   some_base e home r here = bases_by e home r (slice_get u.nodes home) refl here
 
 -- ---- the orders about an entity
@@ -220,9 +220,8 @@ cell_by : (e : ℕ) (turn : NodeView → NodeView) → ((s : NodeView) → (has_
 cell_by e turn same None = refl
 cell_by e turn same (Some s) = same s
 
-pub reals_stay : (e : ℕ) (turn : NodeView → NodeView) → ((s : NodeView) → (has_of e (turn s)).cell ≡ (has_of e s).cell) → (u : World)
-    (k : ℕ) →
-    real_in ((entity_flow e (with_nodes u turn)).slot k) ≡ real_in ((entity_flow e u).slot k)
+pub reals_stay : (e : ℕ) (turn : NodeView → NodeView) → ((s : NodeView) → (has_of e (turn s)).cell ≡ (has_of e s).cell) →
+    (u : World) (k : ℕ) → real_at e (with_nodes u turn) k ≡ real_at e u k
 reals_stay e turn same u k =
     ap (λ o. real_in (slot_at (has_of e) has_none o)) (slice_get-map turn u.nodes k)
     ∙ ap (λ c. c.slot.real) (cell_by e turn same (slice_get u.nodes k))

@@ -1,6 +1,6 @@
 -- A load that gives a settled entity no call and no reap, as those of the last phases: what the laws of clients ask of it.
-use Rattle.std.proofs.Common.{◌≡◌, ℕ, ◌+◌, ◌^◌, ◌<◌, ◌≤◌, false, cond, nat_lt, List, [], ◌∷◌, length, Option, None, Some, refl}
-use Rattle.std.proofs.Common.{sym, ap, ◌∙◌, subst, arith, inl, inr}
+use Rattle.std.proofs.Common.{◌≡◌, ℕ, ◌+◌, ◌^◌, ◌<◌, ◌≤◌, false, cond, nat_lt, List, [], ◌∷◌, length, Option, None, Some, refl, sym, ap}
+use Rattle.std.proofs.Common.{◌∙◌, subst, arith, inl, inr}
 use Rattle.std.specs.Prelude.{option_map, slice_get}
 use Rattle.std.specs.List.{AllByRecursion}
 use Rattle.std.proofs.lemmas.Bool.{cases_eq, eq-eqb, ne_eqb}
@@ -9,7 +9,7 @@ use Rattle.seam_node_steps.specs.Prelude.{link, total, Order, RealView, NodeView
 use Rattle.seam_law_flow.specs.Prelude.{slot_at, letters_of}
 use Rattle.seam_law_calls.specs.Prelude.{Frame, IsInFrame, Has, mine, has_of, has_none, entity_flow, real_burden, order_burden, node_burden}
 use Rattle.seam_law_calls.specs.Prelude.{mine_burden, burden, real_in, HasOne, part_burden, node_base_burden, mine_base_burden, base_burden}
-use Rattle.seam_law_calls.specs.Prelude.{home_of}
+use Rattle.seam_law_calls.specs.Prelude.{home_of, real_at}
 use Rattle.seam_law_rounds.specs.Prelude.{IsSettled, IsBetweenRounds, HasSettledPart, lines_of, HasSmallNumbers}
 use Rattle.seam_machine.proofs.Quiet.{quiet_links}
 use Rattle.seam_net_runs.specs.Sums.{weight_or}
@@ -32,9 +32,8 @@ calm_weigh e (order.Base c ∷ os) h = absurd h.0
 calm_weigh e (order.Tick ∷ os) h = let more = calm_weigh e os h.1 in omega (arith, more)
 calm_weigh e (order.Reap x ∷ os) h = let more = calm_weigh e os h.1 in omega (arith, more)
 
-module _ (f : Frame) (u : World) (between : IsBetweenRounds f u) (e home : ℕ) (r : RealView)
-    (here : real_in ((entity_flow e u).slot home) ≡ Some r) (had : HasSettledPart f e r.ty u) (small : HasSmallNumbers f u)
-    (turn : NodeView → NodeView) (frame : IsInFrame f (with_nodes u turn))
+module _ (f : Frame) (u : World) (between : IsBetweenRounds f u) (e home : ℕ) (r : RealView) (here : real_at e u home ≡ Some r)
+    (had : HasSettledPart f e r.ty u) (small : HasSmallNumbers f u) (turn : NodeView → NodeView) (frame : IsInFrame f (with_nodes u turn))
     (given : (k : ℕ) (s : NodeView) → slice_get u.nodes k ≡ Some s → Given e 0 s (turn s))
     (same : (s : NodeView) → part_at e (turn s) ≡ part_at e s) (calm : IsCalm f e home r u false (with_nodes u turn)) where
   abbrev then : World
@@ -54,7 +53,7 @@ module _ (f : Frame) (u : World) (between : IsBetweenRounds f u) (e home : ℕ) 
   slot_is : (k : ℕ) → slot k ≡ slot_at (has_of e) has_none (option_map turn (slice_get u.nodes k))
   slot_is k = ap (slot_at (has_of e) has_none) (slice_get-map turn u.nodes k)
 
-  real_by : (k : ℕ) (o : Option NodeView) → slice_get u.nodes k ≡ o → real_in (slot k) ≡ real_in ((entity_flow e u).slot k)
+  real_by : (k : ℕ) (o : Option NodeView) → slice_get u.nodes k ≡ o → real_in (slot k) ≡ real_at e u k
   real_by k None at =
       ap real_in (slot_is k ∙ ap (λ o. slot_at (has_of e) has_none (option_map turn o)) at)
       ∙ sym (ap (λ o. real_in (slot_at (has_of e) has_none o)) at)
@@ -62,7 +61,7 @@ module _ (f : Frame) (u : World) (between : IsBetweenRounds f u) (e home : ℕ) 
       ap real_in (slot_is k ∙ ap (λ o. slot_at (has_of e) has_none (option_map turn o)) at)
       ∙ (ap (λ c. c.slot.real) (given k s at).cell ∙ sym (ap (λ o. real_in (slot_at (has_of e) has_none o)) at))
 
-  real_stays : (k : ℕ) → real_in (slot k) ≡ real_in ((entity_flow e u).slot k)
+  real_stays : (k : ℕ) → real_in (slot k) ≡ real_at e u k
   real_stays k = real_by k (slice_get u.nodes k) refl
 
   part_by : (k : ℕ) (o : Option NodeView) → slice_get u.nodes k ≡ o → (slot k).base.part ≡ ((entity_flow e u).slot k).base.part
@@ -79,11 +78,10 @@ module _ (f : Frame) (u : World) (between : IsBetweenRounds f u) (e home : ℕ) 
   -- ---- its numbers
 
   real_weighs : (k : ℕ) (t : NodeView) → (has_of e t ≡ slot k) → AllByRecursion (IsCalmOrder e) (has_of e t).base.orders →
-      total order_reaps (has_of e t).base.orders ≡ 0 → (has_of e t).cell.survey ≡ 0 →
-      node_burden e t ≤ most home (real_burden r) [] k
+      total order_reaps (has_of e t).base.orders ≡ 0 → (has_of e t).cell.survey ≡ 0 → node_burden e t ≤ most home (real_burden r) [] k
   real_weighs k t is orders none survey = elim (cases_eq k home) [
     | inl at ↦
-        let a = ap (weight_or real_burden) (ap real_in is ∙ (real_stays k ∙ (ap (λ j. real_in ((entity_flow e u).slot j)) at ∙ here))) in
+        let a = ap (weight_or real_burden) (ap real_in is ∙ (real_stays k ∙ (ap (λ j. real_at e u j) at ∙ here))) in
         let b = calm_weigh e (has_of e t).base.orders orders in
         rw (eq-eqb k home at) (omega (arith, a, b, none, survey))
     | inr n ↦
@@ -165,7 +163,7 @@ module _ (f : Frame) (u : World) (between : IsBetweenRounds f u) (e home : ℕ) 
     still = no_mail;
     real = λ k q at. elim (cases_eq k home) [
       | inl is ↦
-          let z = sym here ∙ (ap (λ j. real_in ((entity_flow e u).slot j)) (sym is) ∙ (sym (real_stays k) ∙ at)) in
+          let z = sym here ∙ (ap (λ j. real_at e u j) (sym is) ∙ (sym (real_stays k) ∙ at)) in
           cc
       | inr n ↦ absurd (let z = sym (real_stays k ∙ settled.others k n) ∙ at in cc)
     ];

@@ -1,6 +1,6 @@
 -- Which witness a load gives an entity's real, and which client its base part: those of a batch's clients get new ones.
-use Rattle.std.proofs.Common.{◌≡◌, ℕ, Bool, true, false, cond, eqb, ◌||◌, List, [], ◌∷◌, Option, None, Some, refl, sym, ap, ◌∙◌}
-use Rattle.std.proofs.Common.{subst, inl, inr}
+use Rattle.std.proofs.Common.{◌≡◌, ℕ, Bool, true, false, cond, eqb, ◌||◌, List, [], ◌∷◌, Option, None, Some, refl, sym, ap, ◌∙◌, subst, inl}
+use Rattle.std.proofs.Common.{inr}
 use Rattle.std.specs.Prelude.{option_map}
 use Rattle.std.specs.Cmp.{unsigned_tied}
 use Rattle.std.specs.FinMap as table
@@ -38,8 +38,8 @@ twice join same true false o = refl
 twice join same false b o = refl
 
 module _ (e : ℕ) where
-  abbrev pub real_at : NodeView → Option RealView
-  real_at n = real_in (has_of e n)
+  abbrev pub real_in_node : NodeView → Option RealView
+  real_in_node n = real_in (has_of e n)
 
   -- ---- a map in which one entity joins
 
@@ -102,11 +102,11 @@ module _ (e : ℕ) where
   here_of (Cell c) = c.here
   here_of (Base n) = n.here
 
-  cell_ordered : (os : List (ℕ × Order)) (c : CellView) → real_at (each ordered_at os (Cell c)) ≡ real_at (Cell c)
+  cell_ordered : (os : List (ℕ × Order)) (c : CellView) → real_in_node (each ordered_at os (Cell c)) ≡ real_in_node (Cell c)
   cell_ordered [] c = refl
   cell_ordered (o ∷ os) c = cell_ordered os c
 
-  base_ordered : (os : List (ℕ × Order)) (n : BaseView) → real_at (each ordered_at os (Base n)) ≡ None
+  base_ordered : (os : List (ℕ × Order)) (n : BaseView) → real_in_node (each ordered_at os (Base n)) ≡ None
   base_ordered [] n = refl
   base_ordered (o ∷ os) n = base_ordered os (order_if (eqb o.0 n.here.me) n o.1)
 
@@ -115,15 +115,15 @@ module _ (e : ℕ) where
     after n = each ordered_at os (cell_round t (each attached xs n))
 
     pub real_after : (n : NodeView) →
-        real_at (after n) ≡ option_map real_begins (joined_if (is_among e xs) (with_witness (here_of n)) (real_at n))
+        real_in_node (after n) ≡ option_map real_begins (joined_if (is_among e xs) (with_witness (here_of n)) (real_in_node n))
     real_after (Cell c) =
         let j = cell_joins xs c in
-        ap (λ n. real_at (each ordered_at os (cell_round t n))) j.is
+        ap (λ n. real_in_node (each ordered_at os (cell_round t n))) j.is
         ∙ (cell_ordered os (record j.cell { tree = t; nexts = table.empty; reals = _; survey = _ })
         ∙ (get-each_value real_begins j.cell.reals e ∙ ap (option_map real_begins) j.real))
     real_after (Base n) =
         let j = base_joins xs n in
-        ap (λ n. real_at (each ordered_at os (cell_round t n))) j.is
+        ap (λ n. real_in_node (each ordered_at os (cell_round t n))) j.is
         ∙ (base_ordered os j.base ∙ sym (none_joins (is_among e xs)))
       where
         none_joins : (b : Bool) → option_map real_begins (joined_if b (with_witness n.here) None) ≡ None
@@ -147,15 +147,15 @@ module _ (e : ℕ) where
   -- ---- other entities are created
 
   module _ (t : Division) where
-    real_by : (x : Create) (c : CellView) (b : Bool) → (x.entity ≡ e → ⊥) → real_at (Cell (real_if b c x)) ≡ real_at (Cell c)
+    real_by : (x : Create) (c : CellView) (b : Bool) → (x.entity ≡ e → ⊥) → real_in_node (Cell (real_if b c x)) ≡ real_in_node (Cell c)
     real_by x c true other = other_set e c.reals x.entity (Some (created c.here x.entity x.ty x.pos)) other
     real_by x c false other = refl
 
-    created_other : (x : Create) (s : NodeView) → (x.entity ≡ e → ⊥) → real_at (created_at t x s) ≡ real_at s
+    created_other : (x : Create) (s : NodeView) → (x.entity ≡ e → ⊥) → real_in_node (created_at t x s) ≡ real_in_node s
     created_other x (Cell c) other = real_by x c (eqb (leaf_at t x.pos) c.here.me) other
     created_other x (Base n) other = refl
 
-    pub reals_created : (xs : List Create) → AreOthers e xs → (s : NodeView) → real_at (each (created_at t) xs s) ≡ real_at s
+    pub reals_created : (xs : List Create) → AreOthers e xs → (s : NodeView) → real_in_node (each (created_at t) xs s) ≡ real_in_node s
     reals_created [] others s = refl
     reals_created (x ∷ xs) others s = reals_created xs others.1 (created_at t x s) ∙ created_other x s others.0
 
@@ -189,23 +189,23 @@ module _ (e : ℕ) where
     knows : here_of (peopled b s) ≡ here_at f k
     knows = here_each b.tree b.creates (base_round (cells_of b.tree) s) ∙ (here_begun (cells_of b.tree) s ∙ here_in f k s at)
 
-    pub real_joined : real_at (node_loaded b s)
-        ≡ option_map real_begins (joined_if (is_among e b.clients) (with_witness (here_at f k)) (real_at (peopled b s)))
+    pub real_joined : real_in_node (node_loaded b s)
+        ≡ option_map real_begins (joined_if (is_among e b.clients) (with_witness (here_at f k)) (real_in_node (peopled b s)))
     real_joined =
         real_after b.tree b.orders b.clients (peopled b s)
-        ∙ ap (λ h. option_map real_begins (joined_if (is_among e b.clients) (with_witness h) (real_at (peopled b s)))) knows
+        ∙ ap (λ h. option_map real_begins (joined_if (is_among e b.clients) (with_witness h) (real_in_node (peopled b s)))) knows
 
     pub part_joined : part_at e (node_loaded b s) ≡ joined_if (is_among e b.clients) (with_proxy (here_at f k)) (part_at e (peopled b s))
     part_joined =
         part_after b.tree b.orders b.clients (peopled b s)
         ∙ ap (λ h. joined_if (is_among e b.clients) (with_proxy h) (part_at e (peopled b s))) knows
 
-  begun_real : (n : ℕ) (s : NodeView) → real_at (base_round n s) ≡ real_at s
+  begun_real : (n : ℕ) (s : NodeView) → real_in_node (base_round n s) ≡ real_in_node s
   begun_real n (Cell c) = refl
   begun_real n (Base b) = refl
 
   -- the real and the part of an entity that the batch does not create are what they were
-  pub real_peopled : (b : Batch) (s : NodeView) → AreOthers e b.creates → real_at (peopled b s) ≡ real_at s
+  pub real_peopled : (b : Batch) (s : NodeView) → AreOthers e b.creates → real_in_node (peopled b s) ≡ real_in_node s
   real_peopled b s others =
       reals_created b.tree b.creates others (base_round (cells_of b.tree) s) ∙ begun_real (cells_of b.tree) s
 
@@ -216,7 +216,7 @@ module _ (e : ℕ) where
   -- what is true of each real that is made is true of that of an entity that the batch creates
   module _ (P : RealView → Type 0) (makes : (h : Here) (x : Create) → P (created h x.entity x.ty x.pos)) where
     abbrev IsMade : NodeView → Type 0
-    IsMade n = (r : RealView) → real_at n ≡ Some r → P r
+    IsMade n = (r : RealView) → real_in_node n ≡ Some r → P r
 
     made_by : (t : Division) (x : Create) (c : CellView) (b : Bool) → IsMade (Cell c) → IsMade (Cell (real_if b c x))
     made_by t x c false h = h
@@ -235,7 +235,7 @@ module _ (e : ℕ) where
     made_created t x (Cell c) u h = made_by t x c (eqb (leaf_at t x.pos) c.here.me) h
     made_created t x (Base n) u h = h
 
-    pub made_peopled : (b : Batch) (s : NodeView) → real_at s ≡ None → IsMade (peopled b s)
+    pub made_peopled : (b : Batch) (s : NodeView) → real_in_node s ≡ None → IsMade (peopled b s)
     made_peopled b s none =
         each_keeps (created_at b.tree) IsMade Any (made_created b.tree) b.creates (any b.creates) (base_round (cells_of b.tree) s)
         (λ r at. absurd (let z = sym (begun_real (cells_of b.tree) s ∙ none) ∙ at in cc))
@@ -268,7 +268,8 @@ module _ (e : ℕ) where
         (λ p at. absurd (let z = sym (part_begun e (cells_of b.tree) s ∙ ap (option_map part_begins) none) ∙ at in cc))
 
   -- so they have no witness and no client
-  pub unseen_peopled : (b : Batch) (s : NodeView) → real_at s ≡ None → (r : RealView) → real_at (peopled b s) ≡ Some r → r.witness ≡ None
+  pub unseen_peopled : (b : Batch) (s : NodeView) → real_in_node s ≡ None → (r : RealView) →
+      real_in_node (peopled b s) ≡ Some r → r.witness ≡ None
   unseen_peopled b s none = made_peopled (λ r. r.witness ≡ None) (λ h x. refl) b s none
 
   pub bare_peopled : (b : Batch) (s : NodeView) → part_at e s ≡ None → HasNoProxy (part_at e (peopled b s))

@@ -1,6 +1,5 @@
 -- The reals of a loaded world: those that were there, and those that the batch created. Each is settled in it.
-use Rattle.std.proofs.Common.{◌≡◌, ℕ, ◌+◌, ◌^◌, ◌<◌, ◌≤◌, Bool, false, cond, List, [], ◌∷◌, ◌++◌, length, Option, None, Some, refl, sym}
-use Rattle.std.proofs.Common.{ap}
+use Rattle.std.proofs.Common.{◌≡◌, ℕ, ◌+◌, ◌^◌, ◌<◌, ◌≤◌, Bool, false, cond, List, [], ◌∷◌, ◌++◌, length, Option, None, Some, refl, sym, ap}
 use Rattle.std.proofs.Common.{◌∙◌, subst, arith, inl, inr, ◌||◌}
 use Rattle.std.specs.Prelude.{option_map, slice_get}
 use Rattle.std.specs.List.{AllByRecursion}
@@ -13,8 +12,8 @@ use Rattle.seam_node_steps.specs.Prelude.{leaf_at, cells_of, link, Create, Batch
 use Rattle.seam_node_steps.specs.Prelude.{created, real_begins, holders, NodeView, World, node_has_work, Cell, Base, loaded}
 use Rattle.seam_law_flow.specs.Prelude.{Flow, slot_at, letters_of}
 use Rattle.seam_law_calls.specs.Prelude.{Frame, here_at, Has, mine, has_of, has_none, entity_flow, RealFits, real_in, real_of}
-use Rattle.seam_law_calls.specs.Prelude.{reaped_by_order, HasNoReaps}
-use Rattle.seam_law_rounds.specs.Prelude.{next_from, numbers_of, IsSettled, IsBetweenRounds, MayBeMade, IsFitting, framed, node_loaded}
+use Rattle.seam_law_calls.specs.Prelude.{reaped_by_order, HasNoReaps, real_at}
+use Rattle.seam_law_rounds.specs.Prelude.{next_from, numbers_of, IsSettled, MayBeMade, framed, node_loaded, MayBegin}
 use Rattle.seam_tree.proofs.Leaves.{leaf_is_cell}
 use Rattle.seam_machine.proofs.Quiet.{quiet_links, quiet_tasks}
 use Rattle.seam_law_calls.proofs.Counting.{counted_none, none_counts}
@@ -59,8 +58,7 @@ module _ (w : World) (b : Batch) (e : ℕ) where
 
   -- an entity that is not created
   module _ (spares : AllByRecursion (λ o. reaped_by_order o.1 ≡ None) b.orders) (others : AreOthers e b.creates) where
-    slot_by : (o : Option NodeView) →
-        Becomes e (slot_at (has_of e) has_none o) (slot_at (has_of e) has_none (option_map (node_loaded b) o))
+    slot_by : (o : Option NodeView) → Becomes e (slot_at (has_of e) has_none o) (slot_at (has_of e) has_none (option_map (node_loaded b) o))
     slot_by None = record { real = refl; next = refl; route = refl; spared = λ h. h }
     slot_by (Some s) = node_becomes e b others spares s
 
@@ -68,18 +66,17 @@ module _ (w : World) (b : Batch) (e : ℕ) where
     slot_becomes k = subst (Becomes e ((entity_flow e w).slot k)) (sym (slot_is k)) (slot_by (slice_get w.nodes k))
 
     -- its reals were there
-    pub real_was : (k : ℕ) (r : RealView) → real_in ((entity_flow e (loaded w b)).slot k) ≡ Some r →
-        (q : RealView) × (x : Option WitnessView) × (real_in ((entity_flow e w).slot k) ≡ Some q)
-        × (record (real_begins q) { witness = x } ≡ r)
+    pub real_was : (k : ℕ) (r : RealView) → real_at e (loaded w b) k ≡ Some r →
+        (q : RealView) × (x : Option WitnessView) × (real_at e w k ≡ Some q) × (record (real_begins q) { witness = x } ≡ r)
     real_was k r here =
         let was = (slot_becomes k).real in
-        let o = real_in ((entity_flow e w).slot k) in
-        let p = real_in ((entity_flow e (loaded w b)).slot k) in
+        let o = real_at e w k in
+        let p = real_at e (loaded w b) k in
         let q = kept_from o p was r here in
         let x = kept_some o p was q.0 q.1 in
         (q.0, x.0, q.1, (let z = sym x.1 ∙ here in cc))
 
-module _ (f : Frame) (w : World) (b : Batch) (between : IsBetweenRounds f w) (fits : IsFitting f w b) (e : ℕ) where
+module _ (f : Frame) (w : World) (b : Batch) (begin : MayBegin f w b) (e : ℕ) where
   abbrev before : Flow Has Msg
   before = entity_flow e w
 
@@ -89,7 +86,7 @@ module _ (f : Frame) (w : World) (b : Batch) (between : IsBetweenRounds f w) (fi
   pub no_mail : (x y : ℕ) → after.mail x y ≡ []
   no_mail x y =
       ap (λ v. letters_of (mine e) (link v.rows x y)) (loaded_is w b)
-      ∙ ap (letters_of (mine e)) (quiet_links node_has_work w between.nodes.sound.square between.quiet x y)
+      ∙ ap (letters_of (mine e)) (quiet_links node_has_work w begin.between.nodes.sound.square begin.between.quiet x y)
 
   -- ---- where a real comes from
 
@@ -166,10 +163,10 @@ module _ (f : Frame) (w : World) (b : Batch) (between : IsBetweenRounds f w) (fi
 
   was_there : AreOthers e b.creates → (home : ℕ) (r : RealView) → real_in (before.slot home) ≡ Some r → Origin home r before.slot
   was_there others home r here =
-      let q = between.settled e home r here in
-      let more = fits.cells in
+      let q = begin.between.settled e home r here in
+      let more = begin.fits.cells in
       record {
-        becomes = slot_becomes w b e fits.spares others;
+        becomes = slot_becomes w b e begin.fits.spares others;
         here = here;
         others = q.others;
         type = q.type;
@@ -186,8 +183,9 @@ module _ (f : Frame) (w : World) (b : Batch) (between : IsBetweenRounds f w) (fi
         routes = q.routes;
         none_held = q.none_held;
         from_one = q.from_one;
-        spared = slots (λ j h. HasNoReaps h) e w (λ j s at. idle_spares e s (quiet_tasks node_has_work w between.quiet j s at)) (λ j. tt);
-        small = fits.small e home r here;
+        spared = slots (λ j h. HasNoReaps h) e w
+            (λ j s at. idle_spares e s (quiet_tasks node_has_work w begin.between.quiet j s at)) (λ j. tt);
+        small = begin.fits.small e home r here;
       }
 
   -- one that was there is not created
@@ -203,7 +201,7 @@ module _ (f : Frame) (w : World) (b : Batch) (between : IsBetweenRounds f w) (fi
 
 -- ---- one that is created
 
-module _ (f : Frame) (w : World) (b : Batch) (between : IsBetweenRounds f w) (fits : IsFitting f w b) (first : List Create) (x : Create)
+module _ (f : Frame) (w : World) (b : Batch) (begin : MayBegin f w b) (first : List Create) (x : Create)
     (later : List Create) (is : b.creates ≡ first ++ x ∷ later) (others : AreOthers x.entity first) (more : AreOthers x.entity later) where
   abbrev leaf : ℕ
   leaf = leaf_at b.tree x.pos
@@ -211,19 +209,20 @@ module _ (f : Frame) (w : World) (b : Batch) (between : IsBetweenRounds f w) (fi
   abbrev had : ℕ → Option NodeView → Has
   had k o =
       slot_at (has_of x.entity) has_none
-      (option_map (until f b fits.tree x k first later is others more fits.spares) o)
+      (option_map (until f b begin.fits.tree x k first later is others more begin.fits.spares) o)
 
   may : MayBeMade f w x
-  may = middle (MayBeMade f w) first x later (subst (AllByRecursion (MayBeMade f w)) is fits.creates)
+  may = middle (MayBeMade f w) first x later (subst (AllByRecursion (MayBeMade f w)) is begin.fits.creates)
 
   made_there : (k : ℕ) (s : NodeView) → slice_get w.nodes k ≡ Some s → Made f b x k (had k (Some s))
   made_there k s at =
-      node_made f b fits.tree x k first later is others more fits.spares s (between.nodes.sound.states k s at) (between.nodes.nodes k s at)
+      node_made f b begin.fits.tree x k first later is others more begin.fits.spares s
+      (begin.between.nodes.sound.states k s at) (begin.between.nodes.nodes k s at)
       (sym (ap (slot_at (has_of x.entity) has_none) at) ∙ may.new k)
 
   after_by : (k : ℕ) (o : Option NodeView) → Becomes x.entity (had k o) (slot_at (has_of x.entity) has_none (option_map (node_loaded b) o))
   after_by k None = record { real = refl; next = refl; route = refl; spared = λ h. h }
-  after_by k (Some s) = node_after f b fits.tree x k first later is others more fits.spares s
+  after_by k (Some s) = node_after f b begin.fits.tree x k first later is others more begin.fits.spares s
 
   leaf_low : leaf < cells_of b.tree
   leaf_low = leaf_is_cell b.tree x.pos
@@ -233,7 +232,7 @@ module _ (f : Frame) (w : World) (b : Batch) (between : IsBetweenRounds f w) (fi
 
   node_by : (k : ℕ) (o : Option NodeView) → slice_get w.nodes k ≡ o → k < cell_count + f.settings.bases → (o ≡ None → ⊥)
   node_by k o at low none =
-      let many = between.many in
+      let many = begin.between.many in
       elim (slice_get_cases w.nodes k).1 [
         | inl p ↦ absurd (let z = sym (at ∙ none) ∙ p.2 in cc)
         | inr p ↦ let past = p.0 in absurd (omega (arith, past, many, low))
@@ -242,7 +241,7 @@ module _ (f : Frame) (w : World) (b : Batch) (between : IsBetweenRounds f w) (fi
   here_by : (o : Option NodeView) → slice_get w.nodes leaf ≡ o → real_in (had leaf o) ≡ Some made
   here_by None at =
       let low = leaf_low in
-      let most = fits.tree.cells_to in
+      let most = begin.fits.tree.cells_to in
       absurd (node_by leaf None at (omega (arith, low, most)) refl)
   here_by (Some s) at = (made_there leaf s at).real ∙ ap (λ c. cond c (Some made) None) (eq-eqb leaf leaf refl)
 
@@ -264,14 +263,14 @@ module _ (f : Frame) (w : World) (b : Batch) (between : IsBetweenRounds f w) (fi
   fresh : (s : ℕ) → order_or (table.get made.orders s) ≡ record { next = 1; held = [] }
   fresh s = ap order_or (table.get-empty nat_cmp s)
 
-  was_made : Origin f w b between fits x.entity leaf made (λ k. had k (slice_get w.nodes k))
+  was_made : Origin f w b begin x.entity leaf made (λ k. had k (slice_get w.nodes k))
   was_made = record {
     becomes = λ k.
         subst (Becomes x.entity (had k (slice_get w.nodes k))) (sym (slot_is w b x.entity k)) (after_by k (slice_get w.nodes k));
     here = here_by (slice_get w.nodes leaf) refl;
     others = λ j n. other_by j (slice_get w.nodes j) refl n;
     type = may.type;
-    fit = made_fits f between.frame.defs b w x leaf may leaf_low;
+    fit = made_fits f begin.between.frame.defs b w x leaf may leaf_low;
     public = omega arith;
     routes = λ k. routes_by k (slice_get w.nodes k) refl;
     none_held = λ s. ap (λ o. o.held) (fresh s);
@@ -282,29 +281,28 @@ module _ (f : Frame) (w : World) (b : Batch) (between : IsBetweenRounds f w) (fi
 
 -- ---- each
 
-module _ (f : Frame) (w : World) (b : Batch) (between : IsBetweenRounds f w) (fits : IsFitting f w b) where
-  loaded_by : (e k : ℕ) (r : RealView) → Creation e b.creates → real_in ((entity_flow e (loaded w b)).slot k) ≡ Some r →
-      Loaded f w b between fits e k r
+module _ (f : Frame) (w : World) (b : Batch) (begin : MayBegin f w b) where
+  loaded_by : (e k : ℕ) (r : RealView) → Creation e b.creates → real_at e (loaded w b) k ≡ Some r → Loaded f w b begin e k r
   loaded_by e k r (nowhere others) here =
-      let q = real_was w b e fits.spares others k r here in
-      only f w b between fits e k q.0 (entity_flow e w).slot (was_there f w b between fits e others k q.0 q.2) k r here
+      let q = real_was w b e begin.fits.spares others k r here in
+      only f w b begin e k q.0 (entity_flow e w).slot (was_there f w b begin e others k q.0 q.2) k r here
   loaded_by e k r (once first x later is at others more) here =
-      subst (λ e. Loaded f w b between fits e k r) at
-      (only f w b between fits x.entity (leaf_at b.tree x.pos) _ _ (was_made f w b between fits first x later is
+      subst (λ e. Loaded f w b begin e k r) at
+      (only f w b begin x.entity (leaf_at b.tree x.pos) _ _ (was_made f w b begin first x later is
       (subst (λ e. AreOthers e first) (sym at) others) (subst (λ e. AreOthers e later) (sym at) more)) k r
-      (subst (λ e. real_in ((entity_flow e (loaded w b)).slot k) ≡ Some r) (sym at) here))
+      (subst (λ e. real_at e (loaded w b) k ≡ Some r) (sym at) here))
 
   -- a real of the loaded world
-  pub real_loaded : (e k : ℕ) (r : RealView) → real_in ((entity_flow e (loaded w b)).slot k) ≡ Some r → Loaded f w b between fits e k r
-  real_loaded e k r here = loaded_by e k r (creation_of e b.creates fits.once) here
+  pub real_loaded : (e k : ℕ) (r : RealView) → real_at e (loaded w b) k ≡ Some r → Loaded f w b begin e k r
+  real_loaded e k r here = loaded_by e k r (creation_of e b.creates begin.fits.once) here
 
   -- ---- holders
 
   pub holds_kept : (e : ℕ) → holders w e ≡ 1 → holders (loaded w b) e ≡ 1
   holds_kept e one =
-      let h = quiet_home f w between e one in
-      let others = others_of f w b between fits e b.creates fits.creates h.node h.real h.here in
-      counted f w b between fits e h.node h.real (entity_flow e w).slot (was_there f w b between fits e others h.node h.real h.here)
+      let h = quiet_home f w begin.between e one in
+      let others = others_of f w b begin e b.creates begin.fits.creates h.node h.real h.here in
+      counted f w b begin e h.node h.real (entity_flow e w).slot (was_there f w b begin e others h.node h.real h.here)
 
   made_one : (x : Create) (first later : List Create) → b.creates ≡ first ++ x ∷ later → Creation x.entity b.creates →
       holders (loaded w b) x.entity ≡ 1
@@ -312,13 +310,13 @@ module _ (f : Frame) (w : World) (b : Batch) (between : IsBetweenRounds f w) (fi
       absurd (middle (λ y. y.entity ≡ x.entity → ⊥) first x later (subst (AreOthers x.entity) is others) refl)
   made_one x first later is (once before y rest at same others more) =
       subst (λ e. holders (loaded w b) e ≡ 1) same
-      (counted f w b between fits y.entity (leaf_at b.tree y.pos) _ _ (was_made f w b between fits before y rest at
+      (counted f w b begin y.entity (leaf_at b.tree y.pos) _ _ (was_made f w b begin before y rest at
       (subst (λ e. AreOthers e before) (sym same) others) (subst (λ e. AreOthers e rest) (sym same) more)))
 
   made_by : (first xs : List Create) → b.creates ≡ first ++ xs → AllByRecursion (λ x. holders (loaded w b) x.entity ≡ 1) xs
   made_by first [] is = tt
   made_by first (x ∷ xs) is = (
-    made_one x first xs is (creation_of x.entity b.creates fits.once),
+    made_one x first xs is (creation_of x.entity b.creates begin.fits.once),
     made_by (first ++ x ∷ []) xs (is ∙ sym (append_assoc first (x ∷ []) xs)),
   )
 
@@ -330,7 +328,7 @@ module _ (f : Frame) (w : World) (b : Batch) (between : IsBetweenRounds f w) (fi
       let none = counted_none w e zero in
       let now = entity_flow e (loaded w b) in
       none_counts (loaded w b) e (record {
-        slots = λ j. kept_none (real_in ((entity_flow e w).slot j)) (real_in (now.slot j))
-            (slot_becomes w b e fits.spares others j).real (none.slots j);
-        mail = λ x y. ap (letters_of real_of) (no_mail f w b between fits e x y);
+        slots = λ j. kept_none (real_at e w j) (real_in (now.slot j))
+            (slot_becomes w b e begin.fits.spares others j).real (none.slots j);
+        mail = λ x y. ap (letters_of real_of) (no_mail f w b begin e x y);
       })

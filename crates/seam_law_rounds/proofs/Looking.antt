@@ -1,10 +1,10 @@
 -- The phase of looks: each entity keeps its one real.
 use Rattle.std.proofs.Common.{◌≡◌, ℕ, Bool, true, false, cond, eqb, List, Some, refl, ap, ◌∙◌, subst}
 use Rattle.std.proofs.lemmas.List.{length-map}
-use Rattle.seam_node_steps.specs.Prelude.{IsQuiet, LeadsTo, Event, Order, RealView, may_rise, cell_count, base_of, holders, World}
-use Rattle.seam_node_steps.specs.Prelude.{node_steps, node_has_work, ordered_at, look_loaded}
+use Rattle.seam_node_steps.specs.Prelude.{IsQuiet, Event, Order, RealView, may_rise, cell_count, base_of, holders, World, node_has_work}
+use Rattle.seam_node_steps.specs.Prelude.{ordered_at, look_loaded}
 use Rattle.seam_law_flow.specs.Prelude.{Nobody}
-use Rattle.seam_law_calls.specs.Prelude.{Frame, here_at, entity_flow, real_in, real_of}
+use Rattle.seam_law_calls.specs.Prelude.{Frame, here_at, entity_flow, real_in, real_of, RunsTo, real_at}
 use Rattle.seam_law_rounds.specs.Prelude.{IsBetweenRounds, HasNoCalls}
 use Rattle.seam_machine.proofs.Quiet.{quiet_tasks}
 use Rattle.seam_call.specs.declared.order.Order.TheVariants as order
@@ -25,13 +25,13 @@ zero_by true = refl
 zero_by false = refl
 
 module _ (f : Frame) (u : World) (between : IsBetweenRounds f u) where
-  stay : (e k : ℕ) → real_in ((entity_flow e (look_loaded u)).slot k) ≡ real_in ((entity_flow e u).slot k)
+  stay : (e k : ℕ) → real_at e (look_loaded u) k ≡ real_at e u k
   stay e k = reals_stay e (ordered_at tick) (look_cell e tick) u k
 
   pub small : (r : RealView) → false ≡ true → may_rise r.beat ≡ true
   small r h = cc
 
-  module _ (e home : ℕ) (r : RealView) (here : real_in ((entity_flow e u).slot home) ≡ Some r) where
+  module _ (e home : ℕ) (r : RealView) (here : real_at e u home ≡ Some r) where
     pub calm : IsCalm f e home r u false (look_loaded u)
     calm =
         starts_calm f u between e home r here (ordered_at tick) false (look_framed f u between.nodes tick)
@@ -42,7 +42,7 @@ module _ (f : Frame) (u : World) (between : IsBetweenRounds f u) where
   nobody : (e : ℕ) → Nobody real_in real_of (entity_flow e u) → Nobody real_in real_of (entity_flow e (look_loaded u))
   nobody e n = record { slots = λ k. stay e k ∙ n.slots k; mail = n.mail }
 
-  module _ (vs : List Event) (v : World) (run : LeadsTo node_has_work node_steps (look_loaded u) vs v) where
+  module _ (vs : List Event) (v : World) (run : RunsTo (look_loaded u) vs v) where
     pub look_keeps : (e : ℕ) → holders u e ≡ 1 → holders v e ≡ 1
     look_keeps e one =
         let h = quiet_home f u between e one in

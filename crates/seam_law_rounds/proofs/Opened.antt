@@ -1,6 +1,6 @@
 -- A world as it is opened keeps the record between rounds.
-use Rattle.std.proofs.Common.{◌≡◌, ℕ, zero, suc, ◌+◌, ◌<◌, ◌≤◌, false, ◌||◌, is_some, List, [], ◌++◌, map, find, length, replicate}
-use Rattle.std.proofs.Common.{Option, None, Some, refl, sym, ap, ◌∙◌, subst, arith}
+use Rattle.std.proofs.Common.{◌≡◌, ℕ, zero, suc, ◌+◌, ◌<◌, ◌≤◌, false, ◌||◌, is_some, List, [], ◌++◌, map, find, length, replicate, Option}
+use Rattle.std.proofs.Common.{None, Some, refl, sym, ap, ◌∙◌, subst, arith}
 use Rattle.std.specs.Prelude.{option_map, slice_get, slice_index_or}
 use Rattle.std.specs.List.{range_with_len}
 use Rattle.std.specs.Ordering.{nat_cmp}
@@ -12,7 +12,7 @@ use Rattle.std.proofs.lemmas.Option.{slice_get-get_or}
 use Rattle.seam_node_steps.specs.Prelude.{Settings, TypeDef, IsSquare, ArePeers, Ghost, GhostCopy, RealView, number_of, NextPlace}
 use Rattle.seam_node_steps.specs.Prelude.{RouteView, PartView, cell_count, cell_numbers, real_is_ready, part_is_ready, client_is_ready}
 use Rattle.seam_node_steps.specs.Prelude.{NodeView, World, node_peers, node_has_work, IsNode, empty_cell, empty_base, opened}
-use Rattle.seam_law_calls.specs.Prelude.{Frame, IsAt, Has, no_cell, no_base, has_of, has_none, entity_flow, real_in, IsFrame}
+use Rattle.seam_law_calls.specs.Prelude.{Frame, IsAt, Has, no_cell, no_base, has_of, has_none, entity_flow, real_in, IsFrame, real_at}
 use Rattle.seam_law_rounds.specs.Prelude.{IsBetweenRounds, first_frame}
 use Rattle.seam_machine.proofs.Quiet.{quiet_from}
 use Rattle.seam_node_steps.proofs.Tables.{entries_empty}
@@ -101,9 +101,8 @@ module _ (defs : List TypeDef) (settings : Settings) (frame : IsFrame (first_fra
       (each_range IsOpen (empty_cell defs settings) 0 cell_count (map (empty_base defs settings) (range_with_len cell_count settings.bases))
       (λ j high low. cell_open j low) (λ i x there. bases_open i x there) k s at)
     where
-      bases_open : (i : ℕ) (x : NodeView) → slice_get (map (empty_base defs settings)
-          (range_with_len cell_count settings.bases)) i ≡ Some x →
-          IsOpen (i + cell_count) x
+      bases_open : (i : ℕ) (x : NodeView) → slice_get (map (empty_base defs settings) (range_with_len cell_count settings.bases)) i ≡ Some x
+          → IsOpen (i + cell_count) x
       bases_open i x there =
           each_range IsOpen (empty_base defs settings) cell_count settings.bases [] (λ j high low. base_open j high)
           (λ k s at. cc) i x (ap (λ l. slice_get l i) (append-nil _) ∙ there)
@@ -127,7 +126,7 @@ module _ (defs : List TypeDef) (settings : Settings) (frame : IsFrame (first_fra
   pub opened_is_new : (e k : ℕ) → (entity_flow e w).slot k ≡ has_none
   opened_is_new e k = slots (λ j h. h ≡ has_none) e w (λ j s at. (each_node j s at).new e) (λ j. refl) k
 
-  pub opened_has_none : (e k : ℕ) → real_in ((entity_flow e w).slot k) ≡ None
+  pub opened_has_none : (e k : ℕ) → real_at e w k ≡ None
   opened_has_none e k = ap real_in (opened_is_new e k)
 
   pub opened_between : IsBetweenRounds f w

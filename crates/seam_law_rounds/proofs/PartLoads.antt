@@ -52,8 +52,7 @@ module _ (e : ℕ) where
     created_other (Cell c) = refl
     created_other (Base n) = other_by (with_route n x.entity (leaf_at t x.pos)) (eqb (base_of n.here x.entity) n.here.me)
 
-  pub others_created : (t : Division) (xs : List Create) → AreOthers e xs → (s : NodeView) →
-      part_at (each (created_at t) xs s) ≡ part_at s
+  pub others_created : (t : Division) (xs : List Create) → AreOthers e xs → (s : NodeView) → part_at (each (created_at t) xs s) ≡ part_at s
   others_created t [] others s = refl
   others_created t (x ∷ xs) others s = others_created t xs others.1 (created_at t x s) ∙ created_other t x others.0 s
 

@@ -9,10 +9,10 @@ use Rattle.std.proofs.lemmas.Option.{slice_get-map, slice_get_cases}
 use Rattle.seam_node_steps.specs.Prelude.{items_to, item_at, Call as CallData, Order, Batch, rank_of, order_or, RealView, Msg, limit}
 use Rattle.seam_node_steps.specs.Prelude.{cell_count, PartView, fits_base_part, NodeView, World, node_has_work, loaded}
 use Rattle.seam_law_flow.specs.Prelude.{Flow, slot_at, letters_of, more_letter, number_from, of_number, Desk, AreInTurn}
-use Rattle.seam_law_calls.specs.Prelude.{Frame, here_at, Has, kept_if, has_of, has_none, order_concerns, orders_of, entity_flow, real_in}
-use Rattle.seam_law_calls.specs.Prelude.{is_from, from_sender, numbered_from, base_call_of, part_desk, base_mail, as_base_sender}
-use Rattle.seam_law_calls.specs.Prelude.{IsBaseCallOf, AreBaseCallsOf, part_burden, node_base_burden, mine_base_burden, base_burden}
-use Rattle.seam_law_calls.specs.Prelude.{home_of, IsHomeward, HasPart, HasBaseCalls, IsForNode, HasRoutes}
+use Rattle.seam_law_calls.specs.Prelude.{Frame, here_at, Has, kept_if, has_of, has_none, order_concerns, orders_of, entity_flow, is_from}
+use Rattle.seam_law_calls.specs.Prelude.{from_sender, numbered_from, base_call_of, part_desk, base_mail, as_base_sender, IsBaseCallOf}
+use Rattle.seam_law_calls.specs.Prelude.{AreBaseCallsOf, part_burden, node_base_burden, mine_base_burden, base_burden, home_of, IsHomeward}
+use Rattle.seam_law_calls.specs.Prelude.{HasPart, HasBaseCalls, IsForNode, HasRoutes, real_at}
 use Rattle.seam_law_rounds.specs.Prelude.{order_in, framed, node_loaded, next_to, base_calls_of, base_calls_at, AreBaseNumbered}
 use Rattle.seam_law_rounds.specs.Prelude.{IsFitBaseOrder, IsForPart, MayBeLoaded}
 use Rattle.seam_machine.proofs.Quiet.{quiet_links}
@@ -48,8 +48,7 @@ module _ (f : Frame) (e ty s : ℕ) where
   ours_by (order.Base c) rs true is h all = from_by c (calls_in rs) (is_from s c) refl (h (eqb-true c.entity e is)) all
   ours_by _ rs true is h all = all
 
-  pub ours : (os : List (ℕ × Order)) → AllByRecursion (λ o. IsFitBaseOrder f e ty o.1) os →
-      Ours (calls_in (orders_of e (map order_in os)))
+  pub ours : (os : List (ℕ × Order)) → AllByRecursion (λ o. IsFitBaseOrder f e ty o.1) os → Ours (calls_in (orders_of e (map order_in os)))
   ours [] h = tt
   ours (o ∷ os) h = ours_by o.1 (orders_of e (map order_in os)) (order_concerns e o.1) refl h.0 (ours os h.1)
 
@@ -70,7 +69,7 @@ few_calls e (o ∷ os) =
 -- ---- in turn
 
 module _ (f : Frame) (w : World) (b : Batch) (may : MayBeLoaded f w b) (e home : ℕ) (r : RealView)
-    (here : real_in ((entity_flow e (loaded w b)).slot home) ≡ Some r) (its : LoadedPart f w b e r.ty) where
+    (here : real_at e (loaded w b) home ≡ Some r) (its : LoadedPart f w b e r.ty) where
   abbrev g : Frame
   g = framed f b
 
@@ -84,7 +83,7 @@ module _ (f : Frame) (w : World) (b : Batch) (may : MayBeLoaded f w b) (e home :
   for_part = may.brings.calls e part its.settled.here
 
   still : (x y : ℕ) → then.mail x y ≡ []
-  still = no_mail f w b may.between may.fits e
+  still = no_mail f w b may.begin e
 
   slot_there : (k : ℕ) (o : Option NodeView) → slice_get w.nodes k ≡ o →
       then.slot k ≡ slot_at (has_of e) has_none (option_map (node_loaded b) o)
@@ -92,11 +91,10 @@ module _ (f : Frame) (w : World) (b : Batch) (may : MayBeLoaded f w b) (e home :
 
   orders_there : (k : ℕ) (n : NodeView) → slice_get w.nodes k ≡ Some n → cell_count ≤ k →
       (has_of e (node_loaded b n)).base.orders ≡ orders_of e (items_to k b.orders)
-  orders_there = node_orders f w b may.between may.fits.tree e
+  orders_there = node_orders f w b may.begin.between may.begin.fits.tree e
 
-  orders_none : (k : ℕ) (n : NodeView) → slice_get w.nodes k ≡ Some n → k < cell_count →
-      (has_of e (node_loaded b n)).base.orders ≡ []
-  orders_none = node_none f w b may.between may.fits.tree e
+  orders_none : (k : ℕ) (n : NodeView) → slice_get w.nodes k ≡ Some n → k < cell_count → (has_of e (node_loaded b n)).base.orders ≡ []
+  orders_none = node_none f w b may.begin.between may.begin.fits.tree e
 
   module _ (s : ℕ) where
     abbrev kept_in : List Order → List (ℕ × CallData)
@@ -127,7 +125,7 @@ module _ (f : Frame) (w : World) (b : Batch) (may : MayBeLoaded f w b) (e home :
     store_by : (n : ℕ) (o : Option NodeView) → slice_get w.nodes numbers.node ≡ o →
         letters_of (of_number n) (stored numbers.node) ≡ more_letter (item_at n (number_from first (base_calls_of b e s))) []
     store_by n None at =
-        let many = may.between.many in
+        let many = may.begin.between.many in
         let is_there = numbers.is_there in
         elim (slice_get_cases w.nodes numbers.node).1 [
           | inl p ↦ absurd (let z = sym at ∙ p.2 in cc)
@@ -195,11 +193,12 @@ module _ (f : Frame) (w : World) (b : Batch) (may : MayBeLoaded f w b) (e home :
       subst (λ i. node_base_burden e t ≤ most (home_of f e) part.version b.orders i) same
       (subst (λ t. node_base_burden e t ≤ most (home_of f e) part.version b.orders j) n.2 (node_weighs j n.0 n.1))) in
       let all = from_all b.orders in
-      let links = rows_none (mine_base_burden e) w.rows (quiet_links node_has_work w may.between.nodes.sound.square may.between.quiet) in
+      let links =
+      rows_none (mine_base_burden e) w.rows (quiet_links node_has_work w may.begin.between.nodes.sound.square may.begin.between.quiet) in
       let is = ap (base_burden e) (loaded_is w b) in
       let past : cond {A = ℕ} (nat_lt (home_of f e) 0) 0 part.version ≡ part.version =
       ap (λ c. cond {A = ℕ} c 0 part.version) (none_below (home_of f e)) in
-      let short = may.fits.few in
+      let short = may.begin.fits.few in
       omega (arith, sum, all, links, is, past, short)
 
   room : base_burden e (loaded w b) + 1 < limit
@@ -209,7 +208,7 @@ module _ (f : Frame) (w : World) (b : Batch) (may : MayBeLoaded f w b) (e home :
 
   has_part : HasPart g e r.ty (loaded w b)
   has_part = record {
-    frame = in_frame f w b may.between may.fits;
+    frame = in_frame f w b may.begin;
     part = part;
     here = its.settled.here;
     others = its.settled.others;
@@ -225,7 +224,7 @@ module _ (f : Frame) (w : World) (b : Batch) (may : MayBeLoaded f w b) (e home :
   pub calls_loaded : HasBaseCalls g e r.ty (λ s. next_to s part) (base_calls_of b e) (loaded w b)
   calls_loaded = record {
     part = has_part;
-    spared = spared_loaded f w b may.between may.fits e home r here;
+    spared = spared_loaded f w b may.begin e home r here;
     ours = own_calls;
     turns = sender_in_turn;
     room = room;
@@ -233,6 +232,6 @@ module _ (f : Frame) (w : World) (b : Batch) (may : MayBeLoaded f w b) (e home :
 
   pub routes_loaded : HasRoutes g e (loaded w b)
   routes_loaded = record {
-    routes = λ k is. (_, (settled_loaded f w b may.between may.fits e home r here).routes k is.from is.below);
+    routes = λ k is. (_, (settled_loaded f w b may.begin e home r here).routes k is.from is.below);
     letters = λ a k. subst (AllByRecursion (IsForNode g k)) (sym (still a k)) tt;
   }

@@ -1,11 +1,10 @@
 -- What a loaded world has of each base part, and what it keeps of that over every list of events.
 use Rattle.std.proofs.Common.{◌≡◌, ℕ, ◌+◌, ◌^◌, ◌<◌, ◌≤◌, List, ◌∷◌, Some, sym, ap, ◌∙◌, subst, arith, inl, inr}
 use Rattle.std.proofs.lemmas.Bool.{cases_eq}
-use Rattle.seam_node_steps.specs.Prelude.{IsQuiet, LeadsTo, Event, Batch, RealView, Msg, Update, PartView, World, node_steps, node_has_work}
-use Rattle.seam_node_steps.specs.Prelude.{loaded}
+use Rattle.seam_node_steps.specs.Prelude.{IsQuiet, Event, Batch, RealView, Msg, Update, PartView, World, node_has_work, loaded}
 use Rattle.seam_law_flow.specs.Prelude.{letters_of}
-use Rattle.seam_law_calls.specs.Prelude.{Frame, entity_flow, real_in, from_sender, sent_by, home_of, HasBaseCalls, FindsClient}
-use Rattle.seam_law_calls.specs.Prelude.{NothingIsStray, SeesFew, looks_left}
+use Rattle.seam_law_calls.specs.Prelude.{Frame, entity_flow, from_sender, sent_by, home_of, HasBaseCalls, FindsClient, NothingIsStray}
+use Rattle.seam_law_calls.specs.Prelude.{SeesFew, looks_left, RunsTo, real_at}
 use Rattle.seam_law_rounds.specs.Prelude.{framed, next_to, base_calls_of, MayBeLoaded, lines_of, IsServed, bare, served}
 use Rattle.seam_call.specs.declared.shown.Update.{Update as UpdateData}
 use Rattle.seam_law_rounds.proofs.Framing.{in_frame}
@@ -23,9 +22,9 @@ use Rattle.seam_law_rounds.proofs.PartsLoaded.{LoadedPart, part_loaded}
 use Rattle.seam_law_rounds.proofs.PartTurns.{few_more, calls_loaded, routes_loaded}
 
 module _ (f : Frame) (w : World) (b : Batch) (may : MayBeLoaded f w b) (e k : ℕ) (r : RealView)
-    (here : real_in ((entity_flow e (loaded w b)).slot k) ≡ Some r) where
+    (here : real_at e (loaded w b) k ≡ Some r) where
   pub its_part : LoadedPart f w b e r.ty
-  its_part = part_loaded f w b may.between may.fits may.parts may.brings e k r here
+  its_part = part_loaded f w b may.begin may.parts may.brings e k r here
 
   -- the part that is at the base node is this one
   part_is : (p : PartView) → ((entity_flow e (loaded w b)).slot (home_of f e)).base.part ≡ Some p → its_part.settled.part ≡ p
@@ -40,14 +39,14 @@ module _ (f : Frame) (w : World) (b : Batch) (may : MayBeLoaded f w b) (e k : �
   -- the real and the part, with nothing on its way
   still_loaded : HasItStill (framed f b) e r.ty r its_part.settled.part (loaded w b)
   still_loaded = record {
-    frame = frame_loaded f w b may.between may.fits;
-    known = (settled_loaded f w b may.between may.fits e k r here).type;
-    one = one_loaded f w b may.between may.fits e k r here;
-    spared = spared_loaded f w b may.between may.fits e k r here;
-    still = no_mail f w b may.between may.fits e;
+    frame = frame_loaded f w b may.begin;
+    known = (settled_loaded f w b may.begin e k r here).type;
+    one = one_loaded f w b may.begin e k r here;
+    spared = spared_loaded f w b may.begin e k r here;
+    still = no_mail f w b may.begin e;
     real = λ j q at. elim (cases_eq j k) [
-      | inl is ↦ let z = sym here ∙ (ap (λ i. real_in ((entity_flow e (loaded w b)).slot i)) (sym is) ∙ at) in cc
-      | inr n ↦ absurd (let z = sym ((settled_loaded f w b may.between may.fits e k r here).others j n) ∙ at in cc)
+      | inl is ↦ let z = sym here ∙ (ap (λ i. real_at e (loaded w b) i) (sym is) ∙ at) in cc
+      | inr n ↦ absurd (let z = sym ((settled_loaded f w b may.begin e k r here).others j n) ∙ at in cc)
     ];
     here = its_part.settled.here;
     others = its_part.settled.others;
@@ -55,16 +54,16 @@ module _ (f : Frame) (w : World) (b : Batch) (may : MayBeLoaded f w b) (e k : �
 
   pub few_lines : lines_of r its_part.settled.part < 2 ^ 61
   few_lines =
-      lines_loaded f w b may.between may.fits may.parts e may.brings k r here its_part.settled.part its_part.settled.here its_part.small
+      lines_loaded f w b may.begin may.parts e may.brings k r here its_part.settled.part its_part.settled.here its_part.small
 
   serves_loaded : IsServed (framed f b) e r.ty (loaded w b)
   serves_loaded =
       let few = few_lines in
       starts (framed f b) e r.ty r its_part.settled.part (loaded w b) still_loaded
-      (are_for_loaded f w b may.between may.fits may.parts e k r here its_part.settled.part its_part.settled.here)
+      (are_for_loaded f w b may.begin may.parts e k r here its_part.settled.part its_part.settled.here)
       (omega (arith, few))
 
-  module _ (v : World) (es : List Event) (run : LeadsTo node_has_work node_steps (loaded w b) es v) where
+  module _ (v : World) (es : List Event) (run : RunsTo (loaded w b) es v) where
     abbrev g : Frame
     g = framed f b
 
@@ -76,21 +75,21 @@ module _ (f : Frame) (w : World) (b : Batch) (may : MayBeLoaded f w b) (e k : �
 
     looks_few : looks_left e (loaded w b) ≤ 2 ^ 23
     looks_few =
-        let left = looks_loaded f w b may.between may.fits may.parts may.brings e in
-        let few = may.fits.few in
+        let left = looks_loaded f w b may.begin may.parts may.brings e in
+        let few = may.begin.fits.few in
         omega (arith, left, few)
 
     pub told : TellsFew e r v
     told =
         tells_few g e r.ty r its_part.settled.part (loaded w b) still_loaded
-        (few_loaded f w b may.between may.fits may.parts may.brings)
-        (sees_loaded f w b may.between may.fits may.parts e k r here) (2 ^ 23) looks_few (omega arith) v es run
+        (few_loaded f w b may.begin may.parts may.brings)
+        (sees_loaded f w b may.begin may.parts e k r here) (2 ^ 23) looks_few (omega arith) v es run
 
-    pub sees_after : (j : ℕ) (q : RealView) → real_in ((entity_flow e v).slot j) ≡ Some q → SeesFew q
+    pub sees_after : (j : ℕ) (q : RealView) → real_at e v j ≡ Some q → SeesFew q
     sees_after =
         (sees_then g e r.ty r its_part.settled.part (loaded w b) still_loaded
-        (few_loaded f w b may.between may.fits may.parts may.brings)
-        (sees_loaded f w b may.between may.fits may.parts e k r here) (2 ^ 23) looks_few (omega arith) v es run).cells
+        (few_loaded f w b may.begin may.parts may.brings)
+        (sees_loaded f w b may.begin may.parts e k r here) (2 ^ 23) looks_few (omega arith) v es run).cells
 
     abbrev most : ℕ
     most = sent_by r + most_told
@@ -112,7 +111,7 @@ module _ (f : Frame) (w : World) (b : Batch) (may : MayBeLoaded f w b) (e k : �
 
     pub serves_after : IsServed g e r.ty v
     serves_after =
-        serves_then g e r.ty (loaded w b) v es run (in_frame f w b may.between may.fits) still_loaded.spared most numbers serves_loaded
+        serves_then g e r.ty (loaded w b) v es run (in_frame f w b may.begin) still_loaded.spared most numbers serves_loaded
 
     pub calls_once : (p : PartView) → ((entity_flow e (loaded w b)).slot (home_of f e)).base.part ≡ Some p →
         HasBaseCalls g e r.ty (λ s. next_to s p) (base_calls_of b e) v
@@ -138,5 +137,5 @@ module _ (f : Frame) (w : World) (b : Batch) (may : MayBeLoaded f w b) (e k : �
     pub update_finds_it : (a j : ℕ) (u : UpdateData) (ms : List Msg) → (entity_flow e v).mail a j ≡ Update u ∷ ms →
         FindsClient g e j ((entity_flow e v).slot j).base u
     update_finds_it a j u ms at =
-        update_finds g e r.ty (loaded w b) v es run (in_frame f w b may.between may.fits) still_loaded.spared most numbers
+        update_finds g e r.ty (loaded w b) v es run (in_frame f w b may.begin) still_loaded.spared most numbers
         still_loaded.still a j u ms at serves_loaded

@@ -1,6 +1,6 @@
 -- The base parts of a loaded world: those that were there, and those that the batch created.
-use Rattle.std.proofs.Common.{◌≡◌, ℕ, ◌^◌, ◌<◌, ◌≤◌, Bool, true, false, cond, eqb, List, [], ◌∷◌, ◌++◌, Option, None, Some}
-use Rattle.std.proofs.Common.{refl, sym, ap, ◌∙◌, subst, arith, inl, inr}
+use Rattle.std.proofs.Common.{◌≡◌, ℕ, ◌^◌, ◌<◌, ◌≤◌, Bool, true, false, cond, eqb, List, [], ◌∷◌, ◌++◌, Option, None, Some, refl, sym, ap}
+use Rattle.std.proofs.Common.{◌∙◌, subst, arith, inl, inr}
 use Rattle.std.specs.Prelude.{option_map, slice_get}
 use Rattle.std.specs.List.{AllByRecursion}
 use Rattle.std.specs.Ordering.{nat_cmp}
@@ -12,8 +12,9 @@ use Rattle.seam_node_steps.specs.Prelude.{leaf_at, Create, Batch, order_or, Real
 use Rattle.seam_node_steps.specs.Prelude.{NodeView, World, new_part, part_begins, loaded}
 use Rattle.seam_law_flow.specs.Prelude.{slot_at}
 use Rattle.seam_law_calls.specs.Prelude.{Frame, here_at, Has, has_of, has_none, entity_flow, real_in, HasNoProxy, home_of, HasNoClient}
-use Rattle.seam_law_rounds.specs.Prelude.{IsBetweenRounds, MayBeMade, IsFitting, framed, node_loaded, next_to, HasSettledPart}
-use Rattle.seam_law_rounds.specs.Prelude.{HasPartsBetweenRounds, FitsParts, IsAlone}
+use Rattle.seam_law_calls.specs.Prelude.{real_at}
+use Rattle.seam_law_rounds.specs.Prelude.{MayBeMade, framed, node_loaded, next_to, HasSettledPart, HasPartsBetweenRounds, FitsParts}
+use Rattle.seam_law_rounds.specs.Prelude.{IsAlone, MayBegin}
 use Rattle.seam_law_rounds.proofs.Framing.{in_frame}
 use Rattle.seam_law_rounds.proofs.Staying.{Kept}
 use Rattle.seam_law_rounds.proofs.Making.{AreOthers, Creation, nowhere, once, creation_of, middle, until, node_made, node_after}
@@ -105,9 +106,8 @@ module _ (f : Frame) (w : World) (b : Batch) (e ty : ℕ) where
 
 -- ---- one that is created
 
-module _ (f : Frame) (w : World) (b : Batch) (between : IsBetweenRounds f w) (fits : IsFitting f w b) (bases : 1 ≤ f.settings.bases)
-    (first : List Create) (x : Create) (later : List Create) (is : b.creates ≡ first ++ x ∷ later) (others : AreOthers x.entity first)
-    (more : AreOthers x.entity later) where
+module _ (f : Frame) (w : World) (b : Batch) (begin : MayBegin f w b) (bases : 1 ≤ f.settings.bases) (first : List Create) (x : Create)
+    (later : List Create) (is : b.creates ≡ first ++ x ∷ later) (others : AreOthers x.entity first) (more : AreOthers x.entity later) where
   abbrev own : ℕ
   own = x.entity
 
@@ -115,18 +115,18 @@ module _ (f : Frame) (w : World) (b : Batch) (between : IsBetweenRounds f w) (fi
   home = home_of f own
 
   may : MayBeMade f w x
-  may = middle (MayBeMade f w) first x later (subst (AllByRecursion (MayBeMade f w)) is fits.creates)
+  may = middle (MayBeMade f w) first x later (subst (AllByRecursion (MayBeMade f w)) is begin.fits.creates)
 
   -- ---- its real
 
   abbrev had : ℕ → Option NodeView → Has
   had k o =
-      slot_at (has_of own) has_none (option_map (until f b fits.tree x k first later is others more fits.spares) o)
+      slot_at (has_of own) has_none (option_map (until f b begin.fits.tree x k first later is others more begin.fits.spares) o)
 
   kept_by : (k : ℕ) (o : Option NodeView) →
       Kept real_begins (real_in (had k o)) (real_in (slot_at (has_of own) has_none (option_map (node_loaded b) o)))
   kept_by k None = refl
-  kept_by k (Some s) = (node_after f b fits.tree x k first later is others more fits.spares s).real
+  kept_by k (Some s) = (node_after f b begin.fits.tree x k first later is others more begin.fits.spares s).real
 
   typed_if : (c : Bool) (h : Here) (q : RealView) → cond c (Some (created h own x.ty x.pos)) None ≡ Some q → q.ty ≡ x.ty
   typed_if true h q at = let same : created h own x.ty x.pos ≡ q = cc in ap (λ (y : RealView). y.ty) (sym same)
@@ -135,11 +135,11 @@ module _ (f : Frame) (w : World) (b : Batch) (between : IsBetweenRounds f w) (fi
   typed_by : (k : ℕ) (o : Option NodeView) → slice_get w.nodes k ≡ o → (q : RealView) → real_in (had k o) ≡ Some q → q.ty ≡ x.ty
   typed_by k None at q here = absurd (let z = here in cc)
   typed_by k (Some s) at q here =
-      let m = node_made f b fits.tree x k first later is others more fits.spares s (between.nodes.sound.states k s at)
-      (between.nodes.nodes k s at) (sym (ap (slot_at (has_of own) has_none) at) ∙ may.new k) in
+      let m = node_made f b begin.fits.tree x k first later is others more begin.fits.spares s (begin.between.nodes.sound.states k s at)
+      (begin.between.nodes.nodes k s at) (sym (ap (slot_at (has_of own) has_none) at) ∙ may.new k) in
       typed_if (eqb (leaf_at b.tree x.pos) k) (here_at f k) q (sym m.real ∙ here)
 
-  made_type : (k : ℕ) (r : RealView) → real_in ((entity_flow own (loaded w b)).slot k) ≡ Some r → r.ty ≡ x.ty
+  made_type : (k : ℕ) (r : RealView) → real_at own (loaded w b) k ≡ Some r → r.ty ≡ x.ty
   made_type k r here =
       let o = slice_get w.nodes k in
       let there = ap real_in (sym (slot_is w b own k)) ∙ here in
@@ -154,7 +154,7 @@ module _ (f : Frame) (w : World) (b : Batch) (between : IsBetweenRounds f w) (fi
   -- there is no node past the last, and the base node is not
   past : (k : ℕ) → slice_get w.nodes k ≡ None → k ≡ home → ⊥
   past k at same =
-      let many = between.many in
+      let many = begin.between.many in
       let low = mod-lt own {m = f.settings.bases} (omega (arith, bases)) in
       elim (slice_get_cases w.nodes k).1 [
         | inl p ↦ let z = sym at ∙ p.2 in cc
@@ -169,13 +169,13 @@ module _ (f : Frame) (w : World) (b : Batch) (between : IsBetweenRounds f w) (fi
       SamePart (part_made f k x b.tree) (slot_at (has_of own) has_none (option_map (node_loaded b) o)).base.part
   comes_by k None at = subst (λ p. SamePart p None) (sym (elsewhere k (past k at))) refl
   comes_by k (Some s) at =
-      part_comes f k x b first later is others more s (between.nodes.nodes k s at)
+      part_comes f k x b first later is others more s (begin.between.nodes.nodes k s at)
       (ap (λ h. h.base.part) (sym (ap (slot_at (has_of own) has_none) at) ∙ may.new k))
 
   fresh : (s : ℕ) → order_or (table.get new.orders s) ≡ record { next = 1; held = [] }
   fresh s = ap order_or (table.get-empty nat_cmp s)
 
-  pub was_made : (k : ℕ) (r : RealView) → real_in ((entity_flow own (loaded w b)).slot k) ≡ Some r → LoadedPart f w b own r.ty
+  pub was_made : (k : ℕ) (r : RealView) → real_at own (loaded w b) k ≡ Some r → LoadedPart f w b own r.ty
   was_made k r here = part_of_origin f w b own r.ty new (λ j. part_made f j x b.tree) (record {
     becomes = λ j.
         subst (λ s. SamePart (part_made f j x b.tree) s.base.part) (sym (slot_is w b own j)) (comes_by j (slice_get w.nodes j) refl);
@@ -190,28 +190,27 @@ module _ (f : Frame) (w : World) (b : Batch) (between : IsBetweenRounds f w) (fi
 
 -- ---- each
 
-module _ (f : Frame) (w : World) (b : Batch) (between : IsBetweenRounds f w) (fits : IsFitting f w b)
-    (parts : HasPartsBetweenRounds f w) (brings : FitsParts f w b) (e k : ℕ) (r : RealView)
-    (here : real_in ((entity_flow e (loaded w b)).slot k) ≡ Some r) where
+module _ (f : Frame) (w : World) (b : Batch) (begin : MayBegin f w b) (parts : HasPartsBetweenRounds f w) (brings : FitsParts f w b)
+    (e k : ℕ) (r : RealView) (here : real_at e (loaded w b) k ≡ Some r) where
   pub bases_loaded : 1 ≤ f.settings.bases
-  bases_loaded = some_base (framed f b) (loaded w b) (in_frame f w b between fits) e k r here
+  bases_loaded = some_base (framed f b) (loaded w b) (in_frame f w b begin) e k r here
 
   loaded_by : Creation e b.creates → LoadedPart f w b e r.ty
   loaded_by (nowhere others) =
-      let q = real_was w b e fits.spares others k r here in
+      let q = real_was w b e begin.fits.spares others k r here in
       let same = ap (λ (y : RealView). y.ty) q.3 in
       let had : HasSettledPart f e q.0.ty w = parts.parts e k q.0 q.2 in
       let few = brings.small e k q.0 q.2 had.part had.here in
       subst (LoadedPart f w b e) same (was_there f w b e q.0.ty others had (omega (arith, few)))
   loaded_by (once first x later is at others more) =
       subst (λ j. LoadedPart f w b j r.ty) at
-      (was_made f w b between fits bases_loaded first x later is (subst (λ j. AreOthers j first) (sym at) others)
+      (was_made f w b begin bases_loaded first x later is (subst (λ j. AreOthers j first) (sym at) others)
       (subst (λ j. AreOthers j later) (sym at) more) k r
-      (subst (λ j. real_in ((entity_flow j (loaded w b)).slot k) ≡ Some r) (sym at) here))
+      (subst (λ j. real_at j (loaded w b) k ≡ Some r) (sym at) here))
 
   -- the base part of an entity that is there
   pub part_loaded : LoadedPart f w b e r.ty
-  part_loaded = loaded_by (creation_of e b.creates fits.once)
+  part_loaded = loaded_by (creation_of e b.creates begin.fits.once)
 
 -- ---- an entity without a client
 

@@ -1,13 +1,12 @@
 -- What the phase of reaps and the phase of looks keep.
-use Rattle.std.proofs.Common.{◌≡◌, ℕ, ◌<◌, ◌⊎◌, Bool, true, false, cond, eqb, ◌&&◌, ◌||◌, is_some, List, [], ◌∷◌, length, Option}
-use Rattle.std.proofs.Common.{None, Some, refl, sym, ap, ◌∙◌, arith, inl, inr}
+use Rattle.std.proofs.Common.{◌≡◌, ℕ, ◌<◌, ◌⊎◌, Bool, true, false, cond, eqb, ◌&&◌, ◌||◌, is_some, List, [], ◌∷◌, length, Option, None}
+use Rattle.std.proofs.Common.{Some, refl, sym, ap, ◌∙◌, arith, inl, inr}
 use Rattle.std.proofs.lemmas.Bool.{eqb-true}
-use Rattle.seam_node_steps.specs.Prelude.{input_from, happens, enabled, run, AllEnabled, IsQuiet, LeadsTo, Occurs, total, Input, Task, From}
-use Rattle.seam_node_steps.specs.Prelude.{Event, RealView, Msg, Reap, may_rise}
-use Rattle.seam_node_steps.specs.Prelude.{cell_count, RouteView, holders, World, node_steps, node_has_work}
+use Rattle.seam_node_steps.specs.Prelude.{input_from, happens, enabled, run, AllEnabled, IsQuiet, Occurs, total, Input, Task, From, Event}
+use Rattle.seam_node_steps.specs.Prelude.{RealView, Msg, Reap, may_rise, cell_count, RouteView, holders, World, node_steps, node_has_work}
 use Rattle.seam_law_flow.specs.Prelude.{letter_in, letters_of, In, Nobody}
 use Rattle.seam_law_calls.specs.Prelude.{Frame, IsInFrame, concerns, kept_if, mine, entity_flow, real_in, real_of, reaped_by, reaps}
-use Rattle.seam_law_calls.specs.Prelude.{IsFrame}
+use Rattle.seam_law_calls.specs.Prelude.{IsFrame, RunsTo, real_at}
 use Rattle.seam_law_rounds.specs.Prelude.{IsSettled, IsBetweenRounds, reap_comes}
 use Rattle.seam_machine.proofs.Occurring.{occurs}
 use Rattle.seam_machine.proofs.Quiet.{quiet_links, quiet_tasks}
@@ -45,7 +44,7 @@ reap_fed e (From a m) h =
 -- ---- a calm entity, over every list of events
 
 module _ (f : Frame) (frame : IsFrame f) (u : World) (between : IsBetweenRounds f u) (e home : ℕ) (r : RealView)
-    (here : real_in ((entity_flow e u).slot home) ≡ Some r) (told : Bool) (small : told ≡ true → may_rise r.beat ≡ true) where
+    (here : real_at e u home ≡ Some r) (told : Bool) (small : told ≡ true → may_rise r.beat ≡ true) where
   pub settled : IsSettled f e home r u
   settled = between.settled e home r here
 
@@ -64,11 +63,11 @@ module _ (f : Frame) (frame : IsFrame f) (u : World) (between : IsBetweenRounds 
   calm_more : (w : World) (v : Event) → Calm w → enabled node_has_work w v ≡ true → Calm (happens node_steps w v)
   calm_more w v c on = calm_happens f e home r low settled.none_held u leads told small w v (occurs node_has_work w v on) c
 
-  pub calm_leads : (w v : World) (es : List Event) → Calm w → LeadsTo node_has_work node_steps w es v → Calm v
+  pub calm_leads : (w v : World) (es : List Event) → Calm w → RunsTo w es v → Calm v
   calm_leads w v es c run = leads_keeps node_has_work node_steps Calm calm_more w v es c run
 
   abbrev at_home : World → Option RealView
-  at_home w = real_in ((entity_flow e w).slot home)
+  at_home w = real_at e w home
 
   some_of : (o : Option RealView) → one_if o ≡ 1 → (q : RealView) × (o ≡ Some q)
   some_of None is = absurd (omega (arith, is))
@@ -129,8 +128,7 @@ module _ (f : Frame) (frame : IsFrame f) (u : World) (between : IsBetweenRounds 
         is = alive_by w v o never a (left f e home r low settled.none_held u leads told small w v o a.calm);
       }
 
-  pub stays_alive : told ≡ false → (w v : World) (es : List Event) → Calm w → one_if (at_home w) ≡ 1 →
-      LeadsTo node_has_work node_steps w es v → holders v e ≡ 1
+  pub stays_alive : told ≡ false → (w v : World) (es : List Event) → Calm w → one_if (at_home w) ≡ 1 → RunsTo w es v → holders v e ≡ 1
   stays_alive never w v es c is run =
       let a = leads_keeps node_has_work node_steps Alive (alive_more never) w v es (record { calm = c; is = is }) run in
       alive_counts v a.calm a.is
@@ -157,12 +155,10 @@ module _ (f : Frame) (frame : IsFrame f) (u : World) (between : IsBetweenRounds 
 
 module _ (f : Frame) (u : World) (between : IsBetweenRounds f u) (w : World) (frame : IsInFrame f w)
     (many : length w.nodes ≡ length u.nodes)
-    (none : (e : ℕ) → Nobody real_in real_of (entity_flow e u) → Nobody real_in real_of (entity_flow e w))
-    (told : (e : ℕ) → Bool)
-    (calm : (e home : ℕ) (r : RealView) → real_in ((entity_flow e u).slot home) ≡ Some r → IsCalm f e home r u (told e) w)
-    (small : (e k : ℕ) (r : RealView) → real_in ((entity_flow e u).slot k) ≡ Some r → told e ≡ true → may_rise r.beat ≡ true)
-    (v : World) (es : List Event)
-    (run : LeadsTo node_has_work node_steps w es v) (quiet : IsQuiet node_has_work v) where
+    (none : (e : ℕ) → Nobody real_in real_of (entity_flow e u) → Nobody real_in real_of (entity_flow e w)) (told : (e : ℕ) → Bool)
+    (calm : (e home : ℕ) (r : RealView) → real_at e u home ≡ Some r → IsCalm f e home r u (told e) w)
+    (small : (e k : ℕ) (r : RealView) → real_at e u k ≡ Some r → told e ≡ true → may_rise r.beat ≡ true) (v : World) (es : List Event)
+    (run : RunsTo w es v) (quiet : IsQuiet node_has_work v) where
   nobody : (e : ℕ) → Nowhere e u → Nobody real_in real_of (entity_flow e u)
   nobody e n = record {
     slots = n;
@@ -170,7 +166,7 @@ module _ (f : Frame) (u : World) (between : IsBetweenRounds f u) (w : World) (fr
         ap (λ l. letters_of real_of (letters_of (mine e) l)) (quiet_links node_has_work u between.nodes.sound.square between.quiet x y);
   }
 
-  settled_by : (e k : ℕ) (q : RealView) → real_in ((entity_flow e v).slot k) ≡ Some q → Somewhere e u ⊎ Nowhere e u → IsSettled f e k q v
+  settled_by : (e k : ℕ) (q : RealView) → real_at e v k ≡ Some q → Somewhere e u ⊎ Nowhere e u → IsSettled f e k q v
   settled_by e k q at (inl p) =
       still_settled f e p.0 p.1 u (between.settled e p.0 p.1 p.2) (told e) v
       (calm_leads f between.frame u between e p.0 p.1 p.2 (told e) (small e p.0 p.1 p.2) w v es (calm e p.0 p.1 p.2) run) k q at

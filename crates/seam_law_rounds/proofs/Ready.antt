@@ -9,7 +9,7 @@ use Rattle.seam_machine.proofs.Quiet.{quiet_links}
 use Rattle.seam_node_steps.specs.Prelude.{RealView, Msg, limit, holders, cell_count, RouteView, NodeView, World, node_has_work, Cell, Base}
 use Rattle.seam_law_flow.specs.Prelude.{Flow, slot_at, letters_of, TokenPlace, In, On}
 use Rattle.seam_law_calls.specs.Prelude.{Frame, IsInFrame, Has, mine, has_of, has_none, entity_flow, RealFits, IsFitReal, IsFitHand, burden}
-use Rattle.seam_law_calls.specs.Prelude.{real_in, real_of, IsOne, reaped_by, HasNoReaps, IsSpared, HasOne, AllLead}
+use Rattle.seam_law_calls.specs.Prelude.{real_in, real_of, IsOne, reaped_by, HasNoReaps, IsSpared, HasOne, AllLead, real_at}
 use Rattle.seam_law_rounds.specs.Prelude.{IsSettled, IsBetweenRounds}
 use Rattle.seam_law_calls.proofs.Counting.{counted_one, one_counts}
 use Rattle.seam_law_calls.proofs.Finding.{starts_leading}
@@ -78,7 +78,7 @@ module _ (f : Frame) (w : World) (e home : ℕ) (r : RealView) (settled : IsSett
 pub record Home (w : World) (e : ℕ) : Type 0 where
   pub node : ℕ
   pub real : RealView
-  pub here : real_in ((entity_flow e w).slot node) ≡ Some real
+  pub here : real_at e w node ≡ Some real
 
 module _ (f : Frame) (w : World) (between : IsBetweenRounds f w) (e : ℕ) where
   home_by : (p : TokenPlace) (r : RealView) → IsOne e w p r → Home w e

@@ -5,10 +5,10 @@ use Rattle.std.specs.List.{AllByRecursion}
 use Rattle.std.proofs.lemmas.Bool.{eq-eqb, ne_eqb}
 use Rattle.std.proofs.lemmas.Bool.Decides.{nat_tests}
 use Rattle.std.proofs.lemmas.List.{append_assoc, length-map}
-use Rattle.seam_node_steps.specs.Prelude.{IsQuiet, LeadsTo, Event, RealView, may_rise, base_of, holders, NodeView, World, node_steps}
-use Rattle.seam_node_steps.specs.Prelude.{node_has_work, with_nodes, reap_ordered_at, reaps_loaded}
+use Rattle.seam_node_steps.specs.Prelude.{IsQuiet, Event, RealView, may_rise, base_of, holders, NodeView, World, node_has_work, with_nodes}
+use Rattle.seam_node_steps.specs.Prelude.{reap_ordered_at, reaps_loaded}
 use Rattle.seam_law_flow.specs.Prelude.{Nobody}
-use Rattle.seam_law_calls.specs.Prelude.{Frame, here_at, IsInFrame, times, entity_flow, real_in, real_of}
+use Rattle.seam_law_calls.specs.Prelude.{Frame, here_at, IsInFrame, times, entity_flow, real_in, real_of, RunsTo, real_at}
 use Rattle.seam_law_rounds.specs.Prelude.{IsBetweenRounds, each, AreReapable, reap_comes, HasNoCalls}
 use Rattle.seam_machine.proofs.Quiet.{quiet_tasks}
 use Rattle.seam_law_calls.proofs.Counting.{counted_none, none_counts}
@@ -55,10 +55,10 @@ module _ (f : Frame) (u : World) (between : IsBetweenRounds f u) (es : List ℕ)
   pub loaded_is : reaps_loaded u es ≡ with_nodes u turn
   loaded_is = nodes_after reap_ordered_at u es
 
-  stay : (e k : ℕ) → real_in ((entity_flow e (reaps_loaded u es)).slot k) ≡ real_in ((entity_flow e u).slot k)
-  stay e k = ap (λ w. real_in ((entity_flow e w).slot k)) loaded_is ∙ reals_stay e turn (reaps_cell e es) u k
+  stay : (e k : ℕ) → real_at e (reaps_loaded u es) k ≡ real_at e u k
+  stay e k = ap (λ w. real_at e w k) loaded_is ∙ reals_stay e turn (reaps_cell e es) u k
 
-  module _ (e home : ℕ) (r : RealView) (here : real_in ((entity_flow e u).slot home) ≡ Some r) where
+  module _ (e home : ℕ) (r : RealView) (here : real_at e u home ≡ Some r) where
     pub calm : IsCalm f e home r u (is_told e es) (reaps_loaded u es)
     calm =
         subst (IsCalm f e home r u (is_told e es)) (sym loaded_is)
@@ -72,7 +72,7 @@ module _ (f : Frame) (u : World) (between : IsBetweenRounds f u) (es : List ℕ)
     pub small : is_told e es ≡ true → may_rise r.beat ≡ true
     small told = may.small e home r here
 
-    alive : one_if (real_in ((entity_flow e (reaps_loaded u es)).slot home)) ≡ 1
+    alive : one_if (real_at e (reaps_loaded u es) home) ≡ 1
     alive = ap one_if (stay e home ∙ here)
 
   frame_loaded : IsInFrame f (reaps_loaded u es)
@@ -83,7 +83,7 @@ module _ (f : Frame) (u : World) (between : IsBetweenRounds f u) (es : List ℕ)
       subst (λ w. Nobody real_in real_of (entity_flow e w)) (sym loaded_is)
       (record { slots = λ k. reals_stay e turn (reaps_cell e es) u k ∙ n.slots k; mail = n.mail })
 
-  module _ (vs : List Event) (v : World) (run : LeadsTo node_has_work node_steps (reaps_loaded u es) vs v) where
+  module _ (vs : List Event) (v : World) (run : RunsTo (reaps_loaded u es) vs v) where
     pub reap_counts : (e : ℕ) → holders u e ≡ 1 → holders v e ≡ cond (reap_comes e (reaps_loaded u es) vs) 0 1
     reap_counts e one =
         let h = quiet_home f u between e one in

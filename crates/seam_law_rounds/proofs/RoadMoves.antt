@@ -1,22 +1,21 @@
 -- What each move does with the generation of the real, and with the routes to it.
-use Rattle.std.proofs.Common.{◌≡◌, ℕ, ◌+◌, ◌<◌, ◌≤◌, Bool, true, false, cond, not, ◌&&◌, nat_lt, is_some, List, [], ◌∷◌, ◌++◌, Option}
-use Rattle.std.proofs.Common.{None, Some, refl}
-use Rattle.std.proofs.Common.{sym, ap, ◌∙◌, subst, arith}
+use Rattle.std.proofs.Common.{◌≡◌, ℕ, ◌+◌, ◌<◌, ◌≤◌, Bool, true, false, cond, not, ◌&&◌, nat_lt, is_some, List, [], ◌∷◌, ◌++◌, Option, None}
+use Rattle.std.proofs.Common.{Some, refl, sym, ap, ◌∙◌, subst, arith}
 use Rattle.std.specs.Prelude.{option_map}
-use Rattle.std.specs.List.{range_with_len}
 use Rattle.std.specs.FinSet as set
 use Rattle.std.proofs.lemmas.Bool.Decides.{nat_tests}
-use Rattle.seam_node_steps.specs.Prelude.{RealView, Msg, Hand, Current, Reap, limit, is_small}
-use Rattle.seam_node_steps.specs.Prelude.{cell_count, base_of, SlotStep, slot_after, haunts_at, ghost_messages, settled_to, currents}
-use Rattle.seam_node_steps.specs.Prelude.{is_stray, may_come, shown_of, looks_with, RouteView, tick_to, stray_current}
+use Rattle.seam_node_steps.specs.Prelude.{RealView, Msg, Hand, Current, Reap, limit, is_small, cell_count, base_of, SlotStep, slot_after}
+use Rattle.seam_node_steps.specs.Prelude.{haunts_at, ghost_messages, settled_to, currents, is_stray, may_come, shown_of, looks_with}
+use Rattle.seam_node_steps.specs.Prelude.{RouteView, stray_current}
 use Rattle.seam_law_flow.specs.Prelude.{IsSilent, entry_in, greater_entry}
 use Rattle.seam_law_calls.specs.Prelude.{Frame, here_at, Has, AtCell, AtBase, Does, Acts, surveys, calls, readies, CellMoves, BaseMoves}
 use Rattle.seam_law_calls.specs.Prelude.{strays_at, Moves, at_a_cell, at_a_base, real_in}
 use Rattle.seam_law_rounds.specs.Prelude.{as_entry, route_entry, brings_route}
 use Rattle.seam_law_calls.specs.CellMoves as move
 use Rattle.seam_law_calls.specs.BaseMoves as base_move
-use Rattle.seam_law_calls.proofs.Plain.{SeesNoGhost, ghosts_silent, mapped_silent, numbered_silent}
+use Rattle.seam_law_calls.proofs.Plain.{SeesNoGhost, ghosts_silent, numbered_silent}
 use Rattle.seam_law_calls.proofs.Handling.{FindsRoom}
+use Rattle.seam_law_calls.proofs.BaseSilent.{base_silent}
 
 -- eyes that see hand-overs and routes
 abbrev pub road_of : Msg → Option Msg
@@ -65,16 +64,14 @@ module _ (f : Frame) (e k : ℕ) (s : Has) (i : Option Msg) (t : Has) (sent : Li
 
   acts_same : (u : AtCell) (r q : RealView) (changed : Bool) → Acts (here_at f k) e s.cell i r u q changed → q.generation ≡ r.generation
   acts_same u r q changed (surveys n a b c) = refl
-  acts_same u r q changed (calls c a b d g) = refl
-  acts_same u r q changed (readies o c a b d g) = refl
+  acts_same u r q changed _ = refl
 
   same : (x : SlotStep) (u : AtCell) → Does u x t.cell sent → (slot_after x.slot u.slot).real ≡ real_in s →
       generation_in t ≡ generation_in s
   same x u d is = ap (λ a. option_map generation_of a.slot.real) d.state ∙ ap (option_map generation_of) is
 
   turned : (x : SlotStep) (u : AtCell) (r q : RealView) → Does u x t.cell sent → real_in s ≡ Some r →
-      (slot_after x.slot u.slot).real ≡ Some q →
-      q.generation ≡ r.generation → generation_in t ≡ generation_in s
+      (slot_after x.slot u.slot).real ≡ Some q → q.generation ≡ r.generation → generation_in t ≡ generation_in s
   turned x u r q d has is gen =
       ap (λ a. option_map generation_of a.slot.real) d.state
       ∙ (ap (option_map generation_of) is ∙ (ap Some gen ∙ sym (ap (option_map generation_of) has)))
@@ -141,27 +138,8 @@ module _ (f : Frame) (e k : ℕ) (s : Has) (i : Option Msg) (t : Has) (sent : Li
     base_roads : cell_count ≤ k → t.cell ≡ s.cell → (cells : ℕ) → BaseMoves (here_at f k) cells e s.base i t.base sent → Roads
     base_roads high cell cells m =
         plain (hand_at_base high) (ap (λ (c : AtCell). option_map generation_of c.slot.real) cell)
-        (ap (λ (c : AtCell). c.slot.next) cell) (base_silent m)
-      where
-        one : (l : List (ℕ × Msg)) → sent ≡ l → IsSilent road_of l → IsSilent road_of sent
-        one l is h = subst (IsSilent road_of) (sym is) h
-
-        base_silent : BaseMoves (here_at f k) cells e s.base i t.base sent → IsSilent road_of sent
-        base_silent (base_move.rests n a z) = one [] z tt
-        base_silent (base_move.strays m n b a z) = one [] z tt
-        base_silent (base_move.reroutes new r n has b a z) = one [] z tt
-        base_silent (base_move.offers c p n own has may a z) = one [] z tt
-        base_silent (base_move.updates u n own b a z) = one [] z tt
-        base_silent (base_move.orders_call c os r n at own has a z) = one _ z (refl, tt)
-        base_silent (base_move.orders_base_call c os n at own b a z) = one _ z (refl, tt)
-        base_silent (base_move.offers_own c os p n at own b has may a z) = one [] z tt
-        base_silent (base_move.orders_tick os n at a z) = one _ z (mapped_silent road_of tick_to (λ j. refl) (range_with_len 0 cells))
-        base_silent (base_move.orders_reap os r n at has a z) = one _ z (refl, tt)
-        base_silent (base_move.stuck_order o os n at b a z) = one [] z tt
-        base_silent (base_move.executes p o c n has may at item a z) = one [] z tt
-        base_silent (base_move.stuck_part p n has v may a z) = one [] z tt
-        base_silent (base_move.shows p n has v may a z) = one [] z tt
-        base_silent (base_move.stuck_client p n has v may a z) = one [] z tt
+        (ap (λ (c : AtCell). c.slot.next) cell)
+        (base_silent road_of (record { calls = λ c. refl; base_calls = λ c. refl; ticks = refl; reaps = λ e. refl }) _ cells e _ i _ sent m)
 
     pub roads : Moves f e k s i t sent → Roads
     roads (at_a_cell low m is) = cell_roads low m

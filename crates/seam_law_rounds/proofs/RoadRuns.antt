@@ -1,29 +1,25 @@
 -- Over every list of events each base node's newest route, among the one that it has and those on their way, leads to the real.
-use Rattle.std.proofs.Common.{◌≡◌, ℕ, zero, suc, ◌+◌, ◌<◌, ◌≤◌, true, is_some, List, [], ◌∷◌, ◌++◌, map, length, Option}
-use Rattle.std.proofs.Common.{None, Some, refl, sym, ap, ◌∙◌, subst, arith, inl, inr}
+use Rattle.std.proofs.Common.{◌≡◌, ℕ, zero, suc, ◌+◌, ◌<◌, ◌≤◌, true, is_some, List, [], ◌∷◌, ◌++◌, map, length, Option, None, Some, refl}
+use Rattle.std.proofs.Common.{sym, ap, ◌∙◌, subst, arith, inl, inr}
 use Rattle.std.specs.Prelude.{option_map}
 use Rattle.std.specs.List.{AllByRecursion, range_with_len}
 use Rattle.std.proofs.lemmas.Bool.{cases_eq, eq-eqb, ne_eqb}
-use Rattle.seam_node_steps.specs.Prelude.{happens, enabled, LeadsTo, items_to, Event, RealView, Msg, Hand, Current}
-use Rattle.seam_node_steps.specs.Prelude.{Reap, limit, cell_count, base_numbers, current_to, currents, RouteView}
-use Rattle.seam_node_steps.specs.Prelude.{World, node_steps, node_has_work}
+use Rattle.seam_node_steps.specs.Prelude.{happens, items_to, Event, RealView, Msg, Hand, Current, Reap, limit, cell_count, base_numbers}
+use Rattle.seam_node_steps.specs.Prelude.{current_to, currents, RouteView, World, node_steps}
 use Rattle.seam_law_flow.specs.Prelude.{Flow, Goes, comes, letters_of, NotAbove, OfEntry, AllBring, Has, entry_in, greater_entry, Newest}
 use Rattle.seam_law_flow.specs.Prelude.{IsSilent, carried_in, TokenPlace, In, On, SendsNone, SendsOne, Handles, still, turns, lands, leaves}
 use Rattle.seam_law_calls.specs.Prelude.{Frame, here_at, Has as Had, entity_flow, real_burden, real_in, real_of, IsOne, IsSpared, IsFrame}
-use Rattle.seam_law_calls.specs.Prelude.{HasOne, MovesTo}
+use Rattle.seam_law_calls.specs.Prelude.{HasOne, MovesTo, RunsTo, real_at}
 use Rattle.seam_law_rounds.specs.Prelude.{as_entry, route_entry, brings_route, IsKnownAt}
-use Rattle.seam_machine.proofs.Occurring.{occurs}
-use Rattle.seam_net_runs.proofs.Runs.{leads_keeps}
 use Rattle.seam_law_flow.proofs.Following.{all_append, letters_kept, came}
 use Rattle.seam_law_flow.proofs.NewestLemmas.{newest_stays, newest_rises, newest_rests}
 use Rattle.seam_law_flow.proofs.SendLists.{sees_none, sees_after_silent, sees_one_here, sees_one_there}
 use Rattle.seam_law_flow.proofs.TokenLemmas.{sole_here, sole_came, sole_goes}
 use Rattle.seam_law_calls.proofs.Plain.{mapped_silent}
 use Rattle.seam_law_calls.proofs.Sparing.{items_all}
-use Rattle.seam_law_calls.proofs.OneReal.{goes, room, one_happens, calm_of, spared_happens}
+use Rattle.seam_law_calls.proofs.OneReal.{goes, room, one_keeps}
 use Rattle.seam_law_calls.proofs.Handling.{FindsRoom}
-use Rattle.seam_law_rounds.proofs.RoadMoves.{road_of, generation_of, IsGoodRoute, Roads, plain, arrives, departs}
-use Rattle.seam_law_rounds.proofs.RoadMoves.{roads, Reroutes, reroutes}
+use Rattle.seam_law_rounds.proofs.RoadMoves.{road_of, generation_of, IsGoodRoute, Roads, plain, arrives, departs, roads, Reroutes, reroutes}
 
 -- ---- letters that bring no route and carry no real
 
@@ -91,7 +87,8 @@ module _ (f : Frame) (e : ℕ) where
   abbrev Any : RealView → RealView → Type 0
   Any r q = Unit {0}
 
-  same_known : (p : TokenPlace) (r q : RealView) (w : Flow Had Msg) (b : ℕ) → q.generation ≡ r.generation → IsKnownAt p r w b → IsKnownAt p q w b
+  same_known : (p : TokenPlace) (r q : RealView) (w : Flow Had Msg) (b : ℕ) → q.generation ≡ r.generation → IsKnownAt p r w b →
+      IsKnownAt p q w b
   same_known (In k) r q w b is h = subst (λ n. Newest route_entry brings_route w b n k) (sym is) h
   same_known (On a k) r q w b is h = (h.0, h.1, (let lt = h.2 in omega (arith, lt, is)), h.3)
 
@@ -151,8 +148,7 @@ module _ (f : Frame) (e : ℕ) where
           (λ m. brings_route m ≡ None) b ps none))
 
       stays_new : (key c : ℕ) → Newest route_entry brings_route before b key c → (ps : List (ℕ × Msg)) →
-          AllByRecursion (λ p. brings_route p.1 ≡ None) ps →
-          sent ≡ ps → Newest route_entry brings_route after b key c
+          AllByRecursion (λ p. brings_route p.1 ≡ None) ps → sent ≡ ps → Newest route_entry brings_route after b key c
       stays_new key c n ps none is = newest_stays brings_route route_entry g b key c n takes (no_out ps none is key c)
 
       known_stays : (p : TokenPlace) (r : RealView) → IsKnownAt p r before b → AllByRecursion (λ p. brings_route p.1 ≡ None) sent →
@@ -249,7 +245,8 @@ module _ (f : Frame) (e : ℕ) where
         )
 
     -- the real goes
-    at_by : (p : TokenPlace) (b : ℕ) → p ≡ In g.k → IsKnownAt p h.real before b → Newest route_entry brings_route before b h.real.generation g.k
+    at_by : (p : TokenPlace) (b : ℕ) → p ≡ In g.k → IsKnownAt p h.real before b →
+        Newest route_entry brings_route before b h.real.generation g.k
     at_by (In x) b is n = let same : x ≡ g.k = let z = is in cc in subst (Newest route_entry brings_route before b h.real.generation) same n
     at_by (On x y) b is n = cc
 
@@ -310,27 +307,11 @@ module _ (f : Frame) (e : ℕ) where
   -- ---- every list of events
 
   module _ (frame : IsFrame f) (ty : ℕ) (known : ty < length f.defs) where
-    record Roaded (w : World) : Type 0 where
-      has : HasOne f e ty w
-      spared : IsSpared e w
-      routed : IsRouted w
-
-    roaded_more : (w : World) (v : Event) → Roaded w → enabled node_has_work w v ≡ true → Roaded (happens node_steps w v)
-    roaded_more w v h on =
-        let o = occurs node_has_work w v on in
-        let calm = calm_of f e w v o h.has.fits.frame h.spared in
-        record {
-          has = (one_happens f frame e ty known w v o h.has calm).has;
-          spared = spared_happens f e w v o h.has.fits.frame h.spared;
-          routed =
-              routed_goes w (happens node_steps w v) (goes f frame e ty known w v o h.has calm) (room f frame e ty known w v o h.has calm)
-              h.routed;
-        }
-
-    pub routed_leads : (w v : World) (es : List Event) → HasOne f e ty w → IsSpared e w → IsRouted w →
-        LeadsTo node_has_work node_steps w es v → IsRouted v
+    pub routed_leads : (w v : World) (es : List Event) → HasOne f e ty w → IsSpared e w → IsRouted w → RunsTo w es v → IsRouted v
     routed_leads w v es has spared routed run =
-        (leads_keeps node_has_work node_steps Roaded roaded_more w v es (record { has = has; spared = spared; routed = routed }) run).routed
+        one_keeps f frame e ty known IsRouted (λ x a o one its calm was.
+        routed_goes x (happens node_steps x a) (goes f frame e ty known x a o one calm) (room f frame e ty known x a o one calm) was) w v es
+        has spared run routed
 
   -- ---- where nothing is on its way
 
@@ -344,7 +325,7 @@ module _ (f : Frame) (e : ℕ) where
       ∙ ap (λ n. let y : RouteView = record { cell = c; generation = n } in Some y) a
 
   module _ (w : World) (h : IsRouted w) (still : (a k : ℕ) → (entity_flow e w).mail a k ≡ []) (k : ℕ) (r : RealView)
-      (here : real_in ((entity_flow e w).slot k) ≡ Some r) (b : ℕ) (high : cell_count ≤ b) (low : b < cell_count + f.settings.bases) where
+      (here : real_at e w k ≡ Some r) (b : ℕ) (high : cell_count ≤ b) (low : b < cell_count + f.settings.bases) where
     at_home : (p : TokenPlace) → p ≡ In k → IsKnownAt p h.real (entity_flow e w) b →
         Newest route_entry brings_route (entity_flow e w) b h.real.generation k
     at_home (In x) is n =

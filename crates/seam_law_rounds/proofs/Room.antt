@@ -1,7 +1,6 @@
 -- What a loaded world has yet to do of an entity leaves room in its numbers.
 use Rattle.std.proofs.Common.{◌≡◌, ℕ, suc, ◌+◌, ◌*◌, ◌^◌, ◌<◌, ◌≤◌, Bool, true, false, cond, T, eqb, ◌&&◌, nat_lt, List, [], ◌∷◌, map}
-use Rattle.std.proofs.Common.{length}
-use Rattle.std.proofs.Common.{Option, None, Some, refl, sym, ap, ◌∙◌, subst, arith, inl, inr, is_lt}
+use Rattle.std.proofs.Common.{length, Option, None, Some, refl, sym, ap, ◌∙◌, subst, arith, inl, inr, is_lt}
 use Rattle.std.specs.Prelude.{find, option_map, slice_get, slice_index_or}
 use Rattle.std.specs.Ordering.{nat_cmp}
 use Rattle.std.specs.FinMap as table
@@ -15,8 +14,8 @@ use Rattle.seam_node_steps.specs.Prelude.{order_or, RealView, limit, has_any, ce
 use Rattle.seam_node_steps.specs.Prelude.{cell_round, ordered_at, loaded, real_begins}
 use Rattle.seam_law_flow.specs.Prelude.{slot_at}
 use Rattle.seam_law_calls.specs.Prelude.{Frame, Has, has_of, has_none, times, one_more_if, order_concerns, orders_of, entity_flow, held_of}
-use Rattle.seam_law_calls.specs.Prelude.{held_in, real_burden, order_burden, node_burden, mine_burden, burden, real_in}
-use Rattle.seam_law_rounds.specs.Prelude.{IsBetweenRounds, IsFitting, each, made, node_loaded}
+use Rattle.seam_law_calls.specs.Prelude.{held_in, real_burden, order_burden, node_burden, mine_burden, burden, real_in, real_at}
+use Rattle.seam_law_rounds.specs.Prelude.{each, made, node_loaded, MayBegin}
 use Rattle.seam_machine.proofs.Quiet.{quiet_links}
 use Rattle.seam_net_runs.specs.Sums.{weight_or}
 use Rattle.seam_net_runs.proofs.Weighing.{weight_bounds}
@@ -49,8 +48,7 @@ one_if None = 0
 one_if (Some x) = 1
 
 times_by : {X : Type 0} (e : ℕ) (p : ℕ × X) (ps : List (ℕ × X)) → T (below_all nat_cmp p.0 ps) →
-    times e (map (λ p. p.0) ps) ≤ one_if (key_find nat_cmp e ps) →
-    times e (map (λ p. p.0) (p ∷ ps)) ≤ one_if (key_find nat_cmp e (p ∷ ps))
+    times e (map (λ p. p.0) ps) ≤ one_if (key_find nat_cmp e ps) → times e (map (λ p. p.0) (p ∷ ps)) ≤ one_if (key_find nat_cmp e (p ∷ ps))
 times_by e p ps below more = elim (cases_eq p.0 e) [
   | inl is ↦
       let none = times_none e p.0 ps (omega (arith, is)) below in
@@ -183,9 +181,8 @@ module _ (home a : ℕ) (os : List (ℕ × Order)) where
   abbrev pub most : ℕ → ℕ
   most i = cond {A = ℕ} (eqb i home) a 0 + 3 * length (items_to i os)
 
-  sum_by : (i x rest : ℕ) (here past later : Bool) → eqb i home ≡ here → nat_lt home i ≡ past → nat_lt home (i + 1) ≡ later →
-      (n : ℕ) → x ≤ cond {A = ℕ} here a 0 + 3 * n → (m : ℕ) → rest ≤ cond {A = ℕ} later 0 a + 3 * m →
-      x + rest ≤ cond {A = ℕ} past 0 a + 3 * (n + m)
+  sum_by : (i x rest : ℕ) (here past later : Bool) → eqb i home ≡ here → nat_lt home i ≡ past → nat_lt home (i + 1) ≡ later → (n : ℕ) →
+      x ≤ cond {A = ℕ} here a 0 + 3 * n → (m : ℕ) → rest ≤ cond {A = ℕ} later 0 a + 3 * m → x + rest ≤ cond {A = ℕ} past 0 a + 3 * (n + m)
   sum_by i x rest true true later h p l n at m more = absurd (grind (arith, nat_tests, h, p))
   sum_by i x rest true false true h p l n at m more = omega (arith, at, more)
   sum_by i x rest true false false h p l n at m more = absurd (grind (arith, nat_tests, h, l))
@@ -227,8 +224,7 @@ module _ {M : Type 0} (g : ℕ → M → ℕ) where
 
 -- ---- all of it
 
-module _ (f : Frame) (w : World) (b : Batch) (between : IsBetweenRounds f w) (fits : IsFitting f w b) (e home : ℕ) (r : RealView)
-    (its : Loaded f w b between fits e home r) where
+module _ (f : Frame) (w : World) (b : Batch) (begin : MayBegin f w b) (e home : ℕ) (r : RealView) (its : Loaded f w b begin e home r) where
   abbrev after : ℕ → Has
   after k = (entity_flow e (loaded w b)).slot k
 
@@ -257,9 +253,9 @@ module _ (f : Frame) (w : World) (b : Batch) (between : IsBetweenRounds f w) (fi
   orders_weigh_at : (k : ℕ) (s : NodeView) → slice_get w.nodes k ≡ Some s →
       total order_burden (has_of e (node_loaded b s)).base.orders ≤ 3 * length (items_to k b.orders)
   orders_weigh_at k s at = elim (cases_lt k cell_count) [
-    | inl low ↦ let none = ap (total order_burden) (node_none f w b between fits.tree e k s at low) in omega (arith, none)
+    | inl low ↦ let none = ap (total order_burden) (node_none f w b begin.between begin.fits.tree e k s at low) in omega (arith, none)
     | inr high ↦
-        let is = ap (total order_burden) (node_orders f w b between fits.tree e k s at high) in
+        let is = ap (total order_burden) (node_orders f w b begin.between begin.fits.tree e k s at high) in
         let few = orders_weigh e (items_to k b.orders) in
         omega (arith, is, few)
   ]
@@ -285,7 +281,7 @@ module _ (f : Frame) (w : World) (b : Batch) (between : IsBetweenRounds f w) (fi
       subst (λ i. node_burden e t ≤ most home most_of b.orders i) same
       (subst (λ t. node_burden e t ≤ most home most_of b.orders j) s.2 (node_weighs j s.0 s.1))) in
       let all = from_all b.orders in
-      let links = rows_none (mine_burden e) w.rows (quiet_links node_has_work w between.nodes.sound.square between.quiet) in
+      let links = rows_none (mine_burden e) w.rows (quiet_links node_has_work w begin.between.nodes.sound.square begin.between.quiet) in
       let is = ap (burden e) (loaded_is w b) in
       let past : cond {A = ℕ} (nat_lt home 0) 0 most_of ≡ most_of = ap (λ c. cond {A = ℕ} c 0 most_of) (none_below home) in
       omega (arith, sum, all, links, is, past)
@@ -294,14 +290,14 @@ module _ (f : Frame) (w : World) (b : Batch) (between : IsBetweenRounds f w) (fi
   few_more =
       let none = no_held r.orders its.settled.none_held in
       let few = its.small in
-      let short = fits.few in
+      let short = begin.fits.few in
       omega (arith, weighs, none, few, short)
 
   pub room : burden e (loaded w b) + 1 < limit
   room = let few = few_more in omega (arith, few)
 
 -- the numbers of a real are among those of its entity
-pub real_room : (e : ℕ) (w : World) (k : ℕ) (r : RealView) → real_in ((entity_flow e w).slot k) ≡ Some r → real_burden r ≤ burden e w
+pub real_room : (e : ℕ) (w : World) (k : ℕ) (r : RealView) → real_at e w k ≡ Some r → real_burden r ≤ burden e w
 real_room e w k r has = by (slice_get w.nodes k) refl has
   where
     by : (n : Option NodeView) → slice_get w.nodes k ≡ n → real_in (slot_at (has_of e) has_none n) ≡ Some r → real_burden r ≤ burden e w

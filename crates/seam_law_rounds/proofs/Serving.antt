@@ -1,15 +1,15 @@
 -- An entity with a client or without one, from a world in which nothing of it is on its way to one that is quiet.
-use Rattle.std.proofs.Common.{◌≡◌, ℕ, ◌+◌, ◌^◌, ◌<◌, ◌≤◌, ◌-◌, true, false, cond, is_some, List, [], ◌∷◌, length, Option, None}
-use Rattle.std.proofs.Common.{Some, refl, sym, ap, ◌∙◌, subst, arith, inl, inr}
+use Rattle.std.proofs.Common.{◌≡◌, ℕ, ◌+◌, ◌^◌, ◌<◌, ◌≤◌, ◌-◌, true, false, cond, is_some, List, [], ◌∷◌, length, Option, None, Some, refl}
+use Rattle.std.proofs.Common.{sym, ap, ◌∙◌, subst, arith, inl, inr}
 use Rattle.std.specs.List.{AllByRecursion}
 use Rattle.std.proofs.lemmas.Bool.{cases_eq, eq-eqb}
 use Rattle.std.proofs.lemmas.List.{append-nil, append_cancel_left}
-use Rattle.seam_node_steps.specs.Prelude.{IsQuiet, LeadsTo, Event, item_at, Shown, RealView, WitnessView, Msg, PartView, ProxyView, World}
-use Rattle.seam_node_steps.specs.Prelude.{node_steps, node_has_work}
+use Rattle.seam_node_steps.specs.Prelude.{IsQuiet, Event, item_at, Shown, RealView, WitnessView, Msg, PartView, ProxyView, World}
+use Rattle.seam_node_steps.specs.Prelude.{node_has_work}
 use Rattle.seam_law_flow.specs.Prelude.{Flow, letters_of, Delivery, Life, number_from, numbered}
-use Rattle.seam_law_calls.specs.Prelude.{Frame, IsInFrame, Has, entity_flow, real_in, real_of, IsSpared, IsFrame, HasOne, sent_of, sent_by}
-use Rattle.seam_law_calls.specs.Prelude.{home_of, HasNoClient, proxy_of, order_in, updates_at, shown_in, lines_in, shown_at, tells}
-use Rattle.seam_law_calls.specs.Prelude.{EachReal, HasToldAtMost, HasClient, HasRoomFor}
+use Rattle.seam_law_calls.specs.Prelude.{Frame, IsInFrame, Has, entity_flow, real_of, IsSpared, IsFrame, HasOne, sent_of, sent_by, home_of}
+use Rattle.seam_law_calls.specs.Prelude.{HasNoClient, proxy_of, order_in, updates_at, shown_in, lines_in, shown_at, tells, EachReal}
+use Rattle.seam_law_calls.specs.Prelude.{HasToldAtMost, HasClient, HasRoomFor, RunsTo, real_at}
 use Rattle.seam_law_rounds.specs.Prelude.{AreInStep, AreFor, IsServed, bare, served}
 use Rattle.seam_order.specs.Held.{RiseFrom}
 use Rattle.seam_law_calls.proofs.AloneRuns.{bare_leads}
@@ -24,7 +24,7 @@ pub record HasItStill (f : Frame) (e ty : ℕ) (r : RealView) (p : PartView) (w 
   pub one : HasOne f e ty w
   pub spared : IsSpared e w
   pub still : (x y : ℕ) → (entity_flow e w).mail x y ≡ []
-  pub real : (k : ℕ) (q : RealView) → real_in ((entity_flow e w).slot k) ≡ Some q → r ≡ q
+  pub real : (k : ℕ) (q : RealView) → real_at e w k ≡ Some q → r ≡ q
   pub here : ((entity_flow e w).slot (home_of f e)).base.part ≡ Some p
   pub others : (k : ℕ) → (k ≡ home_of f e → ⊥) → ((entity_flow e w).slot k).base.part ≡ None
 
@@ -136,7 +136,7 @@ pub record HasNumbers (e n : ℕ) (w v : World) : Type 0 where
   pub room : HasRoomFor e n w
   pub most : HasToldAtMost e n v
 
-module _ (f : Frame) (e ty : ℕ) (w v : World) (es : List Event) (run : LeadsTo node_has_work node_steps w es v) (frame : IsInFrame f w)
+module _ (f : Frame) (e ty : ℕ) (w v : World) (es : List Event) (run : RunsTo w es v) (frame : IsInFrame f w)
     (spared : IsSpared e w) (n : ℕ) (numbers : HasNumbers e n w v) where
   pub serves_then : IsServed f e ty w → IsServed f e ty v
   serves_then (bare none unseen) = bare (bare_leads f e w v es frame spared none run) (seen_leads f e false w v es frame unseen run)
@@ -147,8 +147,7 @@ module _ (f : Frame) (e ty : ℕ) (w v : World) (es : List Event) (run : LeadsTo
 -- ---- in a quiet world
 
 module _ (f : Frame) (e ty : ℕ) (v : World) (frame : IsInFrame f v) (quiet : IsQuiet node_has_work v) (k : ℕ) (q : RealView)
-    (at : real_in ((entity_flow e v).slot k) ≡ Some q) (p : PartView)
-    (there : ((entity_flow e v).slot (home_of f e)).base.part ≡ Some p) where
+    (at : real_at e v k ≡ Some q) (p : PartView) (there : ((entity_flow e v).slot (home_of f e)).base.part ≡ Some p) where
   abbrev end : Has
   end = (entity_flow e v).slot (home_of f e)
 

@@ -2,20 +2,20 @@
 use Rattle.std.proofs.Common.{◌≡◌, ℕ, zero, suc, ◌⊎◌, List, [], ◌∷◌, length, Option, None, Some, refl, ◌∙◌, inl, inr, Bool, true, false}
 use Rattle.std.proofs.Common.{cond, eqb, subst}
 use Rattle.std.specs.Prelude.{slice_get}
-use Rattle.seam_node_steps.specs.Prelude.{LeadsTo, Event, items_to, RealView, Msg, NodeView, World, node_steps, node_has_work}
+use Rattle.seam_node_steps.specs.Prelude.{Event, items_to, RealView, Msg, NodeView, World, node_steps, node_has_work}
 use Rattle.seam_law_flow.specs.Prelude.{slot_at}
-use Rattle.seam_law_calls.specs.Prelude.{Frame, IsInFrame, has_of, has_none, entity_flow, real_in}
+use Rattle.seam_law_calls.specs.Prelude.{Frame, IsInFrame, has_of, has_none, real_in, RunsTo, real_at}
 use Rattle.seam_machine.proofs.Occurring.{occurs, length-happens}
 use Rattle.seam_net_runs.proofs.Runs.{leads_keeps}
 use Rattle.std.specs.List.{AllByRecursion}
 use Rattle.std.proofs.lemmas.Bool.{eqb-true}
 use Rattle.seam_law_calls.proofs.Classify.{frame_happens}
 
-pub frame_leads : (f : Frame) (w v : World) (es : List Event) → IsInFrame f w → LeadsTo node_has_work node_steps w es v → IsInFrame f v
+pub frame_leads : (f : Frame) (w v : World) (es : List Event) → IsInFrame f w → RunsTo w es v → IsInFrame f v
 frame_leads f w v es q run =
     leads_keeps node_has_work node_steps (IsInFrame f) (λ x a s h. frame_happens f x a (occurs node_has_work x a h) s) w v es q run
 
-pub many_leads : (w v : World) (es : List Event) → LeadsTo node_has_work node_steps w es v → length v.nodes ≡ length w.nodes
+pub many_leads : (w v : World) (es : List Event) → RunsTo w es v → length v.nodes ≡ length w.nodes
 many_leads w v es run =
     leads_keeps node_has_work node_steps (λ x. length x.nodes ≡ length w.nodes)
     (λ x a same h. length-happens node_steps x a (occurs node_has_work x a h) ∙ same) w v es refl run
@@ -23,10 +23,10 @@ many_leads w v es run =
 -- ---- where the real is
 
 abbrev pub Somewhere : ℕ → World → Type 0
-Somewhere e w = (k : ℕ) × (r : RealView) × (real_in ((entity_flow e w).slot k) ≡ Some r)
+Somewhere e w = (k : ℕ) × (r : RealView) × (real_at e w k ≡ Some r)
 
 abbrev pub Nowhere : ℕ → World → Type 0
-Nowhere e w = (k : ℕ) → real_in ((entity_flow e w).slot k) ≡ None
+Nowhere e w = (k : ℕ) → real_at e w k ≡ None
 
 module _ (e : ℕ) where
   abbrev At : List NodeView → ℕ → Option RealView

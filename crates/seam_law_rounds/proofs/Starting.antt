@@ -1,6 +1,6 @@
 -- A quiet world that is told to reap some entities, or that witnesses look, is calm for each entity that is there.
-use Rattle.std.proofs.Common.{◌≡◌, ℕ, zero, suc, ◌+◌, ◌<◌, ◌≤◌, Bool, true, false, cond, eqb, List, [], ◌∷◌, length, Option}
-use Rattle.std.proofs.Common.{None, Some, refl, sym, ap, ◌∙◌, subst, arith, inl, inr}
+use Rattle.std.proofs.Common.{◌≡◌, ℕ, zero, suc, ◌+◌, ◌<◌, ◌≤◌, Bool, true, false, cond, eqb, List, [], ◌∷◌, length, Option, None, Some}
+use Rattle.std.proofs.Common.{refl, sym, ap, ◌∙◌, subst, arith, inl, inr}
 use Rattle.std.specs.Prelude.{option_map, slice_get}
 use Rattle.std.proofs.lemmas.List.{length-map}
 use Rattle.std.specs.List.{AllByRecursion, IsDistinct}
@@ -9,7 +9,7 @@ use Rattle.std.proofs.Math.Nat.{mod-lt}
 use Rattle.std.proofs.lemmas.Option.{slice_get-map}
 use Rattle.seam_node_steps.specs.Prelude.{total, RealView, base_of, NodeView, World, node_has_work, Cell, Base, with_nodes}
 use Rattle.seam_law_flow.specs.Prelude.{letters_of, slot_at}
-use Rattle.seam_law_calls.specs.Prelude.{Frame, here_at, IsInFrame, mine, orders_of, times, has_of, has_none, entity_flow, real_in}
+use Rattle.seam_law_calls.specs.Prelude.{Frame, here_at, IsInFrame, mine, orders_of, times, has_of, has_none, entity_flow, real_in, real_at}
 use Rattle.seam_law_rounds.specs.Prelude.{IsSettled, IsBetweenRounds, each}
 use Rattle.seam_machine.proofs.Quiet.{quiet_links, quiet_tasks}
 use Rattle.seam_law_rounds.proofs.Loading.{node_there}
@@ -83,10 +83,9 @@ pub idle_orders : (e : ℕ) (s : NodeView) → node_has_work s ≡ false → (ha
 idle_orders e (Cell c) h = refl
 idle_orders e (Base n) h = ap (orders_of e) (no_items n.orders _ h)
 
-module _ (f : Frame) (u : World) (between : IsBetweenRounds f u) (e home : ℕ) (r : RealView)
-    (here : real_in ((entity_flow e u).slot home) ≡ Some r) (turn : NodeView → NodeView) (told : Bool)
-    (frame : IsInFrame f (with_nodes u turn))
-    (stay : (k : ℕ) → real_in ((entity_flow e (with_nodes u turn)).slot k) ≡ real_in ((entity_flow e u).slot k)) where
+module _ (f : Frame) (u : World) (between : IsBetweenRounds f u) (e home : ℕ) (r : RealView) (here : real_at e u home ≡ Some r)
+    (turn : NodeView → NodeView) (told : Bool) (frame : IsInFrame f (with_nodes u turn))
+    (stay : (k : ℕ) → real_at e (with_nodes u turn) k ≡ real_at e u k) where
   abbrev base : ℕ
   base = base_of (here_at f 0) e
 
@@ -98,16 +97,15 @@ module _ (f : Frame) (u : World) (between : IsBetweenRounds f u) (e home : ℕ) 
 
   module _ (bases : 1 ≤ f.settings.bases)
       (given : (k : ℕ) (s : NodeView) → slice_get u.nodes k ≡ Some s → Given e (cond (eqb k base) (cond told 1 0) 0) s (turn s)) where
-    there : (k : ℕ) (t : NodeView) → slice_get then.nodes k ≡ Some t →
-        (s : NodeView) × (slice_get u.nodes k ≡ Some s) × (turn s ≡ t)
+    there : (k : ℕ) (t : NodeView) → slice_get then.nodes k ≡ Some t → (s : NodeView) × (slice_get u.nodes k ≡ Some s) × (turn s ≡ t)
     there k t at = node_there (slice_get u.nodes k) turn t (sym (slice_get-map turn u.nodes k) ∙ at)
 
     was : (k : ℕ) (s : NodeView) → slice_get u.nodes k ≡ Some s → has_of e s ≡ (entity_flow e u).slot k
     was k s at = sym (ap (slot_at (has_of e) has_none) at)
 
-    real_by : (k : ℕ) (q : RealView) → real_in ((entity_flow e u).slot k) ≡ Some q → (k ≡ home) × (r ≡ q)
+    real_by : (k : ℕ) (q : RealView) → real_at e u k ≡ Some q → (k ≡ home) × (r ≡ q)
     real_by k q at = elim (cases_eq k home) [
-      | inl is ↦ (is, (let z = sym here ∙ ap (λ j. real_in ((entity_flow e u).slot j)) (sym is) ∙ at in cc))
+      | inl is ↦ (is, (let z = sym here ∙ ap (λ j. real_at e u j) (sym is) ∙ at in cc))
       | inr n ↦ absurd (let z = sym (settled.others k n) ∙ at in cc)
     ]
 
@@ -157,6 +155,7 @@ module _ (f : Frame) (u : World) (between : IsBetweenRounds f u) (e home : ℕ) 
     pub starts_calm : IsCalm f e home r u told then
     starts_calm = record {
       frame = frame;
+      cells = between.frame.tree.cells_to;
       nodes = λ k. none_at k (slice_get then.nodes k) refl;
       mail = λ a k. subst (AllByRecursion (IsCalmTo told home r k)) (sym (no_mail a k)) tt;
       reaps =

@@ -66,9 +66,8 @@ module _ (e : ℕ) where
     real_other true c = other_set c.reals x.entity (Some (created c.here x.entity x.ty x.pos)) other
     real_other false c = refl
 
-    part_other : (b : Bool) (n : BaseView) →
-        ((has_of e (Base (part_if b n x))).base.route ≡ table.get n.routes e)
-        × ((has_of e (Base (part_if b n x))).base.orders ≡ orders_of e n.orders)
+    part_other : (b : Bool) (n : BaseView) → ((has_of e (Base (part_if b n x))).base.route ≡ table.get n.routes e) ×
+        ((has_of e (Base (part_if b n x))).base.orders ≡ orders_of e n.orders)
     part_other true n = (refl, refl)
     part_other false n = (refl, refl)
 

@@ -5,12 +5,13 @@ use Rattle.std.specs.List.{AllByRecursion}
 use Rattle.std.specs.FinMap as table
 use Rattle.std.proofs.lemmas.Bool.{cases_eq}
 use Rattle.std.proofs.lemmas.Option.{slice_get-map}
-use Rattle.seam_node_steps.specs.Prelude.{happens, enabled, LeadsTo, total, Event, Call as CallData, Order, order_or, Msg, BaseCall, Here}
-use Rattle.seam_node_steps.specs.Prelude.{PartView, ProxyView, NodeView, World, node_steps, node_has_work, with_nodes}
+use Rattle.seam_node_steps.specs.Prelude.{happens, enabled, total, Event, Call as CallData, Order, order_or, Msg, BaseCall, Here, PartView}
+use Rattle.seam_node_steps.specs.Prelude.{ProxyView, NodeView, World, node_steps, node_has_work, with_nodes}
 use Rattle.seam_law_flow.specs.Prelude.{comes, slot_at, letters_of}
 use Rattle.seam_law_calls.specs.Prelude.{Frame, here_at, IsInFrame, Has, AtBase, mine, has_of, has_none, entity_flow, reaped_by}
 use Rattle.seam_law_calls.specs.Prelude.{reaped_by_order, HasNoReaps, IsSpared, base_call_in, base_call_of, calls_ordered, PartMoves, rests}
 use Rattle.seam_law_calls.specs.Prelude.{refuses, offers, sends, serves, executes, misses, updates, shows, ends, home_of, HasNoBaseCalls}
+use Rattle.seam_law_calls.specs.Prelude.{RunsTo}
 use Rattle.seam_law_rounds.specs.Prelude.{IsBetweenRounds, HasSettledPart}
 use Rattle.seam_machine.proofs.Occurring.{occurs}
 use Rattle.seam_machine.proofs.Quiet.{quiet_links}
@@ -99,7 +100,7 @@ module _ (f : Frame) (e : ℕ) (had : ℕ → Option PartView) (idle : (k : ℕ)
             (part_moves f e g.k s (comes g.input) t g.moves.sent g.moves.moves));
       }
 
-  pub still_leads : (w v : World) (es : List Event) → IsStill w → LeadsTo node_has_work node_steps w es v → IsStill v
+  pub still_leads : (w v : World) (es : List Event) → IsStill w → RunsTo w es v → IsStill v
   still_leads w v es h run = leads_keeps node_has_work node_steps IsStill still_more w v es h run
 
 -- ---- a load that gives the entity no call and no reap
@@ -119,8 +120,7 @@ none_calls e (order.Tick ∷ os) h = none_calls e os h.1
 none_calls e (order.Reap x ∷ os) h = none_calls e os h.1
 
 module _ (f : Frame) (u : World) (between : IsBetweenRounds f u) (e ty : ℕ) (h : HasSettledPart f e ty u) (turn : NodeView → NodeView)
-    (frame : IsInFrame f (with_nodes u turn))
-    (given : (k : ℕ) (s : NodeView) → slice_get u.nodes k ≡ Some s → Given e 0 s (turn s))
+    (frame : IsInFrame f (with_nodes u turn)) (given : (k : ℕ) (s : NodeView) → slice_get u.nodes k ≡ Some s → Given e 0 s (turn s))
     (same : (s : NodeView) → part_at e (turn s) ≡ part_at e s) where
   abbrev then : World
   then = with_nodes u turn
@@ -180,7 +180,7 @@ module _ (f : Frame) (u : World) (between : IsBetweenRounds f u) (e ty : ℕ) (h
   }
 
   -- so it is settled after every list of events
-  pub still_settled : (v : World) (es : List Event) → LeadsTo node_has_work node_steps then es v → HasSettledPart f e ty v
+  pub still_settled : (v : World) (es : List Event) → RunsTo then es v → HasSettledPart f e ty v
   still_settled v es run =
       let s = still_leads f e had idle then v es is_still run in
       let home = home_of f e in

@@ -1,20 +1,19 @@
 -- A loaded world has few entities, and each witness in it is to look few times: so it tells few updates.
 use Rattle.std.proofs.Common.{◌≡◌, ℕ, suc, ◌+◌, ◌*◌, ◌^◌, ◌<◌, ◌≤◌, Bool, true, false, cond, eqb, nat_lt, is_some, List, [], ◌∷◌, length}
-use Rattle.std.proofs.Common.{Option, None, Some}
-use Rattle.std.proofs.Common.{refl, sym, ap, ◌∙◌, subst, arith, inl, inr}
+use Rattle.std.proofs.Common.{Option, None, Some, refl, sym, ap, ◌∙◌, subst, arith, inl, inr}
 use Rattle.std.specs.Prelude.{option_map, slice_get}
 use Rattle.std.specs.List.{AllByRecursion}
 use Rattle.std.proofs.lemmas.Bool.{cases_lt}
 use Rattle.std.proofs.lemmas.Option.{slice_get-map}
-use Rattle.seam_node_steps.specs.Prelude.{link, LeadsTo, items_to, total, Event, Ghost, copy_in, Create, Order, Batch, GhostCopy, RealView}
-use Rattle.seam_node_steps.specs.Prelude.{cell_count, base_of, has_any, ready_entity, PartView, NodeView, World, node_steps, node_has_work}
-use Rattle.seam_node_steps.specs.Prelude.{Cell, Base, real_if, part_if, with_route, created_at, attached, cell_round, base_round, order_if}
-use Rattle.seam_node_steps.specs.Prelude.{ordered_at, loaded, with_nodes, Division, leaf_at, cells_of}
+use Rattle.seam_node_steps.specs.Prelude.{link, items_to, total, Event, Ghost, copy_in, Create, Order, Batch, GhostCopy, RealView}
+use Rattle.seam_node_steps.specs.Prelude.{cell_count, base_of, has_any, ready_entity, PartView, NodeView, World, node_has_work, Cell, Base}
+use Rattle.seam_node_steps.specs.Prelude.{real_if, part_if, with_route, created_at, attached, cell_round, base_round, order_if, ordered_at}
+use Rattle.seam_node_steps.specs.Prelude.{loaded, with_nodes, Division, leaf_at, cells_of}
 use Rattle.seam_law_flow.specs.Prelude.{slot_at, letters_of}
 use Rattle.seam_law_calls.specs.Prelude.{Frame, here_at, mine, times, order_concerns, orders_of, has_of, has_none, real_in, sent_by}
 use Rattle.seam_law_calls.specs.Prelude.{EachReal, HasToldAtMost, most_entities, IsBlank, BringsNone, IsAbsent, HasFewEntities, SeesFew}
-use Rattle.seam_law_calls.specs.Prelude.{order_looks, node_looks, mine_looks, looks_left, most_shown}
-use Rattle.seam_law_rounds.specs.Prelude.{IsBetweenRounds, IsFitting, each, made, node_loaded, HasPartsBetweenRounds, FitsParts}
+use Rattle.seam_law_calls.specs.Prelude.{order_looks, node_looks, mine_looks, looks_left, most_shown, RunsTo}
+use Rattle.seam_law_rounds.specs.Prelude.{IsBetweenRounds, each, made, node_loaded, HasPartsBetweenRounds, FitsParts, MayBegin}
 use Rattle.seam_machine.proofs.Quiet.{quiet_links, quiet_tasks}
 use Rattle.seam_call.specs.declared.order.Order.TheVariants as order
 use Rattle.seam_law_calls.proofs.Quieting.{neither, none_left}
@@ -24,7 +23,7 @@ use Rattle.seam_law_rounds.proofs.Making.{AreOthers}
 use Rattle.seam_law_rounds.proofs.Room.{from_all, most, sum_most, rows_none}
 use Rattle.seam_law_rounds.proofs.Turns.{node_orders, node_none}
 use Rattle.seam_law_calls.proofs.Telling.{tells_at_most, sees_few_then}
-use Rattle.seam_law_rounds.proofs.Joining.{is_among, peopled, real_at, real_joined, real_peopled}
+use Rattle.seam_law_rounds.proofs.Joining.{is_among, peopled, real_in_node, real_joined, real_peopled}
 use Rattle.seam_law_rounds.proofs.Attaching.{real_from}
 use Rattle.seam_law_calls.proofs.NoLooks.{NoTicks}
 use Rattle.seam_law_calls.proofs.WitnessKept.{each_weaker}
@@ -97,10 +96,8 @@ idle_looks e (Base n) h = refl
 -- ---- how often a witness is to look, by the orders
 
 abbrev order_ticks : Order → ℕ
-order_ticks (order.Cell c) = 0
-order_ticks (order.Base c) = 0
 order_ticks order.Tick = 1
-order_ticks (order.Reap e) = 0
+order_ticks _ = 0
 
 abbrev pub ticks_of : List Order → ℕ
 ticks_of os = total order_ticks os
@@ -136,8 +133,7 @@ module _ (e : ℕ) where
       omega (arith, here, orders, more)
 
   few_looks : (os : List (ℕ × Order)) (w : World) →
-      ((k : ℕ) (t : NodeView) → slice_get w.nodes k ≡ Some t →
-      ((has_of e t).cell.looks ≡ 0) × (node_ticks e t ≤ length (items_to k os))) →
+      ((k : ℕ) (t : NodeView) → slice_get w.nodes k ≡ Some t → ((has_of e t).cell.looks ≡ 0) × (node_ticks e t ≤ length (items_to k os))) →
       ((a k : ℕ) → link w.rows a k ≡ []) → looks_left e w ≤ 16 * length os
   few_looks os w each links =
       let looks = nodes_look w.nodes (λ k t at. (each k t at).0) in
@@ -153,8 +149,7 @@ module _ (e : ℕ) where
 -- ---- so it tells few updates
 
 module _ (f : Frame) (e ty : ℕ) (r : RealView) (p : PartView) (w : World) (h : HasItStill f e ty r p w) (few : HasFewEntities w)
-    (sees : SeesFew r) (n : ℕ) (left : looks_left e w ≤ n) (small : n ≤ 2 ^ 23) (v : World) (es : List Event)
-    (run : LeadsTo node_has_work node_steps w es v) where
+    (sees : SeesFew r) (n : ℕ) (left : looks_left e w ≤ n) (small : n ≤ 2 ^ 23) (v : World) (es : List Event) (run : RunsTo w es v) where
   each_sees : EachReal e SeesFew w
   each_sees = each_real f e ty r p w h SeesFew sees
 
@@ -177,8 +172,7 @@ module _ (f : Frame) (e ty : ℕ) (r : RealView) (p : PartView) (w : World) (h :
 
 -- ---- a batch
 
-module _ (f : Frame) (w : World) (b : Batch) (between : IsBetweenRounds f w) (fits : IsFitting f w b) (had : HasPartsBetweenRounds f w)
-    (brings : FitsParts f w b) where
+module _ (f : Frame) (w : World) (b : Batch) (begin : MayBegin f w b) (had : HasPartsBetweenRounds f w) (brings : FitsParts f w b) where
   -- an entity past the bound is not created
   others_by : (e : ℕ) → most_entities ≤ e → (xs : List Create) → AllByRecursion (λ x. x.entity < most_entities) xs → AreOthers e xs
   others_by e le [] h = tt
@@ -195,19 +189,19 @@ module _ (f : Frame) (w : World) (b : Batch) (between : IsBetweenRounds f w) (fi
           copy = ap (λ p. copy_in p.0) (loaded_aside e (aside e s) b s refl) ∙ was.copy;
         }
       where
-        real_by : (o : Option RealView) → real_in (has_of e (node_loaded b s)) ≡ o → real_at e s ≡ None → o ≡ None
+        real_by : (o : Option RealView) → real_in (has_of e (node_loaded b s)) ≡ o → real_in_node e s ≡ None → o ≡ None
         real_by None is none = refl
         real_by (Some r) is none =
             let q =
-            real_from (is_among e b.clients) (here_at f k) (real_at e (peopled b s)) r
-            (sym (real_joined e f b k s (between.nodes.nodes k s at)) ∙ is) in
-            let same : real_at e (peopled b s) ≡ None = real_peopled e b s (others_by e le b.creates brings.numbers) ∙ none in
+            real_from (is_among e b.clients) (here_at f k) (real_in_node e (peopled b s)) r
+            (sym (real_joined e f b k s (begin.between.nodes.nodes k s at)) ∙ is) in
+            let same : real_in_node e (peopled b s) ≡ None = real_peopled e b s (others_by e le b.creates brings.numbers) ∙ none in
             absurd (let z = sym same ∙ q.1 in cc)
 
     absent_loaded : IsAbsent e (loaded w b)
     absent_loaded = record {
       cells = λ k. subst IsBlank (sym (slot_is w b e k)) (blank_by k (slice_get w.nodes k) refl);
-      letters = λ a k. subst (AllByRecursion BringsNone) (sym (no_mail f w b between fits e a k)) tt;
+      letters = λ a k. subst (AllByRecursion BringsNone) (sym (no_mail f w b begin e a k)) tt;
     }
 
   pub few_loaded : HasFewEntities (loaded w b)
@@ -217,11 +211,11 @@ module _ (f : Frame) (w : World) (b : Batch) (between : IsBetweenRounds f w) (fi
     looks_by : (k : ℕ) (s : NodeView) → slice_get w.nodes k ≡ Some s →
         ((has_of e (node_loaded b s)).cell.looks ≡ 0) × (node_ticks e (node_loaded b s) ≤ length (items_to k b.orders))
     looks_by k s at = (
-      ap (λ p. p.1) (loaded_aside e (aside e s) b s refl) ∙ idle_looks e s (quiet_tasks node_has_work w between.quiet k s at),
+      ap (λ p. p.1) (loaded_aside e (aside e s) b s refl) ∙ idle_looks e s (quiet_tasks node_has_work w begin.between.quiet k s at),
       elim (cases_lt k cell_count) [
-        | inl low ↦ let none = ap ticks_of (node_none f w b between fits.tree e k s at low) in omega (arith, none)
+        | inl low ↦ let none = ap ticks_of (node_none f w b begin.between begin.fits.tree e k s at low) in omega (arith, none)
         | inr high ↦
-            let is = ap ticks_of (node_orders f w b between fits.tree e k s at high) in
+            let is = ap ticks_of (node_orders f w b begin.between begin.fits.tree e k s at high) in
             let few = few_ticks e (items_to k b.orders) in
             omega (arith, is, few)
       ],
@@ -234,7 +228,7 @@ module _ (f : Frame) (w : World) (b : Batch) (between : IsBetweenRounds f w) (fi
         (λ k t at.
         let s = node_there (slice_get w.nodes k) (node_loaded b) t (sym (slice_get-map (node_loaded b) w.nodes k) ∙ at) in
         subst (λ t. ((has_of e t).cell.looks ≡ 0) × (node_ticks e t ≤ length (items_to k b.orders))) s.2 (looks_by k s.0 s.1))
-        (quiet_links node_has_work w between.nodes.sound.square between.quiet))
+        (quiet_links node_has_work w begin.between.nodes.sound.square begin.between.quiet))
 
 -- orders that are no ticks
 pub no_ticks : (os : List Order) → NoTicks os → ticks_of os ≡ 0

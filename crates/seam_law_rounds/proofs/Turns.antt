@@ -1,7 +1,6 @@
 -- Each sender's calls of a batch are in turn in a loaded world, for each entity of it.
-use Rattle.std.proofs.Common.{◌≡◌, ℕ, ◌<◌, ◌≤◌, Bool, true, false, cond, eqb, List, [], ◌∷◌, ◌++◌, map, Option, None, Some}
-use Rattle.std.proofs.Common.{refl}
-use Rattle.std.proofs.Common.{sym, ap, ◌∙◌, subst, arith, inl, inr}
+use Rattle.std.proofs.Common.{◌≡◌, ℕ, ◌<◌, ◌≤◌, Bool, true, false, cond, eqb, List, [], ◌∷◌, ◌++◌, map, Option, None, Some, refl, sym, ap}
+use Rattle.std.proofs.Common.{◌∙◌, subst, arith, inl, inr}
 use Rattle.std.specs.Prelude.{option_map, slice_get}
 use Rattle.std.specs.List.{AllByRecursion}
 use Rattle.std.proofs.lemmas.Bool.{eqb-true, cases_lt}
@@ -12,11 +11,11 @@ use Rattle.seam_node_steps.specs.Prelude.{IsTree, items_to, item_at, Call as Cal
 use Rattle.seam_node_steps.specs.Prelude.{cell_count, fits_cell_part, BaseView, NodeView, World, node_has_work, Cell, Base, cell_round}
 use Rattle.seam_node_steps.specs.Prelude.{order_if, ordered_at, loaded}
 use Rattle.seam_law_flow.specs.Prelude.{Flow, slot_at, letters_of, more_letter, number_from, of_number, Desk, AreInTurn}
-use Rattle.seam_law_calls.specs.Prelude.{Frame, here_at, IsAt, Has, kept_if, has_of, has_none, order_concerns, orders_of, entity_flow}
-use Rattle.seam_law_calls.specs.Prelude.{real_in, is_from, from_sender, cell_order_from, real_desk, cell_mail, as_sender, IsCallOf}
-use Rattle.seam_law_calls.specs.Prelude.{AreCallsOf, CellCallsInTurn}
+use Rattle.seam_law_calls.specs.Prelude.{Frame, here_at, IsAt, Has, kept_if, has_of, has_none, order_concerns, orders_of, is_from}
+use Rattle.seam_law_calls.specs.Prelude.{from_sender, cell_order_from, real_desk, cell_mail, as_sender, IsCallOf, AreCallsOf}
+use Rattle.seam_law_calls.specs.Prelude.{CellCallsInTurn, real_at}
 use Rattle.seam_law_rounds.specs.Prelude.{order_in, cell_call_from, calls_of, calls_at, AreNumbered, IsFitOrder, next_from, IsBetweenRounds}
-use Rattle.seam_law_rounds.specs.Prelude.{IsFitting, framed, each, made, node_loaded}
+use Rattle.seam_law_rounds.specs.Prelude.{framed, each, made, node_loaded, MayBegin}
 use Rattle.seam_machine.proofs.Quiet.{quiet_tasks}
 use Rattle.seam_law_flow.proofs.Numbers.{letters_of-number_from}
 use Rattle.seam_law_flow.proofs.Ends.{loaded_in_turn}
@@ -38,8 +37,7 @@ module _ (f : Frame) (e ty s : ℕ) where
   from_by c rest false is h all = all
 
   ours_by : (o : Order) (rs : List Order) (b : Bool) → order_concerns e o ≡ b → IsFitOrder f e ty o →
-      Ours (letters_of (cell_call_from s) rs) →
-      Ours (letters_of (cell_call_from s) (cond b (o ∷ rs) rs))
+      Ours (letters_of (cell_call_from s) rs) → Ours (letters_of (cell_call_from s) (cond b (o ∷ rs) rs))
   ours_by o rs false is h all = all
   ours_by (order.Cell c) rs true is h all =
       from_by c (letters_of (cell_call_from s) rs) (is_from s c) refl (h (eqb-true c.entity e is)) all
@@ -121,13 +119,13 @@ module _ (f : Frame) (w : World) (b : Batch) (between : IsBetweenRounds f w) (tr
       at_cell_none (framed f b) e k (node_loaded b s)
       (node_goes f b tree k s (between.nodes.sound.states k s at) (between.nodes.nodes k s at)).1 low
 
-module _ (f : Frame) (w : World) (b : Batch) (between : IsBetweenRounds f w) (fits : IsFitting f w b) (e home : ℕ) (r : RealView)
-    (here : real_in ((entity_flow e (loaded w b)).slot home) ≡ Some r) where
+module _ (f : Frame) (w : World) (b : Batch) (begin : MayBegin f w b) (e home : ℕ) (r : RealView)
+    (here : real_at e (loaded w b) home ≡ Some r) where
   abbrev then : Flow Has Msg
-  then = after f w b between fits e
+  then = after f w b begin e
 
-  abbrev its : Loaded f w b between fits e home r
-  its = real_loaded f w b between fits e home r here
+  abbrev its : Loaded f w b begin e home r
+  its = real_loaded f w b begin e home r here
 
   -- what a node has of a sender's calls is what the batch gives it, or nothing
   module _ (s : ℕ) where
@@ -143,14 +141,14 @@ module _ (f : Frame) (w : World) (b : Batch) (between : IsBetweenRounds f w) (fi
     there_by : (k : ℕ) (n : NodeView) → slice_get w.nodes k ≡ Some n → cell_count ≤ k → stored k ≡ calls_at b e s k
     there_by k n at high =
         stored_is k (Some n) at
-        ∙ ap (letters_of (cell_order_from s)) (node_orders f w b between fits.tree e k n at high)
+        ∙ ap (letters_of (cell_order_from s)) (node_orders f w b begin.between begin.fits.tree e k n at high)
 
     none_by : (k : ℕ) (o : Option NodeView) → slice_get w.nodes k ≡ o → calls_at b e s k ≡ [] → stored k ≡ []
     none_by k None at none = stored_is k None at
     none_by k (Some n) at none = elim (cases_lt k cell_count) [
       | inr high ↦ there_by k n at high ∙ none
       | inl low ↦
-          stored_is k (Some n) at ∙ ap (letters_of (cell_order_from s)) (node_none f w b between fits.tree e k n at low)
+          stored_is k (Some n) at ∙ ap (letters_of (cell_order_from s)) (node_none f w b begin.between begin.fits.tree e k n at low)
     ]
 
     -- ---- in turn
@@ -159,7 +157,7 @@ module _ (f : Frame) (w : World) (b : Batch) (between : IsBetweenRounds f w) (fi
     first = next_from s r
 
     abbrev numbers : AreNumbered f b e s first
-    numbers = (fits.calls e home r here).numbered s
+    numbers = (begin.fits.calls e home r here).numbered s
 
     abbrev desk_at : List (ℕ × CallData) → Desk CallData
     desk_at held = record { order = record { next = first; held = held }; done = [] }
@@ -167,7 +165,7 @@ module _ (f : Frame) (w : World) (b : Batch) (between : IsBetweenRounds f w) (fi
     store_by : (n : ℕ) (o : Option NodeView) → slice_get w.nodes numbers.node ≡ o →
         letters_of (of_number n) (stored numbers.node) ≡ more_letter (item_at n (number_from first (calls_of b e s))) []
     store_by n None at =
-        let many = between.many in
+        let many = begin.between.many in
         let is_there = numbers.is_there in
         elim (slice_get_cases w.nodes numbers.node).1 [
           | inl p ↦ absurd (let z = sym at ∙ p.2 in cc)
@@ -182,7 +180,7 @@ module _ (f : Frame) (w : World) (b : Batch) (between : IsBetweenRounds f w) (fi
 
     pub sender_in_turn : AreInTurn first (calls_of b e s) (as_sender s then)
     sender_in_turn = loaded_in_turn first (calls_of b e s) (as_sender s then) numbers.node home (record {
-      mail = λ x y. ap (letters_of (cell_mail s)) (no_mail f w b between fits e x y);
+      mail = λ x y. ap (letters_of (cell_mail s)) (no_mail f w b begin e x y);
       store = store;
       stores = λ j n. none_by j (slice_get w.nodes j) refl (numbers.others j n);
       here =
@@ -198,4 +196,4 @@ module _ (f : Frame) (w : World) (b : Batch) (between : IsBetweenRounds f w) (fi
   calls_in_turn = sender_in_turn
 
   pub are_calls : AreCallsOf (framed f b) e r.ty (calls_of b e)
-  are_calls s = ours (framed f b) e r.ty s b.orders (fits.calls e home r here).fit
+  are_calls s = ours (framed f b) e r.ty s b.orders (begin.fits.calls e home r here).fit

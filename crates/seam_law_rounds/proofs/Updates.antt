@@ -1,8 +1,8 @@
 -- An update that comes finds the client that it is for.
 use Rattle.std.proofs.Common.{◌≡◌, ℕ, List, [], ◌∷◌, None, sym, subst, arith}
 use Rattle.std.specs.List.{AllByRecursion}
-use Rattle.seam_node_steps.specs.Prelude.{LeadsTo, Event, Msg, Update, World, node_steps, node_has_work}
-use Rattle.seam_law_calls.specs.Prelude.{Frame, IsInFrame, entity_flow, IsSpared, update_in, FindsClient, IsToldNothing}
+use Rattle.seam_node_steps.specs.Prelude.{Event, Msg, Update, World}
+use Rattle.seam_law_calls.specs.Prelude.{Frame, IsInFrame, entity_flow, IsSpared, update_in, FindsClient, IsToldNothing, RunsTo}
 use Rattle.seam_law_rounds.specs.Prelude.{IsServed, bare, served}
 use Rattle.seam_call.specs.declared.shown.Update.{Update as UpdateData}
 use Rattle.seam_law_calls.proofs.ClientLeads.{client_leads}
@@ -11,7 +11,7 @@ use Rattle.seam_law_calls.proofs.StrayRuns.{base_burden_leads}
 use Rattle.seam_law_calls.proofs.Silent.{unseen_told_none}
 use Rattle.seam_law_rounds.proofs.Serving.{HasNumbers}
 
-module _ (f : Frame) (e ty : ℕ) (w v : World) (es : List Event) (run : LeadsTo node_has_work node_steps w es v) (frame : IsInFrame f w)
+module _ (f : Frame) (e ty : ℕ) (w v : World) (es : List Event) (run : RunsTo w es v) (frame : IsInFrame f w)
     (spared : IsSpared e w) (n : ℕ) (numbers : HasNumbers e n w v) (still : (a k : ℕ) → (entity_flow e w).mail a k ≡ []) where
   nothing : IsToldNothing e w
   nothing a k = subst (AllByRecursion (λ m. update_in m ≡ None)) (sym (still a k)) tt

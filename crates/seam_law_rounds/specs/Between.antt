@@ -5,8 +5,8 @@ use Rattle.std.specs.FinMap as table
 use Rattle.seam_node_steps.specs.Prelude.{cells_of, IsTree, IsQuiet, items_to, Call as CallData, Create, Order, Batch, order_or, RealView}
 use Rattle.seam_node_steps.specs.Prelude.{limit, is_inside, cell_count, fits_cell_part, holders, World, node_has_work, loaded}
 use Rattle.seam_law_flow.specs.Prelude.{letters_of, number_from}
-use Rattle.seam_law_calls.specs.Prelude.{Frame, here_at, IsInFrame, has_none, order_about, orders_of, entity_flow, RealFits, real_in}
-use Rattle.seam_law_calls.specs.Prelude.{reaped_by_order, IsFrame, from_sender, cell_order_from}
+use Rattle.seam_law_calls.specs.Prelude.{Frame, here_at, IsInFrame, has_none, order_about, orders_of, entity_flow, RealFits}
+use Rattle.seam_law_calls.specs.Prelude.{reaped_by_order, IsFrame, from_sender, cell_order_from, real_at}
 use Rattle.seam_call.specs.declared.order.Order.TheVariants as order
 
 -- the number that the next call of the sender is to have
@@ -16,9 +16,9 @@ next_from s r = (order_or (table.get r.orders s)).next
 -- what a world keeps of an entity whose real, r, is in cell `home`
 pub record IsSettled (f : Frame) (e home : ℕ) (r : RealView) (w : World) : Type 0 where
   -- its real is there
-  pub here : real_in ((entity_flow e w).slot home) ≡ Some r
+  pub here : real_at e w home ≡ Some r
   -- and at no other node
-  pub others : (j : ℕ) → (j ≡ home → ⊥) → real_in ((entity_flow e w).slot j) ≡ None
+  pub others : (j : ℕ) → (j ≡ home → ⊥) → real_at e w j ≡ None
   -- its type is one of the definitions
   pub type : r.ty < length f.defs
   -- it fits its type, the space and the tree
@@ -44,7 +44,7 @@ pub record IsBetweenRounds (f : Frame) (w : World) : Type 0 where
   -- no node has a task, and no link a message
   pub quiet : IsQuiet node_has_work w
   -- each real is the only one of its entity, fits, and is where the routes go
-  pub settled : (e k : ℕ) (r : RealView) → real_in ((entity_flow e w).slot k) ≡ Some r → IsSettled f e k r w
+  pub settled : (e k : ℕ) (r : RealView) → real_at e w k ≡ Some r → IsSettled f e k r w
 
 -- ---- entities that a batch creates
 
@@ -65,16 +65,14 @@ created_entity x = x.entity
 
 -- no real of the entity has a witness
 abbrev pub HasNoWitness : World → ℕ → Type 0
-HasNoWitness w e = (k : ℕ) (r : RealView) → real_in ((entity_flow e w).slot k) ≡ Some r → r.witness ≡ None
+HasNoWitness w e = (k : ℕ) (r : RealView) → real_at e w k ≡ Some r → r.witness ≡ None
 
 abbrev pub order_in : ℕ × Order → Order
 order_in o = o.1
 
 abbrev pub cell_call_from : ℕ → Order → Option CallData
 cell_call_from s (order.Cell c) = from_sender s c
-cell_call_from s (order.Base c) = None
-cell_call_from s order.Tick = None
-cell_call_from s (order.Reap e) = None
+cell_call_from s _ = None
 
 -- of the batch's calls, those of the sender to the entity's cell part, in the order of the list
 abbrev pub calls_of : Batch → ℕ → ℕ → List CallData
@@ -96,9 +94,7 @@ pub record AreNumbered (f : Frame) (b : Batch) (e s first : ℕ) : Type 0 where
 -- a call to the cell part of entity e, which is of type ty, fits it
 abbrev pub IsFitOrder : Frame → ℕ → ℕ → Order → Type 0
 IsFitOrder f e ty (order.Cell c) = c.entity ≡ e → fits_cell_part (here_at f 0) e ty c ≡ true
-IsFitOrder f e ty (order.Base c) = Unit {0}
-IsFitOrder f e ty order.Tick = Unit {0}
-IsFitOrder f e ty (order.Reap x) = Unit {0}
+IsFitOrder f e ty _ = Unit {0}
 
 -- what a batch brings to an entity fits its real, r: each call its type, and each sender's calls have the next numbers, which are those
 -- from 1 on where it was just created
@@ -141,11 +137,16 @@ pub record IsFitting (f : Frame) (w : World) (b : Batch) : Type 0 where
   -- each of its orders is about an entity that is there once it is loaded
   pub known : AllByRecursion (λ o. (e : ℕ) → order_about o.1 ≡ Some e → holders (loaded w b) e ≡ 1) b.orders
   -- and its calls fit those entities
-  pub calls : (e k : ℕ) (r : RealView) → real_in ((entity_flow e (loaded w b)).slot k) ≡ Some r → IsForReal f b e r
+  pub calls : (e k : ℕ) (r : RealView) → real_at e (loaded w b) k ≡ Some r → IsForReal f b e r
   -- it has few orders
   pub few : length b.orders ≤ most_orders
   -- and the numbers of the reals that are there are so small that they have room for all of them
-  pub small : (e k : ℕ) (r : RealView) → real_in ((entity_flow e w).slot k) ≡ Some r → numbers_of r < 2 ^ 61
+  pub small : (e k : ℕ) (r : RealView) → real_at e w k ≡ Some r → numbers_of r < 2 ^ 61
+
+-- a round may begin: the world keeps the records between rounds, and the batch fits it
+pub record MayBegin (f : Frame) (w : World) (b : Batch) : Type 0 where
+  pub between : IsBetweenRounds f w
+  pub fits : IsFitting f w b
 
 -- what the nodes go by once the batch is loaded
 abbrev pub framed : Frame → Batch → Frame

@@ -4,7 +4,7 @@ use Rattle.std.specs.List.{AllByRecursion, IsDistinct}
 use Rattle.seam_node_steps.specs.Prelude.{input_from, happens, Event, Settings, TypeDef, RealView, may_rise, holders, World, node_steps}
 use Rattle.seam_node_steps.specs.Prelude.{one_cell}
 use Rattle.seam_law_flow.specs.Prelude.{WaitsOnce}
-use Rattle.seam_law_calls.specs.Prelude.{Frame, entity_flow, real_in, reaps, as_sender}
+use Rattle.seam_law_calls.specs.Prelude.{Frame, entity_flow, reaps, as_sender, real_at, real_in, as_base_sender}
 
 -- what the nodes of a world go by as it is opened: the tree of one cell
 abbrev pub first_frame : List TypeDef → Settings → Frame
@@ -14,7 +14,7 @@ first_frame defs settings = record { defs = defs; settings = settings; tree = on
 pub record AreReapable (w : World) (es : List ℕ) : Type 0 where
   pub there : AllByRecursion (λ e. holders w e ≡ 1) es
   pub once : IsDistinct eqb es
-  pub small : (e k : ℕ) (r : RealView) → real_in ((entity_flow e w).slot k) ≡ Some r → may_rise r.beat ≡ true
+  pub small : (e k : ℕ) (r : RealView) → real_at e w k ≡ Some r → may_rise r.beat ≡ true
 
 -- one of the events feeds the entity's Reap to a node
 abbrev pub reap_comes : ℕ → World → List Event → Bool
@@ -24,3 +24,7 @@ reap_comes e w (v ∷ es) = reaps e (input_from w.rows v.node v.from) || reap_co
 -- no sender has a call to the entity's cell part waiting, of any number, anywhere
 abbrev pub HasNoCalls : ℕ → World → Type 0
 HasNoCalls e w = (s n : ℕ) → WaitsOnce (as_sender s (entity_flow e w)) n None
+
+-- nor one to its base part
+abbrev pub HasNoCallsToBase : ℕ → World → Type 0
+HasNoCallsToBase e w = (s n : ℕ) → WaitsOnce (as_base_sender s (entity_flow e w)) n None

@@ -2,6 +2,6 @@ pub mod Between
 pub mod Loaded
 pub mod LastPhases
 pub mod Routes
-pub mod Parts
+pub mod SettledParts
 pub mod OpeningExample
 pub mod Prelude

@@ -1,11 +1,12 @@
 -- What the crates above cite of this one and of those below it, gathered, so that one import names it.
 pub use Rattle.seam_law_rounds.specs.Between.{AreNumbered, HasNoWitness, IsBetweenRounds, IsFitOrder, IsFitting, IsForReal, IsNew}
-pub use Rattle.seam_law_rounds.specs.Between.{IsSettled, MayBeMade, calls_at, calls_of, cell_call_from, created_entity, framed, next_from}
-pub use Rattle.seam_law_rounds.specs.Between.{numbers_of, order_in}
+pub use Rattle.seam_law_rounds.specs.Between.{IsSettled, MayBeMade, MayBegin, calls_at, calls_of, cell_call_from, created_entity, framed}
+pub use Rattle.seam_law_rounds.specs.Between.{next_from, numbers_of, order_in}
 pub use Rattle.seam_law_rounds.specs.OpeningExample.{opening}
-pub use Rattle.seam_law_rounds.specs.LastPhases.{AreReapable, HasNoCalls, first_frame, reap_comes}
+pub use Rattle.seam_law_rounds.specs.LastPhases.{AreReapable, HasNoCalls, HasNoCallsToBase, first_frame, reap_comes}
 pub use Rattle.seam_law_rounds.specs.Loaded.{each, made, node_loaded}
-pub use Rattle.seam_law_rounds.specs.Parts.{AreBaseNumbered, AreFor, AreInStep, FitsParts, HasPartsBetweenRounds, HasSettledPart}
-pub use Rattle.seam_law_rounds.specs.Parts.{HasSmallNumbers, IsAlone, IsFitBaseOrder, IsForPart, IsServed, MayBeLoaded, bare, base_calls_at}
-pub use Rattle.seam_law_rounds.specs.Parts.{base_calls_of, lines_of, next_to, served}
+pub use Rattle.seam_law_rounds.specs.SettledParts.{AreBaseNumbered, AreFor, AreInStep, FitsParts, HasPartsBetweenRounds, HasSettledPart}
+pub use Rattle.seam_law_rounds.specs.SettledParts.{HasSmallNumbers, IsAlone, IsFitBaseOrder, IsForPart, IsServed, MayBeLoaded, bare}
+pub use Rattle.seam_law_rounds.specs.SettledParts.{base_calls_at}
+pub use Rattle.seam_law_rounds.specs.SettledParts.{base_calls_of, lines_of, next_to, served}
 pub use Rattle.seam_law_rounds.specs.Routes.{IsKnownAt, as_entry, brings_route, route_entry}

@@ -11,52 +11,60 @@
 
 ghost use Rattle.std.specs.Prelude.{◌≡◌, ℕ, ◌≤◌, List, if◌then◌else◌};
 ghost use Rattle.std.specs.List.{AllByRecursion};
-ghost use Rattle.seam_node_steps.specs.Prelude.{IsQuiet, LeadsTo, Event, Settings, TypeDef, Batch, holders, World, node_steps};
+ghost use Rattle.seam_node_steps.specs.Prelude.{IsQuiet, Event, Settings, TypeDef, Batch, holders, World};
 ghost use Rattle.seam_node_steps.specs.Prelude.{node_has_work, opened, loaded, reaps_loaded, look_loaded};
-ghost use Rattle.seam_law_calls.specs.Prelude.{Frame, IsFrame};
-ghost use Rattle.seam_law_rounds.specs.Prelude.{IsBetweenRounds, IsFitting, framed, first_frame, AreReapable, reap_comes, HasNoCalls};
+ghost use Rattle.seam_law_calls.specs.Prelude.{Frame, IsFrame, RunsTo};
+ghost use Rattle.seam_law_rounds.specs.Prelude.{IsBetweenRounds, framed, first_frame, AreReapable, reap_comes, HasNoCalls};
+ghost use Rattle.seam_law_rounds.specs.Prelude.{MayBegin};
 
 /// Where a world between rounds is told to reap entities, each entity that was there has one holder until its Reap comes and none from then
 /// on. Those that are not to be reaped keep theirs, and no other gets one. Where the world is quiet again, all are reaped.
 pub fn reaps_end_reals()
-    ensures counts { (f : Frame) (u : World) → IsBetweenRounds f u → (es : List ℕ) → AreReapable u es → (vs : List Event) (v : World) →
-        LeadsTo node_has_work node_steps (reaps_loaded u es) vs v → (e : ℕ) → holders u e ≡ 1 →
-        holders v e ≡ (if reap_comes e (reaps_loaded u es) vs then 0 else 1) }
-    ensures others { (f : Frame) (u : World) → IsBetweenRounds f u → (es : List ℕ) → AreReapable u es → (vs : List Event) (v : World) →
-        LeadsTo node_has_work node_steps (reaps_loaded u es) vs v → (e : ℕ) → holders u e ≡ 1 → AllByRecursion (λ x. x ≡ e → ⊥) es →
-        holders v e ≡ 1 }
-    ensures none { (f : Frame) (u : World) → IsBetweenRounds f u → (es : List ℕ) → AreReapable u es → (vs : List Event) (v : World) →
-        LeadsTo node_has_work node_steps (reaps_loaded u es) vs v → (e : ℕ) → holders u e ≡ 0 → holders v e ≡ 0 }
-    ensures ended { (f : Frame) (u : World) → IsBetweenRounds f u → (es : List ℕ) → AreReapable u es → (vs : List Event) (v : World) →
-        LeadsTo node_has_work node_steps (reaps_loaded u es) vs v → IsQuiet node_has_work v → AllByRecursion (λ e. holders v e ≡ 0) es }
+    ensures counts { (f : Frame) (u : World) → IsBetweenRounds f u → (es : List ℕ) →
+        AreReapable u es → (vs : List Event) (v : World) → RunsTo (reaps_loaded u es) vs v →
+        (e : ℕ) → holders u e ≡ 1 → holders v e ≡ (if reap_comes e (reaps_loaded u es) vs then 0
+        else 1) }
+    ensures others { (f : Frame) (u : World) → IsBetweenRounds f u → (es : List ℕ) →
+        AreReapable u es → (vs : List Event) (v : World) → RunsTo (reaps_loaded u es) vs v →
+        (e : ℕ) → holders u e ≡ 1 → AllByRecursion (λ x. x ≡ e → ⊥) es → holders v e ≡ 1 }
+    ensures none { (f : Frame) (u : World) → IsBetweenRounds f u → (es : List ℕ) →
+        AreReapable u es → (vs : List Event) (v : World) → RunsTo (reaps_loaded u es) vs v →
+        (e : ℕ) → holders u e ≡ 0 → holders v e ≡ 0 }
+    ensures ended { (f : Frame) (u : World) → IsBetweenRounds f u → (es : List ℕ) →
+        AreReapable u es → (vs : List Event) (v : World) → RunsTo (reaps_loaded u es) vs v →
+        IsQuiet node_has_work v → AllByRecursion (λ e. holders v e ≡ 0) es }
 {}
 
 /// Meanwhile no call to the entity waits: no order, no message, and none that its real holds; nor after its Reap.
 pub fn no_call_waits_for_the_reaped()
-    ensures { (f : Frame) (u : World) → IsBetweenRounds f u → (es : List ℕ) → AreReapable u es → (vs : List Event) (v : World) →
-        LeadsTo node_has_work node_steps (reaps_loaded u es) vs v → (e : ℕ) → holders u e ≡ 1 → HasNoCalls e v }
+    ensures { (f : Frame) (u : World) → IsBetweenRounds f u → (es : List ℕ) → AreReapable u es →
+        (vs : List Event) (v : World) → RunsTo (reaps_loaded u es) vs v → (e : ℕ) →
+        holders u e ≡ 1 → HasNoCalls e v }
 {}
 
 /// Where the witnesses of a world between rounds look, each entity keeps its holder, no other gets one, and no call waits.
 pub fn looks_keep_reals()
     ensures counts { (f : Frame) (u : World) → IsBetweenRounds f u → (vs : List Event) (v : World) →
-        LeadsTo node_has_work node_steps (look_loaded u) vs v → (e : ℕ) → holders u e ≡ 1 → holders v e ≡ 1 }
+        RunsTo (look_loaded u) vs v → (e : ℕ) → holders u e ≡ 1 → holders v e ≡ 1 }
     ensures none { (f : Frame) (u : World) → IsBetweenRounds f u → (vs : List Event) (v : World) →
-        LeadsTo node_has_work node_steps (look_loaded u) vs v → (e : ℕ) → holders u e ≡ 0 → holders v e ≡ 0 }
+        RunsTo (look_loaded u) vs v → (e : ℕ) → holders u e ≡ 0 → holders v e ≡ 0 }
     ensures calls { (f : Frame) (u : World) → IsBetweenRounds f u → (vs : List Event) (v : World) →
-        LeadsTo node_has_work node_steps (look_loaded u) vs v → (e : ℕ) → holders u e ≡ 1 → HasNoCalls e v }
+        RunsTo (look_loaded u) vs v → (e : ℕ) → holders u e ≡ 1 → HasNoCalls e v }
 {}
 
 /// The record between rounds holds of a world as it is opened, if its definitions and settings make a frame (*IsFrame*), with a base node.
 /// It holds again where a round's calls leave the world quiet, now by the batch's tree, then where the reaps do, and then where the looks
 /// do. (What it says is of entities and their cell parts; clients and base parts are not in it.)
 pub fn a_round_goes_from_record_to_record()
-    ensures opened { (defs : List TypeDef) (settings : Settings) → IsFrame (first_frame defs settings) → 1 ≤ settings.bases →
+    ensures opened { (defs : List TypeDef) (settings : Settings) →
+        IsFrame (first_frame defs settings) → 1 ≤ settings.bases →
         IsBetweenRounds (first_frame defs settings) (opened defs settings) }
-    ensures calls { (f : Frame) (w : World) (b : Batch) → IsBetweenRounds f w → IsFitting f w b → (v : World) (es : List Event) →
-        LeadsTo node_has_work node_steps (loaded w b) es v → IsQuiet node_has_work v → IsBetweenRounds (framed f b) v }
-    ensures reaps { (f : Frame) (u : World) → IsBetweenRounds f u → (es : List ℕ) → AreReapable u es → (vs : List Event) (v : World) →
-        LeadsTo node_has_work node_steps (reaps_loaded u es) vs v → IsQuiet node_has_work v → IsBetweenRounds f v }
+    ensures calls { (f : Frame) (w : World) (b : Batch) → MayBegin f w b →
+        (v : World) (es : List Event) → RunsTo (loaded w b) es v → IsQuiet node_has_work v →
+        IsBetweenRounds (framed f b) v }
+    ensures reaps { (f : Frame) (u : World) → IsBetweenRounds f u → (es : List ℕ) →
+        AreReapable u es → (vs : List Event) (v : World) → RunsTo (reaps_loaded u es) vs v →
+        IsQuiet node_has_work v → IsBetweenRounds f v }
     ensures looks { (f : Frame) (u : World) → IsBetweenRounds f u → (vs : List Event) (v : World) →
-        LeadsTo node_has_work node_steps (look_loaded u) vs v → IsQuiet node_has_work v → IsBetweenRounds f v }
+        RunsTo (look_loaded u) vs v → IsQuiet node_has_work v → IsBetweenRounds f v }
 {}

@@ -5,7 +5,7 @@ use Rattle.std.specs.List.{All, flat_map}
 use Rattle.std.proofs.lemmas.List.Elements.{All-nil, All-cons}
 use Rattle.seam_node_steps.specs.Prelude.{cell_count, RealView, World}
 use Rattle.seam_rule_rounds.specs.Prelude.{in_first_cell}
-use Rattle.seam_law_calls.specs.Prelude.{Frame, entity_flow, real_in}
+use Rattle.seam_law_calls.specs.Prelude.{Frame, real_at}
 use Rattle.seam_law_rounds.specs.Prelude.{IsBetweenRounds}
 use Rattle.seam_law_ghosts.specs.Prelude.{place_of}
 use Rattle.seam_law_book.specs.Prelude.{home_read}
@@ -34,23 +34,22 @@ all_of_each P (x ∷ xs) each =
 
 -- ---- of an entity whose real is in a cell
 
-module _ (f : Frame) (v : World) (between : IsBetweenRounds f v) (e k : ℕ) (r : RealView) (at : real_in ((entity_flow e v).slot k) ≡ Some r)
-  where
-    in_cells : k < 0 + cell_count
-    in_cells =
-        let home = (between.settled e k r at).fits.home in
-        let most = between.frame.tree.cells_to in
-        omega (arith, home, most)
+module _ (f : Frame) (v : World) (between : IsBetweenRounds f v) (e k : ℕ) (r : RealView) (at : real_at e v k ≡ Some r) where
+  in_cells : k < 0 + cell_count
+  in_cells =
+      let home = (between.settled e k r at).fits.home in
+      let most = between.frame.tree.cells_to in
+      omega (arith, home, most)
 
-    pub home_is : homes_read v e ≡ home_read e k r ∷ []
-    home_is =
-        one_in (λ j. home_if e j (real_in ((entity_flow e v).slot j))) k 0 cell_count (omega arith) in_cells
-        (λ j n. ap (home_if e j) ((between.settled e k r at).others j n))
-        ∙ ap (home_if e k) at
+  pub home_is : homes_read v e ≡ home_read e k r ∷ []
+  home_is =
+      one_in (λ j. home_if e j (real_at e v j)) k 0 cell_count (omega arith) in_cells
+      (λ j n. ap (home_if e j) ((between.settled e k r at).others j n))
+      ∙ ap (home_if e k) at
 
-    pub place_is : place_read v e ≡ place_of k r
-    place_is =
-        ap (λ l. slice_index_or l 0 in_first_cell)
-        (one_in (λ j. place_if j (real_in ((entity_flow e v).slot j))) k 0 cell_count (omega arith) in_cells
-        (λ j n. ap (place_if j) ((between.settled e k r at).others j n))
-        ∙ ap (place_if k) at)
+  pub place_is : place_read v e ≡ place_of k r
+  place_is =
+      ap (λ l. slice_index_or l 0 in_first_cell)
+      (one_in (λ j. place_if j (real_at e v j)) k 0 cell_count (omega arith) in_cells
+      (λ j n. ap (place_if j) ((between.settled e k r at).others j n))
+      ∙ ap (place_if k) at)

@@ -55,9 +55,8 @@ module _ (t : Truth) where
         by None each rest = rest
         by (Some x) each rest = (each x refl, rest)
 
-  pub look_is_true : (me : ℕ) (c : ClientReplica) (rows : List Row) →
-      ((r : Row) → Contains rows r → r.entity ≡ me → t.own r.version r.own) → ((r : Row) → Contains rows r → t.other r.entity r.other) →
-      AllByRecursion (ShowsTruth t) (one_look c me rows)
+  pub look_is_true : (me : ℕ) (c : ClientReplica) (rows : List Row) → ((r : Row) → Contains rows r → r.entity ≡ me → t.own r.version r.own)
+      → ((r : Row) → Contains rows r → t.other r.entity r.other) → AllByRecursion (ShowsTruth t) (one_look c me rows)
   look_is_true me c rows own other = by (row_of rows me) refl
     where
       mine : (r : Row) (b : Bool) → t.own r.version r.own → AllByRecursion (ShowsTruth t) (cond b (Own r.version r.own ∷ []) [])

@@ -1,6 +1,6 @@
 -- The lines of a client are numbered one after another, from round to round.
-use Rattle.std.proofs.Common.{◌≡◌, ℕ, zero, suc, ◌+◌, Bool, true, false, [], ◌∷◌, ◌++◌, map, length, Option, None, Some}
-use Rattle.std.proofs.Common.{refl, sym, ap, ◌∙◌, subst, arith, length-append}
+use Rattle.std.proofs.Common.{◌≡◌, ℕ, zero, suc, ◌+◌, Bool, true, false, [], ◌∷◌, ◌++◌, map, length, Option, None, Some, refl, sym, ap, ◌∙◌}
+use Rattle.std.proofs.Common.{subst, arith, length-append}
 use Rattle.std.specs.Prelude.{option_map, slice_get}
 use Rattle.std.specs.List.{AllByRecursion, range_with_len}
 use Rattle.std.proofs.lemmas.List.{map-append}
@@ -83,33 +83,33 @@ module _ (f : Frame) (w : World) (b : Batch) (may : MayBeLoaded f w b) (e told :
   abbrev home : ℕ
   home = home_of f e
 
-  module _ (p : PartView) (x : ProxyView) (y : PartFrom f w b may.between may.fits may.parts e home p) where
+  module _ (p : PartView) (x : ProxyView) (y : PartFrom f w b may.begin may.parts e home p) where
     kept : y.part.proxy ≡ Some x → Creation e b.creates → IsFresh told x
     kept has (nowhere others) =
         old_part told (part_at e y.node) y.part x (sym (part_peopled e b y.node others) ∙ y.was) has
         (λ q z at some. was q z (sym (ap (λ o. (slot_at (has_of e) has_none o).base.part) (sym y.there)) ∙ at) some)
     kept has (once first c later is at others more) =
-        let made : MayBeMade f w c = middle (MayBeMade f w) first c later (subst (AllByRecursion (MayBeMade f w)) is may.fits.creates) in
+        let made : MayBeMade f w c =
+        middle (MayBeMade f w) first c later (subst (AllByRecursion (MayBeMade f w)) is may.begin.fits.creates) in
         let nothing : (j : ℕ) → (entity_flow e w).slot j ≡ has_none =
         subst (λ q. (j : ℕ) → (entity_flow q w).slot j ≡ has_none) at made.new in
         let none = ap (λ o. (slot_at (has_of e) has_none o).base.part) (sym y.there) ∙ ap (λ s. s.base.part) (nothing home) in
         absurd (let z = sym (bare_peopled e b y.node none y.part y.was) ∙ has in cc)
 
-    by_join : (joins : Bool) → is_among e b.clients ≡ joins → part_if joins (here_at f home) y.part ≡ p → p.proxy ≡ Some x →
-        IsFresh told x
+    by_join : (joins : Bool) → is_among e b.clients ≡ joins → part_if joins (here_at f home) y.part ≡ p → p.proxy ≡ Some x → IsFresh told x
     by_join true is made has =
         let h = here_at f home in
         let due = has_any (properties_of (properties h y.part.ty) group.BaseClient) in
         let q : PartView = record y.part { proxy = Some new_proxy } in
         let same : line_if due (base_text h q) new_proxy ≡ x = some_is (ap (λ (z : PartView). z.proxy) made ∙ has) in
         subst (λ n. IsFresh n x) (sym (new is)) (subst (IsFresh 0) same (new_fresh due h q))
-    by_join false is made has = kept (ap (λ (z : PartView). z.proxy) made ∙ has) (creation_of e b.creates may.fits.once)
+    by_join false is made has = kept (ap (λ (z : PartView). z.proxy) made ∙ has) (creation_of e b.creates may.begin.fits.once)
 
   module _ (p : PartView) (x : ProxyView) (there : ((entity_flow e (loaded w b)).slot home).base.part ≡ Some p) (has : p.proxy ≡ Some x)
     where
       fresh : IsFresh told x
       fresh =
-          let y = part_there f w b may.between may.fits may.parts e home p (slice_get w.nodes home) refl there in
+          let y = part_there f w b may.begin may.parts e home p (slice_get w.nodes home) refl there in
           by_join p x y (is_among e b.clients) refl y.is has
 
       pub loaded_numbered : IsNumbered told x

@@ -8,7 +8,7 @@ use Rattle.seam_node_steps.specs.Prelude.{Create, Line, ClientText, RealView, Wi
 use Rattle.seam_rule_rounds.specs.Prelude.{Book, entries, created_as, joins, destroys, is_shown, ClientReplica, after_shown}
 use Rattle.seam_rule_rounds.specs.Prelude.{after_all_shown, after_lines, shown_by, shown_by_lines}
 use Rattle.seam_law_flow.specs.Prelude.{letters_of}
-use Rattle.seam_law_calls.specs.Prelude.{Frame, entity_flow, real_in, shown_in}
+use Rattle.seam_law_calls.specs.Prelude.{Frame, shown_in, real_at}
 use Rattle.seam_law_clients.specs.Prelude.{FitsWitness, ClientsFit}
 use Rattle.seam_call.specs.declared.shown.ClientText.TheVariants as text
 
@@ -32,8 +32,7 @@ after_more c xs ys =
 
 -- clients fit by what those show that have a witness
 pub fit_by : (f : Frame) (old now : ℕ → ClientReplica) (w : World) → ClientsFit f old w →
-    ((e k : ℕ) (r : RealView) → real_in ((entity_flow e w).slot k) ≡ Some r → (x : WitnessView) → r.witness ≡ Some x → old e ≡ now e) →
-    ClientsFit f now w
+    ((e k : ℕ) (r : RealView) → real_at e w k ≡ Some r → (x : WitnessView) → r.witness ≡ Some x → old e ≡ now e) → ClientsFit f now w
 fit_by f old now w fit same = record {
   each = λ e k r at x has. subst (FitsWitness f w r x) (same e k r at x has) (fit.each e k r at x has);
 }

@@ -1,16 +1,16 @@
 -- Where a batch has no tick, its calls show no client anything of cell parts.
-use Rattle.std.proofs.Common.{◌≡◌, ℕ, ◌+◌, ◌≤◌, Bool, true, false, cond, eqb, List, [], ◌∷◌, length, Option, None, Some}
-use Rattle.std.proofs.Common.{refl, sym, ap, ◌∙◌, subst, arith, inl, inr}
+use Rattle.std.proofs.Common.{◌≡◌, ℕ, ◌+◌, ◌≤◌, Bool, true, false, cond, eqb, List, [], ◌∷◌, length, Option, None, Some, refl, sym, ap, ◌∙◌}
+use Rattle.std.proofs.Common.{subst, arith, inl, inr}
 use Rattle.std.specs.Prelude.{is_some, option_map, slice_get}
 use Rattle.std.specs.List.{AllByRecursion}
 use Rattle.std.proofs.lemmas.Bool.{cases_eq, cases_lt}
-use Rattle.seam_node_steps.specs.Prelude.{Division, cells_of, leaf_at, IsQuiet, LeadsTo, items_to, Event, Create, Order, Batch, cell_count}
-use Rattle.seam_node_steps.specs.Prelude.{RealView, WitnessView, PartView, ProxyView, NodeView, World, node_steps, node_has_work, Cell}
-use Rattle.seam_node_steps.specs.Prelude.{Base, real_if, created_at, attached, base_round, cell_round, ordered_at, loaded}
+use Rattle.seam_node_steps.specs.Prelude.{Division, cells_of, leaf_at, IsQuiet, items_to, Event, Create, Order, Batch, cell_count, RealView}
+use Rattle.seam_node_steps.specs.Prelude.{WitnessView, PartView, ProxyView, NodeView, World, node_has_work, Cell, Base, real_if, created_at}
+use Rattle.seam_node_steps.specs.Prelude.{attached, base_round, cell_round, ordered_at, loaded}
 use Rattle.seam_law_flow.specs.Prelude.{letters_of, slot_at}
-use Rattle.seam_law_calls.specs.Prelude.{Frame, has_of, has_none, order_concerns, orders_of, entity_flow, real_in, real_of, home_of}
-use Rattle.seam_law_calls.specs.Prelude.{proxy_of, order_in, lines_in, shown_in, shown_at, is_tick_order, tick_in, HasToldAtMost}
-use Rattle.seam_law_calls.specs.Prelude.{HasNoLooks, HasClient, HasRoomFor, sent_of, sent_by}
+use Rattle.seam_law_calls.specs.Prelude.{Frame, has_of, has_none, order_concerns, orders_of, entity_flow, real_of, home_of, proxy_of}
+use Rattle.seam_law_calls.specs.Prelude.{order_in, lines_in, shown_in, shown_at, is_tick_order, tick_in, HasToldAtMost, HasNoLooks}
+use Rattle.seam_law_calls.specs.Prelude.{HasClient, HasRoomFor, sent_of, sent_by, RunsTo, real_at}
 use Rattle.seam_law_rounds.specs.Prelude.{framed, each, made, node_loaded, AreInStep, AreFor, MayBeLoaded, IsServed, bare, served}
 use Rattle.seam_machine.proofs.Quiet.{quiet_tasks}
 use Rattle.seam_law_rounds.proofs.Going.{settled_loaded}
@@ -92,9 +92,10 @@ module _ (f : Frame) (w : World) (b : Batch) (may : MayBeLoaded f w b) (tickless
   orders_by : (k : ℕ) (s : NodeView) → slice_get w.nodes k ≡ Some s →
       AllByRecursion (λ o. is_tick_order o ≡ false) (has_of e (node_loaded b s)).base.orders
   orders_by k s at = elim (cases_lt k cell_count) [
-    | inl low ↦ subst (AllByRecursion (λ o. is_tick_order o ≡ false)) (sym (node_none f w b may.between may.fits.tree e k s at low)) tt
+    | inl low ↦ subst (AllByRecursion (λ o. is_tick_order o ≡ false))
+        (sym (node_none f w b may.begin.between may.begin.fits.tree e k s at low)) tt
     | inr high ↦
-        subst (AllByRecursion (λ o. is_tick_order o ≡ false)) (sym (node_orders f w b may.between may.fits.tree e k s at high))
+        subst (AllByRecursion (λ o. is_tick_order o ≡ false)) (sym (node_orders f w b may.begin.between may.begin.fits.tree e k s at high))
         (orders_none e (items_to k b.orders) (items_none k b.orders tickless))
   ]
 
@@ -103,19 +104,19 @@ module _ (f : Frame) (w : World) (b : Batch) (may : MayBeLoaded f w b) (tickless
       × AllByRecursion (λ x. is_tick_order x ≡ false) (slot_at (has_of e) has_none (option_map (node_loaded b) o)).base.orders
   slot_by k None at = (refl, tt)
   slot_by k (Some s) at =
-      (loaded_idle e b s (idle_looks e s (quiet_tasks node_has_work w may.between.quiet k s at)), orders_by k s at)
+      (loaded_idle e b s (idle_looks e s (quiet_tasks node_has_work w may.begin.between.quiet k s at)), orders_by k s at)
 
   no_looks : HasNoLooks e start
   no_looks = record {
     cells = λ k. ap (λ x. x.cell.looks) (slot_is w b e k) ∙ (slot_by k (slice_get w.nodes k) refl).0;
     orders = λ k. subst (λ x. AllByRecursion (λ o. is_tick_order o ≡ false) x.base.orders) (sym (slot_is w b e k))
         (slot_by k (slice_get w.nodes k) refl).1;
-    letters = λ a k. subst (AllByRecursion (λ m. tick_in m ≡ None)) (sym (no_mail f w b may.between may.fits e a k)) tt;
+    letters = λ a k. subst (AllByRecursion (λ m. tick_in m ≡ None)) (sym (no_mail f w b may.begin e a k)) tt;
   }
 
   -- ---- an entity with a witness
 
-  module _ (k : ℕ) (r : RealView) (here : real_in ((entity_flow e start).slot k) ≡ Some r) (x : WitnessView) (has : r.witness ≡ Some x)
+  module _ (k : ℕ) (r : RealView) (here : real_at e start k ≡ Some r) (x : WitnessView) (has : r.witness ≡ Some x)
       (p : PartView) (y : ProxyView) (there : ((entity_flow e start).slot (home_of f e)).base.part ≡ Some p) (client : p.proxy ≡ Some y)
       (none : letters_of shown_in y.lines ≡ []) where
     abbrev g : Frame
@@ -124,15 +125,15 @@ module _ (f : Frame) (w : World) (b : Batch) (may : MayBeLoaded f w b) (tickless
     told : HasToldAtMost e (sent_by r) start
     told = record {
       cells = λ j q at.
-          let settled = settled_loaded f w b may.between may.fits e k r here in
+          let settled = settled_loaded f w b may.begin e k r here in
           elim (cases_eq j k) [
             | inl is ↦
-                let same : q ≡ r = (let z = sym at ∙ (ap (λ i. real_in ((entity_flow e start).slot i)) is ∙ here) in cc) in
+                let same : q ≡ r = (let z = sym at ∙ (ap (λ i. real_at e start i) is ∙ here) in cc) in
                 subst (λ z. sent_by z ≤ sent_by r) (sym same) (omega arith)
             | inr n ↦ absurd (let z = sym (settled.others j n) ∙ at in cc)
           ];
       hands = λ a j. subst (AllByRecursion (λ m. (q : RealView) → real_of m ≡ Some q → sent_by q ≤ sent_by r))
-          (sym (no_mail f w b may.between may.fits e a j)) tt;
+          (sym (no_mail f w b may.begin e a j)) tt;
     }
 
     room : HasRoomFor e (sent_by r) start
@@ -159,7 +160,7 @@ module _ (f : Frame) (w : World) (b : Batch) (may : MayBeLoaded f w b) (tickless
     due first h =
         let step =
         in_step r.witness h.part.proxy h.proxy h.part.version has h.has
-        (are_for_loaded f w b may.between may.fits may.parts e k r here h.part h.here) in
+        (are_for_loaded f w b may.begin may.parts e k r here h.part h.here) in
         let sent : sent_by r ≡ x.sent = ap sent_of has in
         let order = ap (λ o. (order_in (proxy_of o)).next) h.here ∙ ap (λ o. (order_in o).next) h.has in
         let many = ap length unshown in
@@ -167,13 +168,13 @@ module _ (f : Frame) (w : World) (b : Batch) (may : MayBeLoaded f w b) (tickless
         let its = step.next in
         omega (arith, many, order, next, its, sent)
 
-    module _ (serves : IsServed g e r.ty start) (v : World) (es : List Event) (run : LeadsTo node_has_work node_steps start es v)
+    module _ (serves : IsServed g e r.ty start) (v : World) (es : List Event) (run : RunsTo start es v)
         (quiet : IsQuiet node_has_work v)
         (leads : (update : ℕ) → HasClient g e r.ty update start → HasToldAtMost e (sent_by r) start → HasRoomFor e (sent_by r) start →
         HasNoLooks e start → HasClient g e r.ty update v)
         (tells : HasNoLooks e start → HasToldAtMost e (sent_by r) start → HasToldAtMost e (sent_by r) v)
         (all : (update : ℕ) (h : HasClient g e r.ty update v) → shown_at ((entity_flow e v).slot (home_of g e)) ≡ h.issued)
-        (j : ℕ) (q : RealView) (at : real_in ((entity_flow e v).slot j) ≡ Some q) where
+        (j : ℕ) (q : RealView) (at : real_at e v j ≡ Some q) where
       pub nothing_shown : shown_at ((entity_flow e v).slot (home_of g e)) ≡ []
       nothing_shown =
           let c = client_by serves in

@@ -1,13 +1,13 @@
 -- What a client was shown of its base part, and under which numbers, where the calls have ended and at the end of the round.
-use Rattle.std.proofs.Common.{◌≡◌, ℕ, ◌+◌, Bool, true, false, List, [], ◌∷◌, ◌++◌, map, length, Some, sym, ap, ◌∙◌, subst, refl}
-use Rattle.std.proofs.Common.{arith, append-nil}
+use Rattle.std.proofs.Common.{◌≡◌, ℕ, ◌+◌, Bool, true, false, List, [], ◌∷◌, ◌++◌, map, length, Some, sym, ap, ◌∙◌, subst, refl, arith}
+use Rattle.std.proofs.Common.{append-nil}
 use Rattle.std.specs.Prelude.{filter, if◌then◌else◌}
 use Rattle.std.specs.List.{range_with_len}
-use Rattle.seam_node_steps.specs.Prelude.{LeadsTo, Event, Call as CallData, Batch, Line, ClientText, Here, PartView, ProxyView, World}
-use Rattle.seam_node_steps.specs.Prelude.{node_steps, node_has_work, loaded, look_loaded}
+use Rattle.seam_node_steps.specs.Prelude.{Event, Call as CallData, Batch, Line, ClientText, Here, PartView, ProxyView, World, loaded}
+use Rattle.seam_node_steps.specs.Prelude.{look_loaded}
 use Rattle.seam_rule_rounds.specs.Prelude.{is_base}
 use Rattle.seam_law_flow.specs.Prelude.{more_letter}
-use Rattle.seam_law_calls.specs.Prelude.{Frame, here_at, entity_flow, home_of, proxy_of, lines_in}
+use Rattle.seam_law_calls.specs.Prelude.{Frame, here_at, entity_flow, home_of, proxy_of, lines_in, RunsTo}
 use Rattle.seam_law_rounds.specs.Prelude.{IsBetweenRounds, framed, MayBeLoaded, HasSettledPart}
 use Rattle.seam_law_clients.specs.Prelude.{base_in, base_lines, lines_after, number_of_line, ShowsItsPart}
 use Rattle.seam_law_flow.proofs.Bridge.{letters_of-append}
@@ -73,7 +73,7 @@ module _ (f : Frame) (w : World) (b : Batch) (may : MayBeLoaded f w b) (e told :
 
   -- ---- one that is left when the witnesses look
 
-  module _ (u v : World) (between : IsBetweenRounds g u) (es : List Event) (run : LeadsTo node_has_work node_steps (look_loaded u) es v)
+  module _ (u v : World) (between : IsBetweenRounds g u) (es : List Event) (run : RunsTo (look_loaded u) es v)
       (ty : ℕ) (left : HasSettledPart g e ty u) (same : ((entity_flow e called).slot (home_of f e)).base.part ≡ Some left.part) where
     client : left.part.proxy ≡ Some s.proxy
     client = let is : s.part ≡ left.part = (let z = sym s.is ∙ same in cc) in sym (ap (λ (q : PartView). q.proxy) is) ∙ s.has

@@ -137,7 +137,8 @@ module _ (h : Header) (a b : Book) (before after : Orders)
               ∙ public_before h o.made (before part.Cell x) (further x).0 copy.version o.had ∙ o.public;
           same =
               o.same
-              ∙ ap (λ st. let k : GhostCopy = record { ty = o.made.ty; version = copy.version; state = other_of (properties h o.made) st } in k)
+              ∙ ap (λ st. let k : GhostCopy = record { ty = o.made.ty; version = copy.version; state = other_of (properties h o.made) st }
+              in k)
               (flat_same x o.made copy.version o.had);
         };
     shown = so.shown;
@@ -166,7 +167,8 @@ module _ (follow : (c : ClientReplica) (lines more : List Line) → after_lines 
     (truly : (e : ℕ) → ShowsTruly h s.book s.orders e (replica_of h s e)) where
   so_far : (e : ℕ) → ShowsTruly h s.book t.orders e (replica_of h s e)
   so_far e =
-      truly_later h s.book s.book s.orders t.orders (λ x c is. is) (λ x. (legal.did.done x, legal.did.further x)) e (replica_of h s e) (truly e)
+      truly_later h s.book s.book s.orders t.orders (λ x c is. is) (λ x. (legal.did.done x, legal.did.further x)) e (replica_of h s e)
+      (truly e)
 
   own_then : (c : Create) (v : ℕ) (state : State) → created_as s.book c.entity ≡ Some c → IsOwn h s t c v state →
       WasOwn h s.book t.orders c.entity v state
@@ -195,8 +197,7 @@ module _ (follow : (c : ClientReplica) (lines more : List Line) → after_lines 
       (shown_by_lines (told_in r c.entity)) (replica_of h s c.entity) (so_far c.entity)
       (legal.shown.each c is shown).right.true_
 
-  by_client : (e : ℕ) (x : Bool) → is_shown s.book e ≡ x →
-      ShowsTruly h s.book t.orders e (after_lines (replica_of h s e) (told_in r e))
+  by_client : (e : ℕ) (x : Bool) → is_shown s.book e ≡ x → ShowsTruly h s.book t.orders e (after_lines (replica_of h s e) (told_in r e))
   by_client e true shown =
       let two = both (is_some (created_as s.book e) && list_any (joins e) (entries s.book)) (not (was_dead s.book e)) shown in
       let made = is_some_of (created_as s.book e) (both (is_some (created_as s.book e)) (list_any (joins e) (entries s.book)) two.0).0 in

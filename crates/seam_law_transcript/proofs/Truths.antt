@@ -114,7 +114,10 @@ module _ (ghosts : (ps : List Property) (s t : State) → ghost_of ps s ≡ ghos
       let props : projected (type_of h.defs copy.ty).properties group.Ghost group.Other copy.state.props ≡ (other_of ps state).props =
       ap (λ y. projected (type_of h.defs y).properties group.Ghost group.Other copy.state.props) type
       ∙ ap (λ (s : State). projected ps group.Ghost group.Other s.props) state_is ∙ by_ghost ps state in
-      let shown : record { pos = copy.state.pos; props = projected (type_of h.defs copy.ty).properties group.Ghost group.Other copy.state.props }
+      let shown : record {
+        pos = copy.state.pos;
+        props = projected (type_of h.defs copy.ty).properties group.Ghost group.Other copy.state.props;
+      }
       ≡ other_of ps state = (λ i. record { pos = ap (λ (s : State). s.pos) state_is i; props = props i }) in
       λ i. record { ty = type i; version = public_is i; state = (shown ∙ others) i }
 

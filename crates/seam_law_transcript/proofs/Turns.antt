@@ -2,16 +2,15 @@
 use Rattle.std.proofs.Common.{◌≡◌, ℕ, ◌≤◌, Bool, true, false, List, [], ◌∷◌, ◌++◌, Option, None, Some, refl, sym, ap, ◌∙◌, subst, inl, inr}
 use Rattle.std.specs.List.{AllByRecursion}
 use Rattle.std.proofs.lemmas.Bool.{cases_eq}
-use Rattle.seam_node_steps.specs.Prelude.{Part, Division, Call as CallData, Batch, RealView, Msg, BaseCall, Hand, Current, GhostSet}
-use Rattle.seam_node_steps.specs.Prelude.{GhostDrop, Tick, Reap, Update, PartView, World, loaded}
+use Rattle.seam_node_steps.specs.Prelude.{Part, Division, Call as CallData, Batch, RealView, Msg, Hand, PartView, World, loaded}
 use Rattle.seam_rule_rounds.specs.Prelude.{Header, calls_of, accepted, IsFull, ClientReplica, Standing}
 use Rattle.seam_law_flow.specs.Prelude.{Flow, letters_of, more_letter, TokenPlace, In, On, Sole, Desk, Mail, Item, desk_of, parcel_of}
 use Rattle.seam_law_flow.specs.Prelude.{AreInTurn}
-use Rattle.seam_law_calls.specs.Prelude.{entity_flow, kept_if, real_in, real_of, from_sender, is_from, desk_for, cell_mail, real_desk}
-use Rattle.seam_law_calls.specs.Prelude.{as_sender, as_base_sender, part_desk, EachReal}
+use Rattle.seam_law_calls.specs.Prelude.{entity_flow, kept_if, real_of, from_sender, is_from, desk_for, cell_mail, real_desk, as_sender}
+use Rattle.seam_law_calls.specs.Prelude.{as_base_sender, part_desk, real_at}
 use Rattle.seam_law_rounds.specs.Prelude.{next_from, next_to, base_calls_of}
 use Rattle.seam_law_ghosts.specs.Prelude.{WasThere}
-use Rattle.seam_law_all.specs.Calls.{GoesRightly}
+use Rattle.seam_law_all.specs.CallLaws.{GoesRightly}
 use Rattle.seam_law_book.specs.Prelude.{as_begun, IsFitCall, calls_from, Brings, frame_of, base_node, HasRoomForCalls}
 use Rattle.seam_law_transcript.specs.Turns.{AreFirstCalls, HasFirstCalls}
 use Rattle.seam_defs.specs.declared.flags.Part.TheVariants as part
@@ -58,23 +57,18 @@ module _ (s : ℕ) (d : Desk CallData) where
   without_call true c rest all = all
   without_call false c rest all = all
 
-  pub carried_desks : (ms : List Msg) → AllByRecursion IsIts (letters_of parcel_of (letters_of (cell_mail s) ms)) → AllByRecursion Carries ms
+  pub carried_desks : (ms : List Msg) → AllByRecursion IsIts (letters_of parcel_of (letters_of (cell_mail s) ms)) →
+      AllByRecursion Carries ms
   carried_desks [] all = tt
   carried_desks (Call c ∷ ms) all =
       ((λ q is. absurd (let z = is in cc)), carried_desks ms (without_call (is_from s c) c (letters_of (cell_mail s) ms) all))
-  carried_desks (BaseCall c ∷ ms) all = ((λ q is. absurd (let z = is in cc)), carried_desks ms all)
   carried_desks (Hand r ∷ ms) all = (
     (λ q is.
         let same : r ≡ q = (let z = is in cc) in
         ap (λ (x : RealView). desk_for s x.orders x.done) (sym same) ∙ all.0),
     carried_desks ms all.1,
   )
-  carried_desks (Current e j g ∷ ms) all = ((λ q is. absurd (let z = is in cc)), carried_desks ms all)
-  carried_desks (GhostSet e n c ∷ ms) all = ((λ q is. absurd (let z = is in cc)), carried_desks ms all)
-  carried_desks (GhostDrop e n ∷ ms) all = ((λ q is. absurd (let z = is in cc)), carried_desks ms all)
-  carried_desks (Tick ∷ ms) all = ((λ q is. absurd (let z = is in cc)), carried_desks ms all)
-  carried_desks (Reap e ∷ ms) all = ((λ q is. absurd (let z = is in cc)), carried_desks ms all)
-  carried_desks (Update u ∷ ms) all = ((λ q is. absurd (let z = is in cc)), carried_desks ms all)
+  carried_desks (m ∷ ms) all = ((λ q is. absurd (let z = is in cc)), carried_desks ms all)
 
 -- what is so of each message for each sender
 for_all : (Q : ℕ → Msg → Type 0) (ms : List Msg) → ((n : ℕ) → AllByRecursion (Q n) ms) → AllByRecursion (λ m. (n : ℕ) → Q n m) ms
@@ -85,7 +79,8 @@ for_all Q (m ∷ ms) all = ((λ n. (all n).0), for_all Q ms (λ n. (all n).1))
 
 -- the entity e of the world u, to which a list of events led from the loaded world
 module _ (h : Header) (s : Standing) (tree : Division) (clients : ℕ → ClientReplica) (w u : World) (some : 1 ≤ h.settings.bases)
-    (R : Brings h s.book) (few : HasRoomForCalls s.book) (full : (p : Part) (e : ℕ) → IsFull (accepted (as_begun s.book) p e) (s.orders p e))
+    (R : Brings h s.book) (few : HasRoomForCalls s.book) (full : (p : Part) (e : ℕ) →
+    IsFull (accepted (as_begun s.book) p e) (s.orders p e))
     (e : ℕ) (r : RealView) (goes : GoesRightly (frame_of h tree) clients w (batch_of h s.book) e r u) where
   abbrev B : Batch
   B = batch_of h s.book
@@ -113,15 +108,17 @@ module _ (h : Header) (s : Standing) (tree : Division) (clients : ℕ → Client
         (turn n).in_turn.parts ∙ ap (λ (d : Desk CallData). d.done ++ (turn n).in_turn.rest) (sym (is n)),
       ))
 
-  in_cell : (k : ℕ) (q : RealView) → real_in ((entity_flow e u).slot k) ≡ Some q → AreFirstCalls s part.Cell e q.done
+  in_cell : (k : ℕ) (q : RealView) → real_at e u k ≡ Some q → AreFirstCalls s part.Cell e q.done
   in_cell k q at =
-      by_desk q (λ n. (sole_here desk_of parcel_of (as_sender n (entity_flow e u)) (turn n).place (turn n).desk (desk_for n q.orders q.done) k
+      by_desk q (λ n. (sole_here desk_of parcel_of (as_sender n (entity_flow e u)) (turn n).place (turn n).desk (desk_for n q.orders q.done)
+      k
       (turn n).in_turn.sole (ap (real_desk n) at)).1)
 
   abbrev CarriesTurn : ℕ → Msg → Type 0
   CarriesTurn n = Carries n (turn n).desk
 
-  handed : (a k : ℕ) → AllByRecursion (λ m. (q : RealView) → real_of m ≡ Some q → AreFirstCalls s part.Cell e q.done) ((entity_flow e u).mail a k)
+  handed : (a k : ℕ) → AllByRecursion (λ m. (q : RealView) → real_of m ≡ Some q → AreFirstCalls s part.Cell e q.done)
+      ((entity_flow e u).mail a k)
   handed a k =
       let ms = (entity_flow e u).mail a k in
       all_turn (λ m. (n : ℕ) → CarriesTurn n m) (λ m. (q : RealView) → real_of m ≡ Some q → AreFirstCalls s part.Cell e q.done)
@@ -151,19 +148,12 @@ module _ (h : Header) (s : Standing) (tree : Division) (clients : ℕ → Client
 
 -- no real is handed over
 pub none_handed : (told : Bool) (home : ℕ) (r : RealView) (k : ℕ) (m : Msg) → IsCalmTo told home r k m → real_of m ≡ None
-none_handed told home r k (Call c) calm = refl
-none_handed told home r k (BaseCall c) calm = refl
 none_handed told home r k (Hand q) calm = absurd calm
-none_handed told home r k (Current e j g) calm = refl
-none_handed told home r k (GhostSet e n c) calm = refl
-none_handed told home r k (GhostDrop e n) calm = refl
-none_handed told home r k Tick calm = refl
-none_handed told home r k (Reap e) calm = refl
-none_handed told home r k (Update u) calm = refl
+none_handed told home r k _ calm = refl
 
 -- and each part is what it was before, but for its witness or its client
 pub still_first : (s : Standing) (e : ℕ) (u v : World) → HasFirstCalls s e u →
-    ((k : ℕ) (q : RealView) → real_in ((entity_flow e v).slot k) ≡ Some q → WasThere e k q u) → (told : Bool) (home : ℕ) (r : RealView) →
+    ((k : ℕ) (q : RealView) → real_at e v k ≡ Some q → WasThere e k q u) → (told : Bool) (home : ℕ) (r : RealView) →
     ((a k : ℕ) → AllByRecursion (IsCalmTo told home r k) ((entity_flow e v).mail a k)) →
     ((k : ℕ) (q : PartView) → ((entity_flow e v).slot k).base.part ≡ Some q →
     (p : PartView) × (((entity_flow e u).slot k).base.part ≡ Some p) × (q.done ≡ p.done)) → HasFirstCalls s e v

@@ -4,7 +4,9 @@ pub mod Playing
 pub mod Counts
 pub mod Truly
 pub mod Course
+pub mod Phases
 pub mod OneReal
 pub mod Turns
+pub mod BrokenOff
 pub mod Radius
 pub mod Prelude

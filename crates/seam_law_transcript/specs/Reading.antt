@@ -4,7 +4,7 @@ use Rattle.std.specs.List.{flat_map, list_any}
 use Rattle.seam_node_steps.specs.Prelude.{Division, Place, Create, Line, cell_numbers, RealView, PartView, World}
 use Rattle.seam_rule_rounds.specs.Prelude.{Header, Book, destroys, is_shown, HomeLine, BaseLine, done_lines, ClientLine, RoundData, told_in}
 use Rattle.seam_rule_rounds.specs.Prelude.{Standing, in_first_cell}
-use Rattle.seam_law_calls.specs.Prelude.{entity_flow, real_in, proxy_of, lines_in}
+use Rattle.seam_law_calls.specs.Prelude.{entity_flow, proxy_of, lines_in, real_at}
 use Rattle.seam_law_ghosts.specs.Prelude.{place_of}
 use Rattle.seam_law_book.specs.Prelude.{base_node, done_in, with_done, home_read, base_read, ghosts_read}
 use Rattle.seam_defs.specs.declared.flags.Part.TheVariants as part
@@ -17,7 +17,7 @@ home_if e k None = []
 home_if e k (Some r) = home_read e k r ∷ []
 
 abbrev pub homes_read : World → ℕ → List HomeLine
-homes_read w e = flat_map (λ k. home_if e k (real_in ((entity_flow e w).slot k))) cell_numbers
+homes_read w e = flat_map (λ k. home_if e k (real_at e w k)) cell_numbers
 
 -- where it is held
 abbrev pub place_if : ℕ → Option RealView → List Place
@@ -25,7 +25,7 @@ place_if k None = []
 place_if k (Some r) = place_of k r ∷ []
 
 abbrev pub place_read : World → ℕ → Place
-place_read w e = slice_index_or (flat_map (λ k. place_if k (real_in ((entity_flow e w).slot k))) cell_numbers) 0 in_first_cell
+place_read w e = slice_index_or (flat_map (λ k. place_if k (real_at e w k)) cell_numbers) 0 in_first_cell
 
 -- the base line of its base part
 abbrev pub base_if : ℕ → Option PartView → List BaseLine

@@ -5,9 +5,9 @@
 //! `legal_rounds` has that what one round prints is a legal round, and `whole_runs` the course of a run, from the header to the last line.
 //! Each law is a clause of a function that does nothing.
 //!
-//! Of `specs/`, `Beside`, `Playing` and `Reading` are for `legal_rounds`; `Course`, `Counts`, `Truly`, `OneReal`, `Turns` and
-//! `Radius` for `whole_runs`. `specs/Prelude` re-exports what crates above cite of this one and of those below it, so that one import
-//! names it.
+//! Of `specs/`, `Beside`, `Playing` and `Reading` are for `legal_rounds`; `Course`, `Counts`, `Truly`, `Phases`, `OneReal`, `Turns`,
+//! `BrokenOff` and `Radius` for `whole_runs`. `specs/Prelude` re-exports what crates above cite of this one and of those below it, so that
+//! one import names it.
 #![tactic(auto)]
 
 mod legal_rounds;
@@ -24,6 +24,6 @@ pub use legal_rounds::{
 };
 pub use whole_runs::{
     a_course_begins_and_goes_on, a_round_leaves_few_numbers, a_round_may_be_run,
-    a_run_round_is_legal, clients_see_all_within_their_radius,
+    a_round_may_break_off, a_run_round_is_legal, clients_see_all_within_their_radius,
     each_entity_has_one_real_through_a_round, each_part_executes_in_turn,
 };

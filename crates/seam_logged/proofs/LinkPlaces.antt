@@ -9,7 +9,7 @@ use Rattle.seam_link.specs.Ends.{InView, OutView}
 use Rattle.seam_stamp.specs.declared.Letter.{Letter}
 use Rattle.seam_logged.specs.Logs.{EndsView}
 use Rattle.seam_logged.specs.Mesh.{IsOut, IsIn, AreLinked, IsNew}
-use Rattle.seam_logged.specs.Parts.{Reached}
+use Rattle.seam_logged.specs.SomeLinks.{Reached}
 
 module _ {X : Type 0} where
   -- an element of a list with one more at its end

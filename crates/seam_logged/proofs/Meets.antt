@@ -16,7 +16,7 @@ use Rattle.seam_stamp.specs.declared.Letter.{Letter}
 use Rattle.seam_stamp.specs.Acts.{items}
 use Rattle.seam_logged.specs.Logs.{EndsView}
 use Rattle.seam_logged.specs.Mesh.{IsOut, IsIn, ArePaired, IsCell}
-use Rattle.seam_logged.specs.Parts.{Reached, AreWithin, Below, Remaining, IsRow}
+use Rattle.seam_logged.specs.SomeLinks.{Reached, AreWithin, Below, Remaining, IsRow}
 use Rattle.seam_logged.proofs.LinkPlaces.{set_at}
 
 pub drop_prefix : {X : Type 0} (xs ys zs : List X) → xs ++ ys ≡ zs → drop (length xs) zs ≡ ys

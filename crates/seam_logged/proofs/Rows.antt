@@ -9,7 +9,7 @@ use Rattle.seam_link.specs.Ends.{OutView}
 use Rattle.seam_stamp.specs.declared.Letter.{Letter}
 use Rattle.seam_logged.specs.Logs.{EndsView}
 use Rattle.seam_logged.specs.Mesh.{AreFull, AreLinked, at_start}
-use Rattle.seam_logged.specs.Parts.{Reached}
+use Rattle.seam_logged.specs.SomeLinks.{Reached}
 use Rattle.seam_logged.proofs.LinkPlaces.{pushed}
 
 pub at_start_append : {T : Type 0} (xs ys : List T) → at_start (xs ++ ys) ≡ at_start xs ++ at_start ys

@@ -14,7 +14,7 @@ ghost use Rattle.seam_machine.specs.Sends.{items_to};
 ghost use Rattle.seam_stamp.specs.declared.Letter.{Letter};
 ghost use Rattle.seam_stamp.specs.Acts.{items};
 ghost use Rattle.seam_logged.specs.Mesh.{IsOut, IsIn, AreFull, AreLinked, ArePaired, IsCell, at_start};
-ghost use Rattle.seam_logged.specs.Parts.{Reached, Remaining, IsRow};
+ghost use Rattle.seam_logged.specs.SomeLinks.{Reached, Remaining, IsRow};
 
 use crate::Ends;
 use seam_link::{LinkIn, LinkOut, link, meet};
@@ -69,8 +69,10 @@ fn link_row<T: Drop>(
     requires rest { length ends.old.items ≤ length rest.old.items }
     requires reached { Reached (length ends.old.items) from 0 ends.old.items }
     ensures reached { OnOk result (Reached (length ends.old.items) (from + 1) 0 ends.new.items) }
-    ensures linked { OnOk result ((links : List (List T)) → map (λ l. l.items) rest.old.items ≡ drop (from * length ends.old.items) links →
-        AreLinked (length ends.old.items) links ends.old.items → AreLinked (length ends.old.items) links ends.new.items) }
+    ensures linked { OnOk result ((links : List (List T)) → map (λ l. l.items) rest.old.items
+        ≡ drop (from * length ends.old.items) links →
+        AreLinked (length ends.old.items) links ends.old.items →
+        AreLinked (length ends.old.items) links ends.new.items) }
     ensures rest { OnOk result (rest.new.items ≡ drop (length ends.old.items) rest.old.items) }
 {
     for to in 0..ends.len() {
@@ -94,8 +96,10 @@ fn add_link<T: Drop>(
     requires to { to < length ends.old.items }
     requires reached { Reached (length ends.old.items) from to ends.old.items }
     ensures reached { OnOk result (Reached (length ends.old.items) from (to + 1) ends.new.items) }
-    ensures linked { OnOk result ((links : List (List T)) → slice_index_or links (from * length ends.old.items + to) [] ≡ letters.items →
-        AreLinked (length ends.old.items) links ends.old.items → AreLinked (length ends.old.items) links ends.new.items) }
+    ensures linked { OnOk result ((links : List (List T)) →
+        slice_index_or links (from * length ends.old.items + to) [] ≡ letters.items →
+        AreLinked (length ends.old.items) links ends.old.items →
+        AreLinked (length ends.old.items) links ends.new.items) }
 {
     let (mut out, end) = link(alloc, RING_CAPACITY)?;
     fill(&mut out, letters)?;
@@ -154,10 +158,13 @@ fn meet_row<T: Drop>(
     requires reached { Reached (length ends.old.items) (from + 1) 0 ends.old.items }
     requires paired { ArePaired ends.old.items }
     requires hands { length hands.old.items ≡ length ends.old.items }
-    ensures remaining { OnOk result (Remaining (length ends.old.items) from 0 ends.old.items (map (λ h. h.items) hands.old.items)
-        ends.new.items (map (λ h. h.items) hands.new.items)) }
-    ensures row { OnOk result ((row : List (List T)) × (map (λ l. l.items) links.new.items ≡ row ++ map (λ l. l.items) links.old.items)
-        × (length row ≡ length ends.old.items) × IsRow ends.old.items (map (λ h. h.items) hands.old.items) from 0 row) }
+    ensures remaining { OnOk result (Remaining (length ends.old.items) from 0 ends.old.items
+        (map (λ h. h.items) hands.old.items) ends.new.items
+        (map (λ h. h.items) hands.new.items)) }
+    ensures row { OnOk result ((row : List (List T)) × (map (λ l. l.items) links.new.items
+        ≡ row ++ map (λ l. l.items) links.old.items) ×
+        (length row ≡ length ends.old.items) × IsRow ends.old.items
+        (map (λ h. h.items) hands.old.items) from 0 row) }
 {
     let mut to = ends.len();
     while to > 0 {
@@ -181,9 +188,11 @@ fn meet_link<T: Drop>(
     requires reached { Reached (length ends.old.items) from (to + 1) ends.old.items }
     requires paired { ArePaired ends.old.items }
     requires hands { length hands.old.items ≡ length ends.old.items }
-    ensures remaining { OnOk result (Remaining (length ends.old.items) from to ends.old.items (map (λ h. h.items) hands.old.items)
-        ends.new.items (map (λ h. h.items) hands.new.items)) }
-    ensures cell { IfOk result (λ l. IsCell ends.old.items (map (λ h. h.items) hands.old.items) from to l.items) }
+    ensures remaining { OnOk result (Remaining (length ends.old.items) from to ends.old.items
+        (map (λ h. h.items) hands.old.items) ends.new.items
+        (map (λ h. h.items) hands.new.items)) }
+    ensures cell { IfOk result (λ l. IsCell ends.old.items (map (λ h. h.items) hands.old.items) from
+        to l.items) }
 {
     let Some(out) = ends[from].outs.pop() else {
         unreachable!()
@@ -204,7 +213,8 @@ fn from_hand<T: Drop>(
     from: usize,
 ) -> Result<Vec<T>, AllocError>
     ensures given { IfOk result (λ v. v.items ≡ items (items_to from hand.old.items)) }
-    ensures others { OnOk result ((a : ℕ) → a ≢ from → items_to a hand.new.items ≡ items_to a hand.old.items) }
+    ensures others { OnOk result ((a : ℕ) → a ≢ from → items_to a hand.new.items
+        ≡ items_to a hand.old.items) }
 {
     let mut given = Vec::new(alloc);
     for _i in 0..hand.len() {

@@ -1,5 +1,6 @@
 -- Marks by binary digits.
-use Rattle.std.proofs.Common.{◌≡◌, ◌≢◌, ℕ, ◌+◌, ◌*◌, ◌^◌, ◌<◌, ◌/◌, ◌%◌, true, false, List, length, get_or, set, refl, sym, ap, ◌∙◌, ◌≤◌, arith, tests, inl, inr}
+use Rattle.std.proofs.Common.{◌≡◌, ◌≢◌, ℕ, ◌+◌, ◌*◌, ◌^◌, ◌<◌, ◌/◌, ◌%◌, true, false, List, length, get_or, set, refl, sym, ap, ◌∙◌, ◌≤◌}
+use Rattle.std.proofs.Common.{arith, tests, inl, inr}
 use Rattle.std.specs.Prelude.{◌==◌, nat_lt}
 use Rattle.std.specs.Int.{bit_at, trailing_zeros, w64}
 use Rattle.std.proofs.lemmas.Bool.{cases_eq, cases_lt}

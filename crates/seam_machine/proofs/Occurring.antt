@@ -98,7 +98,8 @@ pub works : {N M : Type 0} (has_work : N → Bool) (rows : List (List (List M)))
 works has_work rows k None s h f = h
 works has_work rows k (Some a) s h f = cc
 
-pub holds : {N M : Type 0} (has_work : N → Bool) (s : N) (a : ℕ) (ms : List M) → is_ready has_work (Some s) (letter a ms) ≡ true → 0 < length ms
+pub holds : {N M : Type 0} (has_work : N → Bool) (s : N) (a : ℕ) (ms : List M) → is_ready has_work (Some s) (letter a ms) ≡ true →
+    0 < length ms
 holds has_work s a [] h = cc
 holds has_work s a (m ∷ ms) h = omega arith
 

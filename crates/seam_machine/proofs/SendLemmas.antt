@@ -76,7 +76,8 @@ all_go_more {M} to xs i x h r e before =
     subst (All P) (sym (take_more xs i x h ∙ ap (λ y. take i xs ++ y ∷ []) (sym r)))
     (All-append P (take i xs) (x ∷ []) before (All-cons P x [] e (All-nil P)))
 
-pub all_go_whole : {M : Type 0} (to : ℕ) (xs : List (ℕ × M)) (n : ℕ) → length xs ≤ n → All (λ p. p.0 ≡ to) (take n xs) → All (λ p. p.0 ≡ to) xs
+pub all_go_whole : {M : Type 0} (to : ℕ) (xs : List (ℕ × M)) (n : ℕ) → length xs ≤ n → All (λ p. p.0 ≡ to) (take n xs) →
+    All (λ p. p.0 ≡ to) xs
 all_go_whole to xs n h before = subst (All (λ p. p.0 ≡ to)) (take_all n xs h) before
 
 pub all_go_both : {M : Type 0} (to : ℕ) (xs ys items : List (ℕ × M)) → xs ++ ys ≡ items → All (λ p. p.0 ≡ to) xs → All (λ p. p.0 ≡ to) ys →

@@ -37,7 +37,8 @@ lowers_more a to v starts0 starts starts' row row' l here d r s low own =
         | inr n ↦ let old = d.less b in let same = apart b n in omega (arith, same, old)
       ];
       own = λ b lt. elim (cases_eq b to) [
-        | inl e ↦ let same : get_or starts' b 0 ≡ get_or starts' to 0 = ap (λ k. get_or starts' k 0) e in absurd (omega (arith, lt, same, at, own))
+        | inl e ↦ let same : get_or starts' b 0 ≡ get_or starts' to 0 = ap (λ k. get_or starts' k 0) e in
+            absurd (omega (arith, lt, same, at, own))
         | inr n ↦
             let same = apart b n in
             ap (λ k. get_or k b []) r ∙ (get_or-set_other row to b l [] n ∙ d.own b (omega (arith, lt, same)))

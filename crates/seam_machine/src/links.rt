@@ -1,7 +1,8 @@
 //! The links of a net, and what waits for room in them.
 
 ghost use Rattle.std.specs.Prelude.{◌≡◌, ℕ, ◌+◌, ◌-◌, ◌<◌, ◌≤◌, ◌^◌, List, [], ◌∷◌, ◌++◌, length, true, Some, None, OnOk, OnErr, IfOk};
-ghost use Rattle.std.specs.Prelude.{IfSome, IfNone, option_copied, slice_get, slice_index, slice_index_or, slice_set, vec_len, false, replicate, min};
+ghost use Rattle.std.specs.Prelude.{IfSome, IfNone, option_copied, slice_get, slice_index, slice_index_or, slice_set, vec_len, false};
+ghost use Rattle.std.specs.Prelude.{replicate, min};
 ghost use Rattle.std.specs.List.{All};
 ghost use Rattle.seam_machine.specs.Sends.{AllBelow};
 ghost use Rattle.seam_machine.specs.Nets.{link, input_from, is_ready};
@@ -58,8 +59,10 @@ impl Kept {
         requires fits { slice_index self.old.busy.items to < 255 }
         requires starts { to < length self.old.starts.items }
         requires waiting { AreCounted self.old.waiting.words self.old.busy.items }
-        ensures busy { self.new.busy.items ≡ slice_set self.old.busy.items to (slice_index self.old.busy.items to + 1) }
-        ensures starts { self.new.starts.items ≡ slice_set self.old.starts.items to (min (slice_index self.old.starts.items to) sender) }
+        ensures busy { self.new.busy.items ≡ slice_set self.old.busy.items to
+            (slice_index self.old.busy.items to + 1) }
+        ensures starts { self.new.starts.items ≡ slice_set self.old.starts.items to
+            (min (slice_index self.old.starts.items to) sender) }
         ensures waiting { AreCounted self.new.waiting.words self.new.busy.items }
     {
         let at = to as usize;
@@ -98,7 +101,8 @@ fn count_filled<T>(rows: &Vec<Row<T>>, to: usize) -> u8
 fn count_all<T>(alloc: Global, rows: &Vec<Row<T>>) -> Result<Vec<u8>, AllocError>
     requires { length rows.now.items < 256 }
     ensures len { IfOk result (λ v. length v.items ≡ length rows.now.items) }
-    ensures counts { IfOk result (λ v. (b : ℕ) → b < length rows.now.items → slice_index v.items b ≡ filled_to b rows.now.items) }
+    ensures counts { IfOk result (λ v. (b : ℕ) → b < length rows.now.items →
+        slice_index v.items b ≡ filled_to b rows.now.items) }
 {
     let mut busy = Vec::new(alloc);
     for b in 0..rows.len() {
@@ -164,8 +168,10 @@ fn lower<T>(kept: &mut Kept, rows: &Vec<Row<T>>, to: u8, left: usize)
     requires within { to < length rows.now.items }
     requires starts { StartsAt kept.old.starts.items rows.now.items }
     requires waiting { AreCounted kept.old.waiting.words kept.old.busy.items }
-    requires none { slice_index kept.old.busy.items to - (1 - left) ≡ 0 → (a : ℕ) → link rows.now.items a to ≡ [] }
-    ensures busy { kept.new.busy.items ≡ slice_set kept.old.busy.items to (slice_index kept.old.busy.items to - (1 - left)) }
+    requires none { slice_index kept.old.busy.items to - (1 - left) ≡ 0 → (a : ℕ) →
+        link rows.now.items a to ≡ [] }
+    ensures busy { kept.new.busy.items ≡ slice_set kept.old.busy.items to
+        (slice_index kept.old.busy.items to - (1 - left)) }
     ensures starts { StartsAt kept.new.starts.items rows.now.items }
     ensures waiting { AreCounted kept.new.waiting.words kept.new.busy.items }
 {
@@ -191,10 +197,12 @@ fn deliver<T>(
     requires wide { length kept.old.busy.items ≡ length row.old }
     requires fits { CountsFit kept.old.busy.items row.old }
     requires starts { length kept.old.starts.items ≡ length row.old }
-    requires own { (b : ℕ) → sender < slice_index_or kept.old.starts.items b 0 → slice_index_or row.old b [] ≡ [] }
+    requires own { (b : ℕ) → sender < slice_index_or kept.old.starts.items b 0 →
+        slice_index_or row.old b [] ≡ [] }
     requires waiting { AreCounted kept.old.waiting.words kept.old.busy.items }
     ensures lowered { Lowers sender kept.old.starts.items kept.new.starts.items row.new }
-    ensures moved { Delivers row.old out.old.items kept.old.busy.items row.new out.new.items kept.new.busy.items }
+    ensures moved { Delivers row.old out.old.items kept.old.busy.items row.new out.new.items
+        kept.new.busy.items }
     ensures waiting { AreCounted kept.new.waiting.words kept.new.busy.items }
     ensures ok { OnOk result (out.new.items ≡ []) }
 {
@@ -249,7 +257,8 @@ impl<T: Drop> Links<T> {
         ensures some { IfSome result (λ p. 0 < length (link self.now.rows p.1 p.0)) }
         ensures within { IfSome result (λ p. p.0 < length self.now.rows) }
         ensures first { IfSome result (λ p. (j a : ℕ) → j < p.0 → link self.now.rows a j ≡ []) }
-        ensures first_from { IfSome result (λ p. (c : ℕ) → c < p.1 → link self.now.rows c p.0 ≡ []) }
+        ensures first_from { IfSome result (λ p. (c : ℕ) → c < p.1 →
+            link self.now.rows c p.0 ≡ []) }
     {
         match (self.sent.target, &self.sent.ahead) {
             (Some(target), Input::From(from, _)) => Some((target, *from)),
@@ -269,7 +278,8 @@ impl<T: Drop> Links<T> {
         requires clear { self.now.clear ≡ true }
         ensures within { IfSome result (λ k. k < length self.now.rows) }
         ensures first { IfSome result (λ k. (j a : ℕ) → j < k → link self.now.rows a j ≡ []) }
-        ensures none { IfNone result ((j a : ℕ) → j < length self.now.rows → link self.now.rows a j ≡ []) }
+        ensures none { IfNone result ((j a : ℕ) → j < length self.now.rows →
+            link self.now.rows a j ≡ []) }
         ensures busy { IfSome result (λ k. ((a : ℕ) → link self.now.rows a k ≡ []) → ⊥) }
     {
         self.kept.waiting.first()
@@ -351,7 +361,8 @@ impl<T: Drop> Links<T> {
         requires clear { self.old.clear ≡ true }
         requires holds { 0 < length (link self.old.rows from to) }
         requires peers { M.peer_count node.old ≡ length self.old.rows }
-        ensures fed { OnOk result (Feeds M.steps to (Some from) self.old.rows node.old self.new.rows node.new) }
+        ensures fed { OnOk result (Feeds M.steps to (Some from) self.old.rows node.old self.new.rows
+            node.new) }
         ensures err_rows { OnErr result (self.new.rows ≡ self.old.rows) }
         ensures err_node { OnErr result (node.new ≡ node.old) }
         ensures same_peers { M.peer_count node.new ≡ M.peer_count node.old }
@@ -380,7 +391,8 @@ impl<T: Drop> Links<T> {
         requires is_node { at < length self.old.rows }
         requires task { M.has_work node.old ≡ true }
         requires peers { M.peer_count node.old ≡ length self.old.rows }
-        ensures fed { OnOk result (Feeds M.steps at None self.old.rows node.old self.new.rows node.new) }
+        ensures fed { OnOk result (Feeds M.steps at None self.old.rows node.old self.new.rows
+            node.new) }
         ensures err_rows { OnErr result (self.new.rows ≡ self.old.rows) }
         ensures err_node { OnErr result (node.new ≡ node.old) }
         ensures same_peers { M.peer_count node.new ≡ M.peer_count node.old }
@@ -407,9 +419,11 @@ impl<T: Drop> Links<T> {
         node: &mut M,
     ) -> Result<(), AllocError>
         requires is_node { event.node < length self.old.rows }
-        requires ready { is_ready M.has_work (Some node.old) (input_from self.old.rows event.node event.from) ≡ true }
+        requires ready { is_ready M.has_work (Some node.old)
+            (input_from self.old.rows event.node event.from) ≡ true }
         requires peers { M.peer_count node.old ≡ length self.old.rows }
-        ensures fed { OnOk result (Feeds M.steps event.node event.from self.old.rows node.old self.new.rows node.new) }
+        ensures fed { OnOk result (Feeds M.steps event.node event.from self.old.rows node.old
+            self.new.rows node.new) }
         ensures err_rows { OnErr result (self.new.rows ≡ self.old.rows) }
         ensures err_node { OnErr result (node.new ≡ node.old) }
         ensures same_peers { M.peer_count node.new ≡ M.peer_count node.old }

@@ -60,7 +60,8 @@ pub trait Machine: Drop {
     ) -> Result<(), AllocError>
         requires { input.old ≡ Input.Task → has_work self.old ≡ true }
         ensures state { OnOk result (self.new ≡ (steps self.old input.old).state) }
-        ensures sent { OnOk result (out.new.items ≡ out.old.items ++ (steps self.old input.old).sent) }
+        ensures sent { OnOk result (out.new.items ≡ out.old.items
+            ++ (steps self.old input.old).sent) }
         ensures err_state { OnErr result (self.new ≡ self.old) }
         ensures err_out { OnErr result (out.new.items ≡ out.old.items) }
         ensures err_input { OnErr result (input.new ≡ input.old) };

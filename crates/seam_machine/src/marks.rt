@@ -20,7 +20,8 @@ impl Marks {
     /// Marks the number, or takes its mark away.
     pub fn set(&mut self, number: u8, is: bool)
         ensures there { is_marked self.new.words number ≡ is }
-        ensures others { (k : ℕ) → k ≢ number → is_marked self.new.words k ≡ is_marked self.old.words k }
+        ensures others { (k : ℕ) → k ≢ number → is_marked self.new.words k
+            ≡ is_marked self.old.words k }
     {
         let at = usize::from(number / 64);
         let digit = 1 << (number % 64);

@@ -1,7 +1,8 @@
 //! Nets: nodes, and a link for each ordered pair of them.
 
 ghost use Rattle.std.specs.Prelude.{◌≡◌, ◌≢◌, ℕ, ◌+◌, ◌*◌, ◌<◌, ◌≤◌, [], ◌∷◌, ◌↔◌, length, true, false, Option, Some, None, IsTrue, OnOk};
-ghost use Rattle.std.specs.Prelude.{OnErr, IfOk, IfSome, IfNone, map, option_copied, replicate, slice_get, slice_index_or, slice_set, vec_len};
+ghost use Rattle.std.specs.Prelude.{OnErr, IfOk, IfSome, IfNone, map, option_copied, replicate, slice_get, slice_index_or, slice_set};
+ghost use Rattle.std.specs.Prelude.{vec_len};
 ghost use Rattle.std.specs.List.{All};
 ghost use Rattle.seam_machine.specs.Views.{NetView, PartsView};
 ghost use Rattle.seam_machine.specs.Nets.{link, flat, enabled, happens, with_node, IsQuiet, IsSquare, ArePeers, AreParts};
@@ -222,7 +223,8 @@ impl<M: Machine> Net<M> {
     #[cold]
     fn next_unasked(&self) -> Option<Event>
         ensures enabled { IfSome result (λ e. enabled M.has_work self.now e ≡ true) }
-        ensures first { IfSome result (λ e. (d : Event) → IsBefore d e → enabled M.has_work self.now d ≡ false) }
+        ensures first { IfSome result (λ e. (d : Event) → IsBefore d e →
+            enabled M.has_work self.now d ≡ false) }
         ensures none { IfNone result (IsQuiet M.has_work self.now) }
     {
         for k in 0..self.nodes.len() {
@@ -249,7 +251,8 @@ impl<M: Machine> Net<M> {
     #[inline(always)]
     pub fn next_event(&self) -> Option<Event>
         ensures enabled { IfSome result (λ e. enabled M.has_work self.now e ≡ true) }
-        ensures first { IfSome result (λ e. (d : Event) → IsBefore d e → enabled M.has_work self.now d ≡ false) }
+        ensures first { IfSome result (λ e. (d : Event) → IsBefore d e →
+            enabled M.has_work self.now d ≡ false) }
         ensures none { IfNone result (IsQuiet M.has_work self.now) }
     {
         if !self.asked {
@@ -306,7 +309,8 @@ impl<M: Machine> Net<M> {
     // The node of that number, to be changed.
     fn node_at(&mut self, n: usize) -> &mut M
         requires { n < length self.old.nodes }
-        ensures* writes_back { sem 𝓛 (Lends (the_row M.row M.Msg.row M.Machine) M.row self.entry result (with_node self.old n)) }
+        ensures* writes_back { sem 𝓛 (Lends (the_row M.row M.Msg.row M.Machine) M.row self.entry
+            result (with_node self.old n)) }
         ensures value { result.now ≡ slice_index_or self.old.nodes n result.now }
     {
         self.asked = false;
@@ -315,7 +319,8 @@ impl<M: Machine> Net<M> {
 
     /// The node of that number, to be changed. Links and other nodes stay as they are.
     pub fn node_mut(&mut self, n: u8) -> Option<&mut M>
-        ensures* writes_back { sem 𝓛 (LendsIf (the_row M.row M.Msg.row M.Machine) M.row self.entry result (with_node self.old n) self.old) }
+        ensures* writes_back { sem 𝓛 (LendsIf (the_row M.row M.Msg.row M.Machine) M.row self.entry
+            result (with_node self.old n) self.old) }
         ensures value { option_copied_mut result ≡ slice_get self.old.nodes n }
     {
         if n as usize >= self.nodes.len() {

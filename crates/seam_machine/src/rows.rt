@@ -68,7 +68,8 @@ impl<T: Drop> Row<T> {
         rest: &mut VecDeque<Vec<T>>,
     ) -> Result<Row<T>, AllocError>
         requires { n ≤ length rest.old.items }
-        ensures taken { IfOk result (λ r. r ++ map (λ v. v.items) rest.new.items ≡ map (λ v. v.items) rest.old.items) }
+        ensures taken { IfOk result (λ r. r ++ map (λ v. v.items) rest.new.items
+            ≡ map (λ v. v.items) rest.old.items) }
         ensures wide { IfOk result (λ r. length r ≡ n) }
         ensures left { OnOk result (length rest.new.items + n ≡ length rest.old.items) }
     {
@@ -84,7 +85,8 @@ impl<T: Drop> Row<T> {
 
     /// Puts the links, in their order, after the others.
     pub fn pour(self, alloc: Global, others: &mut Vec<Vec<T>>) -> Result<(), AllocError>
-        ensures { OnOk result (map (λ v. v.items) others.new.items ≡ map (λ v. v.items) others.old.items ++ self) }
+        ensures { OnOk result (map (λ v. v.items) others.new.items
+            ≡ map (λ v. v.items) others.old.items ++ self) }
     {
         let Row { links } = self;
         for link in links {
@@ -99,7 +101,8 @@ impl<T: Drop> Row<T> {
 fn move_run<T>(link: &mut VecDeque<(u8, T)>, to: u8, out: &mut Out<T>) -> Option<u8>
     requires target { first_target out.old.items ≡ Some to }
     requires room { deque_len link.old < deque_capacity link.old }
-    ensures moved { PutsRun to (map (λ p. p.1) link.old.items) out.old.items (map (λ p. p.1) link.new.items) out.new.items }
+    ensures moved { PutsRun to (map (λ p. p.1) link.old.items) out.old.items
+        (map (λ p. p.1) link.new.items) out.new.items }
     ensures some { length out.new.items < length out.old.items }
     ensures next { result ≡ first_target out.new.items }
 {
@@ -155,8 +158,10 @@ impl<T> Row<T> {
         requires target { first_target out.old.items ≡ Some to }
         requires fits { to < length self.old }
         ensures empty { result ≡ true → slice_index_or self.old to [] ≡ [] }
-        ensures moved { result ≡ true → PutsRun to (slice_index_or self.old to []) out.old.items (slice_index_or self.new to []) out.new.items }
-        ensures others { result ≡ true → self.new ≡ slice_set self.old to (slice_index_or self.new to []) }
+        ensures moved { result ≡ true → PutsRun to (slice_index_or self.old to []) out.old.items
+            (slice_index_or self.new to []) out.new.items }
+        ensures others { result ≡ true → self.new ≡ slice_set self.old to
+            (slice_index_or self.new to []) }
         ensures none { result ≡ true → out.new.items ≡ [] }
         ensures err_row { result ≡ false → self.new ≡ self.old }
         ensures err_out { result ≡ false → out.new.items ≡ out.old.items }
@@ -170,8 +175,10 @@ impl<T> Row<T> {
     pub fn put_run(&mut self, to: u8, out: &mut Out<T>) -> Result<Option<u8>, AllocError>
         requires target { first_target out.old.items ≡ Some to }
         requires fits { to < length self.old }
-        ensures moved { OnOk result (PutsRun to (slice_index_or self.old to []) out.old.items (slice_index_or self.new to []) out.new.items) }
-        ensures others { OnOk result (self.new ≡ slice_set self.old to (slice_index_or self.new to [])) }
+        ensures moved { OnOk result (PutsRun to (slice_index_or self.old to []) out.old.items
+            (slice_index_or self.new to []) out.new.items) }
+        ensures others { OnOk result (self.new ≡ slice_set self.old to
+            (slice_index_or self.new to [])) }
         ensures some { OnOk result (length out.new.items < length out.old.items) }
         ensures next { IfOk result (λ n. n ≡ first_target out.new.items) }
         ensures err_row { OnErr result (self.new ≡ self.old) }
@@ -197,11 +204,13 @@ impl<T> Row<T> {
         out: &mut Out<T>,
     ) -> Result<(), AllocError>
         requires { 0 < length (slice_index_or self.old to []) }
-        ensures served { OnOk result (Serves M.steps from to self.old node.old out.old.items self.new node.new out.new.items) }
+        ensures served { OnOk result (Serves M.steps from to self.old node.old out.old.items
+            self.new node.new out.new.items) }
         ensures err_row { OnErr result (self.new ≡ self.old) }
         ensures err_node { OnErr result (node.new ≡ node.old) }
         ensures err_out { OnErr result (out.new.items ≡ out.old.items) }
-        ensures to_peers { AllBelow (M.peer_count node.old) out.old.items → AllBelow (M.peer_count node.old) out.new.items }
+        ensures to_peers { AllBelow (M.peer_count node.old) out.old.items →
+            AllBelow (M.peer_count node.old) out.new.items }
         ensures same_peers { M.peer_count node.new ≡ M.peer_count node.old }
     {
         node.known();

@@ -1,6 +1,7 @@
 //! What a step sends.
 
-ghost use Rattle.std.specs.Prelude.{true, false, ◌≡◌, ◌+◌, ◌<◌, ◌≤◌, [], ◌∷◌, ◌++◌, ◌^◌, length, take, Some, OnOk, OnSome, IfNone, IfSome, slice_get};
+ghost use Rattle.std.specs.Prelude.{true, false, ◌≡◌, ◌+◌, ◌<◌, ◌≤◌, [], ◌∷◌, ◌++◌, ◌^◌, length, take, Some, OnOk, OnSome, IfNone, IfSome};
+ghost use Rattle.std.specs.Prelude.{slice_get};
 ghost use Rattle.std.specs.Prelude.{option_copied};
 ghost use Rattle.std.specs.List.{All};
 ghost use Rattle.seam_machine.specs.Views.{OutView};

@@ -1,6 +1,7 @@
 //! What a node sent last, and no link holds yet.
 
-ghost use Rattle.std.specs.Prelude.{◌≡◌, ℕ, ◌<◌, ◌≤◌, ◌^◌, ◌++◌, true, false, [], length, Some, None, IsSome, OnOk, OnErr, slice_get, option_copied};
+ghost use Rattle.std.specs.Prelude.{◌≡◌, ℕ, ◌<◌, ◌≤◌, ◌^◌, ◌++◌, true, false, [], length, Some, None, IsSome, OnOk, OnErr, slice_get};
+ghost use Rattle.std.specs.Prelude.{option_copied};
 ghost use Rattle.seam_machine.specs.Sends.{items_to, AllBelow};
 ghost use Rattle.seam_machine.specs.Inside.{waits, is_empty, HasInput, IsAhead, IsFed};
 
@@ -46,7 +47,8 @@ impl<T> Sent<T> {
 
     /// How many items that wait go to that node.
     pub fn count_to(&self, to: u8) -> usize
-        ensures count { result ≡ length (items_to to (waits self.now.target self.now.ahead self.now.out.items)) }
+        ensures count { result ≡ length (items_to to (waits self.now.target self.now.ahead
+            self.now.out.items)) }
         ensures small { result ≤ 2 ^ 63 }
     {
         let others = self.out.count_to(to);
@@ -58,7 +60,8 @@ impl<T> Sent<T> {
 
     /// The item at place i of those that wait and go to that node.
     pub fn item_to(&self, to: u8, i: usize) -> Option<&T>
-        ensures { option_copied result ≡ slice_get (items_to to (waits self.now.target self.now.ahead self.now.out.items)) i }
+        ensures { option_copied result ≡ slice_get (items_to to
+            (waits self.now.target self.now.ahead self.now.out.items)) i }
     {
         match (self.target, &self.ahead) {
             (Some(target), Input::From(_, item)) if target == to => {
@@ -91,7 +94,8 @@ impl<T: Drop> Sent<T> {
     pub fn rejoin(&mut self) -> Result<(), AllocError>
         requires ahead { HasInput self.old.target self.old.ahead }
         ensures task { OnOk result (self.new.target ≡ None) }
-        ensures items { OnOk result (self.new.out.items ≡ waits self.old.target self.old.ahead self.old.out.items) }
+        ensures items { OnOk result (self.new.out.items ≡ waits self.old.target self.old.ahead
+            self.old.out.items) }
         ensures sender { self.new.sender ≡ self.old.sender }
         ensures err_ahead { OnErr result (self.new.ahead ≡ self.old.ahead) }
         ensures err_target { OnErr result (self.new.target ≡ self.old.target) }
@@ -113,10 +117,13 @@ impl<T: Drop> Sent<T> {
     /// answered whether it was taken.
     pub fn take_ahead(&mut self, waiting: &Marks) -> bool
         requires few { 0 < length self.old.out.items → self.old.sender < 256 }
-        requires ahead { IsAhead self.old.target self.old.ahead self.old.sender self.old.out.items waiting.now.words }
-        ensures items { waits self.new.target self.new.ahead self.new.out.items ≡ waits self.old.target self.old.ahead self.old.out.items }
+        requires ahead { IsAhead self.old.target self.old.ahead self.old.sender self.old.out.items
+            waiting.now.words }
+        ensures items { waits self.new.target self.new.ahead self.new.out.items
+            ≡ waits self.old.target self.old.ahead self.old.out.items }
         ensures sender { self.new.sender ≡ self.old.sender }
-        ensures ahead { IsAhead self.new.target self.new.ahead self.new.sender self.new.out.items waiting.now.words }
+        ensures ahead { IsAhead self.new.target self.new.ahead self.new.sender self.new.out.items
+            waiting.now.words }
     {
         if self.out.len() != 1 {
             return false;
@@ -146,10 +153,12 @@ impl<T: Drop> Sent<T> {
         requires target { IsSome self.old.target }
         requires ahead { HasInput self.old.target self.old.ahead }
         ensures state { OnOk result (node.new ≡ (M.steps node.old self.old.ahead).state) }
-        ensures sent { OnOk result (self.new.out.items ≡ self.old.out.items ++ (M.steps node.old self.old.ahead).sent) }
+        ensures sent { OnOk result (self.new.out.items ≡ self.old.out.items
+            ++ (M.steps node.old self.old.ahead).sent) }
         ensures used { OnOk result (self.new.target ≡ None) }
         ensures sender { OnOk result (self.old.target ≡ Some self.new.sender) }
-        ensures to_peers { OnOk result (AllBelow (M.peer_count node.old) (M.steps node.old self.old.ahead).sent) }
+        ensures to_peers { OnOk result (AllBelow (M.peer_count node.old)
+            (M.steps node.old self.old.ahead).sent) }
         ensures same_peers { M.peer_count node.new ≡ M.peer_count node.old }
         ensures err_node { OnErr result (node.new ≡ node.old) }
         ensures err_ahead { OnErr result (self.new.ahead ≡ self.old.ahead) }

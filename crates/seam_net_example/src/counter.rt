@@ -73,7 +73,8 @@ impl Machine for Counter {
     ) -> Result<(), AllocError>
         requires { input.old ≡ Input.Task → counter_work self.old ≡ true }
         ensures state { OnOk result (self.new ≡ (counter_steps self.old input.old).state) }
-        ensures sent { OnOk result (out.new.items ≡ out.old.items ++ (counter_steps self.old input.old).sent) }
+        ensures sent { OnOk result (out.new.items ≡ out.old.items
+            ++ (counter_steps self.old input.old).sent) }
         ensures err_state { OnErr result (self.new ≡ self.old) }
         ensures err_out { OnErr result (out.new.items ≡ out.old.items) }
         ensures err_input { OnErr result (input.new ≡ input.old) }

@@ -18,8 +18,9 @@ ghost use Rattle.seam_net_example.specs.Rings.{given, number_count, NumberMoves,
 
 /// A run of a net of counters is no longer than what its counters and numbers have before them.
 pub fn runs_of_a_ring_end()
-    ensures { (w v : NetView CounterView ℕ) (es : List Event) → IsSoundNet w → LeadsTo counter_work counter_steps w es v →
-        length es + weight to_do to_go v ≤ weight to_do to_go w }
+    ensures { (w v : NetView CounterView ℕ) (es : List Event) → IsSoundNet w →
+        LeadsTo counter_work counter_steps w es v → length es + weight to_do to_go v
+        ≤ weight to_do to_go w }
 {}
 
 /// A ring stays a ring over every run.
@@ -31,27 +32,30 @@ pub fn a_ring_stays_a_ring()
 /// Small numbers on their way stay below ten, and each counter sends on to the same one: the newest entry of its register.
 pub fn small_numbers_stay_small()
     ensures small { (w v : Flow CounterView ℕ) → Goes SmallMoves w v → AllSmall w → AllSmall v }
-    ensures next { (w v : Flow CounterView ℕ) (k key c : ℕ) → Goes SmallMoves w v → Newest next_entry brings_none w k key c →
-        Newest next_entry brings_none v k key c }
+    ensures next { (w v : Flow CounterView ℕ) (k key c : ℕ) → Goes SmallMoves w v →
+        Newest next_entry brings_none w k key c → Newest next_entry brings_none v k key c }
 {}
 
 /// Each event is a step of the flow of small numbers.
 pub fn small_numbers_are_seen()
-    ensures { (w : NetView CounterView ℕ) (e : Event) → IsSoundNet w → enabled counter_work w e ≡ true →
-        Goes SmallMoves (flow_of (λ c. c) no_counter small w) (flow_of (λ c. c) no_counter small (happens counter_steps w e)) }
+    ensures { (w : NetView CounterView ℕ) (e : Event) → IsSoundNet w →
+        enabled counter_work w e ≡ true → Goes SmallMoves (flow_of (λ c. c) no_counter small w)
+        (flow_of (λ c. c) no_counter small (happens counter_steps w e)) }
 {}
 
 /// Where there is one number, given or on its way, an event that does not drop a 0 leaves one; and the one number never rises.
 pub fn one_number_stays_one()
-    ensures count { (w : NetView CounterView ℕ) (e : Event) → IsSoundNet w → enabled counter_work w e ≡ true →
-        ((a : ℕ) → input_from w.rows e.node e.from ≡ Some (Input.From a 0) → ⊥) → number_count w ≡ 1 →
+    ensures count { (w : NetView CounterView ℕ) (e : Event) → IsSoundNet w →
+        enabled counter_work w e ≡ true → ((a : ℕ) → input_from w.rows e.node e.from
+        ≡ Some (Input.From a 0) → ⊥) → number_count w ≡ 1 →
         number_count (happens counter_steps w e) ≡ 1 }
-    ensures bound { (top : ℕ) (w v : Flow CounterView ℕ) → Goes NumberMoves w v → HasOne given Some (λ n. n ≤ top) w →
-        HasOne given Some (λ n. n ≤ top) v }
+    ensures bound { (top : ℕ) (w v : Flow CounterView ℕ) → Goes NumberMoves w v →
+        HasOne given Some (λ n. n ≤ top) w → HasOne given Some (λ n. n ≤ top) v }
 {}
 
 /// What counters do has nothing to do with how many they are: a run is seen as that run of counters that do not know it.
 pub fn counters_are_seen_alone()
-    ensures { (w v : NetView CounterView ℕ) (es : List Event) → LeadsTo counter_work counter_steps w es v →
-        LeadsTo counter_work counter_steps (seen alone w) es (seen alone v) }
+    ensures { (w v : NetView CounterView ℕ) (es : List Event) →
+        LeadsTo counter_work counter_steps w es v → LeadsTo counter_work counter_steps
+        (seen alone w) es (seen alone v) }
 {}

@@ -30,7 +30,29 @@ mod rings;
 #[cfg(test)]
 mod workers;
 
-ghost use Rattle.std.specs.Prelude.{◌≡◌};
+ghost use Rattle.std.specs.Prelude.{◌≡◌, IfOk};
+ghost use Rattle.seam_machine.specs.Nets.{ArePeers};
+
+#[cfg(test)]
+use seam_machine::Net;
+#[cfg(test)]
+use std::alloc::{AllocError, Global};
+
+// Three counters, each before the next; the first and the second are to pass on numbers, if they have one.
+#[cfg(test)]
+fn ring(alloc: Global, first: Option<u64>, second: Option<u64>) -> Result<Net<Counter>, AllocError>
+    ensures { IfOk result (λ w. ArePeers (λ c. c.peers) w) }
+{
+    let nodes = Vec::from_array(
+        alloc,
+        [
+            Counter::new(1, 3, first),
+            Counter::new(2, 3, second),
+            Counter::new(0, 3, None),
+        ],
+    )?;
+    Net::new(alloc, nodes)
+}
 
 // What may go from one thread to another.
 #[cfg(test)]

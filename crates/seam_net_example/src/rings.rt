@@ -1,7 +1,6 @@
-ghost use Rattle.std.specs.Prelude.{IfOk};
 ghost use Rattle.seam_machine.specs.Nets.{ArePeers};
 
-use crate::{Counter, sent};
+use crate::{Counter, ring, sent};
 use seam_machine::{Event, Machine, Net, NetParts};
 use std::alloc::{AllocError, Global};
 use std::test::Fail;
@@ -18,21 +17,6 @@ fn run<M: Machine>(alloc: Global, net: &mut Net<M>, most: u32) -> Result<u32, Al
         net.step(alloc, event)?;
     }
     Ok(most)
-}
-
-// Three counters, each before the next; the first one is to pass on the number 2.
-fn ring(alloc: Global) -> Result<Net<Counter>, AllocError>
-    ensures { IfOk result (λ w. ArePeers (λ c. c.peers) w) }
-{
-    let nodes = Vec::from_array(
-        alloc,
-        [
-            Counter::new(1, 3, Some(2)),
-            Counter::new(2, 3, None),
-            Counter::new(0, 3, None),
-        ],
-    )?;
-    Net::new(alloc, nodes)
 }
 
 const AT_NODE_0: Event = Event {
@@ -59,7 +43,7 @@ fn is_on_its_way(net: &Net<Counter>) -> bool {
 
 #[test]
 fn a_number_goes_round_until_it_is_gone(rt: HostRuntime) -> Result<(), Fail> {
-    let mut net = sent(ring(rt.alloc())?);
+    let mut net = sent(ring(rt.alloc(), Some(2), None)?);
     let start = (net.node_count(), net.next_event());
     let two = run(rt.alloc(), &mut net, 2)?;
     let on_its_way = is_on_its_way(&net);
@@ -91,7 +75,7 @@ fn are_links(net: &Net<Counter>) -> bool {
 
 #[test]
 fn parts_make_the_same_net(rt: HostRuntime) -> Result<(), Fail> {
-    let mut net = ring(rt.alloc())?;
+    let mut net = ring(rt.alloc(), Some(2), None)?;
     let one = run(rt.alloc(), &mut net, 1)?;
     let parts = net.apart(rt.alloc())?;
     let were_parts = are_parts(&parts);
@@ -102,7 +86,7 @@ fn parts_make_the_same_net(rt: HostRuntime) -> Result<(), Fail> {
 
 #[test]
 fn another_node_takes_the_place(rt: HostRuntime) -> Result<(), Fail> {
-    let mut net = ring(rt.alloc())?;
+    let mut net = ring(rt.alloc(), Some(2), None)?;
     let node = net.node_mut(2).ok_or("node 2")?;
     *node = Counter::new(0, 3, Some(0));
     assert!(rt; net.enabled(AT_NODE_2) && net.node_mut(3).is_none());

@@ -4,7 +4,7 @@
 ghost use Rattle.std.specs.Prelude.{◌≡◌, ◌≤◌, IfOk, Some, length, slice_get};
 ghost use Rattle.seam_machine.specs.Nets.{ArePeers};
 
-use crate::Counter;
+use crate::{Counter, ring};
 use seam_link::link;
 use seam_logged::{Ends, Logged, Naming, Try};
 use seam_machine::{Event, Input, Machine, Net, NetParts, Out};
@@ -41,36 +41,6 @@ impl Gate for BothInside {
     }
 }
 
-// Three counters, each before the next; the first one is to pass on the number.
-fn ring(alloc: Global, number: Option<u64>) -> Result<Net<Counter>, AllocError>
-    ensures { IfOk result (λ w. ArePeers (λ c. c.peers) w) }
-{
-    let nodes = Vec::from_array(
-        alloc,
-        [
-            Counter::new(1, 3, number),
-            Counter::new(2, 3, Some(5)),
-            Counter::new(0, 3, None),
-        ],
-    )?;
-    Net::new(alloc, nodes)
-}
-
-// Three counters, each before the next, of which one alone has something to do at any time.
-fn lone(alloc: Global) -> Result<Net<Counter>, AllocError>
-    ensures { IfOk result (λ w. ArePeers (λ c. c.peers) w) }
-{
-    let nodes = Vec::from_array(
-        alloc,
-        [
-            Counter::new(1, 3, None),
-            Counter::new(2, 3, Some(20)),
-            Counter::new(0, 3, None),
-        ],
-    )?;
-    Net::new(alloc, nodes)
-}
-
 // Two counters that pass a number each to the other.
 fn pair(alloc: Global) -> Result<Net<Counter>, AllocError>
     ensures { IfOk result (λ w. ArePeers (λ c. c.peers) w) }
@@ -82,49 +52,92 @@ fn pair(alloc: Global) -> Result<Net<Counter>, AllocError>
     Net::new(alloc, nodes)
 }
 
-// Whether so many workers leave the ring quiet, and how many events they make.
-fn left_quiet<R: Threads + Wait + Sync>(
-    rt: &R,
-    alloc: Global,
+// What the first two of three counters are to pass on, how many workers step them, and how many turns each has; whether they leave the
+// ring quiet, and the least and the greatest number of events that they make. With one number one counter alone has something to do at
+// any time.
+#[derive(Clone, Copy)]
+struct Row {
+    first: Option<u64>,
+    second: Option<u64>,
     workers: u32,
-) -> Result<(bool, usize), AllocError>
-    requires { (1 ≤ workers) × (workers ≤ 16) }
-{
-    let crew = Crew {
-        workers,
-        turns: 1000,
-    };
-    let (net, events) = run_workers(rt, alloc, ring(alloc, Some(20))?, crew, &OpenGate)?;
-    Ok((net.is_quiet(), events.len()))
-}
-
-#[test]
-fn workers_leave_the_ring_quiet(rt: HostRuntime) -> Result<(), Fail> {
-    let one = left_quiet(&rt, rt.alloc(), 1)?;
-    let two = left_quiet(&rt, rt.alloc(), 2)?;
-    let four = left_quiet(&rt, rt.alloc(), 4)?;
-    assert_eq!(rt; (one, two, four), ((true, 29), (true, 29), (true, 29)));
-    Ok(())
-}
-
-// Whether four workers with so many turns leave the ring with one number quiet, and how many events they make.
-fn lone_left_quiet<R: Threads + Wait + Sync>(
-    rt: &R,
-    alloc: Global,
     turns: u32,
-) -> Result<(bool, usize), AllocError>
-    requires { 1 ≤ turns }
-{
-    let crew = Crew { workers: 4, turns };
-    let (net, events) = run_workers(rt, alloc, lone(alloc)?, crew, &OpenGate)?;
-    Ok((net.is_quiet(), events.len()))
+    quiet: bool,
+    least: usize,
+    most: usize,
+}
+
+const ROWS: [Row; 5] = [
+    Row {
+        first: Some(20),
+        second: Some(5),
+        workers: 1,
+        turns: 1000,
+        quiet: true,
+        least: 29,
+        most: 29,
+    },
+    Row {
+        first: Some(20),
+        second: Some(5),
+        workers: 2,
+        turns: 1000,
+        quiet: true,
+        least: 29,
+        most: 29,
+    },
+    Row {
+        first: Some(20),
+        second: Some(5),
+        workers: 4,
+        turns: 1000,
+        quiet: true,
+        least: 29,
+        most: 29,
+    },
+    Row {
+        first: None,
+        second: Some(20),
+        workers: 4,
+        turns: 1000,
+        quiet: true,
+        least: 22,
+        most: 22,
+    },
+    Row {
+        first: None,
+        second: Some(20),
+        workers: 4,
+        turns: 5,
+        quiet: false,
+        least: 5,
+        most: usize::MAX,
+    },
+];
+
+// Whether workers leave the ring as the row says.
+fn is_left<R: Threads + Wait + Sync>(rt: &R, alloc: Global, row: Row) -> Result<bool, AllocError> {
+    if row.workers < 1 || row.workers > 16 || row.turns < 1 {
+        return Ok(false);
+    }
+    let crew = Crew {
+        workers: row.workers,
+        turns: row.turns,
+    };
+    let net = ring(alloc, row.first, row.second)?;
+    let (net, events) = run_workers(rt, alloc, net, crew, &OpenGate)?;
+    let many = row.least <= events.len() && events.len() <= row.most;
+    Ok(many && net.is_quiet() == row.quiet)
 }
 
 #[test]
-fn workers_leave_a_ring_with_one_number_quiet(rt: HostRuntime) -> Result<(), Fail> {
-    let many = lone_left_quiet(&rt, rt.alloc(), 1000)?;
-    let (quiet, events) = lone_left_quiet(&rt, rt.alloc(), 5)?;
-    assert_eq!(rt; (many, quiet, events >= 5), ((true, 22), false, true));
+fn workers_leave_rings_as_the_rows_say(rt: HostRuntime) -> Result<(), Fail> {
+    let mut kept = 0usize;
+    for row in ROWS {
+        if is_left(&rt, rt.alloc(), row)? {
+            kept = kept.saturating_add(1);
+        }
+    }
+    assert_eq!(rt; kept, ROWS.len());
     Ok(())
 }
 
@@ -185,8 +198,8 @@ fn replay_agrees<R: Threads + Wait + Sync>(
     requires { 1 ≤ turns }
 {
     let crew = Crew { workers: 2, turns };
-    let (net, events) = run_workers(rt, alloc, ring(alloc, Some(20))?, crew, &OpenGate)?;
-    let mut again = ring(alloc, Some(20))?;
+    let (net, events) = run_workers(rt, alloc, ring(alloc, Some(20), Some(5))?, crew, &OpenGate)?;
+    let mut again = ring(alloc, Some(20), Some(5))?;
     let happened = replayed(alloc, &mut again, &events)?;
     let quiet = net.is_quiet();
     let as_quiet = again.is_quiet() == quiet;
@@ -215,7 +228,10 @@ struct Alone {
 fn tried<J: Naming<Counter, u64>>(alloc: Global, alone: Alone) -> (Try, usize)
     requires ins { length alone.ends.ins ≡ alone.node.peers }
     requires outs { length alone.ends.outs ≡ alone.node.peers }
-    requires named { slice_get J.roots 0 ≡ Some (record { start = alone.node; first = alone.ends }) }
+    requires named { slice_get J.roots 0 ≡ Some (record {
+      start = alone.node;
+      first = alone.ends;
+    }) }
 {
     let Alone { node, ends } = alone;
     let mut logged: Logged<Counter, J> = Logged::new(alloc, node, 0, ends);

@@ -75,28 +75,30 @@ impl<T> LinkFact<T> for Brand {
 
 /// A run of two lists of events, one after the other, is a run of both; and a run of both is one of each.
 pub fn runs_join<N, T>()
-    ensures joined { (has_work : N → Bool) (steps : N → Input T → Stepped N T) (w v u : NetView N T) (es ds : List Event) →
-        LeadsTo has_work steps w es v → LeadsTo has_work steps v ds u →
+    ensures joined { (has_work : N → Bool) (steps : N → Input T → Stepped N T) (w v u : NetView N T)
+        (es ds : List Event) → LeadsTo has_work steps w es v → LeadsTo has_work steps v ds u →
         LeadsTo has_work steps w (es ++ ds) u }
-    ensures parted { (has_work : N → Bool) (steps : N → Input T → Stepped N T) (w u : NetView N T) (es ds : List Event) →
-        LeadsTo has_work steps w (es ++ ds) u →
-        LeadsTo has_work steps w es (run steps w es) × LeadsTo has_work steps (run steps w es) ds u }
+    ensures parted { (has_work : N → Bool) (steps : N → Input T → Stepped N T) (w u : NetView N T)
+        (es ds : List Event) → LeadsTo has_work steps w (es ++ ds) u →
+        LeadsTo has_work steps w es (run steps w es) × LeadsTo has_work steps (run steps w es) ds
+        u }
 {}
 
 /// No event leads to the same net, and a run is extended by one enabled event.
 pub fn runs_extend<N, T>()
     ensures empty { (has_work : N → Bool) (steps : N → Input T → Stepped N T) (w : NetView N T) →
         LeadsTo has_work steps w [] w }
-    ensures more { (has_work : N → Bool) (steps : N → Input T → Stepped N T) (w v : NetView N T) (es : List Event) (e : Event) →
-        LeadsTo has_work steps w es v → enabled has_work v e ≡ true →
-        LeadsTo has_work steps w (es ++ e ∷ []) (happens steps v e) }
+    ensures more { (has_work : N → Bool) (steps : N → Input T → Stepped N T) (w v : NetView N T)
+        (es : List Event) (e : Event) → LeadsTo has_work steps w es v →
+        enabled has_work v e ≡ true → LeadsTo has_work steps w (es ++ e ∷ []) (happens steps v e) }
 {}
 
 /// A fact that each enabled event keeps holds after every run.
 pub fn runs_keep<N, T, F: NetFact<N, T>>()
     ensures { (has_work : N → Bool) (steps : N → Input T → Stepped N T) →
-        ((w : NetView N T) (e : Event) → F.holds w → enabled has_work w e ≡ true → F.holds (happens steps w e)) →
-        (w v : NetView N T) (es : List Event) → F.holds w → LeadsTo has_work steps w es v → F.holds v }
+        ((w : NetView N T) (e : Event) → F.holds w → enabled has_work w e ≡ true →
+        F.holds (happens steps w e)) → (w v : NetView N T) (es : List Event) → F.holds w →
+        LeadsTo has_work steps w es v → F.holds v }
 {}
 
 /// Where each enabled event lowers the number, but for events of a kind, which do not raise it, a run is no longer than the
@@ -113,17 +115,20 @@ pub fn runs_end<N, T, F: NetFact<N, T>, G: NetMeasure<N, T>>()
 pub fn links_are_exact<N, T>()
     ensures { (steps : N → Input T → Stepped N T) (w : NetView N T) (e : Event) (o : Occurs w e) →
         IsSquare w → AllBelow (length w.nodes) (steps o.node o.input).sent → (x y : ℕ) →
-        link (happens steps w e).rows x y ≡ link_left w.rows e.node e.from x y ++ link_added e.node (steps o.node o.input).sent x y }
+        link (happens steps w e).rows x y ≡ link_left w.rows e.node e.from x y
+        ++ link_added e.node (steps o.node o.input).sent x y }
 {}
 
 /// The weight of a net, where a message weighs by the node to which it goes. An event changes it as the step changes the weight of the
 /// node, of its input and of what it sends (`moved`): so what a step keeps, lowers or raises, the event does. A node and its input weigh at
 /// most what the net weighs (`bound`).
 pub fn weights_move<N, T>()
-    ensures moved { (f : N → ℕ) (g : ℕ → T → ℕ) (steps : N → Input T → Stepped N T) (w : NetView N T) (e : Event) (o : Occurs w e) →
-        IsSquare w → AllBelow (length w.nodes) (steps o.node o.input).sent →
+    ensures moved { (f : N → ℕ) (g : ℕ → T → ℕ) (steps : N → Input T →
+        Stepped N T) (w : NetView N T) (e : Event) (o : Occurs w e) → IsSquare w →
+        AllBelow (length w.nodes) (steps o.node o.input).sent →
         weight f g (happens steps w e) + (f o.node + input_weight g e.node o.input)
-        ≡ weight f g w + (f (steps o.node o.input).state + sent_weight g (steps o.node o.input).sent) }
+        ≡ weight f g w + (f (steps o.node o.input).state + sent_weight g
+        (steps o.node o.input).sent) }
     ensures bound { (f : N → ℕ) (g : ℕ → T → ℕ) (w : NetView N T) (e : Event) (o : Occurs w e) →
         f o.node + input_weight g e.node o.input ≤ weight f g w }
 {}
@@ -148,22 +153,23 @@ pub fn each_link_is_kept<N, T, Q: LinkFact<T>>()
 pub fn soundness_is_kept<M: Machine>()
     ensures kept { (w v : NetView M M.Msg) (es : List Event) → IsSound M.peer_count M.valid w →
         LeadsTo M.has_work M.steps w es v → IsSound M.peer_count M.valid v }
-    ensures sends { (w : NetView M M.Msg) (e : Event) (o : Occurs w e) → IsSound M.peer_count M.valid w →
-        AllBelow (length w.nodes) (M.steps o.node o.input).sent }
+    ensures sends { (w : NetView M M.Msg) (e : Event) (o : Occurs w e) →
+        IsSound M.peer_count M.valid w → AllBelow (length w.nodes) (M.steps o.node o.input).sent }
 {}
 
 /// Let a function see each step of a node as a step of what it makes of the node. Then it sees each event and each run of a net of nodes as
 /// that event and that run of the net that it sees. An event is enabled where it is seen to be.
 pub fn nets_are_seen<N, V, T>()
-    ensures event { (f : N → V) (steps : N → Input T → Stepped N T) (seen_steps : V → Input T → Stepped V T) →
-        SeesSteps f steps seen_steps →
-        (w : NetView N T) (e : Event) → seen f (happens steps w e) ≡ happens seen_steps (seen f w) e }
-    ensures run { (f : N → V) (has_work : N → Bool) (seen_work : V → Bool) (steps : N → Input T → Stepped N T) (seen_steps : V →
-        Input T → Stepped V T) →
-        SeesSteps f steps seen_steps → SeesWork f has_work seen_work → (w v : NetView N T) (es : List Event) →
+    ensures event { (f : N → V) (steps : N → Input T → Stepped N T) (seen_steps : V → Input T →
+        Stepped V T) → SeesSteps f steps seen_steps → (w : NetView N T) (e : Event) →
+        seen f (happens steps w e) ≡ happens seen_steps (seen f w) e }
+    ensures run { (f : N → V) (has_work : N → Bool) (seen_work : V → Bool) (steps : N → Input T →
+        Stepped N T) (seen_steps : V → Input T → Stepped V T) → SeesSteps f steps seen_steps →
+        SeesWork f has_work seen_work → (w v : NetView N T) (es : List Event) →
         LeadsTo has_work steps w es v → LeadsTo seen_work seen_steps (seen f w) es (seen f v) }
-    ensures enabled { (f : N → V) (has_work : N → Bool) (seen_work : V → Bool) → SeesWork f has_work seen_work →
-        (w : NetView N T) (e : Event) → enabled seen_work (seen f w) e ≡ enabled has_work w e }
+    ensures enabled { (f : N → V) (has_work : N → Bool) (seen_work : V → Bool) →
+        SeesWork f has_work seen_work → (w : NetView N T) (e : Event) →
+        enabled seen_work (seen f w) e ≡ enabled has_work w e }
 {}
 
 /// What the values of a finite map weigh together, after a value was put and after one was removed.
@@ -176,6 +182,7 @@ pub fn a_map_weighs_its_values<X>()
 
 /// Where what is chosen for each node of a range weighs at most so much, what is sent weighs at most that for each node.
 pub fn chosen_sends_are_bounded<T>()
-    ensures { (g : ℕ → T → ℕ) (f : ℕ → Option (ℕ × T)) (most from len : ℕ) → ((k : ℕ) → weight_or (λ p. g p.0 p.1) (f k) ≤ most) →
+    ensures { (g : ℕ → T → ℕ) (f : ℕ → Option (ℕ × T)) (most from len : ℕ) →
+        ((k : ℕ) → weight_or (λ p. g p.0 p.1) (f k) ≤ most) →
         sent_weight g (filter_map f (range_with_len from len)) ≤ len * most }
 {}

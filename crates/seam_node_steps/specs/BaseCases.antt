@@ -29,7 +29,7 @@ use Rattle.seam_node_steps.specs.Maps.{has_any}
 use Rattle.seam_entity.specs.Numbers.{is_small, may_rise}
 use Rattle.seam_entity.specs.Fitting.{can_do}
 use Rattle.seam_entity.specs.Here.{Here, cell_count, base_of, type_at}
-use Rattle.seam_entity.specs.Calls.{may_offer, is_ready, has_ready, ready_order}
+use Rattle.seam_entity.specs.ReadyCalls.{may_offer, is_ready, has_ready, ready_order}
 use Rattle.seam_node_steps.specs.Bases.{BaseView, PartView, ProxyView, RouteView, with_part, with_line, shown_to_client}
 
 abbrev pub sends_none : BaseView → Stepped BaseView Msg

@@ -16,7 +16,7 @@ use Rattle.seam_entity.specs.declared.message.Msg.{Msg}
 use Rattle.seam_entity.specs.declared.message.Msg.TheVariants.{Call, BaseCall, Hand, Current, GhostSet, GhostDrop, Tick, Reap, Update}
 use Rattle.seam_entity.specs.Numbers.{is_small, may_rise}
 use Rattle.seam_entity.specs.Here.{Here, cell_numbers, base_numbers}
-use Rattle.seam_entity.specs.Calls.{ready_order}
+use Rattle.seam_entity.specs.ReadyCalls.{ready_order}
 use Rattle.seam_entity.specs.Executing.{fits_real, fits_copy, may_settle, may_execute, may_call, with_offer, executed, executed_ready}
 use Rattle.seam_entity.specs.Executing.{shows}
 use Rattle.seam_node_steps.specs.Slots.{Slot, NextPlace, SlotStep, rests, unless_stray, becomes, sends, heard}

@@ -14,7 +14,7 @@ use Rattle.seam_entity.specs.Reals.{RealView}
 use Rattle.seam_entity.specs.declared.message.Msg.{Msg}
 use Rattle.seam_node_steps.specs.Maps.{Map, set_at, number_of, has_any}
 use Rattle.seam_entity.specs.Here.{Here}
-use Rattle.seam_entity.specs.Calls.{has_ready}
+use Rattle.seam_entity.specs.ReadyCalls.{has_ready}
 use Rattle.seam_node_steps.specs.Slots.{Slot, NextPlace, SlotStep, unless_stray}
 use Rattle.seam_node_steps.specs.CellCases.{about, slot_steps, survey_task, stray_survey, ready_call_task, stray_ready_call}
 use Rattle.seam_node_steps.specs.CellLooks.{Known, other_of_real, other_of_copy, look_task, stray_look}

@@ -1,8 +1,9 @@
 -- Single steps: nodes before and after them.
-use Rattle.std.specs.Prelude.{ℕ, pos, List, [], ◌∷◌, Option, None, Some}
+use Rattle.std.specs.Prelude.{ℕ, pos, List, [], ◌∷◌, Option, None, Some, codes}
 use Rattle.std.specs.FinMap as table
 use Rattle.std.specs.FinSet as set
 use Rattle.seam_value.specs.declared.values.Value.TheVariants.{Number, Text}
+use Rattle.seam_defs.specs.Builtin.{avatar_methods, method_named}
 use Rattle.seam_defs.specs.declared.flags.Part.TheVariants as part
 use Rattle.seam_defs.specs.declared.states.Deed.{Deed}
 use Rattle.seam_defs.specs.declared.states.Deed.TheVariants.{Move, Method}
@@ -59,7 +60,7 @@ far = call 1 1 (Move (at 5410 4700))
 
 -- the method `write`, whose property no other cell has
 abbrev pub note : Deed
-note = Method 7 (Text [] ∷ [])
+note = Method (method_named (codes "write") avatar_methods) (Text [] ∷ [])
 
 -- an order that waits for the first call, and has it
 abbrev pub has_first : Call → OrderView Call
@@ -76,10 +77,10 @@ abbrev pub base_call : ℕ → Deed → Call
 base_call n d = record { entity = 1; part = part.Base; sender = sender.Base 1; number = n; deed = d }
 
 abbrev pub promote : ℕ → Call
-promote n = base_call n (Method 6 [])
+promote n = base_call n (Method (method_named (codes "promote") avatar_methods) [])
 
 abbrev pub pay : ℕ → Call
-pay n = base_call n (Method 5 (Number (pos 7) ∷ []))
+pay n = base_call n (Method (method_named (codes "pay") avatar_methods) (Number (pos 7) ∷ []))
 
 abbrev pub part_of : (version gold rank : ℕ) → Orders → List Call → Option ProxyView → PartView
 part_of version gold rank os done x =

@@ -54,7 +54,8 @@ pub use Rattle.seam_order.specs.Held.{OrderView, item_at, with_item}
 pub use Rattle.seam_order.specs.Offers.{after_item, after_offer, after_taking, next_item}
 pub use Rattle.seam_ghosts.specs.Book.{BookView, after_message, beat_in, beat_of, copied, copy_in, ghost_after, with_copy, with_ghost}
 pub use Rattle.seam_ghosts.specs.declared.Ghost.{Ghost}
-pub use Rattle.seam_entity.specs.Calls.{all_held, has_ready, is_ready, may_offer, order_is_ready, order_passes, ready_call, ready_order}
+pub use Rattle.seam_entity.specs.ReadyCalls.{all_held, has_ready, is_ready, may_offer, order_is_ready, order_passes, ready_call}
+pub use Rattle.seam_entity.specs.ReadyCalls.{ready_order}
 pub use Rattle.seam_entity.specs.Executing.{copy_of_real, copy_with, created, executed, executed_ready, fits_cell_part, fits_copy}
 pub use Rattle.seam_entity.specs.Executing.{fits_real, may_call, may_execute, may_settle, public_after, real_begins, settled_to, shows}
 pub use Rattle.seam_entity.specs.Executing.{with_offer}

@@ -1,6 +1,6 @@
 -- Worked rows: a world, events, and the world after each.
 use Rattle.std.specs.Prelude.{◌≡◌, ℕ, ◌-◌, pos, true, List, [], ◌∷◌, ◌++◌, length, map, fold, replicate, slice_get, slice_set}
-use Rattle.std.specs.Prelude.{slice_index_or, Option, None, Some, option_map}
+use Rattle.std.specs.Prelude.{slice_index_or, Option, None, Some, option_map, codes}
 use Rattle.std.specs.List.{range_with_len}
 use Rattle.std.specs.FinMap as table
 use Rattle.seam_geo.specs.declared.pos.Pos.{Pos}
@@ -13,7 +13,7 @@ use Rattle.seam_tree.specs.Cells.{Cells}
 use Rattle.seam_defs.specs.declared.flags.Part.TheVariants as part
 use Rattle.seam_defs.specs.declared.states.Deed.{Deed}
 use Rattle.seam_defs.specs.declared.states.Deed.TheVariants.{Method}
-use Rattle.seam_defs.specs.Builtin.{builtin}
+use Rattle.seam_defs.specs.Builtin.{builtin, avatar_methods, method_named}
 use Rattle.seam_defs.specs.Settings.{standard}
 use Rattle.seam_ghosts.specs.declared.Ghost.{Ghost}
 use Rattle.seam_ghosts.specs.Book.{copy_in}
@@ -64,7 +64,7 @@ call b n d = record { entity = 1; part = part.Cell; sender = sender.Base b; numb
 
 -- an avatar's method `hit`
 abbrev pub hit : ℕ → Deed
-hit n = Method 3 (Number (pos n) ∷ [])
+hit n = Method (method_named (codes "hit") avatar_methods) (Number (pos n) ∷ [])
 
 -- entity 1, an avatar
 abbrev pub avatar_at : ℕ → ℕ → Create

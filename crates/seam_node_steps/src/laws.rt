@@ -10,23 +10,29 @@ ghost use Rattle.seam_node_steps.specs.BaseCases.{is_stray as is_stray_at_base};
 /// A step sends to nodes of the net alone, keeps the number of nodes, and keeps what is true of every node.
 #[tactic(auto, using(crate::proofs::Targets::node_targets, crate::proofs::Peers::peers_stay, crate::proofs::Peers::node_stays_valid))]
 pub fn steps_stay_in_the_net()
-    ensures targets { (s : NodeView) (i : Input Msg) → IsNode s → AllBelow (node_peers s) (node_steps s i).sent }
-    ensures peers { (s : NodeView) (i : Input Msg) → node_peers (node_steps s i).state ≡ node_peers s }
+    ensures targets { (s : NodeView) (i : Input Msg) → IsNode s →
+        AllBelow (node_peers s) (node_steps s i).sent }
+    ensures peers { (s : NodeView) (i : Input Msg) → node_peers (node_steps s i).state
+        ≡ node_peers s }
     ensures valid { (s : NodeView) (i : Input Msg) → IsNode s → IsNode (node_steps s i).state }
 {}
 
 /// At stray input nothing changes and nothing is sent.
 #[tactic(auto, using(crate::proofs::Stray::stray_laws))]
 pub fn stray_input_changes_nothing()
-    ensures cell { (h : Here) (t : Division) (s : Slot) (m : Msg) → is_stray h t s m ≡ true → slot_steps h t s m ≡ rests }
-    ensures base { (b : BaseView) (a : ℕ) (m : Msg) → is_stray_at_base b m ≡ true → base_steps b (From a m) ≡ sends_none b }
-    ensures order { (b : BaseView) (o : Order) (os : List Order) → stray_order b o ≡ true → base_task b (o ∷ os) ≡ sends_none b }
+    ensures cell { (h : Here) (t : Division) (s : Slot) (m : Msg) → is_stray h t s m ≡ true →
+        slot_steps h t s m ≡ rests }
+    ensures base { (b : BaseView) (a : ℕ) (m : Msg) → is_stray_at_base b m ≡ true →
+        base_steps b (From a m) ≡ sends_none b }
+    ensures order { (b : BaseView) (o : Order) (os : List Order) → stray_order b o ≡ true →
+        base_task b (o ∷ os) ≡ sends_none b }
 {}
 
 /// A change of one entity's slot changes that slot alone, and so does a step of it.
 #[tactic(auto, using(crate::proofs::Slots::slot_with, crate::proofs::Slots::slot_stepped))]
 pub fn slots_are_apart()
-    ensures change { (c : CellView) (e q : ℕ) (s : Slot) → slot_of (with_slot c e s) q ≡ cond (eq_by_cmp nat_cmp q e) s (slot_of c q) }
-    ensures step { (c : CellView) (e q : ℕ) (t : SlotStep)
-        → slot_of (stepped c e t).state q ≡ cond (eq_by_cmp nat_cmp q e) (slot_after t.slot (slot_of c e)) (slot_of c q) }
+    ensures change { (c : CellView) (e q : ℕ) (s : Slot) → slot_of (with_slot c e s) q
+        ≡ cond (eq_by_cmp nat_cmp q e) s (slot_of c q) }
+    ensures step { (c : CellView) (e q : ℕ) (t : SlotStep) → slot_of (stepped c e t).state q
+        ≡ cond (eq_by_cmp nat_cmp q e) (slot_after t.slot (slot_of c e)) (slot_of c q) }
 {}

@@ -13,9 +13,13 @@ ghost use Rattle.seam_node_steps.specs.OneStep.{empty_node, part_of, line};
 pub fn creates()
     ensures leaf { created_at two_cells (avatar_at 5000 100) (idle two_cells 1)
         ≡ Cell (cell two_cells 1 (one (created (here 1) 1 0 (at 5000 100))) no no [] []) }
-    ensures other_cell { created_at two_cells (avatar_at 5000 100) (idle two_cells 0) ≡ idle two_cells 0 }
+    ensures other_cell { created_at two_cells (avatar_at 5000 100) (idle two_cells 0)
+        ≡ idle two_cells 0 }
     ensures its_base_node { created_at two_cells (avatar_at 5000 100) (Base (empty_node 17))
-        ≡ Base (record (empty_node 17) { routes = one (record { cell = 1; generation = 0 }); parts = one (new_part (here 17) 0) }) }
+        ≡ Base (record (empty_node 17) {
+          routes = one (record { cell = 1; generation = 0 });
+          parts = one (new_part (here 17) 0);
+        }) }
     ensures other_base_node { created_at two_cells (avatar_at 5000 100) (Base (empty_node 16))
         ≡ Base (record (empty_node 16) { routes = one (record { cell = 1; generation = 0 }) }) }
 {}
@@ -23,35 +27,56 @@ pub fn creates()
 /// Load, point 2: the real of an entity that gets a client gets a witness, and its base part a proxy, which shows the part where its
 /// type has something for clients.
 pub fn clients()
-    ensures witness { attached 1 (Cell
-        (cell two_cells 0 (both (created (here 0) 1 0 (at 5 5)) (created (here 0) 2 0 (at 5 5))) no no [] []))
-        ≡ Cell (cell two_cells 0 (both (with_witness (here 0) (created (here 0) 1 0 (at 5 5))) (created (here 0) 2 0 (at 5 5))) no no []
-        []) }
-    ensures proxy { attached 1 (Base (record (empty_node 17) { parts = one (new_part (here 17) 0) }))
+    ensures witness { attached 1 (Cell (cell two_cells 0
+        (both (created (here 0) 1 0 (at 5 5)) (created (here 0) 2 0 (at 5 5))) no no [] []))
+        ≡ Cell (cell two_cells 0 (both (with_witness (here 0) (created (here 0) 1 0 (at 5 5)))
+        (created (here 0) 2 0 (at 5 5))) no no [] []) }
+    ensures proxy { attached 1
+        (Base (record (empty_node 17) { parts = one (new_part (here 17) 0) }))
         ≡ Base (record (empty_node 17) {
-          parts = one (record (new_part (here 17) 0) { proxy = proxy 1 [] (line 1 (ranked 0 1) ∷ []) 1 });
+          parts = one (record (new_part (here 17) 0) {
+            proxy =
+                proxy 1 [] (line 1 (ranked 0 1) ∷ []) 1;
+          });
         }) }
-    ensures nothing_to_show { attached 1 (Base (record (empty_node 17) { parts = one (new_part (here 17) 1) }))
-        ≡ Base (record (empty_node 17) { parts = one (record (new_part (here 17) 1) { proxy = proxy 1 [] [] 0 }) }) }
+    ensures nothing_to_show { attached 1 (Base (record (empty_node 17) {
+      parts =
+          one (new_part (here 17) 1);
+    })) ≡ Base (record (empty_node 17) {
+      parts =
+          one (record (new_part (here 17) 1) { proxy = proxy 1 [] [] 0 });
+    }) }
 {}
 
 /// Load, point 3: a cell takes the tree, forgets its next places, empties the lists of done calls, and is to settle all its reals in
 /// rising number; a base node empties the lists of done calls and of lines, and takes the number of cells.
 pub fn rounds_begin()
-    ensures cell { cell_round two_cells
-        (Cell (cell space 0 (both (real 99 1 1 (at 5 5) no (call 1 1 (hit 1) ∷ []) set.empty 0 0) (created (here 0) 2 0 (at 5 5)))
-        (one (next_place 1 1)) (one (ghost 3 None)) [] []))
-        ≡ Cell (cell two_cells 0 (both (real 99 1 1 (at 5 5) no [] set.empty 0 0) (created (here 0) 2 0 (at 5 5))) no (one (ghost 3 None))
-        (1 ∷ 2 ∷ []) []) }
-    ensures base { base_round 3 (Base
-        (record (empty_node 17) { parts = one (part_of 1 0 2 no (promote 1 ∷ []) (proxy 1 [] (line 1 (ranked 1 2) ∷ []) 1)) }))
-        ≡ Base (record (empty_node 17) { cells = 3; parts = one (part_of 1 0 2 no [] (proxy 1 [] [] 1)) }) }
+    ensures cell { cell_round two_cells (Cell (cell space 0
+        (both (real 99 1 1 (at 5 5) no (call 1 1 (hit 1) ∷ []) set.empty 0 0)
+        (created (here 0) 2 0 (at 5 5))) (one (next_place 1 1)) (one (ghost 3 None)) []
+        [])) ≡ Cell (cell two_cells 0 (both (real 99 1 1 (at 5 5) no [] set.empty 0 0)
+        (created (here 0) 2 0 (at 5 5))) no (one (ghost 3 None)) (1 ∷ 2 ∷ []) []) }
+    ensures base { base_round 3 (Base (record (empty_node 17) {
+      parts =
+          one (part_of 1 0 2 no (promote 1 ∷ [])
+          (proxy 1 [] (line 1 (ranked 1 2) ∷ []) 1));
+    }))
+        ≡ Base (record (empty_node 17) {
+          cells = 3;
+          parts =
+              one (part_of 1 0 2 no [] (proxy 1 [] [] 1));
+        }) }
 {}
 
 /// Load, point 4, and the orders of the other loads: each is appended to the list of its node, a reap to that of the entity's base node.
 pub fn orders_given()
-    ensures its_node { ordered_at (16, order.Tick) (Base (record (empty_node 16) { orders = order.Reap 2 ∷ [] }))
-        ≡ Base (record (empty_node 16) { orders = order.Reap 2 ∷ order.Tick ∷ [] }) }
+    ensures its_node { ordered_at (16, order.Tick) (Base (record (empty_node 16) {
+      orders =
+          order.Reap 2 ∷ [];
+    })) ≡ Base (record (empty_node 16) {
+      orders =
+          order.Reap 2 ∷ order.Tick ∷ [];
+    }) }
     ensures other_node { ordered_at (16, order.Tick) (Base (empty_node 17)) ≡ Base (empty_node 17) }
     ensures reap { reap_ordered_at 3 (Base (record (empty_node 17) { orders = order.Reap 1 ∷ [] }))
         ≡ Base (record (empty_node 17) { orders = order.Reap 1 ∷ order.Reap 3 ∷ [] }) }

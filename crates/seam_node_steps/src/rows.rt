@@ -14,7 +14,8 @@ pub fn an_early_call_is_held()
     ensures load { loaded empty_world early.batch ≡ early.world_0 }
     ensures events { IsRow 1 1 early.world_0 early.steps }
     ensures quiet { IsQuiet node_has_work early.world_12 }
-    ensures done { done_in_cell early.world_12 1 1 ≡ Some (early.the_move ∷ early.hit_1 ∷ early.hit_2 ∷ []) }
+    ensures done { done_in_cell early.world_12 1 1 ≡ Some (early.the_move ∷ early.hit_1 ∷
+        early.hit_2 ∷ []) }
 {}
 
 /// "Passing on": a call that comes after the hand-over follows the real.
@@ -23,7 +24,8 @@ pub fn a_call_is_passed_on()
     ensures load { loaded empty_world early.batch ≡ early.world_0 }
     ensures events { IsRow 1 1 early.world_0 early.passing_steps }
     ensures quiet { IsQuiet node_has_work early.passing_11 }
-    ensures done { done_in_cell early.passing_11 1 1 ≡ Some (early.hit_1 ∷ early.the_move ∷ early.hit_2 ∷ []) }
+    ensures done { done_in_cell early.passing_11 1 1 ≡ Some (early.hit_1 ∷ early.the_move ∷
+        early.hit_2 ∷ []) }
 {}
 
 /// A ghost message that comes after one of a greater beat is ignored.
@@ -56,7 +58,8 @@ pub fn an_entity_enters_a_view()
     ensures look_load { look_loaded view.first_2 ≡ view.first_look_0 }
     ensures look_events { IsRow 2 1 view.first_look_0 view.first_looks }
     ensures look_quiet { IsQuiet node_has_work view.first_look_5 }
-    ensures lines { lines_of_client view.first_look_5 17 1 ≡ Some (view.base_line ∷ view.line 2 view.own ∷ view.line 3 view.enter_2 ∷ []) }
+    ensures lines { lines_of_client view.first_look_5 17 1
+        ≡ Some (view.base_line ∷ view.line 2 view.own ∷ view.line 3 view.enter_2 ∷ []) }
 {}
 
 /// "View hysteresis", round 2: within the hysteresis it stays, and its change is shown.

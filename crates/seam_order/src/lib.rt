@@ -181,17 +181,19 @@ impl<T> InOrder<T> {
 
 /// The order stays one: numbers rise from the next one on, after each offer and each taking.
 pub fn order_is_kept<T>()
-    ensures offered { (w : OrderView T) (n : ℕ) (item : T) → IsInOrder w → 1 ≤ n → n < 2 ^ 62 → is_some (item_at n w.held) ≡ false →
-        IsInOrder (after_offer w n item) }
+    ensures offered { (w : OrderView T) (n : ℕ) (item : T) → IsInOrder w → 1 ≤ n → n < 2 ^ 62 →
+        is_some (item_at n w.held) ≡ false → IsInOrder (after_offer w n item) }
     ensures taken { (w : OrderView T) → IsInOrder w → IsInOrder (after_taking w) }
 {}
 
 /// What is held is exactly what was offered early and not yet given: an early offer adds its item,
 /// any other offer none, and a taking leaves out the item whose turn it is.
 pub fn held_is_what_came_early<T>()
-    ensures early { (w : OrderView T) (n : ℕ) (item : T) (m : ℕ) → is_some (item_at n w.held) ≡ false → w.next < n →
-        item_at m (after_offer w n item).held ≡ (if m == n then Some item else item_at m w.held) }
-    ensures other { (w : OrderView T) (n : ℕ) (item : T) → n ≤ w.next → (after_offer w n item).held ≡ w.held }
+    ensures early { (w : OrderView T) (n : ℕ) (item : T) (m : ℕ) →
+        is_some (item_at n w.held) ≡ false → w.next < n → item_at m (after_offer w n item).held
+        ≡ (if m == n then Some item else item_at m w.held) }
+    ensures other { (w : OrderView T) (n : ℕ) (item : T) → n ≤ w.next → (after_offer w n item).held
+        ≡ w.held }
     ensures taken { (w : OrderView T) (m : ℕ) → IsInOrder w →
         item_at m (after_taking w).held ≡ (if m == w.next then None else item_at m w.held) }
 {}

@@ -54,7 +54,8 @@ module _ (f : Frame) (clients : ℕ → ClientReplica) (w : World) (b : Batch) (
 -- ---- a round, made of its phases
 
 module _ (w : World) (b : Batch) (called reaped v : World) (es ds ls : List Event) (calls : Leads (loaded w b) es called)
-    (calls_done : IsQuiet node_has_work called) (may : AreReapable called b.destroys) (reaps : Leads (reaps_loaded called b.destroys) ds reaped)
+    (calls_done : IsQuiet node_has_work called) (may : AreReapable called b.destroys)
+    (reaps : Leads (reaps_loaded called b.destroys) ds reaped)
     (reaps_done : IsQuiet node_has_work reaped) (looks : Leads (look_loaded reaped) ls v) where
   abbrev pub goes_through : GoesThroughRound w b v
   goes_through = record {
@@ -109,7 +110,8 @@ module _ (w : World) (b : Batch) (calls_end : (es : List Event) (v : World) → 
     (looks_end : (v : World) (round : GoesThroughRound w b v) →
     length round.look_events ≤ events_of_looks (entities (loaded w b)) (all_witnesses round.reaped)) where
   -- the round goes on with other looks
-  looking : (u v : World) (round : GoesThroughRound w b u) (es : List Event) → Leads (look_loaded round.reaped) es v → GoesThroughRound w b v
+  looking : (u v : World) (round : GoesThroughRound w b u) (es : List Event) → Leads (look_loaded round.reaped) es v →
+      GoesThroughRound w b v
   looking u v round es leads = record {
     called = round.called;
     call_events = round.call_events;

@@ -1,2 +1,2 @@
 pub mod RoundRuns
-pub mod Calls
+pub mod CallPhase

@@ -13,7 +13,7 @@ ghost use Rattle.seam_rule_clients.specs.Clients.{ClientReplica};
 ghost use Rattle.seam_core.specs.Worlds.{Leads};
 ghost use Rattle.seam_core.specs.Loads.{MayLoad};
 ghost use Rattle.seam_quiet.specs.RoundRuns.{MayRun, StandsFor, BeginsPhase, IsWithinTable};
-ghost use Rattle.seam_quiet.specs.Calls.{Beginning, HasCalled};
+ghost use Rattle.seam_quiet.specs.CallPhase.{Beginning, HasCalled};
 
 use crate::workers::Workers;
 use seam_call::Batch;
@@ -186,8 +186,10 @@ fn end_phases<G: Gate + Sync, R: Threads + Wait + Sync>(
     ghost from: { Beginning × (AnyWorld → ℕ) }
     requires called { HasCalled from.0.world from.0.batch called }
     requires reapable { AreReapable called.world from.0.batch.destroys }
-    requires ends { (u : AnyWorld) → BeginsPhase from.0.world from.0.batch u → EndsWithin node_has_work node_steps u (from.1 u) }
-    ensures stands { IfOk result (λ r. (s : StandsFor from.0.world from.0.batch r.journal r.world) × (s.round.called ≡ called.world)) }
+    requires ends { (u : AnyWorld) → BeginsPhase from.0.world from.0.batch u →
+        EndsWithin node_has_work node_steps u (from.1 u) }
+    ensures stands { IfOk result (λ r. (s : StandsFor from.0.world from.0.batch r.journal r.world) ×
+        (s.round.called ≡ called.world)) }
     ensures destroys { IfOk result (λ r. r.destroys ≡ from.0.batch.destroys) }
 {
     let Called {
@@ -219,14 +221,17 @@ pub fn run_ends<G: Gate + Sync, R: Threads + Wait + Sync>(
     workers: &Workers<G>,
 ) -> Result<Ended, AllocError>
     ghost from: { Beginning }
-    requires may { (f : Frame) × (clients : ℕ → ClientReplica) × MayRun f clients from.world from.batch }
+    requires may { (f : Frame) × (clients : ℕ → ClientReplica) ×
+        MayRun f clients from.world from.batch }
     requires called { HasCalled from.world from.batch called }
-    ensures run { IfOk result (λ r. (s : StandsFor from.world from.batch r.journal r.world) × (s.round.called ≡ called.world)
-        × IsWithinTable from.world from.batch r.journal s.round.reaped) }
+    ensures run { IfOk result (λ r. (s : StandsFor from.world from.batch r.journal r.world) ×
+        (s.round.called ≡ called.world) × IsWithinTable from.world from.batch r.journal
+        s.round.reaped) }
     ensures destroys { IfOk result (λ r. r.destroys ≡ from.batch.destroys) }
-    ensures records { IfOk result (λ r. (f : Frame) (clients : ℕ → ClientReplica) → MayRun f clients from.world from.batch →
-        KeepsRecords (framed f from.batch) (clients_shown (framed f from.batch) (clients_loaded f from.batch clients) r.world) r.world
-        × IsBounded r.world) }
+    ensures records { IfOk result (λ r. (f : Frame) (clients : ℕ → ClientReplica) →
+        MayRun f clients from.world from.batch → KeepsRecords (framed f from.batch)
+        (clients_shown (framed f from.batch) (clients_loaded f from.batch clients) r.world)
+        r.world × IsBounded r.world) }
 {
     seam_law_all::calls_obey_the_laws();
     seam_law_bounds::nothing_held_goes_from_record_to_record();
@@ -247,10 +252,14 @@ fn run_both<G: Gate + Sync, R: Threads + Wait + Sync>(
     ghost from: { Beginning }
     requires world { world ≡ from.world }
     requires batch { batch ≡ from.batch }
-    requires may { (f : Frame) × (clients : ℕ → ClientReplica) × MayRun f clients from.world from.batch }
-    ensures run { IfOk result (λ r. (s : StandsFor from.world from.batch r.1 r.0) × IsWithinTable from.world from.batch r.1 s.round.reaped) }
-    ensures records { IfOk result (λ r. (f : Frame) (clients : ℕ → ClientReplica) → MayRun f clients from.world from.batch →
-        KeepsRecords (framed f from.batch) (clients_shown (framed f from.batch) (clients_loaded f from.batch clients) r.0) r.0 × IsBounded r.0) }
+    requires may { (f : Frame) × (clients : ℕ → ClientReplica) ×
+        MayRun f clients from.world from.batch }
+    ensures run { IfOk result (λ r. (s : StandsFor from.world from.batch r.1 r.0) ×
+        IsWithinTable from.world from.batch r.1 s.round.reaped) }
+    ensures records { IfOk result (λ r. (f : Frame) (clients : ℕ → ClientReplica) →
+        MayRun f clients from.world from.batch → KeepsRecords (framed f from.batch)
+        (clients_shown (framed f from.batch) (clients_loaded f from.batch clients) r.0) r.0 ×
+        IsBounded r.0) }
 {
     let called = run_calls(rt, alloc, world, batch, workers)?;
     let Ended { world, journal, .. } = run_ends(rt, alloc, called, workers)?;
@@ -268,9 +277,12 @@ pub fn run_round<G: Gate + Sync, R: Threads + Wait + Sync>(
     workers: &Workers<G>,
 ) -> Result<(World, Journal), AllocError>
     requires may { (f : Frame) × (clients : ℕ → ClientReplica) × MayRun f clients world batch }
-    ensures run { IfOk result (λ r. (s : StandsFor world batch r.1 r.0) × IsWithinTable world batch r.1 s.round.reaped) }
-    ensures records { IfOk result (λ r. (f : Frame) (clients : ℕ → ClientReplica) → MayRun f clients world batch →
-        KeepsRecords (framed f batch) (clients_shown (framed f batch) (clients_loaded f batch clients) r.0) r.0 × IsBounded r.0) }
+    ensures run { IfOk result (λ r. (s : StandsFor world batch r.1 r.0) ×
+        IsWithinTable world batch r.1 s.round.reaped) }
+    ensures records { IfOk result (λ r. (f : Frame) (clients : ℕ → ClientReplica) →
+        MayRun f clients world batch → KeepsRecords (framed f batch)
+        (clients_shown (framed f batch) (clients_loaded f batch clients) r.0) r.0 ×
+        IsBounded r.0) }
 {
     run_both(rt, alloc, world, batch, workers)
 }

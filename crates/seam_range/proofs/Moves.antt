@@ -57,7 +57,8 @@ Marks s t key o = (k : (ℕ × ℕ) × ℕ) → tree.get by_spot t k ≡ cond (i
 abbrev pub Writes : tree.BTreeMap ℕ Location → tree.BTreeMap ℕ Location → ℕ → Option Location → Type 0
 Writes m n e o = (q : ℕ) → tree.get nat_cmp n q ≡ cond (is_at (nat_cmp e) q) o (tree.get nat_cmp m q)
 
-marks_key : (s t : tree.BTreeMap ((ℕ × ℕ) × ℕ) Location) (x : ℕ × ℕ) (e : ℕ) (o : Option Location) → Marks s t (x, e) o → (k : (ℕ × ℕ) × ℕ) →
+marks_key : (s t : tree.BTreeMap ((ℕ × ℕ) × ℕ) Location) (x : ℕ × ℕ) (e : ℕ) (o : Option Location) → Marks s t (x, e) o →
+    (k : (ℕ × ℕ) × ℕ) →
     tree.get by_spot t k ≡ cond (same_spot x k.0 && eqb e k.1) o (tree.get by_spot s k)
 marks_key s t x e o h k = h k ∙ ap (λ c. cond c o (tree.get by_spot s k)) (same_key (x, e) k)
 
@@ -68,7 +69,8 @@ spot_after m n e o w k =
     ∙ (at_cond k.0 (is_eq (nat_cmp e k.1)) o (tree.get nat_cmp m k.1)
     ∙ ap (λ c. cond c (at_spot k.0 o) (at_spot k.0 (tree.get nat_cmp m k.1))) (unsigned_tied e k.1))
 
-here : (m : tree.BTreeMap ℕ Location) (s : tree.BTreeMap ((ℕ × ℕ) × ℕ) Location) (e : ℕ) (k : (ℕ × ℕ) × ℕ) → IsIndexed m s → eqb e k.1 ≡ true →
+here : (m : tree.BTreeMap ℕ Location) (s : tree.BTreeMap ((ℕ × ℕ) × ℕ) Location) (e : ℕ) (k : (ℕ × ℕ) × ℕ) → IsIndexed m s →
+    eqb e k.1 ≡ true →
     tree.get by_spot s k ≡ at_spot k.0 (tree.get nat_cmp m e)
 here m s e k i t = i.listed k ∙ ap (λ q. at_spot k.0 (tree.get nat_cmp m q)) (number_is e k.1 t)
 
@@ -76,7 +78,8 @@ apart : (a b c : ℕ × ℕ) → same_spot a b ≡ false → same_spot a c ≡ t
 apart a b c n t = grind (arith, nat_tests)
 
 -- an entity moved to another spot
-pub indexed_when_moved : (m n : tree.BTreeMap ℕ Location) (s t u : tree.BTreeMap ((ℕ × ℕ) × ℕ) Location) (e : ℕ) (p old : Location) → IsIndexed m s →
+pub indexed_when_moved : (m n : tree.BTreeMap ℕ Location) (s t u : tree.BTreeMap ((ℕ × ℕ) × ℕ) Location) (e : ℕ) (p old : Location) →
+    IsIndexed m s →
     tree.IsOrdered nat_cmp n → tree.get nat_cmp m e ≡ Some old → same_spot (spot_of old) (spot_of p) ≡ false → Writes m n e (Some p) →
     Marks s t (spot_of p, e) (Some p) → Marks t u (spot_of old, e) None → IsIndexed n u
 indexed_when_moved m n s t u e p old i o was other w h g = record {
@@ -88,14 +91,16 @@ indexed_when_moved m n s t u e p old i o was other w h g = record {
       ∙ (ap (cond (eqb e k.1) (at_spot k.0 (Some p))) (i.listed k) ∙ sym (spot_after m n e (Some p) w k))));
 }
 
-stays_at : {A : Type 0} (x t : Bool) (p : A) (s : Option A) → (t ≡ true → s ≡ None) → cond (x && t) (Some p) s ≡ cond t (cond x (Some p) None) s
+stays_at : {A : Type 0} (x t : Bool) (p : A) (s : Option A) → (t ≡ true → s ≡ None) →
+    cond (x && t) (Some p) s ≡ cond t (cond x (Some p) None) s
 stays_at true true p s h = refl
 stays_at false true p s h = h refl
 stays_at true false p s h = refl
 stays_at false false p s h = refl
 
 -- a new entity
-pub indexed_when_new : (m n : tree.BTreeMap ℕ Location) (s t : tree.BTreeMap ((ℕ × ℕ) × ℕ) Location) (e : ℕ) (p : Location) → IsIndexed m s →
+pub indexed_when_new : (m n : tree.BTreeMap ℕ Location) (s t : tree.BTreeMap ((ℕ × ℕ) × ℕ) Location) (e : ℕ) (p : Location) →
+    IsIndexed m s →
     tree.IsOrdered nat_cmp n → tree.get nat_cmp m e ≡ None → Writes m n e (Some p) → Marks s t (spot_of p, e) (Some p) → IsIndexed n t
 indexed_when_new m n s t e p i o none w h = record {
   ordered = o;
@@ -105,7 +110,8 @@ indexed_when_new m n s t e p i o none w h = record {
 }
 
 -- a key put and taken out again
-pub indexed_when_back : (m n : tree.BTreeMap ℕ Location) (s t u : tree.BTreeMap ((ℕ × ℕ) × ℕ) Location) (e : ℕ) (p : Location) → IsIndexed m s →
+pub indexed_when_back : (m n : tree.BTreeMap ℕ Location) (s t u : tree.BTreeMap ((ℕ × ℕ) × ℕ) Location) (e : ℕ) (p : Location) →
+    IsIndexed m s →
     tree.IsOrdered nat_cmp n → n.entries ≡ m.entries → tree.get nat_cmp m e ≡ None → Marks s t (spot_of p, e) (Some p) →
     Marks t u (spot_of p, e) None → IsIndexed n u
 indexed_when_back m n s t u e p i o same none h g = record {
@@ -134,7 +140,8 @@ here_kept m e old at q true same = sym (ap (tree.get nat_cmp m) (number_is e q s
 here_kept m e old at q false other = refl
 
 -- the place that is there, written once more
-pub places_when_kept : (m n : tree.BTreeMap ℕ Location) (e : ℕ) (old : Location) → tree.get nat_cmp m e ≡ Some old → Writes m n e (Some old) →
+pub places_when_kept : (m n : tree.BTreeMap ℕ Location) (e : ℕ) (old : Location) → tree.get nat_cmp m e ≡ Some old →
+    Writes m n e (Some old) →
     map.from_entries {R = nat_cmp} n.entries ≡ map.from_entries m.entries
 places_when_kept m n e old at w =
     map.same_map nat_cmp_total map.nat_cmp-IsAntisymmetric _ _ (λ q.

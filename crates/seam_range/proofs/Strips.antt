@@ -153,7 +153,8 @@ located_at : (s : ℕ × ℕ) (o : Option Location) (v : Location) → at_spot s
 located_at s None v e = absurd (none_some v e)
 located_at s (Some p) v e = located_by s p v (same_spot (spot_of p) s) refl e
 
-located_each : (m : tree.BTreeMap ℕ Location) (s : tree.BTreeMap Key Location) (rs : List (Key × Location)) → IsIndexed m s → Found s.entries rs →
+located_each : (m : tree.BTreeMap ℕ Location) (s : tree.BTreeMap Key Location) (rs : List (Key × Location)) → IsIndexed m s →
+    Found s.entries rs →
     AllByRecursion (IsLocated m) rs
 located_each m s [] i h = tt
 located_each m s (r ∷ rs) i h = (located_at r.0.0 (tree.get nat_cmp m r.0.1) r.1 (sym (i.listed r.0) ∙ h.0), located_each m s rs i h.1)
@@ -203,7 +204,8 @@ module _ (m : tree.BTreeMap ℕ Location) (q : ℕ) (t : Key × Location → Boo
   misses [] at l = tt
   misses (r ∷ rs) at l = (miss_by r (eqb r.0.1 q) refl at l.0, misses rs at l.1)
 
-  counted_by : (s : tree.BTreeMap Key Location) (o : Option Location) → IsIndexed m s → tree.IsOrdered by_spot s → tree.get nat_cmp m q ≡ o →
+  counted_by : (s : tree.BTreeMap Key Location) (o : Option Location) → IsIndexed m s → tree.IsOrdered by_spot s →
+      tree.get nat_cmp m q ≡ o →
       count_by (λ r. t r && eqb r.0.1 q) s.entries ≡ one_if (λ p. t ((spot_of p, q), p)) o
   counted_by s None i d at =
       count_nothing _ s.entries
@@ -361,7 +363,8 @@ one_strip_more strip p d (Some o) = one_more (o.pos.x / STRIP_WIDTH) strip (is_w
 x_within : (p : Pos) (o : Location) (d : ℕ) → is_within p d o ≡ true → (p.x - d ≤ o.pos.x) × (o.pos.x ≤ p.x + d)
 x_within p o d t = let h = le_of (distance p o.pos) d t in (omega (arith, h), omega (arith, h))
 
-first_by : (p : Pos) (o : Location) (d : ℕ) (w : Bool) → is_within p d o ≡ w → (nat_lt (o.pos.x / STRIP_WIDTH) (first_strip p d) && w) ≡ false
+first_by : (p : Pos) (o : Location) (d : ℕ) (w : Bool) → is_within p d o ≡ w → (nat_lt (o.pos.x / STRIP_WIDTH) (first_strip p d) && w)
+    ≡ false
 first_by p o d true e =
     let le = part_rises (p.x - d) o.pos.x STRIP_WIDTH (omega arith) (x_within p o d e).0 in
     let no : ltb (o.pos.x / STRIP_WIDTH) (first_strip p d) ≡ false = grind (arith, nat_tests) in

@@ -230,8 +230,9 @@ fn move_spot(
     old: Location,
     p: Location,
 ) -> Result<(), AllocError>
-    ensures ok { OnOk result ((places moved : AnyMap ℕ AnyLocation) → IsIndexed places by_spot.old → get nat_cmp places e ≡ Some old
-        → IsOrdered nat_cmp moved → Updates nat_cmp places moved e (Some p) → IsIndexed moved by_spot.new) }
+    ensures ok { OnOk result ((places moved : AnyMap ℕ AnyLocation) → IsIndexed places by_spot.old →
+        get nat_cmp places e ≡ Some old → IsOrdered nat_cmp moved →
+        Updates nat_cmp places moved e (Some p) → IsIndexed moved by_spot.new) }
     ensures err { OnErr result (by_spot.new.entries ≡ by_spot.old.entries) }
 {
     let Ok(_) = by_spot.insert(key(e, p), p) else {

@@ -21,7 +21,8 @@ pub fn push_bounds(out: &mut Vec<u8>, tree: &Tree) -> Result<(), AllocError>
 
 // The line of a boundary, whichever cell it cut.
 fn push_bound(out: &mut Vec<u8>, number: u8, boundary: Boundary) -> Result<(), AllocError>
-    ensures { (cut : AnyCut) → cut.boundary ≡ boundary → OnOk result (out.new.items ≡ out.old.items ++ bound_text (number, cut)) }
+    ensures { (cut : AnyCut) → cut.boundary ≡ boundary →
+        OnOk result (out.new.items ≡ out.old.items ++ bound_text (number, cut)) }
 {
     out.extend_from_slice(b"bound ")?;
     push_number(out, u64::from(number))?;

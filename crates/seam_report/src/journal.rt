@@ -1,7 +1,7 @@
 // The text of the steps of a round.
 ghost use Rattle.std.specs.Prelude.{◌≡◌, ◌++◌, OnOk};
 ghost use Rattle.std.specs.List.{flat_map};
-ghost use Rattle.seam_rule_rounds.specs.Texts.{work_text, step_text, phase_text, journal_text};
+ghost use Rattle.seam_rule_rounds.specs.RoundTexts.{work_text, step_text, phase_text, journal_text};
 
 use crate::lines::push_number_line;
 use seam_machine::Event;

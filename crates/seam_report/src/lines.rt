@@ -81,8 +81,8 @@ pub fn push_home(out: &mut Vec<u8>, defs: &Defs, line: &HomeLine) -> Result<(), 
 
 // The numbers of a home line, which are gathered from the last to the first and appended at once.
 fn push_home_numbers(out: &mut Vec<u8>, line: &HomeLine) -> Result<(), AllocError>
-    ensures { OnOk result (out.new.items ≡ out.old.items
-        ++ field line.now.entity ++ field line.now.cell ++ field line.now.version ++ field line.now.state.now.pos.x
+    ensures { OnOk result (out.new.items ≡ out.old.items ++ field line.now.entity
+        ++ field line.now.cell ++ field line.now.version ++ field line.now.state.now.pos.x
         ++ field line.now.state.now.pos.z) }
 {
     let mut text = [0; 5 * LONGEST_FIELD];

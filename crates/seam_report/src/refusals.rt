@@ -1,6 +1,6 @@
 // The lines of refused lines.
 ghost use Rattle.std.specs.Prelude.{◌≡◌, ◌++◌, ◌∷◌, [], codes, OnOk};
-ghost use Rattle.seam_rule_lines.specs.Texts.{field, refusal, cause_text, number_of_cut_error, number_of_shift_error};
+ghost use Rattle.seam_rule_lines.specs.LineTexts.{field, refusal, cause_text, number_of_cut_error, number_of_shift_error};
 
 use seam_rule_lines::Cause;
 use seam_tree::{CutError, ShiftError};
@@ -45,7 +45,8 @@ fn push_cause(out: &mut Vec<u8>, cause: Cause) -> Result<(), AllocError>
 
 // Appends the space before a tree's refusal of a number, its text, and the line feed after it.
 fn push_tree(out: &mut Vec<u8>, number: u64) -> Result<(), AllocError>
-    ensures { OnOk result (out.new.items ≡ out.old.items ++ 32 ∷ (codes "tree" ++ field number) ++ 10 ∷ []) }
+    ensures { OnOk result (out.new.items ≡ out.old.items ++ 32 ∷ (codes "tree" ++ field number)
+        ++ 10 ∷ []) }
 {
     out.extend_from_slice(b" tree ")?;
     push_number(out, number)?;

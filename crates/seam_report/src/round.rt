@@ -1,8 +1,8 @@
 // The text of a round.
 ghost use Rattle.std.specs.Prelude.{◌≡◌, ◌++◌, OnOk, codes};
 ghost use Rattle.std.specs.List.{flat_map};
-ghost use Rattle.seam_rule_lines.specs.Texts.{number_text, done_text, home_text, base_text};
-ghost use Rattle.seam_rule_rounds.specs.Texts.{ghost_text, client_text, bounds_text, round_text, traced_text, journal_text};
+ghost use Rattle.seam_rule_lines.specs.LineTexts.{number_text, done_text, home_text, base_text};
+ghost use Rattle.seam_rule_rounds.specs.RoundTexts.{ghost_text, client_text, bounds_text, round_text, traced_text, journal_text};
 ghost use Rattle.seam_report.specs.RoundParts.{lines_text};
 
 use crate::bounds::push_bounds;
@@ -32,7 +32,8 @@ pub fn write_traced_round(
     round: &Round,
     steps: &Journal,
 ) -> Result<(), AllocError>
-    ensures { OnOk result (out.new.items ≡ out.old.items ++ traced_text (journal_text steps.now) defs.now round.now) }
+    ensures { OnOk result (out.new.items ≡ out.old.items ++ traced_text (journal_text steps.now)
+        defs.now round.now) }
 {
     push_round_number(out, round)?;
     push_journal(out, steps)?;
@@ -40,7 +41,8 @@ pub fn write_traced_round(
 }
 
 fn push_round_number(out: &mut Vec<u8>, round: &Round) -> Result<(), AllocError>
-    ensures { OnOk result (out.new.items ≡ out.old.items ++ number_text (codes "round ") round.now.number) }
+    ensures { OnOk result (out.new.items ≡ out.old.items ++ number_text (codes "round ")
+        round.now.number) }
 {
     push_number_line(out, b"round ", round.number)
 }
@@ -65,7 +67,8 @@ fn push_all_done(
     defs: &Defs,
     lines: &[seam_judge_data::DoneLine],
 ) -> Result<(), AllocError>
-    ensures { OnOk result (out.new.items ≡ out.old.items ++ flat_map (done_text word.now defs.now) lines.now) }
+    ensures { OnOk result (out.new.items ≡ out.old.items ++ flat_map (done_text word.now defs.now)
+        lines.now) }
 {
     for line in lines {
         let call = &line.call;
@@ -79,7 +82,8 @@ fn push_homes(
     defs: &Defs,
     lines: &[seam_judge_data::HomeLine],
 ) -> Result<(), AllocError>
-    ensures { OnOk result (out.new.items ≡ out.old.items ++ flat_map (home_text defs.now) lines.now) }
+    ensures { OnOk result (out.new.items ≡ out.old.items ++ flat_map (home_text defs.now)
+        lines.now) }
 {
     for line in lines {
         let line = HomeLine {
@@ -99,7 +103,8 @@ fn push_bases(
     defs: &Defs,
     lines: &[seam_judge_data::BaseLine],
 ) -> Result<(), AllocError>
-    ensures { OnOk result (out.new.items ≡ out.old.items ++ flat_map (base_text defs.now) lines.now) }
+    ensures { OnOk result (out.new.items ≡ out.old.items ++ flat_map (base_text defs.now)
+        lines.now) }
 {
     for line in lines {
         let line = BaseLine {
@@ -123,7 +128,8 @@ fn push_ghosts(out: &mut Vec<u8>, lines: &[GhostLine]) -> Result<(), AllocError>
 }
 
 fn push_clients(out: &mut Vec<u8>, defs: &Defs, lines: &[ClientLine]) -> Result<(), AllocError>
-    ensures { OnOk result (out.new.items ≡ out.old.items ++ flat_map (client_text defs.now) lines.now) }
+    ensures { OnOk result (out.new.items ≡ out.old.items ++ flat_map (client_text defs.now)
+        lines.now) }
 {
     for line in lines {
         push_line(out, defs, line.entity, line.ty, &line.line)?;

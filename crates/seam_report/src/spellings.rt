@@ -7,6 +7,7 @@ use crate::values::push_field;
 use indexmap::IndexMap;
 use seam_call::GhostCopy;
 use seam_defs::Defs;
+use seam_table::HashKey;
 use std::alloc::{AllocError, Global};
 use std::marker::Model;
 
@@ -36,7 +37,7 @@ impl Spelling<'_> {
 #[derive(Drop)]
 pub struct Spellings<'a> {
     defs: &'a Defs,
-    copies: IndexMap<u32, Spelling<'a>>,
+    copies: IndexMap<u32, Spelling<'a>, HashKey>,
     // The place after that of the copy that was asked for last: clients are shown entities in mostly the same order, so the one asked
     // for next is looked for there before it is searched.
     next: usize,
@@ -63,7 +64,7 @@ impl<'a> Spellings<'a> {
     {
         Spellings {
             defs,
-            copies: IndexMap::new(alloc),
+            copies: IndexMap::with_hasher(alloc, defs.hash_key()),
             next: 0,
         }
     }
@@ -138,8 +139,8 @@ impl<'a> Spellings<'a> {
     // Keeps what was spelled of the copy of an entity, for others.
     fn keep(&mut self, entity: u32, spelling: Spelling<'a>) -> Result<(), AllocError>
         requires { IsSpelling self.old.defs entity spelling.copy.now spelling }
-        ensures kept { (vs : Versions) → GoesBy vs self.old → IsOf vs entity spelling.entry.copy.now →
-            OnOk result (GoesBy vs self.new) }
+        ensures kept { (vs : Versions) → GoesBy vs self.old →
+            IsOf vs entity spelling.entry.copy.now → OnOk result (GoesBy vs self.new) }
         ensures defs { self.new.defs ≡ self.old.defs }
     {
         match self.copies.insert(entity, spelling) {
@@ -157,9 +158,12 @@ impl<'a> Spellings<'a> {
         entity: u32,
         copy: &'a GhostCopy,
     ) -> Result<(), AllocError>
-        ensures text { let defs = self.old.defs in (vs : Versions) → GoesBy vs self.old → IsOf vs entity copy.now →
-            OnOk result (out.new.items ≡ out.old.items ++ (enter_text defs entity copy.now ++ copy_text defs copy.now ++ 10 ∷ [])) }
-        ensures kept { (vs : Versions) → GoesBy vs self.old → IsOf vs entity copy.now → OnOk result (GoesBy vs self.new) }
+        ensures text { let defs = self.old.defs in (vs : Versions) → GoesBy vs self.old →
+            IsOf vs entity copy.now →
+            OnOk result (out.new.items ≡ out.old.items
+            ++ (enter_text defs entity copy.now ++ copy_text defs copy.now ++ 10 ∷ [])) }
+        ensures kept { (vs : Versions) → GoesBy vs self.old → IsOf vs entity copy.now →
+            OnOk result (GoesBy vs self.new) }
         ensures defs { self.new.defs ≡ self.old.defs }
     {
         let place = self.go_to(entity);
@@ -179,8 +183,10 @@ impl<'a> Spellings<'a> {
         copy: &'a GhostCopy,
     ) -> Result<(), AllocError>
         ensures text { (vs : Versions) → GoesBy vs self.old → IsOf vs entity copy.now →
-            OnOk result (out.new.items ≡ out.old.items ++ (copy_text self.old.defs copy.now ++ 10 ∷ [])) }
-        ensures kept { (vs : Versions) → GoesBy vs self.old → IsOf vs entity copy.now → OnOk result (GoesBy vs self.new) }
+            OnOk result (out.new.items ≡ out.old.items ++ (copy_text self.old.defs copy.now ++ 10 ∷
+            [])) }
+        ensures kept { (vs : Versions) → GoesBy vs self.old → IsOf vs entity copy.now →
+            OnOk result (GoesBy vs self.new) }
         ensures defs { self.new.defs ≡ self.old.defs }
     {
         let place = self.go_to(entity);

@@ -20,8 +20,10 @@ pub fn push_client<'a>(
     line: &'a Line,
 ) -> Result<(), AllocError>
     ensures text { (vs : Versions) → GoesBy vs spellings.old → ShowsOf vs line.now.text →
-        OnOk result (out.new.items ≡ out.old.items ++ client_text spellings.old.defs (record { entity = entity; ty = ty; line = line.now })) }
-    ensures kept { (vs : Versions) → GoesBy vs spellings.old → ShowsOf vs line.now.text → OnOk result (GoesBy vs spellings.new) }
+        OnOk result (out.new.items ≡ out.old.items ++ client_text spellings.old.defs
+        (record { entity = entity; ty = ty; line = line.now })) }
+    ensures kept { (vs : Versions) → GoesBy vs spellings.old → ShowsOf vs line.now.text →
+        OnOk result (GoesBy vs spellings.new) }
     ensures defs { spellings.new.defs ≡ spellings.old.defs }
 {
     match &line.text {
@@ -43,9 +45,17 @@ fn push_shown<'a>(
     shown: &'a Shown,
 ) -> Result<(), AllocError>
     ensures text { (vs : Versions) → GoesBy vs spellings.old → ShowsOf vs (client.Shown shown.now) →
-        OnOk result (out.new.items ≡ out.old.items
-        ++ client_text spellings.old.defs (record { entity = entity; ty = ty; line = record { number = number; text = client.Shown shown.now } })) }
-    ensures kept { (vs : Versions) → GoesBy vs spellings.old → ShowsOf vs (client.Shown shown.now) → OnOk result (GoesBy vs spellings.new) }
+        OnOk result (out.new.items ≡ out.old.items ++ client_text spellings.old.defs
+        (record {
+          entity = entity;
+          ty = ty;
+          line = record {
+            number = number;
+            text = client.Shown shown.now;
+          };
+        })) }
+    ensures kept { (vs : Versions) → GoesBy vs spellings.old → ShowsOf vs (client.Shown shown.now) →
+        OnOk result (GoesBy vs spellings.new) }
     ensures defs { spellings.new.defs ≡ spellings.old.defs }
 {
     match shown {
@@ -74,8 +84,10 @@ fn push_own(
     version: u64,
     state: &State,
 ) -> Result<(), AllocError>
-    ensures { OnOk result (out.new.items ≡ out.old.items ++ (codes "to " ++ decimal_of entity ++ field number
-        ++ (codes " own" ++ field version ++ state_text t.now group.Own state.now) ++ 10 ∷ [])) }
+    ensures { OnOk result (out.new.items ≡ out.old.items
+        ++ (codes "to " ++ decimal_of entity ++ field number
+        ++ (codes " own" ++ field version ++ state_text t.now group.Own state.now) ++ 10 ∷
+        [])) }
 {
     push_head(out, entity, number)?;
     out.extend_from_slice(b" own")?;
@@ -85,8 +97,9 @@ fn push_own(
 
 // A line by which an entity leaves.
 fn push_leave(out: &mut Vec<u8>, entity: u32, number: u64, other: u32) -> Result<(), AllocError>
-    ensures { OnOk result (out.new.items ≡ out.old.items ++ (codes "to " ++ decimal_of entity ++ field number
-        ++ (codes " leave" ++ field other) ++ 10 ∷ [])) }
+    ensures { OnOk result (out.new.items ≡ out.old.items
+        ++ (codes "to " ++ decimal_of entity ++ field number ++ (codes " leave" ++ field other)
+        ++ 10 ∷ [])) }
 {
     push_head(out, entity, number)?;
     out.extend_from_slice(b" leave")?;
@@ -103,8 +116,10 @@ fn push_base_part(
     version: u64,
     props: &Props,
 ) -> Result<(), AllocError>
-    ensures { OnOk result (out.new.items ≡ out.old.items ++ (codes "to " ++ decimal_of entity ++ field number
-        ++ (codes " base" ++ field version ++ values_text t.now.properties group.BaseClient props.now) ++ 10 ∷ [])) }
+    ensures { OnOk result (out.new.items ≡ out.old.items
+        ++ (codes "to " ++ decimal_of entity ++ field number
+        ++ (codes " base" ++ field version ++ values_text t.now.properties group.BaseClient
+        props.now) ++ 10 ∷ [])) }
 {
     push_head(out, entity, number)?;
     out.extend_from_slice(b" base")?;
@@ -115,8 +130,8 @@ fn push_base_part(
 
 // To whom a line is shown, its number, and which entity is set by it.
 fn push_set(out: &mut Vec<u8>, entity: u32, number: u64, other: u32) -> Result<(), AllocError>
-    ensures { OnOk result (out.new.items
-        ≡ out.old.items ++ codes "to " ++ decimal_of entity ++ field number ++ codes " set" ++ field other) }
+    ensures { OnOk result (out.new.items ≡ out.old.items ++ codes "to " ++ decimal_of entity
+        ++ field number ++ codes " set" ++ field other) }
 {
     let mut text = [0; 6 + 3 * LONGEST_FIELD];
     let at = write_field(u64::from(other), &mut text, 6 + 3 * LONGEST_FIELD);
@@ -139,7 +154,8 @@ pub fn push_line(
     ty: u16,
     line: &Line,
 ) -> Result<(), AllocError>
-    ensures { OnOk result (out.new.items ≡ out.old.items ++ client_text defs.now (record { entity = entity; ty = ty; line = line.now })) }
+    ensures { OnOk result (out.new.items ≡ out.old.items
+        ++ client_text defs.now (record { entity = entity; ty = ty; line = line.now })) }
 {
     let mut spellings = Spellings::new(*out.allocator(), defs);
     push_client(out, &mut spellings, entity, ty, line)
@@ -147,7 +163,8 @@ pub fn push_line(
 
 // To whom a line is shown, and its number.
 fn push_head(out: &mut Vec<u8>, entity: u32, number: u64) -> Result<(), AllocError>
-    ensures { OnOk result (out.new.items ≡ out.old.items ++ codes "to " ++ decimal_of entity ++ field number) }
+    ensures { OnOk result (out.new.items ≡ out.old.items ++ codes "to " ++ decimal_of entity
+        ++ field number) }
 {
     let mut text = [0; 2 + 2 * LONGEST_FIELD];
     let at = write_field(number, &mut text, 2 + 2 * LONGEST_FIELD);
@@ -178,7 +195,8 @@ fn push_state(
     values: Group,
     state: &State,
 ) -> Result<(), AllocError>
-    ensures { OnOk result (out.new.items ≡ out.old.items ++ field version ++ state_text t.now values state.now) }
+    ensures { OnOk result (out.new.items ≡ out.old.items ++ field version
+        ++ state_text t.now values state.now) }
 {
     let mut text = [0; 3 * LONGEST_FIELD];
     let at = write_field(u64::from(state.pos.z), &mut text, 3 * LONGEST_FIELD);

@@ -3,7 +3,7 @@ ghost use Rattle.std.specs.Prelude.{◌≡◌, ◌≤◌, ◌+◌, ◌++◌, ◌
 ghost use Rattle.std.specs.List.{flat_map};
 ghost use Rattle.seam_rule_rounds.specs.Prelude.{text_of, sender_text, field};
 ghost use Rattle.seam_defs.specs.Types.{method_of};
-ghost use Rattle.seam_rule_lines.specs.Texts.{deed_text};
+ghost use Rattle.seam_rule_lines.specs.LineTexts.{deed_text};
 
 use itoa::write_digits;
 use seam_call::Sender;
@@ -89,7 +89,8 @@ fn method_name(t: &TypeDef, number: u16) -> &[u8]
 }
 
 fn push_args(out: &mut Vec<u8>, args: &[Value]) -> Result<(), AllocError>
-    ensures { OnOk result (out.new.items ≡ out.old.items ++ flat_map (λ v. 32 ∷ text_of v) args.now) }
+    ensures { OnOk result (out.new.items ≡ out.old.items ++ flat_map (λ v. 32 ∷ text_of v)
+        args.now) }
 {
     for arg in args {
         out.extend_from_slice(b" ")?;

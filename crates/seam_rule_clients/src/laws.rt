@@ -13,7 +13,8 @@ ghost use Rattle.seam_rule_clients.specs.WalkOutExample.{at, copy_at, table_of, 
 
 /// What a client shows follows from its lines alone, which may come in parts.
 pub fn lines_follow_lines()
-    ensures { (c : ClientReplica) (lines more : List Line) → after_lines c (lines ++ more) ≡ after_lines (after_lines c lines) more }
+    ensures { (c : ClientReplica) (lines more : List Line) → after_lines c (lines ++ more)
+        ≡ after_lines (after_lines c lines) more }
 {}
 
 /// No client is shown an older state than it was shown before: the version last shown of an entity never falls, also after it left the
@@ -21,13 +22,15 @@ pub fn lines_follow_lines()
 pub fn no_line_is_older()
     ensures others { (me : ℕ) (c : ClientReplica) (xs : List Shown) → MayShowAll me c xs
         → NeverFalls c.others (after_all_shown c xs).others }
-    ensures own { (me : ℕ) (c : ClientReplica) (xs : List Shown) → MayShowAll me c xs → (v : ℕ) (s : State) → c.own ≡ Some (v, s)
-        → (w : ℕ) × (t : State) × ((after_all_shown c xs).own ≡ Some (w, t)) × (v ≤ w) }
+    ensures own { (me : ℕ) (c : ClientReplica) (xs : List Shown) → MayShowAll me c xs →
+        (v : ℕ) (s : State) → c.own ≡ Some (v, s) → (w : ℕ) × (t : State) ×
+        ((after_all_shown c xs).own ≡ Some (w, t)) × (v ≤ w) }
 {}
 
 /// With the radius 300 and the hysteresis 10 an entity enters at the distance 300, is set at 310 and leaves at 311.
 pub fn view_has_hysteresis()
-    ensures enters { one_look (new_client standard) 1 (table_of 0 1300) ≡ Own 0 (at 1000) ∷ Enter 2 (copy_at 0 1300) ∷ [] }
+    ensures enters { one_look (new_client standard) 1 (table_of 0 1300) ≡ Own 0 (at 1000) ∷
+        Enter 2 (copy_at 0 1300) ∷ [] }
     ensures stays { one_look once 1 (table_of 1 1310) ≡ Set 2 (copy_at 1 1310) ∷ [] }
     ensures leaves { one_look twice 1 (table_of 2 1311) ≡ Leave 2 ∷ [] }
 {}
@@ -48,5 +51,6 @@ pub fn wrong_lines_may_not_come()
 /// Where a look shows a client nothing, the client shows the table: all entities within the radius are in view, and none beyond radius and
 /// hysteresis, each at its public version, and its own entity at its version.
 pub fn look_shows_the_table()
-    ensures { (c : ClientReplica) (r : Row) (others : List Row) → look_at c r others ≡ [] → ShowsTable c r others }
+    ensures { (c : ClientReplica) (r : Row) (others : List Row) → look_at c r others ≡ [] →
+        ShowsTable c r others }
 {}

@@ -1,7 +1,7 @@
 -- Lines with one verdict, whatever the book.
 use Rattle.std.proofs.Common.{◌≡◌, ◌↔◌, ℕ, List, sym, subst}
 use Rattle.seam_io.specs.Lines.{Content, Long}
-use Rattle.seam_words.specs.Texts.{HasWords}
+use Rattle.seam_words.specs.SplitWords.{HasWords}
 use Rattle.seam_toml.specs.declared.header.Header.{Header}
 use Rattle.seam_rule_lines.specs.Language.{IsSkipped, NamesCommand}
 use Rattle.seam_rule_lines.specs.Book.{Book}

@@ -51,7 +51,8 @@ other_is_not_for one p e t c other own = cases (c.entity == e) refl
         ap (λ (x : Bool). same_part c.part p && x) not ∙ and-false (same_part c.part p)
 
 -- no accepted call for the entity is from another sender
-none_of_others : (one : ℕ → Sender) (p : Part) (e : ℕ) (t : Sender) (calls : List Call) → same_sender (one e) t ≡ false → AreFrom one calls →
+none_of_others : (one : ℕ → Sender) (p : Part) (e : ℕ) (t : Sender) (calls : List Call) → same_sender (one e) t ≡ false →
+    AreFrom one calls →
     filter (is_from p e t) calls ≡ []
 none_of_others one p e t [] other own = refl
 none_of_others one p e t (c ∷ calls) other own =

@@ -2,7 +2,7 @@
 use Rattle.std.proofs.Common.{◌≡◌, ◌≤◌, ℕ, List, refl, ap, subst, arith}
 use Rattle.seam_io.specs.Lines.{Content, Long}
 use Rattle.seam_words.specs.Faults.{Refuses}
-use Rattle.seam_words.specs.Texts.{HasWords}
+use Rattle.seam_words.specs.SplitWords.{HasWords}
 use Rattle.seam_words.specs.declared.words.WordsError.{WordsError}
 use Rattle.seam_toml.specs.declared.header.Header.{Header}
 use Rattle.seam_rule_lines.specs.Language as language

@@ -13,7 +13,7 @@ use Rattle.seam_value.proofs.Answers.{text_of-injective}
 use Rattle.seam_value.proofs.Decimals.{decimal_of-injective}
 use Rattle.seam_value.proofs.NumberWords.{spells_one_number}
 use Rattle.seam_words.specs.Faults.{Refuses}
-use Rattle.seam_words.specs.Texts.{HasWords}
+use Rattle.seam_words.specs.SplitWords.{HasWords}
 use Rattle.seam_words.specs.declared.words.WordsError.{WordsError}
 use Rattle.seam_words.proofs.WordTexts.{words_are_one_list, no_words_at_fault, fault_is_first}
 use Rattle.seam_tree.specs.Boundary.{LeavesPartEmpty, RunsThrough}

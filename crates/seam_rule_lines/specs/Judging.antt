@@ -2,7 +2,7 @@
 use Rattle.std.specs.Prelude.{◌≡◌, ◌⊎◌, ℕ, ◌+◌, ◌<◌, ◌≤◌, IsTrue, IsFalse, List, length, map, Some, None, IsSome}
 use Rattle.seam_io.specs.Lines.{Line, Content, Long}
 use Rattle.seam_words.specs.Faults.{Refuses}
-use Rattle.seam_words.specs.Texts.{HasWords}
+use Rattle.seam_words.specs.SplitWords.{HasWords}
 use Rattle.seam_value.specs.NumberWords.{SpellsNumber, SpellsPositive}
 use Rattle.seam_value.specs.Values.{text_of}
 use Rattle.seam_value.specs.declared.values.Value.{Value}

@@ -3,7 +3,7 @@ use Rattle.std.specs.Prelude.{◌≡◌, ◌⊎◌, ℕ, List, [], ◌∷◌, �
 use Rattle.seam_value.specs.NumberWords.{SpellsNumber}
 use Rattle.seam_value.specs.Values.{decimal_of}
 use Rattle.seam_words.specs.Words.{IsGap}
-use Rattle.seam_words.specs.Texts.{HasWords}
+use Rattle.seam_words.specs.SplitWords.{HasWords}
 use Rattle.seam_tree.specs.declared.boundary.Axis.{Axis}
 use Rattle.seam_tree.specs.declared.boundary.Axis.TheVariants as axis
 use Rattle.seam_tree.specs.declared.boundary.Boundary.{Boundary}

@@ -5,7 +5,7 @@ pub mod Judging
 pub mod Orders
 pub mod FlatTable
 pub mod Round
-pub mod Texts
+pub mod LineTexts
 pub mod Run
 pub mod Senders
 pub mod InOrder

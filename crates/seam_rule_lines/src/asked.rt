@@ -14,7 +14,8 @@ pub struct Asked {
 
 /// Whether the sender may move the entity.
 pub fn may_move(asked: &Asked) -> bool
-    ensures { MatchBool result (MayMove asked.now.sender asked.now.entity) (¬ (MayMove asked.now.sender asked.now.entity)) }
+    ensures { MatchBool result (MayMove asked.now.sender asked.now.entity)
+        (¬ (MayMove asked.now.sender asked.now.entity)) }
 {
     match asked.sender {
         Sender::Base(_) => true,

@@ -1,5 +1,6 @@
 -- Lines of which each call names its entity's one sender, and none asks for a tick or a balance.
-use Rattle.std.proofs.Common.{◌≡◌, ◌≢◌, ◌+◌, ◌≤◌, ℕ, Bool, true, false, cond, List, [], ◌∷◌, ◌++◌, length, drop, get_or, sym, ap, ◌∙◌, subst}
+use Rattle.std.proofs.Common.{◌≡◌, ◌≢◌, ◌+◌, ◌≤◌, ℕ, Bool, true, false, cond, List, [], ◌∷◌, ◌++◌, length, drop, get_or, sym, ap, ◌∙◌}
+use Rattle.std.proofs.Common.{subst}
 use Rattle.std.specs.Prelude.{All, codes, nat_lt}
 use Rattle.std.specs.List.{list_all, AllByRecursion}
 use Rattle.std.specs.Str.Lines.{strip_carriage_return}
@@ -11,7 +12,7 @@ use Rattle.seam_io.specs.declared.lines.TheConstants.{LONGEST_LINE}
 use Rattle.seam_io.proofs.LineLemmas.{lines_of-fed}
 use Rattle.seam_value.specs.NumberWords.{SpellsPositive}
 use Rattle.seam_value.proofs.Decimals.{decimal_of-injective}
-use Rattle.seam_words.specs.Texts.{HasWords}
+use Rattle.seam_words.specs.SplitWords.{HasWords}
 use Rattle.seam_words.specs.declared.words.TheConstants.{MOST_WORDS}
 use Rattle.seam_words.proofs.WordTexts.{words_are_one_list}
 use Rattle.seam_rule_lines.specs.Language as language
@@ -42,9 +43,11 @@ module _ (one : ℕ → Sender) where
     from_its_sender : (c : language.Command) (s w : Word) (n : ℕ) → words_of c ≡ k ∷ sender_text (one e) ∷ decimal_of e ∷ rest →
         AsksFor c s w → SpellsPositive w n → s ≡ sender_text (one n)
     from_its_sender (language.Call s0 e0 m args) s w n same (s-is, w-is) number =
-        named s w n (sym s-is ∙ ap (λ (ws : List Word). get_or ws 1 []) same) (sym w-is ∙ ap (λ (ws : List Word). get_or ws 2 []) same) number
+        named s w n (sym s-is ∙ ap (λ (ws : List Word). get_or ws 1 []) same) (sym w-is ∙ ap (λ (ws : List Word). get_or ws 2 []) same)
+        number
     from_its_sender (language.Move s0 e0 x z) s w n same (s-is, w-is) number =
-        named s w n (sym s-is ∙ ap (λ (ws : List Word). get_or ws 1 []) same) (sym w-is ∙ ap (λ (ws : List Word). get_or ws 2 []) same) number
+        named s w n (sym s-is ∙ ap (λ (ws : List Word). get_or ws 1 []) same) (sym w-is ∙ ap (λ (ws : List Word). get_or ws 2 []) same)
+        number
     from_its_sender c s w n same asks number = absurd asks
 
     no_single : (v : Word) → v ∷ [] ≡ k ∷ sender_text (one e) ∷ decimal_of e ∷ rest → ⊥
@@ -60,7 +63,8 @@ module _ (one : ℕ → Sender) where
     )
 
   -- one whose first word is that of another command
-  module _ (text : List ℕ) (k : Word) (rest : List Word) (has : HasWords text (k ∷ rest)) (call : codes "call" ≢ k) (move : codes "move" ≢ k)
+  module _ (text : List ℕ) (k : Word) (rest : List Word) (has : HasWords text (k ∷ rest)) (call : codes "call" ≢ k)
+      (move : codes "move" ≢ k)
       (tick : codes "tick" ≢ k) (balance : codes "balance" ≢ k) where
     first_is : (c : language.Command) → Spells (Content text) c → get_or (words_of c) 0 [] ≡ k
     first_is c spells = ap (λ (ws : List Word). get_or ws 0 []) (words_are_one_list text (words_of c) (k ∷ rest) spells has)
@@ -90,7 +94,8 @@ module _ (one : ℕ → Sender) where
   AreFine text = All IsFine (lines_of text)
 
   -- a line of clear words before such a text
-  pub line_before : (w : Word) (ws : List Word) (more : List ℕ) → IsClearWord w → AllByRecursion IsClearWord ws → length ws + 1 ≤ MOST_WORDS →
+  pub line_before : (w : Word) (ws : List Word) (more : List ℕ) → IsClearWord w → AllByRecursion IsClearWord ws →
+      length ws + 1 ≤ MOST_WORDS →
       (HasWords (w ++ after_first ws) (w ∷ ws) → IsFine (Content (w ++ after_first ws))) → AreFine more →
       AreFine ((w ++ after_first ws) ++ 10 ∷ more)
   line_before w ws more clear all few fine rest =

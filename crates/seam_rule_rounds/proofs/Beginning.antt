@@ -1,5 +1,6 @@
 -- The generated input begins with a header that sets nothing, and has fewer bytes than a run may take.
-use Rattle.std.proofs.Common.{◌≡◌, ◌≢◌, ◌+◌, ◌-◌, ◌*◌, ◌/◌, ◌%◌, ◌^◌, ◌<◌, ◌≤◌, ℕ, zero, suc, Bool, true, false, cond, List, [], ◌∷◌, ◌++◌, length, drop}
+use Rattle.std.proofs.Common.{◌≡◌, ◌≢◌, ◌+◌, ◌-◌, ◌*◌, ◌/◌, ◌%◌, ◌^◌, ◌<◌, ◌≤◌, ℕ, zero, suc, Bool, true, false, cond, List, [], ◌∷◌, ◌++◌}
+use Rattle.std.proofs.Common.{length, drop}
 use Rattle.std.proofs.Common.{refl, ap, ◌∙◌, arith, length-append}
 use Rattle.std.specs.Prelude.{codes, ◌==◌}
 use Rattle.std.specs.List.{flat_map, range_with_len}
@@ -24,7 +25,13 @@ storm_begins n = (
   record {
     head = [];
     text = [];
-    are = record { contents = []; are = refl; none_ends = All-nil (λ content. Content content ≢ separator); whole = refl; most = omega arith };
+    are = record {
+      contents = [];
+      are = refl;
+      none_ends = All-nil (λ content. Content content ≢ separator);
+      whole = refl;
+      most = omega arith;
+    };
     reads = nothing_is_read;
     number = refl;
     whole = lines_of-fed (codes "%%") (after_header n) (no_feed_append (37 ∷ []) (37 ∷ []) (no_feed_one 37 refl) (no_feed_one 37 refl))
@@ -77,7 +84,8 @@ drawn_is_short : (x : ℕ) → length (drawn_line x) ≤ 32
 drawn_is_short x = by (is_move (draw x))
   where
     by : (b : Bool) →
-        length (cond b (move_line (entity (draw x)) (draw (next_seed x))) (call_line (entity (draw x)) (method_of (draw x)) (draw x / 256 % 100)))
+        length (cond b (move_line (entity (draw x)) (draw (next_seed x)))
+        (call_line (entity (draw x)) (method_of (draw x)) (draw x / 256 % 100)))
         ≤ 32
     by true = move_is_short (entity (draw x)) (draw (next_seed x)) (omega arith)
     by false = call_is_short (entity (draw x)) (draw x) (draw x / 256 % 100) (omega arith) (omega arith)

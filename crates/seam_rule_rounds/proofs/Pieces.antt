@@ -8,4 +8,5 @@ use Rattle.seam_rule_rounds.specs.Summary.{sums_of, round_of, all_sums}
 
 -- of pieces and others after them
 pub sums_of_append : (ps qs : List Piece) → all_sums (ps ++ qs) ≡ all_sums ps ++ all_sums qs
-sums_of_append ps qs = ap (map sums_of) (filter_map-append round_of ps qs) ∙ map-append sums_of (filter_map round_of ps) (filter_map round_of qs)
+sums_of_append ps qs = ap (map sums_of) (filter_map-append round_of ps qs)
+    ∙ map-append sums_of (filter_map round_of ps) (filter_map round_of qs)

@@ -1,5 +1,6 @@
 -- Lines of plain words, one space apart.
-use Rattle.std.proofs.Common.{◌≡◌, ◌<◌, ◌≤◌, ◌+◌, ◌-◌, ℕ, zero, suc, Bool, true, false, cond, List, [], ◌∷◌, ◌++◌, length, map, take, refl, sym, ap}
+use Rattle.std.proofs.Common.{◌≡◌, ◌<◌, ◌≤◌, ◌+◌, ◌-◌, ℕ, zero, suc, Bool, true, false, cond, List, [], ◌∷◌, ◌++◌, length, map, take, refl}
+use Rattle.std.proofs.Common.{sym, ap}
 use Rattle.std.proofs.Common.{◌∙◌, arith, append-nil, append_assoc, length-append}
 use Rattle.std.specs.Prelude.{◌&&◌, not, nat_le, ◌==◌, slice_index, slice_range}
 use Rattle.std.specs.List.{list_all, flat_map, AllByRecursion}
@@ -12,7 +13,7 @@ use Rattle.std.proofs.lemmas.List.Folds.{list_all-append}
 use Rattle.std.proofs.lemmas.Str.{IsUtf8-from_ascii}
 use Rattle.seam_io.specs.Lines.{HasNoFeed, is_feed}
 use Rattle.seam_words.specs.Words.{Span, IsPlainWord, HasFirstWords, EndsWord, is_plain, bytes_of}
-use Rattle.seam_words.specs.Texts.{HasWords}
+use Rattle.seam_words.specs.SplitWords.{HasWords}
 use Rattle.seam_words.specs.declared.words.TheConstants.{MOST_WORDS}
 
 -- ---- bytes
@@ -130,7 +131,8 @@ texts_from before (w ∷ ws) =
     let next : List ℕ = before ++ 32 ∷ w in
     let long : length now ≡ length before + 1 = length-append before (32 ∷ []) in
     let longer : length next ≡ length before + 1 + length w = length-append before (32 ∷ w) ∙ omega arith in
-    let whole : before ++ ((32 ∷ w) ++ after_first ws) ≡ now ++ (w ++ after_first ws) = sym (append_assoc before (32 ∷ []) (w ++ after_first ws)) in
+    let whole : before ++ ((32 ∷ w) ++ after_first ws) ≡ now ++ (w ++ after_first ws) =
+    sym (append_assoc before (32 ∷ []) (w ++ after_first ws)) in
     let more : before ++ ((32 ∷ w) ++ after_first ws) ≡ next ++ after_first ws = sym (append_assoc before (32 ∷ w) (after_first ws)) in
     let first : slice_range (before ++ ((32 ∷ w) ++ after_first ws)) (length before + 1) (length before + 1 + length w) ≡ w =
     ap (λ (xs : List ℕ). slice_range xs (length before + 1) (length before + 1 + length w)) whole

@@ -1,5 +1,6 @@
 -- The lines of the generated input: each call names its entity's one sender, and none asks for a tick or a balance.
-use Rattle.std.proofs.Common.{◌≡◌, ◌≢◌, ◌+◌, ◌-◌, ◌/◌, ◌%◌, ◌^◌, ◌<◌, ◌≤◌, ℕ, zero, suc, Bool, true, false, cond, List, [], ◌∷◌, ◌++◌, refl, sym}
+use Rattle.std.proofs.Common.{◌≡◌, ◌≢◌, ◌+◌, ◌-◌, ◌/◌, ◌%◌, ◌^◌, ◌<◌, ◌≤◌, ℕ, zero, suc, Bool, true, false, cond, List, [], ◌∷◌, ◌++◌, refl}
+use Rattle.std.proofs.Common.{sym}
 use Rattle.std.proofs.Common.{ap, ◌∙◌, subst, arith, append_assoc, append-nil}
 use Rattle.std.specs.Prelude.{All, codes, ◌==◌}
 use Rattle.std.specs.List.{list_all, flat_map, range_with_len}
@@ -139,7 +140,8 @@ call_before k c d more e E F k-clear c-clear d-clear low E-is F-is rest =
     ∙ with_four k (sender_text (sender_of e)) (decimal_of e) c d more in
     subst Fine (sym text)
     (line_before sender_of k (sender_text (sender_of e) ∷ decimal_of e ∷ c ∷ d ∷ []) more k-clear
-    (sender_is_clear e, (number_is_clear e, (c-clear, (d-clear, tt)))) (omega arith) (λ has. fine_call sender_of _ k e (c ∷ d ∷ []) has) rest)
+    (sender_is_clear e, (number_is_clear e, (c-clear, (d-clear, tt)))) (omega arith) (λ has. fine_call sender_of _ k e (c ∷ d ∷ []) has)
+    rest)
 
 move_before : (e f : ℕ) (more : List ℕ) → e < 10 ^ 64 → Fine more → Fine (move_line e f ++ more)
 move_before e f more low rest =
@@ -152,7 +154,10 @@ hit_before e d amount more low small rest = by (kind d == 2)
   where
     by : (b : Bool) → Fine (call_line e (cond b (codes " hit") (codes " heal")) amount ++ more)
     by true =
-        call_before (codes "call") (codes "hit") (decimal_of amount) more e (codes " hit") (field amount) (omega arith, refl) (omega arith, refl)
+        call_before (codes "call") (codes "hit") (decimal_of amount) more e (codes " hit") (field amount) (omega arith, refl) (
+          omega arith,
+          refl,
+        )
         (number_is_clear amount) low refl (field_spelled amount small) rest
     by false =
         call_before (codes "call") (codes "heal") (decimal_of amount) more e (codes " heal") (field amount) (omega arith, refl)
@@ -162,7 +167,8 @@ drawn_before : (x : ℕ) (more : List ℕ) → Fine more → Fine (drawn_line x 
 drawn_before x more rest = by (is_move (draw x))
   where
     by : (b : Bool) →
-        Fine (cond b (move_line (entity (draw x)) (draw (next_seed x))) (call_line (entity (draw x)) (method_of (draw x)) (draw x / 256 % 100))
+        Fine (cond b (move_line (entity (draw x)) (draw (next_seed x)))
+        (call_line (entity (draw x)) (method_of (draw x)) (draw x / 256 % 100))
         ++ more)
     by true = move_before (entity (draw x)) (draw (next_seed x)) more (omega arith) rest
     by false = hit_before (entity (draw x)) (draw x) (draw x / 256 % 100) more (omega arith) (omega arith) rest

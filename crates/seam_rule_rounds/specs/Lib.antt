@@ -2,9 +2,9 @@ pub mod FlatTable
 pub mod Standing
 pub mod RoundPlaces
 pub mod Lines
-pub mod Clients
+pub mod ClientLines
 pub mod Round
-pub mod Texts
+pub mod RoundTexts
 pub mod Transcript
 pub mod TwoChests
 pub mod Summary

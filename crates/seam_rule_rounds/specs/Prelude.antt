@@ -46,7 +46,7 @@ pub use Rattle.seam_rule_lines.specs.Orders.{IsFull, Orders, of_sender}
 pub use Rattle.seam_rule_lines.specs.Round.{BaseLine, DoneLine, ExtendsOrders, HomeLine, Lists, done_lines}
 pub use Rattle.seam_rule_lines.specs.Run.{Run}
 pub use Rattle.seam_rule_lines.specs.Senders.{AcceptedAreFrom, CallIsFrom}
-pub use Rattle.seam_rule_lines.specs.Texts.{base_text, done_text, field, home_text, number_text, refusal}
+pub use Rattle.seam_rule_lines.specs.LineTexts.{base_text, done_text, field, home_text, number_text, refusal}
 pub use Rattle.seam_rule_lines.specs.declared.limits.TheConstants.{MOST_ENTITIES, MOST_LINES}
 pub use Rattle.seam_rule_lines.specs.declared.verdict.Cause.{Cause}
 pub use Rattle.seam_rule_lines.specs.declared.verdict.Cause.TheVariants.{CutRefused, ShiftRefused}
@@ -61,8 +61,8 @@ pub use Rattle.seam_watch.specs.declared.journal.Journal.{Journal}
 pub use Rattle.seam_balance.specs.Balance.{HasSameCuts, IsBalanced}
 pub use Rattle.seam_storm.specs.Storm.{call_line, client_line, create_line, cuts, draw, drawn_line, entity, is_move, kind, lines_text}
 pub use Rattle.seam_storm.specs.Storm.{method_of, move_line, next_seed, raster, seed_after, sender, sync_after, text_of_storm}
-pub use Rattle.seam_rule_rounds.specs.Clients.{HasLooked, HasShown, IsOther, IsOwn, IsShownAt, ShowsClient, base_shown, base_texts}
-pub use Rattle.seam_rule_rounds.specs.Clients.{base_versions, is_base, shows_base, texts_to, truth_of}
+pub use Rattle.seam_rule_rounds.specs.ClientLines.{HasLooked, HasShown, IsOther, IsOwn, IsShownAt, ShowsClient, base_shown, base_texts}
+pub use Rattle.seam_rule_rounds.specs.ClientLines.{base_versions, is_base, shows_base, texts_to, truth_of}
 pub use Rattle.seam_rule_rounds.specs.FlatTable.{changes_past, has_changed_at, other_at, position_at, positions_past, properties, public_at}
 pub use Rattle.seam_rule_rounds.specs.FlatTable.{row_after, rows_of, version_of}
 pub use Rattle.seam_rule_rounds.specs.Lines.{ClientLine, GhostLine, RoundData, lines_to, told_in}
@@ -70,8 +70,8 @@ pub use Rattle.seam_rule_rounds.specs.Round.{HasBounds, IsRound, base_line, ghos
 pub use Rattle.seam_rule_rounds.specs.RoundPlaces.{HasPlace, distances, ghost_cells, place_before}
 pub use Rattle.seam_rule_rounds.specs.Standing.{Standing, after_header, in_first_cell, replica_of, with_book, with_line}
 pub use Rattle.seam_rule_rounds.specs.Summary.{AsksForNeither, all_sums, hp_of, summary_text, sums_of, totals_of, totals_text}
-pub use Rattle.seam_rule_rounds.specs.Texts.{bound_text, bounds_text, client_text, ghost_text, journal_text, round_text, state_text}
-pub use Rattle.seam_rule_rounds.specs.Texts.{traced_text}
+pub use Rattle.seam_rule_rounds.specs.RoundTexts.{bound_text, bounds_text, client_text, ghost_text, journal_text, round_text, state_text}
+pub use Rattle.seam_rule_rounds.specs.RoundTexts.{traced_text}
 pub use Rattle.seam_rule_rounds.specs.Transcript.{Ended, EndsInput, EndsRound, Follows, Piece, PrintAll, PrintLines, Refusal, Step}
 pub use Rattle.seam_rule_rounds.specs.Transcript.{journals_of, played_text}
 pub use Rattle.seam_rule_rounds.specs.TwoChests.{avatar_2, begun, copy_of_second, ended, halves, header, mark, numbers, own_avatar, pay}

@@ -13,7 +13,7 @@ use Rattle.seam_rule_rounds.specs.FlatTable.{public_at}
 use Rattle.seam_rule_rounds.specs.Standing.{Standing}
 use Rattle.seam_rule_rounds.specs.RoundPlaces.{HasPlace, ghost_cells}
 use Rattle.seam_rule_rounds.specs.Lines.{GhostLine, RoundData}
-use Rattle.seam_rule_rounds.specs.Clients.{HasShown, HasLooked}
+use Rattle.seam_rule_rounds.specs.ClientLines.{HasShown, HasLooked}
 
 -- the home line of an entity: its cell is its home, and the state is that after all calls
 abbrev pub home_line : Header → Standing → Create → HomeLine

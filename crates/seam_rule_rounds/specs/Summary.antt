@@ -11,7 +11,7 @@ use Rattle.seam_toml.specs.declared.header.Header.{Header}
 use Rattle.seam_rule_lines.specs.Language.{Tick, Balance}
 use Rattle.seam_rule_lines.specs.Judging.{Spells}
 use Rattle.seam_rule_lines.specs.Round.{HomeLine}
-use Rattle.seam_rule_lines.specs.Texts.{field}
+use Rattle.seam_rule_lines.specs.LineTexts.{field}
 use Rattle.seam_rule_rounds.specs.Standing.{Standing}
 use Rattle.seam_rule_rounds.specs.Lines.{RoundData}
 use Rattle.seam_rule_rounds.specs.Transcript.{Piece, Refusal, Ended}

@@ -8,7 +8,7 @@ use Rattle.seam_toml.specs.declared.header.Header.{Header}
 use Rattle.seam_rule_lines.specs.Header.{BeginWithHeader}
 use Rattle.seam_rule_lines.specs.Book.{open_lines, with_entry}
 use Rattle.seam_rule_lines.specs.Judging.{Judges}
-use Rattle.seam_rule_lines.specs.Texts.{refusal}
+use Rattle.seam_rule_lines.specs.LineTexts.{refusal}
 use Rattle.seam_rule_lines.specs.Run.{Run}
 use Rattle.seam_rule_lines.specs.declared.verdict.Cause.{Cause}
 use Rattle.seam_rule_lines.specs.declared.verdict.Verdict.{Verdict}
@@ -17,7 +17,7 @@ use Rattle.seam_rule_lines.specs.declared.limits.TheConstants.{MOST_LINES}
 use Rattle.seam_rule_rounds.specs.Standing.{Standing, after_header, with_line, with_book}
 use Rattle.seam_rule_rounds.specs.Lines.{RoundData}
 use Rattle.seam_rule_rounds.specs.Round.{IsRound}
-use Rattle.seam_rule_rounds.specs.Texts.{round_text, traced_text, journal_text}
+use Rattle.seam_rule_rounds.specs.RoundTexts.{round_text, traced_text, journal_text}
 
 -- what is printed at once: the refusal of a line, or a round that ended, between two standings, with the steps by which it was played
 pub data Piece : Type 0 where

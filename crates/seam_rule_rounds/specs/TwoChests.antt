@@ -7,7 +7,7 @@ use Rattle.seam_tree.specs.Division.{Division}
 use Rattle.seam_tree.specs.Change.{with_cut}
 use Rattle.seam_tree.specs.declared.boundary.Axis.TheVariants.{X}
 use Rattle.seam_haunt.specs.Places.{Place, settled}
-use Rattle.seam_defs.specs.Builtin.{builtin}
+use Rattle.seam_defs.specs.Builtin.{builtin, chest_methods, method_named}
 use Rattle.seam_defs.specs.Settings.{standard}
 use Rattle.seam_defs.specs.declared.flags.Part.TheVariants as part
 use Rattle.seam_defs.specs.declared.states.State.{State}
@@ -55,7 +55,13 @@ second = chest 2 5100
 
 -- base node 1 lifts the lid of the second
 abbrev pub lift : Call
-lift = record { entity = 2; part = part.Cell; sender = Base 1; number = 1; deed = deed.Method 0 [] }
+lift = record {
+  entity = 2;
+  part = part.Cell;
+  sender = Base 1;
+  number = 1;
+  deed = deed.Method (method_named (codes "lift") chest_methods) [];
+}
 
 -- a chest's state there
 abbrev pub lid : ℕ → ℕ → State

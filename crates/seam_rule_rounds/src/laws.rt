@@ -16,34 +16,38 @@ ghost use Rattle.seam_call.specs.declared.shown.ClientText.TheVariants as text;
 
 /// An entity's public version is the last one up to its version at which what ghosts hold of it changed, or 0.
 pub fn public_version_is_the_last_change()
-    ensures at_most { (h : Header) (c : Create) (order : List Call) (v : ℕ) → public_at h c order v ≤ v }
+    ensures at_most { (h : Header) (c : Create) (order : List Call) (v : ℕ) →
+        public_at h c order v ≤ v }
     ensures changed { (h : Header) (c : Create) (order : List Call) (v : ℕ) →
-        (public_at h c order v ≡ 0) ⊎ IsTrue (has_changed_at h part.Cell c order (public_at h c order v)) }
-    ensures last { (h : Header) (c : Create) (order : List Call) (v w : ℕ) → public_at h c order v < w → w ≤ v →
-        IsFalse (has_changed_at h part.Cell c order w) }
+        (public_at h c order v ≡ 0) ⊎ IsTrue (has_changed_at h part.Cell c order
+        (public_at h c order v)) }
+    ensures last { (h : Header) (c : Create) (order : List Call) (v w : ℕ) →
+        public_at h c order v < w → w ≤ v → IsFalse (has_changed_at h part.Cell c order w) }
 {}
 
 /// What other clients may be shown of an entity in a round is what the rules say by its version: the version is a public one, at least the
 /// public version with which the round began, and the entity is shown as it was for others then. (No version falls in a round.)
 pub fn shown_versions_are_public()
-    ensures by_version { (h : Header) (s t : Standing) (e : ℕ) (copy : GhostCopy) → IsOther h s t e copy → IsShownAt h s t e copy }
-    ensures in_round { (h : Header) (s t : Standing) (r : RoundData) (e : ℕ) (copy : GhostCopy) → IsRound h s r t →
-        IsShownAt h s t e copy → IsOther h s t e copy }
+    ensures by_version { (h : Header) (s t : Standing) (e : ℕ) (copy : GhostCopy) →
+        IsOther h s t e copy → IsShownAt h s t e copy }
+    ensures in_round { (h : Header) (s t : Standing) (r : RoundData) (e : ℕ) (copy : GhostCopy) →
+        IsRound h s r t → IsShownAt h s t e copy → IsOther h s t e copy }
 {}
 
 /// There is one flat table of a book's live entities after given orders.
 pub fn table_is_one()
-    ensures { (h : Header) (b : Book) (orders : Orders) (xs ys : List Create) → Lists (live_as b) xs → Lists (live_as b) ys →
-        rows_of h orders xs ≡ rows_of h orders ys }
+    ensures { (h : Header) (b : Book) (orders : Orders) (xs ys : List Create) →
+        Lists (live_as b) xs → Lists (live_as b) ys → rows_of h orders xs ≡ rows_of h orders ys }
 {}
 
 /// In a round without a tick what its parts executed decides what every client is told: two legal rounds that begin alike and execute the
 /// same calls in the same order tell each client the same lines, and it shows the same after them.
 pub fn lines_are_one_without_a_tick()
-    ensures told { (h : Header) (s t u : Standing) (r q : RoundData) → IsFalse (has_tick s.book) → IsRound h s r t → IsRound h s q u →
-        t.orders ≡ u.orders → (e : ℕ) → t.told e ≡ u.told e }
-    ensures replica { (h : Header) (s t u : Standing) (r q : RoundData) → IsFalse (has_tick s.book) → IsRound h s r t → IsRound h s q u →
-        t.orders ≡ u.orders → (e : ℕ) → replica_of h t e ≡ replica_of h u e }
+    ensures told { (h : Header) (s t u : Standing) (r q : RoundData) → IsFalse (has_tick s.book) →
+        IsRound h s r t → IsRound h s q u → t.orders ≡ u.orders → (e : ℕ) → t.told e ≡ u.told e }
+    ensures replica { (h : Header) (s t u : Standing) (r q : RoundData) →
+        IsFalse (has_tick s.book) → IsRound h s r t → IsRound h s q u → t.orders ≡ u.orders →
+        (e : ℕ) → replica_of h t e ≡ replica_of h u e }
 {}
 
 /// The round of two chests on both sides of a boundary is legal, and has this text: each has a ghost in the other's cell, and the client
@@ -85,11 +89,16 @@ pub fn wrong_states_are_not_true()
 
 /// How lines to clients, boundaries and refusals by a tree are written.
 pub fn texts_of_lines()
-    ensures own { client_text builtin (to_avatar 1 (text.Shown (Own 0 own_avatar))) ≡ codes "to 1 1 own 0 7 8 hp=100 mana=50 xp=0\n" }
-    ensures base { client_text builtin (to_avatar 2 (text.Base 1 (numbers (2 ∷ [])))) ≡ codes "to 1 2 base 1 rank=2\n" }
-    ensures enter { client_text builtin (to_avatar 3 (text.Shown (Enter 2 avatar_2))) ≡ codes "to 1 3 enter 2 Avatar 4 7 8 hp=75 mood=0\n" }
-    ensures set_ { client_text builtin (to_avatar 4 (text.Shown (Set 2 avatar_2))) ≡ codes "to 1 4 set 2 4 7 8 hp=75 mood=0\n" }
-    ensures leave { client_text builtin (to_avatar 5 (text.Shown (Leave 2))) ≡ codes "to 1 5 leave 2\n" }
+    ensures own { client_text builtin (to_avatar 1 (text.Shown (Own 0 own_avatar)))
+        ≡ codes "to 1 1 own 0 7 8 hp=100 mana=50 xp=0\n" }
+    ensures base { client_text builtin (to_avatar 2 (text.Base 1 (numbers (2 ∷ []))))
+        ≡ codes "to 1 2 base 1 rank=2\n" }
+    ensures enter { client_text builtin (to_avatar 3 (text.Shown (Enter 2 avatar_2)))
+        ≡ codes "to 1 3 enter 2 Avatar 4 7 8 hp=75 mood=0\n" }
+    ensures set_ { client_text builtin (to_avatar 4 (text.Shown (Set 2 avatar_2)))
+        ≡ codes "to 1 4 set 2 4 7 8 hp=75 mood=0\n" }
+    ensures leave { client_text builtin (to_avatar 5 (text.Shown (Leave 2)))
+        ≡ codes "to 1 5 leave 2\n" }
     ensures bound { bounds_text (Some halves) ≡ codes "bound 1 x 5000\n" }
     ensures cut { refusal 7 (CutRefused TooManyCells) ≡ codes "line 7 tree 3\n" }
     ensures shift { refusal 8 (ShiftRefused WouldEmpty) ≡ codes "line 8 tree 2\n" }

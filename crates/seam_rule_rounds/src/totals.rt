@@ -53,7 +53,8 @@ impl Totals {
 
     /// Those with one round more. A count past 2^64 is answered like a failed allocation.
     pub fn with(self, round: &Sums) -> Result<Totals, AllocError>
-        ensures { IfOk result (λ t. (before : List SumsOf) → self ≡ totals_of before → t ≡ totals_of (before ++ round.now ∷ [])) }
+        ensures { IfOk result (λ t. (before : List SumsOf) → self ≡ totals_of before →
+            t ≡ totals_of (before ++ round.now ∷ [])) }
     {
         Ok(Totals {
             rounds: plus(self.rounds, 1)?,

@@ -22,17 +22,18 @@ use seam_machine::Machine;
 
 /// Moves of the nodes whose stamps never fall are a run of the net.
 pub fn moves_are_run<M: Machine>()
-    ensures { (n : ℕ) (w : NetView M M.Msg) (start : ℕ → M) (last : ℕ → ℕ) (first rest : ℕ → ℕ → List (Letter M.Msg))
-        (moves : List (Move M.Msg)) →
+    ensures { (n : ℕ) (w : NetView M M.Msg) (start : ℕ → M) (last : ℕ → ℕ) (first rest : ℕ → ℕ →
+        List (Letter M.Msg)) (moves : List (Move M.Msg)) →
         Fits M.has_work M.steps n w start last first rest moves → Rises n 0 moves →
         IsRun M.has_work M.steps n w start rest moves }
 {}
 
 /// The logs of all nodes, merged, are a run from the net at their start to the net of the nodes and of what was left of the links.
 pub fn logs_are_run<M: Machine>()
-    ensures { (n : ℕ) (w v : NetView M M.Msg) (start now : ℕ → M) (logs : List (List (Stamped Event))) (hand : ℕ →
-        List (ℕ × Letter M.Msg)) (first taken put met : ℕ → ℕ → List (Letter M.Msg)) (merged : List (Stamped Event)) →
-        Joined M.has_work M.steps n w start now logs hand first taken put met → IsMerge logs merged →
-        IsRebuilt n now (left_of hand met) v →
+    ensures { (n : ℕ) (w v : NetView M M.Msg) (start now : ℕ →
+        M) (logs : List (List (Stamped Event))) (hand : ℕ → List (ℕ × Letter M.Msg))
+        (first taken put met : ℕ → ℕ → List (Letter M.Msg)) (merged : List (Stamped Event)) →
+        Joined M.has_work M.steps n w start now logs hand first taken put met →
+        IsMerge logs merged → IsRebuilt n now (left_of hand met) v →
         LeadsTo M.has_work M.steps w (map (λ e. e.item) merged) v }
 {}

@@ -101,7 +101,8 @@ fn copy_some(text: &[u8], buf: &mut [u8], at: usize) -> usize
     ensures len { length buf.new ≡ length buf.old }
     ensures fits { at + result ≤ length buf.new }
     ensures some { 0 < length text.now → at < length buf.old → 0 < result }
-    ensures bytes { take at buf.old ++ text.now ≡ take (at + result) buf.new ++ drop result text.now }
+    ensures bytes { take at buf.old ++ text.now ≡ take (at + result) buf.new
+        ++ drop result text.now }
 {
     let count = text.len().min(buf.len() - at);
     buf[at..at + count].copy_from_slice(&text[..count]);

@@ -82,7 +82,8 @@ module _ {X : Type 0} where
   keys_kept (s ∷ ss) = by s.1 (keys_kept ss)
     where
       by : (slot : Option X) → keys_of (kept ss) ≡ keys_of (filter (λ s. is_some s.1) ss) →
-          keys_of (kept_before s.0 slot (kept ss)) ≡ keys_of (cond (is_some slot) (s ∷ filter (λ s. is_some s.1) ss) (filter (λ s. is_some s.1) ss))
+          keys_of (kept_before s.0 slot (kept ss))
+          ≡ keys_of (cond (is_some slot) (s ∷ filter (λ s. is_some s.1) ss) (filter (λ s. is_some s.1) ss))
       by None rest = rest
       by (Some x) rest = ap (λ l. s.0 ∷ l) rest
 

@@ -204,42 +204,45 @@ none_or : {G : Type 0} (b : Bool) (r : Option G) → (b ≡ true → r ≡ None)
 none_or true r h = h refl
 none_or false r h = refl
 
-module _ {T : Type 0} (old new : List (ℕ × Option T)) (e : ℕ) (d : IsDistinct nat_eq (keys_of old)) (n : IsDistinct nat_eq (keys_of new)) where
-  without : (x : Option (Option T)) → option_flatten x ≡ None → ((q : ℕ) → lookup (nat_eq q) new ≡ cond (nat_eq e q) x (lookup (nat_eq q) old)) →
-      (table_of new).items ≡ map.remove (table_of old).items e
-  without x none h =
-      map.same_map nat_cmp_total map.nat_cmp-IsAntisymmetric _ _ (λ q.
-      item-slot new q n
-      ∙ ap option_flatten (h q)
-      ∙ by (nat_eq e q) x (lookup (nat_eq q) old) none
-      ∙ ap (λ b. cond b None (option_flatten (lookup (nat_eq q) old))) (same_turned q e)
-      ∙ ap (λ r. cond (eq_by_cmp nat_cmp q e) None r) (sym (item-slot old q d))
-      ∙ sym (map.get-remove nat_cmp_total (table_of old).items e q))
-    where
-      by : (b : Bool) (x r : Option (Option T)) → option_flatten x ≡ None → option_flatten (cond b x r) ≡ cond b None (option_flatten r)
-      by true x r none = none
-      by false x r none = refl
+module _ {T : Type 0} (old new : List (ℕ × Option T)) (e : ℕ) (d : IsDistinct nat_eq (keys_of old)) (n : IsDistinct nat_eq (keys_of new))
+  where
+    without : (x : Option (Option T)) → option_flatten x ≡ None →
+        ((q : ℕ) → lookup (nat_eq q) new ≡ cond (nat_eq e q) x (lookup (nat_eq q) old)) →
+        (table_of new).items ≡ map.remove (table_of old).items e
+    without x none h =
+        map.same_map nat_cmp_total map.nat_cmp-IsAntisymmetric _ _ (λ q.
+        item-slot new q n
+        ∙ ap option_flatten (h q)
+        ∙ by (nat_eq e q) x (lookup (nat_eq q) old) none
+        ∙ ap (λ b. cond b None (option_flatten (lookup (nat_eq q) old))) (same_turned q e)
+        ∙ ap (λ r. cond (eq_by_cmp nat_cmp q e) None r) (sym (item-slot old q d))
+        ∙ sym (map.get-remove nat_cmp_total (table_of old).items e q))
+      where
+        by : (b : Bool) (x r : Option (Option T)) → option_flatten x ≡ None → option_flatten (cond b x r) ≡ cond b None (option_flatten r)
+        by true x r none = none
+        by false x r none = refl
 
-  -- the entry that was there has no item now
-  table-emptied : is_some (lookup (nat_eq e) old) ≡ true → Writes e None old new → table_of new ≡ without_item (table_of old) e
-  table-emptied there h =
-      let a = without (Some None) refl h in
-      let b = room-written old new e None h ∙ sym (room-there old e there) in
-      λ i. record { items = a i; room = b i }
+    -- the entry that was there has no item now
+    table-emptied : is_some (lookup (nat_eq e) old) ≡ true → Writes e None old new → table_of new ≡ without_item (table_of old) e
+    table-emptied there h =
+        let a = without (Some None) refl h in
+        let b = room-written old new e None h ∙ sym (room-there old e there) in
+        λ i. record { items = a i; room = b i }
 
-  -- the entry is gone
-  table-removed : ((q : ℕ) → lookup (nat_eq q) new ≡ cond (nat_eq e q) None (lookup (nat_eq q) old)) → table_of new ≡ without_room (table_of old) e
-  table-removed h =
-      let a = without None refl h in
-      let b =
-      set.same_set nat_cmp_total set.nat_cmp-IsAntisymmetric (table_of new).room (set.remove (table_of old).room e) (λ q.
-      room-slot new q
-      ∙ ap is_some (h q)
-      ∙ room_gone (nat_eq e q) (lookup (nat_eq q) old)
-      ∙ ap (λ b. not b && is_some (lookup (nat_eq q) old)) (same_turned q e)
-      ∙ ap (λ b. not (eq_by_cmp nat_cmp q e) && b) (sym (room-slot old q))
-      ∙ sym (set.contains-remove nat_cmp_total (table_of old).room e q)) in
-      λ i. record { items = a i; room = b i }
+    -- the entry is gone
+    table-removed : ((q : ℕ) → lookup (nat_eq q) new ≡ cond (nat_eq e q) None (lookup (nat_eq q) old)) →
+        table_of new ≡ without_room (table_of old) e
+    table-removed h =
+        let a = without None refl h in
+        let b =
+        set.same_set nat_cmp_total set.nat_cmp-IsAntisymmetric (table_of new).room (set.remove (table_of old).room e) (λ q.
+        room-slot new q
+        ∙ ap is_some (h q)
+        ∙ room_gone (nat_eq e q) (lookup (nat_eq q) old)
+        ∙ ap (λ b. not b && is_some (lookup (nat_eq q) old)) (same_turned q e)
+        ∙ ap (λ b. not (eq_by_cmp nat_cmp q e) && b) (sym (room-slot old q))
+        ∙ sym (set.contains-remove nat_cmp_total (table_of old).room e q)) in
+        λ i. record { items = a i; room = b i }
 
 module _ {T : Type 0} (ss : List (ℕ × Option T)) (e : ℕ) (d : IsDistinct nat_eq (keys_of ss)) (none : lookup (nat_eq e) ss ≡ None) where
   absent_at : (q : ℕ) → eq_by_cmp nat_cmp q e ≡ true → lookup (nat_eq q) ss ≡ None

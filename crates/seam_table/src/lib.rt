@@ -10,8 +10,8 @@
 //! numbers of all, for a walk over the items in rising number. [`Table::change_each`] changes all items where they lie.
 //!
 //! [`Table::get_mut`] lends an item to be changed where it lies, by one search: what was written is seen as if it had been put there. The
-//! hash has a fixed seed, so that runs are alike; numbers that a script chooses so that they collide make look-ups long. No contract tells
-//! of places.
+//! hash has a key ([`HashKey`]), so that no script can choose numbers that collide. Entries lie in the order in which they came, whatever
+//! the key, so runs are alike. No contract tells of places.
 //!
 //! `specs/Tables` has what contracts see of a table, `specs/Entries` which table the entries of a hashed map are, and `specs/Changes` what
 //! a closure does to an item that it is lent.
@@ -19,6 +19,7 @@
 //! For callers, of `proofs/`: `Found` (what a search of a table's entries finds) and `Changed` (what a table has after `change_each`).
 #![tactic(auto)]
 
+mod hash_key;
 mod memory;
 mod shared;
 
@@ -35,6 +36,7 @@ ghost use Rattle.seam_table.specs.Tables.{with_item, without_item, without_room,
 ghost use Rattle.seam_table.specs.Changes.{Leaves};
 ghost use Rattle.seam_table.specs.Entries.{table_of};
 
+pub use hash_key::{HashKey, TwoRounds};
 use indexmap::IndexMap;
 pub use memory::NoMemoryFor;
 pub use shared::Shared;
@@ -47,7 +49,7 @@ use std::marker::Model;
 #[derive(Drop)]
 pub struct Table<T> {
     // An entry without an item is room for one.
-    entries: IndexMap<u32, Option<T>>,
+    entries: IndexMap<u32, Option<T>, HashKey>,
     // Where the entry that was found last is. The next call is often for the same number: see `place_of`.
     last: usize,
 }
@@ -74,12 +76,12 @@ impl<T: Drop> Table<T> {
     ghost use Rattle.std.specs.Option.{option_copied_mut};
     ghost use Rattle.seam_table.specs.contracts.Table.{the_row};
 
-    /// A table with no item and room for none.
-    pub fn new(alloc: Global) -> Self
+    /// A table with no item and room for none, which finds numbers by a hash with this key.
+    pub fn new(alloc: Global, key: HashKey) -> Self
         ensures { result ≡ record { items = map.empty; room = set.empty } }
     {
         Table {
-            entries: IndexMap::new(alloc),
+            entries: IndexMap::with_hasher(alloc, key),
             last: 0,
         }
     }
@@ -97,7 +99,8 @@ impl<T: Drop> Table<T> {
 
     /// The item of the number, to be changed. The rest of the table stays as it is.
     pub fn get_mut(&mut self, n: u32) -> Option<&mut T>
-        ensures* writes_back { sem 𝓛 (LendsIf (the_row T.row) T.row self.entry result (with_item self.old n) self.old) }
+        ensures* writes_back { sem 𝓛 (LendsIf (the_row T.row) T.row self.entry result
+            (with_item self.old n) self.old) }
         ensures item { option_copied_mut result ≡ map.get self.old.items n }
     {
         let place = place_of(&self.entries, &mut self.last, n)?;
@@ -207,7 +210,11 @@ impl<T: Drop> Table<T> {
 
 // The index of the number's entry. It is sought only where `last` is not that entry's: since this is tested each time, no value of `last`
 // makes an answer wrong.
-fn place_of<T>(entries: &IndexMap<u32, Option<T>>, last: &mut usize, n: u32) -> Option<usize>
+fn place_of<T>(
+    entries: &IndexMap<u32, Option<T>, HashKey>,
+    last: &mut usize,
+    n: u32,
+) -> Option<usize>
     ensures there { IfSome result (λ i. slice_get (keys entries.now) i ≡ Some n) }
     ensures within { IfSome result (λ i. i < index_map_len entries.now) }
     ensures none { IfNone result (get nat_eq entries.now n ≡ None) }
@@ -223,8 +230,12 @@ fn place_of<T>(entries: &IndexMap<u32, Option<T>>, last: &mut usize, n: u32) -> 
 }
 
 // Makes an entry for the number, without an item, where it has none.
-fn make_entry<T: Drop>(entries: &mut IndexMap<u32, Option<T>>, n: u32) -> Result<(), AllocError>
-    ensures ok { OnOk result (Updates nat_eq entries.old entries.new n (Some (unwrap_or (get nat_eq entries.old n) None))) }
+fn make_entry<T: Drop>(
+    entries: &mut IndexMap<u32, Option<T>, HashKey>,
+    n: u32,
+) -> Result<(), AllocError>
+    ensures ok { OnOk result (Updates nat_eq entries.old entries.new n
+        (Some (unwrap_or (get nat_eq entries.old n) None))) }
     ensures err { OnErr result (IsUnchanged entries.old entries.new) }
     ensures absent { OnErr result (get nat_eq entries.old n ≡ None) }
     ensures unique { IsUnique nat_eq entries.old → IsUnique nat_eq entries.new }
@@ -235,7 +246,7 @@ fn make_entry<T: Drop>(entries: &mut IndexMap<u32, Option<T>>, n: u32) -> Result
 
 // The numbers of the entries that have an item, as they lie.
 fn kept_numbers<T>(
-    entries: &IndexMap<u32, Option<T>>,
+    entries: &IndexMap<u32, Option<T>, HashKey>,
     alloc: Global,
 ) -> Result<Vec<u32>, AllocError>
     ensures { IfOk result (λ v. v.items ≡ keys_of (filter (λ s. is_some s.1) entries.now.entries)) }
@@ -261,9 +272,13 @@ fn change_slot<T, F: Fn(&mut T)>(slot: &mut Option<T>, change: &F)
 }
 
 // Changes the item of each entry that has one.
-fn change_entries<T: Drop, F: Fn(&mut T)>(entries: &mut IndexMap<u32, Option<T>>, change: &F)
+fn change_entries<T: Drop, F: Fn(&mut T)>(
+    entries: &mut IndexMap<u32, Option<T>, HashKey>,
+    change: &F,
+)
     requires { F.IsAlwaysCallable change.now }
-    ensures after { (f : T → T) → Leaves F.Fn change.now f → entries.new.entries ≡ each (λ s. (s.0, option_map f s.1)) entries.old.entries }
+    ensures after { (f : T → T) → Leaves F.Fn change.now f →
+        entries.new.entries ≡ each (λ s. (s.0, option_map f s.1)) entries.old.entries }
     ensures keys { keys_of entries.new.entries ≡ keys_of entries.old.entries }
 {
     entries.retain(|_, slot| {
@@ -274,6 +289,6 @@ fn change_entries<T: Drop, F: Fn(&mut T)>(entries: &mut IndexMap<u32, Option<T>>
 
 /// An item that a search of a table's entries finds is the table's item of that number, and passes the test.
 pub fn what_is_found_is_there<T>()
-    ensures { (test : ℕ × T → Bool) (m : map.FinMap nat_cmp T) (p : ℕ × T) → find test (map.entries m) ≡ Some p →
-        (map.get m p.0 ≡ Some p.1) × (test p ≡ true) }
+    ensures { (test : ℕ × T → Bool) (m : map.FinMap nat_cmp T) (p : ℕ × T) →
+        find test (map.entries m) ≡ Some p → (map.get m p.0 ≡ Some p.1) × (test p ≡ true) }
 {}

@@ -1,8 +1,8 @@
 // SPDX-License-Identifier: MIT
 
-//! Tests of worlds: worked rows event by event, the steps of workers, and a round. A world of the standard settings has entities 1, 2 and
-//! so on at given places, gets orders of base nodes, and makes events one at a time. Where entities and their copies end, and what clients
-//! are shown, is in `rows/`.
+//! Tests of worlds: worked rows event by event, the steps of workers, and a round. A world of the standard settings has an entity at a
+//! given place, gets orders of base nodes, and makes events one at a time. Where entities and their copies end, and what clients are
+//! shown, is in `rows/`.
 #![tactic(auto)]
 
 #[cfg(test)]
@@ -13,9 +13,5 @@ mod first;
 mod orders;
 #[cfg(test)]
 mod rounds;
-#[cfg(test)]
-mod seen;
-#[cfg(test)]
-mod trial;
 #[cfg(test)]
 mod workers;

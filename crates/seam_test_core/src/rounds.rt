@@ -4,6 +4,7 @@ ghost use Rattle.std.specs.Prelude.{◌≡◌, IfOk};
 ghost use Rattle.seam_node_steps.specs.Prelude.{two_cells as halves, made_at};
 ghost use Rattle.seam_law_clients.specs.Crossing as crossing;
 
+use crate::events::has_real;
 use seam_call::{BaseNode, Batch, Call, Create, Order, Sender};
 use seam_core::World;
 use seam_defs::{Deed, Defs, Listed, Part, Settings};
@@ -73,14 +74,6 @@ fn run<R: Threads + Wait + Sync>(rt: &R, alloc: Global) -> Result<(World, Journa
     Ok(run_round(rt, alloc, world, batch(alloc)?, &workers)?)
 }
 
-// Whether the entity is in the cell.
-fn is_in(world: &World, cell: u8, e: u32) -> bool {
-    match world.net().node(cell) {
-        Some(node) => node.has_real(e),
-        None => false,
-    }
-}
-
 // How many lines the entity's client was shown in the round, where this is its base node.
 fn lines_shown(world: &World, base: u8, e: u32) -> Option<usize> {
     let part = world.net().node(base)?.as_base()?.part(e)?;
@@ -91,7 +84,7 @@ fn lines_shown(world: &World, base: u8, e: u32) -> Option<usize> {
 type Seen = ((bool, bool), (Option<usize>, Option<usize>), (bool, bool));
 
 fn seen_of(world: &World, journal: &Journal) -> Seen {
-    let reals = (is_in(world, 0, 3), is_in(world, 1, 3));
+    let reals = (has_real(world.net(), 0, 3), has_real(world.net(), 1, 3));
     let lines = (lines_shown(world, 17, 1), lines_shown(world, 16, 2));
     let were_calls = !journal.calls.as_slice().is_empty();
     let were_reaps = !journal.reaps.as_slice().is_empty();

@@ -1,10 +1,9 @@
 // The world of a call that comes early, stepped by workers in threads until nothing is left to do; and their steps, made again one by one.
 
-use crate::events::early_call;
-use crate::seen::step;
-use crate::trial::Trial;
-use seam_core::Node;
-use seam_machine::{Event, Net};
+use crate::events::{EARLY_CALL, has_real, step};
+use crate::first::first_world;
+use seam_core::World;
+use seam_machine::Event;
 use seam_workers::{Crew, OpenGate, run_workers};
 use std::alloc::Global;
 use std::sync::Wait;
@@ -15,13 +14,6 @@ use std::thread::Threads;
 const TURNS: u32 = 1_000;
 
 const MOST_STEPS: usize = 55;
-
-fn has_real(net: &Net<Node>, cell: u8, e: u32) -> bool {
-    match net.node(cell) {
-        Some(node) => node.has_real(e),
-        None => false,
-    }
-}
 
 // What workers make of the world: whether it is quiet, whether cell 1 has the avatar, and the steps.
 fn run<R: Threads + Wait + Sync>(
@@ -36,21 +28,21 @@ fn run<R: Threads + Wait + Sync>(
         workers,
         turns: TURNS,
     };
-    let Trial { world, .. } = early_call(alloc)?;
+    let world = first_world(alloc, &EARLY_CALL)?;
     let (net, steps) = run_workers(rt, alloc, world.apart(), crew, &OpenGate)?;
     Ok((net.is_quiet(), has_real(&net, 1, 1), steps))
 }
 
-fn play(trial: &mut Trial, alloc: Global, steps: &[Event]) -> Result<bool, Fail> {
+fn play(world: &mut World, alloc: Global, steps: &[Event]) -> Result<bool, Fail> {
     for event in steps {
-        step(trial, alloc, *event)?;
+        step(world, alloc, *event)?;
     }
-    Ok(trial.world.net().is_quiet())
+    Ok(world.net().is_quiet())
 }
 
 // Whether the steps, which are few, leave the world quiet when they are made again.
 fn replayed(alloc: Global, steps: &[Event]) -> Result<bool, Fail> {
-    let mut again = early_call(alloc)?;
+    let mut again = first_world(alloc, &EARLY_CALL)?;
     let quiet = play(&mut again, alloc, steps)?;
     Ok(quiet && steps.len() < MOST_STEPS)
 }

@@ -1,5 +1,6 @@
 use crate::builtin::sent;
 use seam_ghosts::{GhostBook, Kept};
+use seam_table::HashKey;
 use std::alloc::{AllocError, Global};
 use std::test::Fail;
 
@@ -37,7 +38,7 @@ fn hear(alloc: Global, book: &mut GhostBook<char>) -> Result<(bool, bool, bool),
 
 #[test]
 fn a_late_copy_is_ignored_after_a_drop(rt: HostRuntime) -> Result<(), Fail> {
-    let mut book = sent(GhostBook::new(rt.alloc()));
+    let mut book = sent(GhostBook::new(rt.alloc(), HashKey::new(1)));
     assert_eq!(rt; hear(rt.alloc(), &mut book)?, (true, true, true));
     Ok(())
 }

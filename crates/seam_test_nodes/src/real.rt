@@ -4,6 +4,7 @@ use seam_call::{Call, Sender};
 use seam_defs::{Args, Deed, Defs, Part, Settings};
 use seam_entity::{Did, Msg, Observed, Real, Witness};
 use seam_geo::Pos;
+use seam_table::HashKey;
 use seam_value::Value;
 use seam_view::Look;
 use std::alloc::{AllocError, Global};
@@ -16,6 +17,44 @@ struct Told(u64, &'static [u8], i128);
 const HIT: Told = Told(1, b"hit", 30);
 
 const HEAL: Told = Told(2, b"heal", 5);
+
+// What a real does.
+#[derive(Clone, Copy)]
+enum Does {
+    // It is offered the call: whether it is executed, and whether that changes what others see.
+    Execute(Told),
+    // It prepares for the call: whether others will see the change, and whether the call leaves 70 of the first property.
+    Prepare(Told),
+    // It is copied: whether the copy is of version 1, and whether it has 70 of the first property.
+    Copy,
+    // Whether it fits the settings, and whether it has a ready call.
+    Fits,
+    // Its ready call is executed: whether others see the change, and whether it was to leave version 2 and 75 of the first property.
+    ExecuteReady,
+    // It is shown: whether a copy shows others what the real does, and whether its own client is shown 75 of the first property.
+    Show,
+    // It gets a witness: whether it has one then; and whether the witness tells its own state of version 2, and does so again.
+    GiveWitness,
+    Tell,
+}
+
+// What it does, and what comes of it.
+type Row = (Does, (bool, bool));
+
+// The later call is held, the earlier one leaves what it was prepared to, and the copy has that. Then the held call is executed, and what
+// is shown has that. Its witness tells its state once, and is back in it.
+const LIFE: [Row; 10] = [
+    (Does::Execute(HEAL), (false, false)),
+    (Does::Prepare(HIT), (true, true)),
+    (Does::Execute(HIT), (true, true)),
+    (Does::Copy, (true, true)),
+    (Does::Fits, (true, true)),
+    (Does::ExecuteReady, (true, true)),
+    (Does::Fits, (true, false)),
+    (Does::Show, (true, true)),
+    (Does::GiveWitness, (true, true)),
+    (Does::Tell, (true, false)),
+];
 
 fn call(alloc: Global, defs: &Defs, told: Told) -> Result<Call, Fail> {
     let Told(number, name, by) = told;
@@ -30,7 +69,7 @@ fn call(alloc: Global, defs: &Defs, told: Told) -> Result<Call, Fail> {
     })
 }
 
-// Executes the call where it may be offered.
+// Offers the call to the real where it may be.
 fn execute(real: &mut Real, defs: &Defs, call: Call) -> Result<Did, Fail> {
     if call.number == 0 {
         Err("no number")?;
@@ -50,36 +89,27 @@ fn execute(real: &mut Real, defs: &Defs, call: Call) -> Result<Did, Fail> {
     Ok(did)
 }
 
-// Whether the call is held.
-fn is_held(alloc: Global, real: &mut Real, defs: &Defs, told: Told) -> Result<bool, Fail> {
-    let call = call(alloc, defs, told)?;
-    Ok(matches!(execute(real, defs, call)?, Did::Held))
+// Whether the call was executed, and whether that changes what others see.
+fn outcome(did: &Did) -> (bool, bool) {
+    match did {
+        Did::Done(changed) => (true, *changed),
+        Did::Held => (false, false),
+        Did::Stale(_) => (false, true),
+    }
 }
 
-// Whether the call is executed, and changes what others see.
-fn is_done(alloc: Global, real: &mut Real, defs: &Defs, told: Told) -> Result<bool, Fail> {
-    let call = call(alloc, defs, told)?;
-    Ok(matches!(execute(real, defs, call)?, Did::Done(true)))
-}
-
-// Whether others will see what the call changes, and whether it leaves 70 of the first property.
-fn prepared(alloc: Global, real: &mut Real, defs: &Defs, told: Told) -> Result<(bool, bool), Fail> {
-    let call = call(alloc, defs, told)?;
-    let after = real.prepare(defs, &call)?;
+fn prepare(real: &mut Real, defs: &Defs, call: &Call) -> Result<(bool, bool), AllocError> {
+    let after = real.prepare(defs, call)?;
     let left = after.props_over(real.state()).at(0) == Some(&Value::Number(70));
     Ok((after.changed, left))
 }
 
-// The version of the copy, and whether it has 70 of the first property.
-fn copied(real: &Real, defs: &Defs) -> Result<(u64, bool), AllocError> {
+fn copy(real: &Real, defs: &Defs) -> Result<(bool, bool), AllocError> {
     let copy = real.copy_out(defs)?;
-    Ok((
-        copy.version,
-        copy.state.props.at(0) == Some(&Value::Number(70)),
-    ))
+    let left = copy.state.props.at(0) == Some(&Value::Number(70));
+    Ok((copy.version == 1, left))
 }
 
-// Executes the ready call where there is one; whether others see the change, and whether it was to leave 75 of the first property.
 fn execute_ready(real: &mut Real, defs: &Defs) -> Result<(bool, bool), Fail> {
     if !real.is_ready() {
         Err("no ready call")?;
@@ -93,8 +123,7 @@ fn execute_ready(real: &mut Real, defs: &Defs) -> Result<(bool, bool), Fail> {
     Ok((real.execute_ready(defs)?, healed))
 }
 
-// The first property as others and its own client are shown it.
-fn shown(real: &Real, defs: &Defs) -> Result<(bool, bool), AllocError> {
+fn show(real: &Real, defs: &Defs) -> Result<(bool, bool), AllocError> {
     let copy = real.copy_out(defs)?;
     let others = Observed::of_copy(&copy).copy_for_others(defs)?;
     let same = others.state.props.at(0) == real.observed().copy_for_others(defs)?.state.props.at(0);
@@ -102,8 +131,12 @@ fn shown(real: &Real, defs: &Defs) -> Result<(bool, bool), AllocError> {
     Ok((same, own.props.at(0) == Some(&Value::Number(75))))
 }
 
-// Whether the witness tells its own state of version 2 once.
-fn told_once(real: &mut Real) -> Result<(bool, bool), Fail> {
+fn give_witness(alloc: Global, real: &mut Real) -> Result<(bool, bool), AllocError> {
+    real.put_witness(Witness::new(alloc, HashKey::new(1), &Settings::standard())?);
+    Ok((real.has_witness(), true))
+}
+
+fn tell(real: &mut Real) -> Result<(bool, bool), Fail> {
     let Some(mut witness) = real.take_witness() else {
         return Err("no witness")?;
     };
@@ -115,47 +148,42 @@ fn told_once(real: &mut Real) -> Result<(bool, bool), Fail> {
     witness.keep(&[], &looks, 2, 1);
     let second = witness.is_own_due(2);
     real.put_witness(witness);
-    Ok((first, second))
+    Ok((first, second || !real.has_witness()))
 }
 
-fn create(alloc: Global, defs: &Defs) -> Result<Real, AllocError> {
-    Real::create(alloc, defs, 1, AVATAR, Pos { x: 100, z: 100 })
+fn act(alloc: Global, real: &mut Real, defs: &Defs, does: Does) -> Result<(bool, bool), Fail> {
+    match does {
+        Does::Execute(told) => {
+            let did = execute(real, defs, call(alloc, defs, told)?)?;
+            Ok(outcome(&did))
+        }
+        Does::Prepare(told) => Ok(prepare(real, defs, &call(alloc, defs, told)?)?),
+        Does::Copy => Ok(copy(real, defs)?),
+        Does::Fits => Ok((real.fits(defs, &Settings::standard()), real.is_ready())),
+        Does::ExecuteReady => execute_ready(real, defs),
+        Does::Show => Ok(show(real, defs)?),
+        Does::GiveWitness => Ok(give_witness(alloc, real)?),
+        Does::Tell => tell(real),
+    }
 }
 
-// Whether the later call is held, the earlier one leaves what it was prepared to, and the copy has that.
-fn take_calls(alloc: Global, real: &mut Real, defs: &Defs) -> Result<bool, Fail> {
-    let held = is_held(alloc, real, defs, HEAL)?;
-    let prepared = prepared(alloc, real, defs, HIT)?;
-    let done = is_done(alloc, real, defs, HIT)?;
-    let copied = copied(real, defs)?;
-    Ok((held, prepared, done, copied) == (true, (true, true), true, (1, true)))
+// How many rows the real keeps to before the first one that it does not.
+fn play(alloc: Global, real: &mut Real, defs: &Defs) -> Result<usize, Fail> {
+    let mut kept = 0usize;
+    for (does, gives) in LIFE {
+        if act(alloc, real, defs, does)? != gives {
+            return Ok(kept);
+        }
+        kept = kept.saturating_add(1);
+    }
+    Ok(kept)
 }
 
-// Whether the held call is executed then, and what is shown has that.
-fn go_on(real: &mut Real, defs: &Defs) -> Result<bool, Fail> {
-    let fits = real.fits(defs, &Settings::standard());
-    let executed = execute_ready(real, defs)?;
-    let ready = real.is_ready();
-    let shown = shown(real, defs)?;
-    Ok((fits, executed, ready, shown) == (true, (true, true), false, (true, true)))
-}
-
-// Whether its witness tells its state once, and is back in it.
-fn tell(alloc: Global, real: &mut Real) -> Result<bool, Fail> {
-    real.put_witness(Witness::new(alloc, &Settings::standard())?);
-    let told = told_once(real)?;
-    Ok(told == (true, false) && real.has_witness())
-}
-
-fn live(alloc: Global, real: &mut Real, defs: &Defs) -> Result<(bool, bool, bool), Fail> {
-    let called = take_calls(alloc, real, defs)?;
-    let gone_on = go_on(real, defs)?;
-    Ok((called, gone_on, tell(alloc, real)?))
-}
-
-fn lived(alloc: Global, defs: &Defs) -> Result<(bool, bool, bool), Fail> {
-    let mut real = sent(create(alloc, defs)?);
-    live(alloc, &mut real, defs)
+// The real is owned here alone, where there is one way out.
+fn lived(alloc: Global, defs: &Defs) -> Result<usize, Fail> {
+    let pos = Pos { x: 100, z: 100 };
+    let mut real = sent(Real::create(alloc, defs, 1, AVATAR, pos)?);
+    play(alloc, &mut real, defs)
 }
 
 // A message goes from one thread to another.
@@ -167,6 +195,6 @@ fn message_crosses() -> bool {
 fn a_real_executes_calls_in_order_and_tells_its_state_once(rt: HostRuntime) -> Result<(), Fail> {
     let defs = builtin(rt.alloc())?;
     let lived = lived(rt.alloc(), &defs)?;
-    assert_eq!(rt; (lived, message_crosses()), ((true, true, true), true));
+    assert_eq!(rt; (lived, message_crosses()), (LIFE.len(), true));
     Ok(())
 }

@@ -1,50 +1,133 @@
 use crate::builtin::sent;
-use seam_table::Table;
+use seam_table::{HashKey, Table};
 use std::alloc::{AllocError, Global};
 use std::test::Fail;
 
-fn take_one(table: &mut Table<char>) -> Result<bool, AllocError> {
-    let put = table.put(7, 'p').is_ok();
-    table.reserve(2)?;
-    let room = (table.has_room(2), table.has_room(3));
-    let absent = table.get(2).is_none();
-    let taken = table.take(7);
-    let gone = table.get(7).is_none();
-    Ok((put, room, absent, taken, gone) == (true, (true, false), true, Some('p'), true))
+// What is asked of a table of numbers.
+#[derive(Clone, Copy)]
+enum Does {
+    Put(u32, u32),
+    // Each number from 1 to 99 under its triple.
+    Fill,
+    Reserve(u32),
+    PutReserved(u32, u32),
+    Take(u32),
+    Remove(u32),
+    Get(u32),
+    HasRoom(u32),
+    // Each item is halved where it lies.
+    Halve,
+    // Whether just these have an item, in this order.
+    Numbers(&'static [u32]),
 }
 
-fn put_two(table: &mut Table<char>) -> Result<bool, AllocError> {
-    table.reserve(7)?;
-    let first = table.put_reserved(7, 'q');
-    table.reserve(2)?;
-    let second = table.put_reserved(2, 'r');
-    let seven = table.get(7) == Some(&'q');
-    let two = table.get(2) == Some(&'r');
-    Ok((first, second, seven, two) == (None, None, true, true))
+// What it gives: an item, if it has one, or whether it is so or was done.
+#[derive(Clone, Copy, PartialEq, Eq)]
+enum Gives {
+    Item(Option<u32>),
+    Is(bool),
 }
 
-fn remove_one(table: &mut Table<char>) -> bool {
-    let removed = table.remove(2);
-    let room = table.has_room(2);
-    (removed, room, table.remove(2)) == (Some('r'), false, None)
-}
+type Row = (Does, Gives);
 
 // An item is changed in the room that it left.
-fn change(table: &mut Table<char>) -> Result<bool, AllocError> {
-    let taken = take_one(table)?;
-    let put = put_two(table)?;
-    Ok(taken && put && remove_one(table))
+const CHANGED: &[Row] = &[
+    (Does::Put(7, 70), Gives::Is(true)),
+    (Does::Reserve(2), Gives::Is(true)),
+    (Does::HasRoom(2), Gives::Is(true)),
+    (Does::HasRoom(3), Gives::Is(false)),
+    (Does::Get(2), Gives::Item(None)),
+    (Does::Take(7), Gives::Item(Some(70))),
+    (Does::Get(7), Gives::Item(None)),
+    (Does::Reserve(7), Gives::Is(true)),
+    (Does::PutReserved(7, 71), Gives::Item(None)),
+    (Does::Reserve(2), Gives::Is(true)),
+    (Does::PutReserved(2, 21), Gives::Item(None)),
+    (Does::Get(7), Gives::Item(Some(71))),
+    (Does::Get(2), Gives::Item(Some(21))),
+    (Does::Remove(2), Gives::Item(Some(21))),
+    (Does::HasRoom(2), Gives::Is(false)),
+    (Does::Remove(2), Gives::Item(None)),
+];
+
+// The numbers come in rising order.
+const LISTED: &[Row] = &[
+    (Does::Numbers(&[]), Gives::Is(true)),
+    (Does::Put(9, 90), Gives::Is(true)),
+    (Does::Put(2, 20), Gives::Is(true)),
+    (Does::Put(7, 70), Gives::Is(true)),
+    (Does::Put(4, 40), Gives::Is(true)),
+    (Does::Reserve(3), Gives::Is(true)),
+    (Does::Take(7), Gives::Item(Some(70))),
+    (Does::Numbers(&[2, 4, 9]), Gives::Is(true)),
+];
+
+// Each item is changed where it lies.
+const HALVED: &[Row] = &[
+    (Does::Put(9, 90), Gives::Is(true)),
+    (Does::Put(2, 20), Gives::Is(true)),
+    (Does::Put(7, 70), Gives::Is(true)),
+    (Does::Reserve(4), Gives::Is(true)),
+    (Does::Take(7), Gives::Item(Some(70))),
+    (Does::Halve, Gives::Is(true)),
+    (Does::HasRoom(4), Gives::Is(true)),
+    (Does::HasRoom(7), Gives::Is(true)),
+    (Does::Get(2), Gives::Item(Some(10))),
+    (Does::Get(9), Gives::Item(Some(45))),
+    (Does::Get(7), Gives::Item(None)),
+];
+
+// Numbers are found in any order.
+const FOUND: &[Row] = &[
+    (Does::Get(0), Gives::Item(None)),
+    (Does::Fill, Gives::Is(true)),
+    (Does::Reserve(10), Gives::Is(true)),
+    // rising, and absent between two items
+    (Does::Get(0), Gives::Item(None)),
+    (Does::Get(3), Gives::Item(Some(1))),
+    (Does::Get(6), Gives::Item(Some(2))),
+    (Does::Get(10), Gives::Item(None)),
+    (Does::Get(11), Gives::Item(None)),
+    (Does::Get(12), Gives::Item(Some(4))),
+    (Does::Get(240), Gives::Item(Some(80))),
+    (Does::Get(292), Gives::Item(None)),
+    (Does::Get(297), Gives::Item(Some(99))),
+    (Does::Get(298), Gives::Item(None)),
+    (Does::Get(4000), Gives::Item(None)),
+    // falling
+    (Does::Get(297), Gives::Item(Some(99))),
+    (Does::Get(9), Gives::Item(Some(3))),
+    (Does::Get(8), Gives::Item(None)),
+    (Does::Get(4001), Gives::Item(None)),
+];
+
+struct Case {
+    name: &'static str,
+    rows: &'static [Row],
 }
 
-fn changed(alloc: Global) -> Result<bool, AllocError> {
-    let mut table = sent(Table::new(alloc));
-    change(&mut table)
-}
+static CASES: [Case; 4] = [
+    Case {
+        name: "an item is changed in the room that it left",
+        rows: CHANGED,
+    },
+    Case {
+        name: "numbers are listed in rising order",
+        rows: LISTED,
+    },
+    Case {
+        name: "each item is changed where it lies",
+        rows: HALVED,
+    },
+    Case {
+        name: "numbers are found in any order",
+        rows: FOUND,
+    },
+];
 
-// Puts ten times each number under it, and tells whether all are put.
-fn put_all(table: &mut Table<u32>, numbers: &[u32]) -> bool {
-    for n in numbers {
-        if table.put(*n, n.saturating_mul(10)).is_err() {
+fn fill(table: &mut Table<u32>) -> bool {
+    for n in 1..100 {
+        if table.put(3 * n, n).is_err() {
             return false;
         }
     }
@@ -55,92 +138,53 @@ fn has_numbers(table: &Table<u32>, alloc: Global, wanted: &[u32]) -> Result<bool
     Ok(table.numbers(alloc)?.as_slice() == wanted)
 }
 
-// The numbers come in rising order.
-fn list(alloc: Global, table: &mut Table<u32>) -> Result<bool, AllocError> {
-    let empty = has_numbers(table, alloc, &[])?;
-    let put = put_all(table, &[9, 2, 7, 4]);
-    table.reserve(3)?;
-    let taken = table.take(7) == Some(70);
-    Ok(empty && put && taken && has_numbers(table, alloc, &[2, 4, 9])?)
+fn put_reserved(table: &mut Table<u32>, number: u32, item: u32) -> Gives {
+    if !table.has_room(number) {
+        return Gives::Is(false);
+    }
+    Gives::Item(table.put_reserved(number, item))
 }
 
-fn listed(alloc: Global) -> Result<bool, AllocError> {
-    let mut table = Table::new(alloc);
-    list(alloc, &mut table)
+fn act(alloc: Global, table: &mut Table<u32>, does: Does) -> Result<Gives, AllocError> {
+    match does {
+        Does::Put(number, item) => Ok(Gives::Is(table.put(number, item).is_ok())),
+        Does::Fill => Ok(Gives::Is(fill(table))),
+        Does::Reserve(number) => Ok(Gives::Is(table.reserve(number).is_ok())),
+        Does::PutReserved(number, item) => Ok(put_reserved(table, number, item)),
+        Does::Take(number) => Ok(Gives::Item(table.take(number))),
+        Does::Remove(number) => Ok(Gives::Item(table.remove(number))),
+        Does::Get(number) => Ok(Gives::Item(table.get(number).copied())),
+        Does::HasRoom(number) => Ok(Gives::Is(table.has_room(number))),
+        Does::Halve => {
+            table.change_each(|item| *item /= 2);
+            Ok(Gives::Is(true))
+        }
+        Does::Numbers(wanted) => Ok(Gives::Is(has_numbers(table, alloc, wanted)?)),
+    }
 }
 
-// Each item is changed where it lies.
-fn halve_all(table: &mut Table<u32>) -> Result<bool, AllocError> {
-    let put = put_all(table, &[9, 2, 7]);
-    table.reserve(4)?;
-    let taken = table.take(7) == Some(70);
-    table.change_each(|item| *item /= 2);
-    let room = table.has_room(4) && table.has_room(7);
-    let two = table.get(2) == Some(&10);
-    let nine = table.get(9) == Some(&45);
-    Ok(put && taken && room && two && nine && table.get(7).is_none())
+// How many rows a table keeps to before the first one that it does not.
+fn play(alloc: Global, table: &mut Table<u32>, rows: &[Row]) -> Result<usize, AllocError> {
+    let mut kept = 0usize;
+    for (does, gives) in rows {
+        if act(alloc, table, *does)? != *gives {
+            return Ok(kept);
+        }
+        kept = kept.saturating_add(1);
+    }
+    Ok(kept)
 }
 
-fn halved(alloc: Global) -> Result<bool, AllocError> {
-    let mut table = Table::new(alloc);
-    halve_all(&mut table)
+fn played(alloc: Global, rows: &[Row]) -> Result<usize, AllocError> {
+    let mut table = sent(Table::new(alloc, HashKey::new(1)));
+    play(alloc, &mut table, rows)
 }
 
 #[test]
-fn tables_change_and_list_their_items(rt: HostRuntime) -> Result<(), Fail> {
-    let changed = changed(rt.alloc())?;
-    let listed = listed(rt.alloc())?;
-    let halved = halved(rt.alloc())?;
-    assert_eq!(rt; (changed, listed, halved), (true, true, true));
-    Ok(())
-}
-
-const FOUND: [(u32, Option<u32>); 15] = [
-    // rising, and absent between two items
-    (0, None),
-    (3, Some(1)),
-    (6, Some(2)),
-    (10, None),
-    (11, None),
-    (12, Some(4)),
-    (240, Some(80)),
-    (292, None),
-    (297, Some(99)),
-    (298, None),
-    (4000, None),
-    // falling
-    (297, Some(99)),
-    (9, Some(3)),
-    (8, None),
-    (4001, None),
-];
-
-// Each number from 1 to 99 stands under its triple.
-fn fill(table: &mut Table<u32>) -> Result<bool, AllocError> {
-    let empty = table.get(0).is_none();
-    for n in 1..100 {
-        if table.put(3 * n, n).is_err() {
-            return Ok(false);
-        }
+fn tables_give_what_the_rows_say(rt: HostRuntime) -> Result<(), Fail> {
+    for case in &CASES {
+        let kept = played(rt.alloc(), case.rows)?;
+        assert_eq!(rt; kept, case.rows.len(), "{}", case.name);
     }
-    table.reserve(10)?;
-    Ok(empty)
-}
-
-// The first number under which something else is found.
-fn wrong_in(table: &Table<u32>) -> Option<u32> {
-    for (number, item) in FOUND {
-        if table.get(number).copied() != item {
-            return Some(number);
-        }
-    }
-    None
-}
-
-#[test]
-fn numbers_are_found_in_any_order(rt: HostRuntime) -> Result<(), Fail> {
-    let mut table = Table::new(rt.alloc());
-    let filled = fill(&mut table)?;
-    assert_eq!(rt; (filled, wrong_in(&table)), (true, None));
     Ok(())
 }

@@ -4,6 +4,7 @@ ghost use Rattle.std.specs.List.Sorted.{IsStrictlySortedBy};
 
 use crate::sent;
 use seam_geo::Pos;
+use seam_table::HashKey;
 use seam_view::{Look, Seen, View};
 use std::alloc::AllocError;
 use std::test::Fail;
@@ -49,7 +50,7 @@ fn look(view: &mut View) -> Result<(bool, bool), AllocError> {
 
 #[test]
 fn enters_at_the_radius_and_leaves_past_the_hysteresis(rt: HostRuntime) -> Result<(), Fail> {
-    let mut view = sent(View::new(rt.alloc(), 300, 10));
+    let mut view = sent(View::new(rt.alloc(), HashKey::new(1), 300, 10));
     assert_eq!(rt; look(&mut view)?, (true, true));
     Ok(())
 }

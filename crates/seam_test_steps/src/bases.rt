@@ -1,5 +1,5 @@
 // The cases of a base node's step.
-use crate::feeding::{AVATAR, Fed, builtin, feed, order};
+use crate::feeding::{AVATAR, Fed, Makes, builtin, feed, order};
 use crate::told::{Told, are_sent};
 use seam_base::Base;
 use seam_defs::Settings;
@@ -94,19 +94,19 @@ fn load(base: &mut Base, alloc: Global) -> Result<(), AllocError> {
     attach(base, alloc)
 }
 
-fn give(base: &mut Base, alloc: Global, fed: Fed) -> Result<(), Fail> {
-    if base.add_order(order(alloc, fed)?).is_err() {
+fn give(base: &mut Base, makes: Makes<'_>, fed: Fed) -> Result<(), Fail> {
+    if base.add_order(order(makes, fed)?).is_err() {
         return Err("no memory")?;
     }
     Ok(())
 }
 
-fn come(base: &mut Base, alloc: Global, comes: Comes) -> Result<Out<Msg>, Fail> {
+fn come(base: &mut Base, makes: Makes<'_>, comes: Comes) -> Result<Out<Msg>, Fail> {
     match comes {
-        Comes::Fed(fed) => feed(base, alloc, fed),
+        Comes::Fed(fed) => feed(base, makes, fed),
         Comes::Order(fed) => {
-            give(base, alloc, fed)?;
-            feed(base, alloc, Fed::Task)
+            give(base, makes, fed)?;
+            feed(base, makes, Fed::Task)
         }
     }
 }
@@ -127,12 +127,12 @@ fn seen_in(base: &Base) -> Seen {
 }
 
 // What comes is as the rows say: gives the number of the first row that the base node does not keep to.
-fn play(alloc: Global, base: &mut Base, rows: &[Row]) -> Result<Option<u32>, Fail> {
+fn play(makes: Makes<'_>, base: &mut Base, rows: &[Row]) -> Result<Option<u32>, Fail> {
     let mut number = 0u32;
     for row in rows {
         let Row(comes, sent, then) = *row;
         number = number.saturating_add(1);
-        let mut out = come(base, alloc, comes)?;
+        let mut out = come(base, makes, comes)?;
         let well = are_sent(&mut out, sent) && seen_in(base) == then;
         if !well {
             return Ok(Some(number));
@@ -141,10 +141,10 @@ fn play(alloc: Global, base: &mut Base, rows: &[Row]) -> Result<Option<u32>, Fai
     Ok(None)
 }
 
-fn play_all(alloc: Global, base: &mut Base, parts: &[&[Row]]) -> Result<Option<u32>, Fail> {
-    load(base, alloc)?;
+fn play_all(makes: Makes<'_>, base: &mut Base, parts: &[&[Row]]) -> Result<Option<u32>, Fail> {
+    load(base, makes.alloc)?;
     for rows in parts {
-        if let Some(number) = play(alloc, base, rows)? {
+        if let Some(number) = play(makes, base, rows)? {
             return Ok(Some(number));
         }
     }
@@ -152,9 +152,9 @@ fn play_all(alloc: Global, base: &mut Base, parts: &[&[Row]]) -> Result<Option<u
 }
 
 // The base node is owned here alone, where there is one way out: a drop of all its parts is long to prove.
-fn play_loaded(alloc: Global, parts: &[&[Row]]) -> Result<Option<u32>, Fail> {
-    let mut base = empty(alloc)?;
-    play_all(alloc, &mut base, parts)
+fn play_loaded(makes: Makes<'_>, parts: &[&[Row]]) -> Result<Option<u32>, Fail> {
+    let mut base = empty(makes.alloc)?;
+    play_all(makes, &mut base, parts)
 }
 
 // Cell order; base orders about an entity of this node, and about one of the other node, to which the call goes; tick order; reap
@@ -259,8 +259,10 @@ static CASES: [Case; 4] = [
 
 #[test]
 fn base_nodes_send_and_have_what_the_rows_say(rt: HostRuntime) -> Result<(), Fail> {
+    let alloc: Global = rt.alloc();
+    let defs = builtin(alloc)?;
     for case in &CASES {
-        let wrong = play_loaded(rt.alloc(), case.parts)?;
+        let wrong = play_loaded(Makes { alloc, defs: &defs }, case.parts)?;
         assert_eq!(rt; wrong, None, "{}", case.name);
     }
     Ok(())

@@ -2,7 +2,7 @@
 ghost use Rattle.std.specs.Prelude.{◌≡◌, IfOk};
 ghost use Rattle.seam_node_steps.specs.Loads.{one_cell};
 
-use crate::feeding::{AVATAR, Fed, PLACE, builtin, feed};
+use crate::feeding::{AVATAR, Fed, Makes, PLACE, builtin, feed};
 use crate::told::{Told, are_sent};
 use seam_call::Create;
 use seam_cell::Cell;
@@ -138,12 +138,12 @@ fn seen_in(cell: &Cell) -> Seen {
 }
 
 // Feeds the cell as the rows say, and gives the number of the first row that it does not keep to.
-fn play(alloc: Global, cell: &mut Cell, rows: &[Row]) -> Result<Option<u32>, Fail> {
+fn play(makes: Makes<'_>, cell: &mut Cell, rows: &[Row]) -> Result<Option<u32>, Fail> {
     let mut number = 0u32;
     for row in rows {
         let Row(fed, sent, then) = *row;
         number = number.saturating_add(1);
-        let mut out = feed(cell, alloc, fed)?;
+        let mut out = feed(cell, makes, fed)?;
         let well = are_sent(&mut out, sent) && seen_in(cell) == then;
         if !well {
             return Ok(Some(number));
@@ -152,13 +152,13 @@ fn play(alloc: Global, cell: &mut Cell, rows: &[Row]) -> Result<Option<u32>, Fai
     Ok(None)
 }
 
-fn play_all(alloc: Global, cell: &mut Cell, case: &Case) -> Result<Option<u32>, Fail>
+fn play_all(makes: Makes<'_>, cell: &mut Cell, case: &Case) -> Result<Option<u32>, Fail>
     requires tree { cell.old.tree ≡ one_cell 10000 }
     requires size { cell.old.here.settings.size ≡ 10000 }
 {
-    start(cell, alloc, case.before)?;
+    start(cell, makes.alloc, case.before)?;
     for rows in case.parts {
-        if let Some(number) = play(alloc, cell, rows)? {
+        if let Some(number) = play(makes, cell, rows)? {
             return Ok(Some(number));
         }
     }
@@ -166,9 +166,9 @@ fn play_all(alloc: Global, cell: &mut Cell, case: &Case) -> Result<Option<u32>, 
 }
 
 // The cell is owned here alone, where there is one way out: a drop of all its parts is long to prove.
-fn play_case(alloc: Global, case: &Case) -> Result<Option<u32>, Fail> {
-    let mut cell = empty(alloc)?;
-    play_all(alloc, &mut cell, case)
+fn play_case(makes: Makes<'_>, case: &Case) -> Result<Option<u32>, Fail> {
+    let mut cell = empty(makes.alloc)?;
+    play_all(makes, &mut cell, case)
 }
 
 // Survey task, of each real in rising number: cell 1, which is near, gets copies. Then the client is told of itself and of entity 2.
@@ -350,8 +350,10 @@ static CASES: [Case; 7] = [
 
 #[test]
 fn cells_send_and_have_what_the_rows_say(rt: HostRuntime) -> Result<(), Fail> {
+    let alloc: Global = rt.alloc();
+    let defs = builtin(alloc)?;
     for case in &CASES {
-        let wrong = play_case(rt.alloc(), case)?;
+        let wrong = play_case(Makes { alloc, defs: &defs }, case)?;
         assert_eq!(rt; wrong, None, "{}", case.name);
     }
     Ok(())

@@ -1,11 +1,12 @@
 // What nodes are fed, as plain data.
 ghost use Rattle.std.specs.Prelude.{◌≡◌, true};
 
-use seam_call::{Call, GhostCopy, Order, Sender, Shown, Update};
+use seam_call::{Call, Order, Sender, Shown, Update};
 use seam_defs::{Args, Deed, Defs, Part, Settings};
 use seam_entity::{Msg, Parcel, Real, Witness};
 use seam_geo::Pos;
 use seam_machine::{Input, Machine, Out};
+use seam_table::HashKey;
 use seam_tree::CellSet;
 use std::alloc::{AllocError, Global};
 use std::test::Fail;
@@ -44,34 +45,37 @@ pub fn builtin(alloc: Global) -> Result<Defs, AllocError> {
     Defs::builtin(alloc)
 }
 
-fn real(alloc: Global, e: u32) -> Result<Real, AllocError> {
-    Real::create(alloc, &builtin(alloc)?, e, AVATAR, PLACE)
+// The built-in types, and the memory of what is made of them.
+#[derive(Clone, Copy)]
+pub struct Makes<'a> {
+    pub alloc: Global,
+    pub defs: &'a Defs,
+}
+
+fn real(makes: Makes<'_>, e: u32) -> Result<Real, AllocError> {
+    Real::create(makes.alloc, makes.defs, e, AVATAR, PLACE)
 }
 
 // The real as it comes at that beat and generation.
-fn moved(alloc: Global, e: u32, beat: u64, generation: u64) -> Result<Real, AllocError> {
-    let mut real = real(alloc, e)?;
+fn moved(makes: Makes<'_>, e: u32, beat: u64, generation: u64) -> Result<Real, AllocError> {
+    let mut real = real(makes, e)?;
     if real.beat() <= beat && real.generation() <= generation {
         real.settle_to(CellSet::none(), beat, generation);
     }
     Ok(real)
 }
 
-fn hand(real: Real) -> Option<Msg> {
-    Some(Msg::Hand(Parcel { real }))
+fn hand(real: Real) -> Msg {
+    Msg::Hand(Parcel { real })
 }
 
 fn watching(alloc: Global, mut real: Real) -> Result<Real, AllocError> {
-    real.put_witness(Witness::new(alloc, &Settings::standard())?);
+    real.put_witness(Witness::new(alloc, HashKey::new(1), &Settings::standard())?);
     Ok(real)
 }
 
-fn copy(alloc: Global, e: u32) -> Result<GhostCopy, AllocError> {
-    real(alloc, e)?.copy_out(&builtin(alloc)?)
-}
-
-fn set(alloc: Global, beat: u64, e: u32, version: u64) -> Result<Msg, AllocError> {
-    let mut copy = copy(alloc, e)?;
+fn set(makes: Makes<'_>, beat: u64, e: u32, version: u64) -> Result<Msg, AllocError> {
+    let mut copy = real(makes, e)?.copy_out(makes.defs)?;
     copy.version = version;
     Ok(Msg::GhostSet(e, beat, copy))
 }
@@ -91,13 +95,10 @@ fn walk(e: u32, number: u64, x: u32) -> Msg {
     Msg::Call(call(e, Part::Cell, number, Deed::Move(to)))
 }
 
-fn promote(alloc: Global, e: u32, number: u64) -> Result<Msg, Fail> {
-    let defs = builtin(alloc)?;
-    let method = defs
-        .type_at(AVATAR)
-        .find_method(b"promote")
-        .ok_or("no method")?;
-    let deed = Deed::Method(method, Args::of(Vec::new(alloc)));
+fn promote(makes: Makes<'_>, e: u32, number: u64) -> Result<Msg, Fail> {
+    let avatar = makes.defs.type_at(AVATAR);
+    let method = avatar.find_method(b"promote").ok_or("no method")?;
+    let deed = Deed::Method(method, Args::of(Vec::new(makes.alloc)));
     Ok(Msg::BaseCall(call(e, Part::Base, number, deed)))
 }
 
@@ -109,33 +110,33 @@ fn leave(e: u32, number: u64) -> Msg {
     })
 }
 
-// The message, or none for the task.
-fn message(alloc: Global, fed: Fed) -> Result<Option<Msg>, Fail> {
+// The message, for what is no task.
+fn message(makes: Makes<'_>, fed: Fed) -> Result<Msg, Fail> {
     match fed {
-        Fed::Task => Ok(None),
-        Fed::Walk(e, number, x) => Ok(Some(walk(e, number, x))),
-        Fed::Hand(e, beat, generation) => Ok(hand(moved(alloc, e, beat, generation)?)),
+        Fed::Task => Err("no message")?,
+        Fed::Walk(e, number, x) => Ok(walk(e, number, x)),
+        Fed::Hand(e, beat, generation) => Ok(hand(moved(makes, e, beat, generation)?)),
         Fed::Watcher(e, beat, generation) => {
-            let real = moved(alloc, e, beat, generation)?;
-            Ok(hand(watching(alloc, real)?))
+            let real = moved(makes, e, beat, generation)?;
+            Ok(hand(watching(makes.alloc, real)?))
         }
-        Fed::Set(beat, e, version) => Ok(Some(set(alloc, beat, e, version)?)),
-        Fed::Drop(beat, e) => Ok(Some(Msg::GhostDrop(e, beat))),
-        Fed::Tick => Ok(Some(Msg::Tick)),
-        Fed::Reap(e) => Ok(Some(Msg::Reap(e))),
-        Fed::BaseCall(e, number) => Ok(Some(promote(alloc, e, number)?)),
-        Fed::Current(e, cell, generation) => Ok(Some(Msg::Current(e, cell, generation))),
-        Fed::Update(e, number) => Ok(Some(leave(e, number))),
+        Fed::Set(beat, e, version) => Ok(set(makes, beat, e, version)?),
+        Fed::Drop(beat, e) => Ok(Msg::GhostDrop(e, beat)),
+        Fed::Tick => Ok(Msg::Tick),
+        Fed::Reap(e) => Ok(Msg::Reap(e)),
+        Fed::BaseCall(e, number) => promote(makes, e, number),
+        Fed::Current(e, cell, generation) => Ok(Msg::Current(e, cell, generation)),
+        Fed::Update(e, number) => Ok(leave(e, number)),
     }
 }
 
 // The order from which that message comes.
-pub fn order(alloc: Global, fed: Fed) -> Result<Order, Fail> {
-    match message(alloc, fed)? {
-        Some(Msg::Call(call)) => Ok(Order::Cell(call)),
-        Some(Msg::BaseCall(call)) => Ok(Order::Base(call)),
-        Some(Msg::Tick) => Ok(Order::Tick),
-        Some(Msg::Reap(e)) => Ok(Order::Reap(e)),
+pub fn order(makes: Makes<'_>, fed: Fed) -> Result<Order, Fail> {
+    match message(makes, fed)? {
+        Msg::Call(call) => Ok(Order::Cell(call)),
+        Msg::BaseCall(call) => Ok(Order::Base(call)),
+        Msg::Tick => Ok(Order::Tick),
+        Msg::Reap(e) => Ok(Order::Reap(e)),
         _ => Err("no order")?,
     }
 }
@@ -156,15 +157,14 @@ fn step<M: Machine<Msg = Msg>>(
 // The node is fed that, and what it sends comes back.
 pub fn feed<M: Machine<Msg = Msg>>(
     node: &mut M,
-    alloc: Global,
+    makes: Makes<'_>,
     fed: Fed,
 ) -> Result<Out<Msg>, Fail> {
-    match message(alloc, fed)? {
-        Some(message) => step(node, alloc, Input::From(16, message)),
-        None => if node.has_task() {
-            step(node, alloc, Input::Task)
-        } else {
-            Err("no task")?
-        },
+    if !matches!(fed, Fed::Task) {
+        return step(node, makes.alloc, Input::From(16, message(makes, fed)?));
     }
+    if !node.has_task() {
+        return Err("no task")?;
+    }
+    step(node, makes.alloc, Input::Task)
 }

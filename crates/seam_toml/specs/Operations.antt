@@ -1,6 +1,6 @@
 -- What the text of an operation says.
 use Rattle.std.specs.Prelude.{◌≡◌, ℕ, ◌≤◌, false, List, [], ◌∷◌, length, codes, slice_get, Some}
-use Rattle.seam_words.specs.Texts.{HasWords}
+use Rattle.seam_words.specs.SplitWords.{HasWords}
 use Rattle.seam_value.specs.Values.{decimal_of, text_of}
 use Rattle.seam_value.specs.declared.types.ValueType.{ValueType}
 use Rattle.seam_defs.specs.declared.flags.Part.{Part}

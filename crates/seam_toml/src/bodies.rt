@@ -20,7 +20,8 @@ use std::alloc::{AllocError, Global};
 use toml::{Table, Value};
 
 pub(crate) fn part_of(table: &Table) -> Option<Part>
-    ensures { MatchOption result ((p : Parts) → ¬ (HasPart (table_view table.now) p)) (HasPart (table_view table.now)) }
+    ensures { MatchOption result ((p : Parts) → ¬ (HasPart (table_view table.now) p))
+        (HasPart (table_view table.now)) }
 {
     match member(table, "part") {
         Some(value) => match value.as_str() {
@@ -48,7 +49,8 @@ fn types_named(alloc: Global, items: &[Value]) -> Result<Option<Vec<ValueType>>,
 }
 
 fn type_named(value: &Value) -> Option<ValueType>
-    ensures { MatchOption result ((t : Types) → ¬ (NamesType (view value.now) t)) (NamesType (view value.now)) }
+    ensures { MatchOption result ((t : Types) → ¬ (NamesType (view value.now) t))
+        (NamesType (view value.now)) }
 {
     match value.as_str() {
         Some(name) => ValueType::named(name),
@@ -82,7 +84,8 @@ fn is_bad_text(
     value: &Value,
 ) -> Result<bool, AllocError>
     requires { IsTrue (are_rising (names_of_properties properties.now)) }
-    ensures { IfOk result (λ answer. IsTrue answer ↔ IsBadText properties.now part args.now (view value.now)) }
+    ensures { IfOk result (λ answer. IsTrue answer ↔ IsBadText properties.now part args.now
+        (view value.now)) }
 {
     match value.as_str() {
         Some(text) => {
@@ -101,7 +104,8 @@ fn has_bad_text(
     texts: &[Value],
 ) -> Result<bool, AllocError>
     requires { IsTrue (are_rising (names_of_properties properties.now)) }
-    ensures { IfOk result (λ answer. IsTrue answer ↔ HasBadText properties.now part args.now (items_view texts.now)) }
+    ensures { IfOk result (λ answer. IsTrue answer ↔ HasBadText properties.now part args.now
+        (items_view texts.now)) }
 {
     'items: for value in texts.iter() {
         if is_bad_text(alloc, properties, part, args, value)? {
@@ -119,8 +123,8 @@ fn are_bad_texts(
     table: &Table,
 ) -> Result<bool, AllocError>
     requires { IsTrue (are_rising (names_of_properties properties.now)) }
-    ensures { IfOk result (λ answer. IsTrue answer
-        ↔ AreBadTexts properties.now part args.now (get_member (codes "body") (table_view table.now))) }
+    ensures { IfOk result (λ answer. IsTrue answer ↔ AreBadTexts properties.now part args.now
+        (get_member (codes "body") (table_view table.now))) }
 {
     match member(table, "body") {
         Some(value) => match value.as_array() {
@@ -133,7 +137,8 @@ fn are_bad_texts(
 
 fn has_bad_body(alloc: Global, properties: &[Property], table: &Table) -> Result<bool, AllocError>
     requires { IsTrue (are_rising (names_of_properties properties.now)) }
-    ensures { IfOk result (λ answer. IsTrue answer ↔ HasBadBody properties.now (table_view table.now)) }
+    ensures { IfOk result (λ answer. IsTrue answer ↔ HasBadBody properties.now
+        (table_view table.now)) }
 {
     let Some(part) = part_of(table) else {
         return Ok(false);
@@ -160,7 +165,8 @@ fn has_bad_method(
     methods: &Table,
 ) -> Result<bool, AllocError>
     requires { IsTrue (are_rising (names_of_properties properties.now)) }
-    ensures { IfOk result (λ answer. IsTrue answer ↔ HasBadMethod properties.now (table_view methods.now)) }
+    ensures { IfOk result (λ answer. IsTrue answer ↔ HasBadMethod properties.now
+        (table_view methods.now)) }
 {
     'members: for (_key, value) in methods.iter() {
         if is_bad_method(alloc, properties, value)? {

@@ -315,7 +315,8 @@ fn has_fault_below(
     role: &Role,
     table: &Table,
 ) -> Result<bool, AllocError>
-    ensures { IfOk result (λ answer. IsTrue answer ↔ HasFaultBelow fault role.now (table_view table.now)) }
+    ensures { IfOk result (λ answer. IsTrue answer ↔ HasFaultBelow fault role.now
+        (table_view table.now)) }
 {
     'members: for (key, value) in table.iter() {
         if let Some(below) = role.under(key.as_str()) {

@@ -113,7 +113,8 @@ fn legal_settings_in(table: &Table) -> Option<Settings>
 
 // The settings that a header sets, if they are legal.
 fn legal_settings(document: &Table) -> Option<Settings>
-    ensures { let under = get_member (codes "settings") (table_view document.now) in MatchOption result
+    ensures { let under = get_member (codes "settings") (table_view document.now) in
+        MatchOption result
         (HasFaultUnder Role.Settings under)
         (λ s. SetsUnder under s × AreLegal s) }
 {

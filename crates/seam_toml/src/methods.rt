@@ -80,10 +80,10 @@ fn operations(
     requires rising { IsTrue (are_rising (names_of_properties properties.now)) }
     requires few_properties { length properties.now ≤ MOST_PROPERTIES }
     requires few_arguments { length args.now ≤ MOST_ARGUMENTS }
-    ensures says { IfOk result (λ read. MatchOption read
-        ((ops : List Operations) → EachItem (Says properties.now part args.now) (items_view items.now) ops →
-        ¬ (length ops ≤ MOST_OPERATIONS))
-        (λ ops. EachItem (Says properties.now part args.now) (items_view items.now) ops.items)) }
+    ensures says { IfOk result (λ read. MatchOption read ((ops : List Operations) →
+        EachItem (Says properties.now part args.now) (items_view items.now) ops →
+        ¬ (length ops ≤ MOST_OPERATIONS)) (λ ops.
+        EachItem (Says properties.now part args.now) (items_view items.now) ops.items)) }
     ensures few { IfOk result (λ read. IfSome read (λ ops. length ops.items ≤ MOST_OPERATIONS)) }
 {
     if items.len() > MOST_OPERATIONS {
@@ -110,8 +110,10 @@ fn body_of(
     requires rising { IsTrue (are_rising (names_of_properties properties.now)) }
     requires few_properties { length properties.now ≤ MOST_PROPERTIES }
     requires few_arguments { length args.now ≤ MOST_ARGUMENTS }
-    ensures says { IfOk result (λ read. let under = get_member (codes "body") (table_view table.now) in MatchOption read
-        ((ops : List Operations) → EachItemUnder (Says properties.now part args.now) under ops → ¬ (length ops ≤ MOST_OPERATIONS))
+    ensures says { IfOk result (λ read. let under =
+        get_member (codes "body") (table_view table.now) in MatchOption read
+        ((ops : List Operations) → EachItemUnder (Says properties.now part args.now) under ops →
+        ¬ (length ops ≤ MOST_OPERATIONS))
         (λ ops. EachItemUnder (Says properties.now part args.now) under ops.items)) }
     ensures few { IfOk result (λ read. IfSome read (λ ops. length ops.items ≤ MOST_OPERATIONS)) }
 {
@@ -197,10 +199,12 @@ fn methods(
 ) -> Result<Option<Vec<Method>>, AllocError>
     requires rising { IsTrue (are_rising (names_of_properties properties.now)) }
     requires few_properties { length properties.now ≤ MOST_PROPERTIES }
-    ensures defines { IfOk result (λ read. MatchOption read
-        ((ms : List Methods) → Each (DefinesMethod properties.now) (table_view table.now) ms → ¬ (length ms ≤ MOST_METHODS))
-        (λ ms. Each (DefinesMethod properties.now) (table_view table.now) ms.items)) }
-    ensures rising { IfOk result (λ read. IfSome read (λ ms. IsTrue (are_rising (names_of_methods ms.items)))) }
+    ensures defines { IfOk result (λ read. MatchOption read ((ms : List Methods) →
+        Each (DefinesMethod properties.now) (table_view table.now) ms →
+        ¬ (length ms ≤ MOST_METHODS)) (λ ms. Each (DefinesMethod properties.now)
+        (table_view table.now) ms.items)) }
+    ensures rising { IfOk result (λ read. IfSome read (λ ms.
+        IsTrue (are_rising (names_of_methods ms.items)))) }
     ensures few { IfOk result (λ read. IfSome read (λ ms. length ms.items ≤ MOST_METHODS)) }
 {
     if table.len() > MOST_METHODS {
@@ -224,10 +228,13 @@ pub(crate) fn methods_under(
 ) -> Result<Option<Vec<Method>>, AllocError>
     requires rising { IsTrue (are_rising (names_of_properties properties.now)) }
     requires few_properties { length properties.now ≤ MOST_PROPERTIES }
-    ensures defines { IfOk result (λ read. let under = get_member (codes "methods") (table_view table.now) in MatchOption read
-        ((ms : List Methods) → EachUnder (DefinesMethod properties.now) under ms → ¬ (length ms ≤ MOST_METHODS))
+    ensures defines { IfOk result (λ read. let under =
+        get_member (codes "methods") (table_view table.now) in MatchOption read
+        ((ms : List Methods) → EachUnder (DefinesMethod properties.now) under ms →
+        ¬ (length ms ≤ MOST_METHODS))
         (λ ms. EachUnder (DefinesMethod properties.now) under ms.items)) }
-    ensures rising { IfOk result (λ read. IfSome read (λ ms. IsTrue (are_rising (names_of_methods ms.items)))) }
+    ensures rising { IfOk result (λ read. IfSome read (λ ms.
+        IsTrue (are_rising (names_of_methods ms.items)))) }
     ensures few { IfOk result (λ read. IfSome read (λ ms. length ms.items ≤ MOST_METHODS)) }
 {
     match member(table, "methods") {

@@ -1,7 +1,7 @@
 // What the text of an operation says.
 ghost use Rattle.std.specs.Prelude.{◌≡◌, ◌≢◌, ◌≤◌, ◌<◌, ◌-◌, ◌^◌, ◌∷◌, ◌↔◌, [], ℕ, List, IsTrue, IfOk, IfSome};
 ghost use Rattle.std.specs.Prelude.{MatchOption, Some, length, map, slice_get};
-ghost use Rattle.seam_words.specs.Texts.{HasWords};
+ghost use Rattle.seam_words.specs.SplitWords.{HasWords};
 ghost use Rattle.seam_value.specs.Values.{decimal_of};
 ghost use Rattle.seam_defs.specs.declared.types.Operand.{Operand as Operands};
 ghost use Rattle.seam_defs.specs.declared.types.Operation.{Operation as Operations};
@@ -79,7 +79,8 @@ fn three_words(text: &[u8]) -> Option<ThreeWords<'_>>
 }
 
 fn verb_named(word: &[u8]) -> Option<Verb>
-    ensures { MatchOption result ((v : Verbs) → word_of_verb v ≢ word.now) (λ v. word_of_verb v ≡ word.now) }
+    ensures { MatchOption result ((v : Verbs) → word_of_verb v ≢ word.now) (λ v. word_of_verb v
+        ≡ word.now) }
 {
     if word == b"set".as_slice() {
         Some(Verb::Set)
@@ -96,8 +97,10 @@ fn verb_named(word: &[u8]) -> Option<Verb>
 fn place_of(properties: &[Property], name: &[u8]) -> Option<usize>
     requires { IsTrue (are_rising (names_of_properties properties.now)) }
     ensures within { IfSome result (λ k. k < length properties.now) }
-    ensures found { IfSome result (λ k. slice_get (names_of_properties properties.now) k ≡ Some name.now) }
-    ensures all { (k : ℕ) → slice_get (names_of_properties properties.now) k ≡ Some name.now → result ≡ Some k }
+    ensures found { IfSome result (λ k. slice_get (names_of_properties properties.now) k
+        ≡ Some name.now) }
+    ensures all { (k : ℕ) → slice_get (names_of_properties properties.now) k ≡ Some name.now →
+        result ≡ Some k }
 {
     match properties.binary_search_by(|p| p.name.text().bytes().cmp(name)) {
         Ok(place) => Some(place),
@@ -118,9 +121,9 @@ fn number_of(digits: &[u8]) -> Option<u64>
 
 // The number of the argument of this type that the word names.
 fn argument(word: &[u8], args: &[ValueType], t: ValueType) -> Option<usize>
-    ensures { MatchOption result
-        ((k : ℕ) → word_of (Operands.Arg k) ≡ word.now → ¬ (OperandFits args.now t (Operands.Arg k)))
-        (λ k. (word_of (Operands.Arg k) ≡ word.now) × OperandFits args.now t (Operands.Arg k)) }
+    ensures { MatchOption result ((k : ℕ) → word_of (Operands.Arg k) ≡ word.now →
+        ¬ (OperandFits args.now t (Operands.Arg k))) (λ k. (word_of (Operands.Arg k) ≡ word.now)
+        × OperandFits args.now t (Operands.Arg k)) }
 {
     match word {
         [b'$', digits @ ..] => match number_of(digits) {
@@ -175,7 +178,8 @@ fn step_of(
     words: &ThreeWords<'_>,
 ) -> Result<Option<Step>, AllocError>
     requires { IsTrue (are_rising (names_of_properties properties.now)) }
-    ensures { IfOk result (λ read. let ws = words.now.verb.now ∷ words.now.property.now ∷ words.now.operand.now ∷ [] in MatchOption read
+    ensures { IfOk result (λ read. let ws = words.now.verb.now ∷ words.now.property.now ∷
+        words.now.operand.now ∷ [] in MatchOption read
         ((op : Operations) → ¬ (SpellOperation properties.now part args.now ws op))
         (λ s. SpellOperation properties.now part args.now ws (operation_of s))) }
 {

@@ -20,7 +20,8 @@ use toml::{Table, Value};
 
 // A copy of a text: None where it is not short.
 pub(crate) fn short_text(alloc: Global, text: &str) -> Result<Option<ShortText>, AllocError>
-    ensures { IfOk result (λ read. MatchOption read (¬ (IsShortText text.now)) (λ s. (s ≡ text.now) × IsShortText text.now)) }
+    ensures { IfOk result (λ read. MatchOption read (¬ (IsShortText text.now))
+        (λ s. (s ≡ text.now) × IsShortText text.now)) }
 {
     match ShortText::new(alloc, text.as_bytes()) {
         Ok(text) => Ok(Some(text)),
@@ -30,7 +31,8 @@ pub(crate) fn short_text(alloc: Global, text: &str) -> Result<Option<ShortText>,
 }
 
 pub(crate) fn type_of(table: &Table) -> Option<ValueType>
-    ensures { MatchOption result ((t : Types) → ¬ (HasType (table_view table.now) t)) (HasType (table_view table.now)) }
+    ensures { MatchOption result ((t : Types) → ¬ (HasType (table_view table.now) t))
+        (HasType (table_view table.now)) }
 {
     match member(table, "type") {
         Some(value) => match value.as_str() {
@@ -42,7 +44,8 @@ pub(crate) fn type_of(table: &Table) -> Option<ValueType>
 }
 
 fn flag_of(table: &Table) -> Option<Flag>
-    ensures { MatchOption result ((f : Flags) → ¬ (HasFlag (table_view table.now) f)) (HasFlag (table_view table.now)) }
+    ensures { MatchOption result ((f : Flags) → ¬ (HasFlag (table_view table.now) f))
+        (HasFlag (table_view table.now)) }
 {
     match member(table, "flag") {
         Some(value) => match value.as_str() {
@@ -117,7 +120,8 @@ pub(crate) fn properties(alloc: Global, table: &Table) -> Result<Option<Vec<Prop
     ensures defines { IfOk result (λ read. MatchOption read
         ((ps : List Properties) → ¬ (Each DefinesProperty (table_view table.now) ps))
         (λ ps. Each DefinesProperty (table_view table.now) ps.items)) }
-    ensures rising { IfOk result (λ read. IfSome read (λ ps. IsTrue (are_rising (names_of_properties ps.items)))) }
+    ensures rising { IfOk result (λ read. IfSome read (λ ps.
+        IsTrue (are_rising (names_of_properties ps.items)))) }
 {
     let mut properties = Vec::with_capacity(alloc, table.len())?;
     'members: for (key, value) in table.iter() {
@@ -134,10 +138,12 @@ pub(crate) fn properties_under(
     alloc: Global,
     table: &Table,
 ) -> Result<Option<Vec<Property>>, AllocError>
-    ensures defines { IfOk result (λ read. let under = get_member (codes "properties") (table_view table.now) in MatchOption read
+    ensures defines { IfOk result (λ read. let under =
+        get_member (codes "properties") (table_view table.now) in MatchOption read
         ((ps : List Properties) → ¬ (EachUnder DefinesProperty under ps))
         (λ ps. EachUnder DefinesProperty under ps.items)) }
-    ensures rising { IfOk result (λ read. IfSome read (λ ps. IsTrue (are_rising (names_of_properties ps.items)))) }
+    ensures rising { IfOk result (λ read. IfSome read (λ ps.
+        IsTrue (are_rising (names_of_properties ps.items)))) }
 {
     match member(table, "properties") {
         Some(value) => match value.as_table() {

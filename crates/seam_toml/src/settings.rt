@@ -112,7 +112,8 @@ fn in_range(number: i64, least: u32, greatest: u32) -> Option<u32>
 /// The settings that a header's table of settings sets. None where the value under the key of one is not a whole number in
 /// its range. Keys that are no settings are not looked at.
 pub fn read_settings(table: &Table) -> Option<Settings>
-    ensures sets { MatchOption result (HasBadSetting (table_view table.now)) (Sets (table_view table.now)) }
+    ensures sets { MatchOption result (HasBadSetting (table_view table.now))
+        (Sets (table_view table.now)) }
     ensures in_range { IfSome result AreInRange }
 {
     Some(Settings {

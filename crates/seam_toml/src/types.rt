@@ -16,7 +16,8 @@ use toml::{Table, Value};
 
 // The type that a table under this name defines.
 fn type_of(alloc: Global, key: &str, table: &Table) -> Result<Option<TypeDef>, AllocError>
-    ensures defines { IfOk result (λ read. let own = table_data (table_view table.now) in MatchOption read
+    ensures defines { IfOk result (λ read. let own = table_data (table_view table.now) in
+        MatchOption read
         ((t : Types) → ¬ (DefinesType key.now own t))
         (DefinesType key.now own)) }
     ensures sound { IfOk result (λ read. IfSome read IsType) }
@@ -55,10 +56,11 @@ fn type_under(alloc: Global, key: &str, value: &Value) -> Result<Option<TypeDef>
 
 // The types that a table defines, in the byte order of their names, if they are not too many.
 fn types(alloc: Global, table: &Table) -> Result<Option<Vec<TypeDef>>, AllocError>
-    ensures defines { IfOk result (λ read. MatchOption read
-        ((ts : List Types) → Each DefinesType (table_view table.now) ts → ¬ (length ts ≤ MOST_TYPES))
+    ensures defines { IfOk result (λ read. MatchOption read ((ts : List Types) →
+        Each DefinesType (table_view table.now) ts → ¬ (length ts ≤ MOST_TYPES))
         (λ ts. Each DefinesType (table_view table.now) ts.items)) }
-    ensures rising { IfOk result (λ read. IfSome read (λ ts. IsTrue (are_rising (names_of_types ts.items)))) }
+    ensures rising { IfOk result (λ read. IfSome read (λ ts.
+        IsTrue (are_rising (names_of_types ts.items)))) }
     ensures sound { IfOk result (λ read. IfSome read (λ ts. All IsType ts.items)) }
     ensures few { IfOk result (λ read. IfSome read (λ ts. length ts.items ≤ MOST_TYPES)) }
 {
@@ -77,8 +79,8 @@ fn types(alloc: Global, table: &Table) -> Result<Option<Vec<TypeDef>>, AllocErro
 
 // Definitions of those types.
 fn definitions_in(alloc: Global, table: &Table) -> Result<Option<Defs>, AllocError>
-    ensures { IfOk result (λ read. MatchOption read
-        ((ts : List Types) → Each DefinesType (table_view table.now) ts → ¬ (length ts ≤ MOST_TYPES))
+    ensures { IfOk result (λ read. MatchOption read ((ts : List Types) →
+        Each DefinesType (table_view table.now) ts → ¬ (length ts ≤ MOST_TYPES))
         (λ ts. Each DefinesType (table_view table.now) ts × (length ts ≤ MOST_TYPES))) }
 {
     match types(alloc, table)? {
@@ -89,7 +91,8 @@ fn definitions_in(alloc: Global, table: &Table) -> Result<Option<Defs>, AllocErr
 
 // The definitions of a header.
 pub(crate) fn definitions(alloc: Global, document: &Table) -> Result<Option<Defs>, AllocError>
-    ensures { IfOk result (λ read. let under = get_member (codes "type") (table_view document.now) in MatchOption read
+    ensures { IfOk result (λ read. let under =
+        get_member (codes "type") (table_view document.now) in MatchOption read
         ((ts : List Types) → ¬ (DefinesTypes under ts))
         (DefinesTypes under)) }
 {

@@ -37,8 +37,12 @@ pub(crate) fn parts(area: Rect, boundary: Boundary) -> Option<(Rect, Rect)>
 pub(crate) fn areas_after(size: u32, cuts: &[Cut], made: usize) -> Option<[Rect; MOST_CELLS]>
     requires few { made < MOST_CELLS }
     requires within { made ≤ length cuts.now }
-    requires there { (n : ℕ) → n < made → (cut_after (record { size = size; cuts = cuts.now }) n).cell ≤ n }
-    ensures areas { IfSome result (λ areas. areas ≡ table_after (record { size = size; cuts = cuts.now }) made) }
+    requires there { (n : ℕ) → n < made → (cut_after (record { size = size; cuts = cuts.now })
+        n).cell ≤ n }
+    ensures areas { IfSome result (λ areas. areas ≡ table_after (record {
+      size = size;
+      cuts = cuts.now;
+    }) made) }
     ensures proper { IfSome result (λ areas. (c : ℕ) → c ≤ made
         → IsProper (area_after (record { size = size; cuts = cuts.now }) made c)) }
     ensures empty { IfNone result ((c : ℕ) × (c ≤ made)

@@ -15,7 +15,8 @@ pub(crate) struct Cut {
 #[tactic(auto, using(crate::proofs::Steps::leaf_steps))]
 pub(crate) fn leaf_among(cuts: &[Cut], p: Pos) -> u8
     requires { length cuts.now ≤ 15 }
-    ensures { (size : ℕ) → result ≡ leaf_after (record { size = size; cuts = cuts.now }) (length cuts.now) p }
+    ensures { (size : ℕ) → result ≡ leaf_after (record { size = size; cuts = cuts.now })
+        (length cuts.now) p }
 {
     let mut leaf = 0;
     for (made, cut) in cuts.iter().enumerate() {

@@ -11,7 +11,8 @@ use crate::tree::Tree;
 /// position of the space is in that of its cell.
 pub fn areas_partition_the_space(tree: &Tree)
     ensures none_empty { NoneEmpty tree.now }
-    ensures inside { (c : ℕ) (p : Pos) → c < cells_of tree.now → Holds (area tree.now c) p → IsInSpace tree.now p }
+    ensures inside { (c : ℕ) (p : Pos) → c < cells_of tree.now → Holds (area tree.now c) p →
+        IsInSpace tree.now p }
     ensures apart { (c d : ℕ) (p : Pos) → c < cells_of tree.now → d < cells_of tree.now
         → Holds (area tree.now c) p → Holds (area tree.now d) p → c ≡ d }
     ensures covered { (p : Pos) → IsInSpace tree.now p

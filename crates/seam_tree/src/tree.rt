@@ -186,8 +186,9 @@ impl Tree {
         ensures no_cell { (result ≡ Err CutError.NoCell) ↔ (cells_of self.old ≤ cell) }
         ensures outside { (result ≡ Err CutError.OutsideCell)
             ↔ ((cell < cells_of self.old) × LeavesPartEmpty (across axis at) (area self.old cell)) }
-        ensures too_many { (result ≡ Err CutError.TooManyCells)
-            ↔ ((cell < cells_of self.old) × RunsThrough (across axis at) (area self.old cell) × (cells_of self.old ≡ 16)) }
+        ensures too_many { (result ≡ Err CutError.TooManyCells) ↔
+            ((cell < cells_of self.old) × RunsThrough (across axis at) (area self.old cell) ×
+            (cells_of self.old ≡ 16)) }
         ensures refused { OnErr result (self.new ≡ self.old) }
         ensures space { self.new.size ≡ self.old.size }
         ensures tree { IsTree self.new }
@@ -212,9 +213,12 @@ impl Tree {
     pub fn shift(&mut self, b: u32, at: u32) -> Result<(), ShiftError>
         ensures moved { OnOk result (self.new ≡ with_place self.old b at) }
         ensures changed { OnOk result (MovesBoundary self.old self.new b at) }
-        ensures allowed { OnOk result (HasBoundary self.old b × NoneEmpty (with_place self.old b at)) }
-        ensures no_boundary { (result ≡ Err ShiftError.NoBoundary) ↔ ((b ≡ 0) ⊎ (cells_of self.old ≤ b)) }
-        ensures would_empty { (result ≡ Err ShiftError.WouldEmpty) ↔ (HasBoundary self.old b × SomeEmpty (with_place self.old b at)) }
+        ensures allowed { OnOk result (HasBoundary self.old b ×
+            NoneEmpty (with_place self.old b at)) }
+        ensures no_boundary { (result ≡ Err ShiftError.NoBoundary) ↔
+            ((b ≡ 0) ⊎ (cells_of self.old ≤ b)) }
+        ensures would_empty { (result ≡ Err ShiftError.WouldEmpty) ↔
+            (HasBoundary self.old b × SomeEmpty (with_place self.old b at)) }
         ensures refused { OnErr result (self.new ≡ self.old) }
         ensures space { self.new.size ≡ self.old.size }
         ensures tree { IsTree self.new }
@@ -287,7 +291,8 @@ impl Tree {
     // The cells' areas after the first `made` cuts, by the cells' numbers.
     fn areas_after(&self, made: usize) -> [Rect; MOST_CELLS]
         requires { made ≤ length self.now.cuts }
-        ensures areas { (c : ℕ) → c ≤ made → slice_get result c ≡ Some (area_after self.now made c) }
+        ensures areas { (c : ℕ) → c ≤ made → slice_get result c
+            ≡ Some (area_after self.now made c) }
         ensures tree { IsTree self.now }
     {
         areas_after(self.size, self.made(), made).unwrap()

@@ -17,7 +17,8 @@ pub fn whole_number(word: &[u8]) -> Option<u32>
 
 /// The number from 1 on that a word spells.
 pub fn positive_number(word: &[u8]) -> Option<u32>
-    ensures { MatchOption result ((n : ℕ) → ¬ (SpellsPositive word.now n)) (SpellsPositive word.now) }
+    ensures { MatchOption result ((n : ℕ) → ¬ (SpellsPositive word.now n))
+        (SpellsPositive word.now) }
 {
     match whole_number(word) {
         Some(0) => None,

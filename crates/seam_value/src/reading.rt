@@ -41,7 +41,8 @@ pub fn read_number(bytes: &[u8], t: ValueType) -> Result<i128, ValueError>
     requires { t ≢ ValueType.Text }
     ensures value { IfOk result (λ z. Fits (Value.Number z) t × (number_text z ≡ bytes.now)) }
     ensures cause { IfErr result (Refuses bytes.now t) }
-    ensures spelled { (z : ℤ) → Fits (Value.Number z) t → number_text z ≡ bytes.now → result ≡ Ok z }
+    ensures spelled { (z : ℤ) → Fits (Value.Number z) t → number_text z ≡ bytes.now →
+        result ≡ Ok z }
 {
     let (is_negative, digits) = split_sign(bytes);
     match numeral(digits) {
@@ -95,8 +96,9 @@ pub(crate) fn numeral(digits: &[u8]) -> Option<u64>
 }
 
 fn number_of_digits(bytes: &[u8]) -> Option<u64>
-    ensures { MatchOption result (list_all is_digit bytes.now ≡ true → 2 ^ 64 ≤ digits_value 10 bytes.now)
-        (λ n. (list_all is_digit bytes.now ≡ true) × (n ≡ digits_value 10 bytes.now)) }
+    ensures { MatchOption result (list_all is_digit bytes.now ≡ true →
+        2 ^ 64 ≤ digits_value 10 bytes.now) (λ n. (list_all is_digit bytes.now ≡ true) ×
+        (n ≡ digits_value 10 bytes.now)) }
 {
     if bytes.len() <= FEW_DIGITS {
         number_of_few_digits(bytes)
@@ -124,8 +126,9 @@ fn number_of_few_digits(bytes: &[u8]) -> Option<u64>
 // Out of line, since few words are so long.
 #[inline(never)]
 fn number_of_many_digits(bytes: &[u8]) -> Option<u64>
-    ensures { MatchOption result (list_all is_digit bytes.now ≡ true → 2 ^ 64 ≤ digits_value 10 bytes.now)
-        (λ n. (list_all is_digit bytes.now ≡ true) × (n ≡ digits_value 10 bytes.now)) }
+    ensures { MatchOption result (list_all is_digit bytes.now ≡ true →
+        2 ^ 64 ≤ digits_value 10 bytes.now) (λ n. (list_all is_digit bytes.now ≡ true) ×
+        (n ≡ digits_value 10 bytes.now)) }
 {
     let mut number: u64 = 0;
     for byte in bytes {
@@ -157,7 +160,8 @@ fn signed(is_negative: bool, size: u64) -> i128
 
 fn in_range(number: i128, t: ValueType) -> Result<i128, ValueError>
     ensures value { IfOk result (λ z. Fits (Value.Number z) t × (z ≡ number)) }
-    ensures cause { IfErr result (λ e. (e ≡ ValueError.OutOfRange) × ¬ (Fits (Value.Number number) t)) }
+    ensures cause { IfErr result (λ e. (e ≡ ValueError.OutOfRange) ×
+        ¬ (Fits (Value.Number number) t)) }
 {
     if Value::Number(number).fits(t) {
         Ok(number)
@@ -182,7 +186,8 @@ fn read_text(alloc: Global, bytes: &[u8]) -> Result<ShortText, ValueError>
 }
 
 fn between_quotes(bytes: &[u8]) -> Option<&[u8]>
-    ensures { MatchOption result ((inner : List ℕ) → bytes.now ≢ 34 ∷ inner ++ 34 ∷ []) (λ inner. bytes.now ≡ 34 ∷ inner.now ++ 34 ∷ []) }
+    ensures { MatchOption result ((inner : List ℕ) → bytes.now ≢ 34 ∷ inner ++ 34 ∷ [])
+        (λ inner. bytes.now ≡ 34 ∷ inner.now ++ 34 ∷ []) }
 {
     match bytes {
         [b'"', inner @ .., b'"'] => Some(inner),
@@ -212,8 +217,9 @@ fn content_of(alloc: Global, spelled: &[u8]) -> Result<Option<Vec<u8>>, AllocErr
 
 // The byte whose spelling comes first, and what follows.
 fn first_byte(spelled: &[u8]) -> Option<(u8, &[u8])>
-    ensures found { MatchOption result ((b : ℕ) (after : List ℕ) → spelled.now ≢ spelled_byte b ++ after)
-        (λ p. spelled.now ≡ spelled_byte p.0 ++ p.1.now) }
+    ensures found { MatchOption result ((b : ℕ) (after : List ℕ) →
+        spelled.now ≢ spelled_byte b ++ after) (λ p. spelled.now ≡ spelled_byte p.0
+        ++ p.1.now) }
     ensures shorter { IfSome result (λ p. length p.1.now < length spelled.now) }
 {
     match spelled {

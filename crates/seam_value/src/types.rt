@@ -44,7 +44,8 @@ const GREATEST: [i128; 8] = [
 impl ValueType {
     /// The type of this name: `INT8` to `INT64`, `UINT8` to `UINT64`, or `STRING`. `None` for every other text.
     pub fn named(name: &str) -> Option<ValueType>
-        ensures { MatchOption result ((t : Types) → name_of t ≢ name.now) (λ t. name_of t ≡ name.now) }
+        ensures { MatchOption result ((t : Types) → name_of t ≢ name.now) (λ t. name_of t
+            ≡ name.now) }
     {
         match name {
             "INT8" => Some(ValueType::Int8),

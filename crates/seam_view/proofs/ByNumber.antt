@@ -1,5 +1,6 @@
 -- Entities that are looked for by number, and one more among them.
-use Rattle.std.proofs.Common.{◌≡◌, ◌≢◌, ◌<◌, ◌≤◌, ◌+◌, ℕ, zero, suc, Bool, true, false, ◌||◌, eqb, List, [], ◌∷◌, ◌++◌, map, length, take, drop}
+use Rattle.std.proofs.Common.{◌≡◌, ◌≢◌, ◌<◌, ◌≤◌, ◌+◌, ℕ, zero, suc, Bool, true, false, ◌||◌, eqb, List, [], ◌∷◌, ◌++◌, map, length, take}
+use Rattle.std.proofs.Common.{drop}
 use Rattle.std.proofs.Common.{get_or, slice_set, cond, refl, sym, ap, ◌∙◌, subst, arith}
 use Rattle.std.specs.Ordering.{nat_cmp}
 use Rattle.std.specs.Cmp.{nat_eq_equiv}
@@ -7,7 +8,8 @@ use Rattle.std.specs.declared.cmp.Ordering.TheVariants.{Less}
 use Rattle.std.specs.List.{AllWithin, AllByRecursion, IsDistinct, insert, list_any}
 use Rattle.std.specs.List.Sorted.{IsNonDecreasingBy, IsStrictlySortedBy}
 use Rattle.std.specs.Map.{keys_of}
-use Rattle.std.proofs.lemmas.Map.Keys.{IsDistinct-head, IsDistinct-tail, IsDistinct-push, non_decreasing_from_sorted, sorted_head, sorted_tail}
+use Rattle.std.proofs.lemmas.Map.Keys.{IsDistinct-head, IsDistinct-tail, IsDistinct-push, non_decreasing_from_sorted, sorted_head}
+use Rattle.std.proofs.lemmas.Map.Keys.{sorted_tail}
 use Rattle.std.proofs.lemmas.List.{get_or-map, get_or_append_left, length-append, length-map, map-append, take-append-drop}
 use Rattle.std.proofs.lemmas.List.Folds.{list_any-append}
 use Rattle.std.proofs.Math.Seq.{get_or-append_seam}
@@ -124,11 +126,13 @@ other_at x (s ∷ slots) zero d h lt = differs_too x s.entity h.0
 other_at x (s ∷ slots) (suc i) d h lt = other_at x slots i d h.1 (omega (arith, lt))
 
 pub placed_set : (slots : List Slot) (i v : ℕ) (s d : Slot) → IsDistinct eqb (keys_of (entries_of slots)) → i < length slots →
-    s.entity ≡ (get_or slots i d).entity → entries_of (slice_set slots i (record s { version = v })) ≡ placed (get_or slots i d).entity v (entries_of slots)
+    s.entity ≡ (get_or slots i d).entity → entries_of (slice_set slots i (record s { version = v }))
+    ≡ placed (get_or slots i d).entity v (entries_of slots)
 placed_set [] i v s d u lt h = absurd (omega (arith, lt))
 placed_set (x ∷ slots) zero v s d u lt h =
     ap (λ e. (e, v) ∷ entries_of slots) h
-    ∙ ap (λ b. cond b ((x.entity, v) ∷ entries_of slots) ((x.entity, x.version) ∷ placed x.entity v (entries_of slots))) (sym (same_again x.entity))
+    ∙ ap (λ b. cond b ((x.entity, v) ∷ entries_of slots) ((x.entity, x.version) ∷ placed x.entity v (entries_of slots)))
+    (sym (same_again x.entity))
 placed_set (x ∷ slots) (suc i) v s d u lt h =
     let es = entries_of slots in
     let e = (get_or slots i d).entity in
@@ -216,7 +220,8 @@ module _ (ks places : List ℕ) (e r : ℕ) (h : IsByNumber ks places) (few : le
   further [] w = tt
   further (x ∷ xs) w = let lt = w.0 in let many = length-append ks (e ∷ []) in (omega (arith, lt, many), further xs w.1)
 
-  same_entities : (xs : List ℕ) → AllByRecursion (λ i. i < length ks) xs → AllByRecursion (λ i. get_or (ks ++ e ∷ []) i 0 ≡ get_or ks i 0) xs
+  same_entities : (xs : List ℕ) → AllByRecursion (λ i. i < length ks) xs →
+      AllByRecursion (λ i. get_or (ks ++ e ∷ []) i 0 ≡ get_or ks i 0) xs
   same_entities [] w = tt
   same_entities (x ∷ xs) w = (get_or_append_left ks (e ∷ []) 0 x w.0, same_entities xs w.1)
 

@@ -1,5 +1,6 @@
 -- Slots close up where others have left, and the places by number with them.
-use Rattle.std.proofs.Common.{◌≡◌, ◌≢◌, ◌<◌, ◌≤◌, ◌+◌, ◌-◌, ℕ, zero, suc, Bool, true, false, not, cond, ◌||◌, eqb, List, [], ◌∷◌, map, length}
+use Rattle.std.proofs.Common.{◌≡◌, ◌≢◌, ◌<◌, ◌≤◌, ◌+◌, ◌-◌, ℕ, zero, suc, Bool, true, false, not, cond, ◌||◌, eqb, List, [], ◌∷◌, map}
+use Rattle.std.proofs.Common.{length}
 use Rattle.std.proofs.Common.{get_or, refl, sym, ap, ◌∙◌, subst, arith}
 use Rattle.std.specs.Bool.{MatchBool}
 use Rattle.std.specs.Ordering.{nat_cmp}
@@ -27,7 +28,8 @@ module _ {F : Type 0} (R : F → ℕ → Bool → F → ℕ → Type 0) (to : �
   renumbered f same (x ∷ xs) ys h =
       let s = says f x h.0 h.1 h.2 same h.3 in
       let rest = renumbered h.1 s.2 xs h.4 h.5 in
-      h.6 ∙ ((λ i. cond (s.1 i) (h.2 ∷ rest i) (rest i)) ∙ ap (λ y. cond (is_place y) (y ∷ filter is_place (map to xs)) (filter is_place (map to xs))) s.0)
+      h.6 ∙ ((λ i. cond (s.1 i) (h.2 ∷ rest i) (rest i))
+      ∙ ap (λ y. cond (is_place y) (y ∷ filter is_place (map to xs)) (filter is_place (map to xs))) s.0)
 
 -- ---- where the slots go
 
@@ -49,7 +51,8 @@ past_first n s kept t e h =
     (omega (arith, low), omega (arith, high), ap (λ j. get_or (entities (s ∷ kept)) j 0) more ∙ h.2)
 
 arrives_by : (n : ℕ) (s : Slot) (slots : List Slot) (p : ℕ) (b : Bool) → stays s ≡ b →
-    MatchBool b ((s.to ≡ n) × GoInOrder (n + 1) slots) (GoInOrder n slots) → p < length (s ∷ slots) → is_place (to_of (s ∷ slots) p) ≡ true →
+    MatchBool b ((s.to ≡ n) × GoInOrder (n + 1) slots) (GoInOrder n slots) → p < length (s ∷ slots) →
+    is_place (to_of (s ∷ slots) p) ≡ true →
     ((m q : ℕ) → GoInOrder m slots → q < length slots → is_place (to_of slots q) ≡ true →
     Arrives m (filter stays slots) (to_of slots q) (get_or (entities slots) q 0)) →
     Arrives n (cond b (s ∷ filter stays slots) (filter stays slots)) (to_of (s ∷ slots) p) (get_or (entities (s ∷ slots)) p 0)

@@ -1,5 +1,6 @@
 -- The room of looks, as they are kept one by one, and where some are left out.
-use Rattle.std.proofs.Common.{◌≡◌, ◌≤◌, ◌+◌, ℕ, Bool, true, false, cond, not, ◌&&◌, ◌||◌, eqb, List, [], ◌∷◌, ◌++◌, map, length, drop, Option, None}
+use Rattle.std.proofs.Common.{◌≡◌, ◌≤◌, ◌+◌, ℕ, Bool, true, false, cond, not, ◌&&◌, ◌||◌, eqb, List, [], ◌∷◌, ◌++◌, map, length, drop}
+use Rattle.std.proofs.Common.{Option, None}
 use Rattle.std.proofs.Common.{Some, refl, sym, ap, subst, ◌∙◌, arith}
 use Rattle.std.specs.Map.{keys_of}
 use Rattle.std.specs.List.{IsDistinct, AllByRecursion, filter, list_any}
@@ -219,7 +220,8 @@ module _ (p : ℕ × ℕ) (es : List (ℕ × ℕ)) (a : ℕ → Bool) where
       ((d : ℕ → Bool) (more : List Look) → SetsAreIn (λ q. d q || In es q) more →
       SetsAreIn (λ q. d q || In (kept_past_all more es) q) (looks_past_all more es)) →
       SetsAreIn (λ q. a q || In (p ∷ es) q) looks →
-      SetsAreIn (λ q. a q || In (cond (not b) (p ∷ kept_past_all (cond b (drop 1 looks) looks) es) (kept_past_all (cond b (drop 1 looks) looks) es)) q)
+      SetsAreIn (λ q. a q || In
+      (cond (not b) (p ∷ kept_past_all (cond b (drop 1 looks) looks) es) (kept_past_all (cond b (drop 1 looks) looks) es)) q)
       (looks_past_all (cond b (drop 1 looks) looks) es)
   sets_turn [] true t rest h = cc
   sets_turn (Set x ∷ looks) true t rest h = cc

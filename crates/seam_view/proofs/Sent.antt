@@ -1,5 +1,6 @@
 -- A pass over slots, in turn with looks: where each goes once those have left whose leaves come next.
-use Rattle.std.proofs.Common.{◌≡◌, ◌<◌, ◌≤◌, ◌+◌, ℕ, zero, suc, Bool, true, false, not, cond, ◌&&◌, eqb, List, [], ◌∷◌, ◌++◌, length, take, drop}
+use Rattle.std.proofs.Common.{◌≡◌, ◌<◌, ◌≤◌, ◌+◌, ℕ, zero, suc, Bool, true, false, not, cond, ◌&&◌, eqb, List, [], ◌∷◌, ◌++◌, length, take}
+use Rattle.std.proofs.Common.{drop}
 use Rattle.std.proofs.Common.{get_or, slice_set, Option, Some, refl, sym, ap, ◌∙◌, arith}
 use Rattle.std.specs.List.{filter}
 use Rattle.std.proofs.lemmas.Bool.Decides.{nat_tests}
@@ -32,14 +33,16 @@ somewhere n lt = grind (arith, nat_tests)
 module _ (looks : List Look) (n : ℕ) (s : Slot) (slots : List Slot) (lt : n < nowhere) where
   order_by : (b : Bool) → leaves_next s.entity looks ≡ b →
       GoInOrder (cond b n (n + 1)) (sent_all (cond b (drop 1 looks) looks) (cond b n (n + 1)) slots) →
-      GoInOrder n (record { entity = s.entity; to = cond b nowhere n; version = s.version } ∷ sent_all (cond b (drop 1 looks) looks) (cond b n (n + 1)) slots)
+      GoInOrder n (record { entity = s.entity; to = cond b nowhere n; version = s.version } ∷ sent_all (cond b (drop 1 looks) looks)
+      (cond b n (n + 1)) slots)
   order_by true t rest = rest
   order_by false t rest = rw (somewhere n lt) (refl, rest)
 
   kept_by : (b : Bool) → leaves_next s.entity looks ≡ b →
       entries_of (filter stays (sent_all (cond b (drop 1 looks) looks) (cond b n (n + 1)) slots))
       ≡ kept_past_all (cond b (drop 1 looks) looks) (entries_of slots) →
-      entries_of (filter stays (record { entity = s.entity; to = cond b nowhere n; version = s.version } ∷ sent_all (cond b (drop 1 looks) looks) (cond b n (n + 1)) slots))
+      entries_of (filter stays (record { entity = s.entity; to = cond b nowhere n; version = s.version } ∷
+      sent_all (cond b (drop 1 looks) looks) (cond b n (n + 1)) slots))
       ≡ cond (not b) ((s.entity, s.version) ∷ kept_past_all (cond b (drop 1 looks) looks) (entries_of slots))
       (kept_past_all (cond b (drop 1 looks) looks) (entries_of slots))
   kept_by true t rest = rest
@@ -69,7 +72,8 @@ kept_when_sent looks n (s ∷ slots) few =
 -- the slots are to be what the pass makes of those at its start
 pub sent_next : (looks : List Look) (n i : ℕ) (slots : List Slot) (d : Slot) → i < length slots →
     take (i + 1) (slice_set slots i (sent looks n (get_or slots i d)))
-    ++ sent_all (looks_past (get_or slots i d).entity looks) (stayed looks n (get_or slots i d)) (drop (i + 1) (slice_set slots i (sent looks n (get_or slots i d))))
+    ++ sent_all (looks_past (get_or slots i d).entity looks) (stayed looks n (get_or slots i d))
+    (drop (i + 1) (slice_set slots i (sent looks n (get_or slots i d))))
     ≡ take i slots ++ sent_all looks n (drop i slots)
 sent_next looks n i [] d lt = absurd (omega (arith, lt))
 sent_next looks n zero (s ∷ []) d lt = refl
@@ -77,7 +81,8 @@ sent_next looks n zero (s ∷ t ∷ slots) d lt = refl
 sent_next looks n (suc i) (s ∷ slots) d lt =
     let more : suc (i + 1) ≡ suc i + 1 = omega arith in
     let new = slice_set slots i (sent looks n (get_or slots i d)) in
-    ap (λ m. take m (s ∷ new) ++ sent_all (looks_past (get_or slots i d).entity looks) (stayed looks n (get_or slots i d)) (drop m (s ∷ new))) (sym more)
+    ap (λ m. take m (s ∷ new) ++ sent_all (looks_past (get_or slots i d).entity looks) (stayed looks n (get_or slots i d))
+    (drop m (s ∷ new))) (sym more)
     ∙ ap (λ xs. s ∷ xs) (sent_next looks n i slots d (omega (arith, lt)))
 
 -- what else is to come, of the entries from a place on
@@ -104,7 +109,8 @@ module _ (looks : List Look) where
       let more : suc (i + 1) ≡ suc i + 1 = omega arith in
       left_next m q i slots d (omega (arith, lt))
       ∙ ap (λ k. left_past_all (looks_past (get_or slots i d).entity looks) (entries_of (drop k (s ∷ slots)))
-      (λ x. cond (leaves_next (get_or slots i d).entity looks && eqb (get_or slots i d).entity x) (Some (get_or slots i d).version) (m x)) q) more
+      (λ x. cond (leaves_next (get_or slots i d).entity looks && eqb (get_or slots i d).entity x) (Some (get_or slots i d).version) (m x))
+      q) more
 
 pub one_left : (e : ℕ) (looks : List Look) → leaves_next e looks ≡ true → leaves_in looks ≡ leaves_in (drop 1 looks) + 1
 one_left e [] h = cc

@@ -5,6 +5,7 @@ use Rattle.std.specs.List.{list_any}
 use Rattle.std.specs.FinMap as versions
 use Rattle.seam_geo.specs.declared.pos.Pos.{Pos}
 use Rattle.seam_geo.specs.Pos.{distance}
+pub use Rattle.seam_version.specs.Versions.{not_older}
 use Rattle.seam_view.specs.declared.Seen.{Seen}
 use Rattle.seam_view.specs.declared.Look.{Look}
 use Rattle.seam_view.specs.declared.Look.TheVariants.{Leave, Set, Enter}
@@ -26,11 +27,6 @@ has_changed r own v (Some s) = not (is_far r own s.pos) && nat_lt v s.version
 
 abbrev pub in_view : Replica → ℕ → Bool
 in_view r e = list_any (λ p. nat_eq e p.0) r.entries
-
--- the version is not older than the one shown, if any was
-abbrev pub not_older : Option ℕ → ℕ → Bool
-not_older None v = true
-not_older (Some n) v = nat_le n v
 
 -- whether a known entity enters: it is not in view, at distance at most the radius, and not older than it was ever shown
 abbrev pub enters : Replica → Pos → Seen → Bool

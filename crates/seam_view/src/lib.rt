@@ -38,6 +38,8 @@ ghost use Rattle.seam_view.specs.Plain.{plain_look, AreNotOlder};
 use indexmap::IndexMap;
 use numbered::Entered;
 use seam_geo::{Pos, dist};
+use seam_table::HashKey;
+use seam_version::may_be_shown;
 use std::alloc::{AllocError, Global};
 use std::marker::Model;
 
@@ -86,7 +88,7 @@ pub struct View {
     radius: u32,
     hysteresis: u32,
     view: Entered,
-    left: IndexMap<u32, u64>,
+    left: IndexMap<u32, u64, HashKey>,
 }
 
 impl Model for View {
@@ -123,20 +125,26 @@ impl Model for View {
 
 impl View {
     /// A view of no entity. It takes in what is within the radius, and leaves out what is beyond radius and hysteresis together.
-    pub fn new(alloc: Global, radius: u32, hysteresis: u32) -> View
-        ensures { result.core ≡ record { radius = radius; hysteresis = hysteresis; entries = []; shown = versions.empty } }
+    /// It finds those that left by a hash with this key.
+    pub fn new(alloc: Global, key: HashKey, radius: u32, hysteresis: u32) -> View
+        ensures { result.core ≡ record {
+          radius = radius;
+          hysteresis = hysteresis;
+          entries = [];
+          shown = versions.empty;
+        } }
     {
         View {
             alloc,
             radius,
             hysteresis,
             view: Entered::new(alloc),
-            left: IndexMap::new(alloc),
+            left: IndexMap::with_hasher(alloc, key),
         }
     }
 
     /// The view with these entities in this enter order, each with the version last shown, and these versions shown, also of
-    /// entities that left. Each pair of `view` stands in `shown`.
+    /// entities that left. Each pair of `view` stands in `shown`. The key of the hash of those that left is a known one.
     pub fn of_lists(
         alloc: Global,
         radius: u32,
@@ -222,10 +230,7 @@ impl View {
         requires { in_view self.now.core e ≡ false }
         ensures { result ≡ not_older (versions.get self.now.core.shown e) version }
     {
-        match self.shown_before(e) {
-            Some(shown) => shown <= version,
-            None => true,
-        }
+        may_be_shown(self.shown_before(e), version)
     }
 
     // Whether a known entity that is not in view enters.
@@ -354,7 +359,10 @@ impl View {
     // Takes the entity out of the view. The version last shown is kept beside it.
     fn leave(&mut self, e: u32)
         requires place { 0 < self.old.leaves }
-        ensures core { self.new.core ≡ record self.old.core { entries = without e self.old.core.entries } }
+        ensures core { self.new.core ≡ record self.old.core {
+          entries =
+              without e self.old.core.entries;
+        } }
         ensures enters { self.old.enters ≤ self.new.enters }
         ensures leaves { self.old.leaves ≤ self.new.leaves + 1 }
     {
@@ -453,7 +461,8 @@ impl View {
         requires many { many ≤ length looks.now }
         requires room { HasRoom self.old looks.now }
         ensures rest { result.now ≡ drop many looks.now }
-        ensures same_after { after_looks known.now self.new.core result.now ≡ after_looks known.now self.old.core looks.now }
+        ensures same_after { after_looks known.now self.new.core result.now
+            ≡ after_looks known.now self.old.core looks.now }
         ensures room { HasRoom self.new result.now }
     {
         let (mut from, mut place, mut next) = (0, 0, 0);
@@ -468,7 +477,8 @@ impl View {
     fn enter_together<'a>(&mut self, known: &[Seen], looks: &'a [Look]) -> &'a [Look]
         requires rising { IsStrictlySortedBy nat_cmp (map (λ s. s.entity) known.now) }
         requires room { HasRoom self.old looks.now }
-        ensures same_after { after_looks known.now self.new.core result.now ≡ after_looks known.now self.old.core looks.now }
+        ensures same_after { after_looks known.now self.new.core result.now
+            ≡ after_looks known.now self.old.core looks.now }
         ensures room { HasRoom self.new result.now }
     {
         self.view.show_rising(&mut self.left, known, looks)
@@ -495,11 +505,11 @@ fn many_before_enters(looks: &[Look]) -> usize
 }
 
 // The pairs as a map, in this order.
-fn map_of(alloc: Global, pairs: &[(u32, u64)]) -> Result<IndexMap<u32, u64>, AllocError>
+fn map_of(alloc: Global, pairs: &[(u32, u64)]) -> Result<IndexMap<u32, u64, HashKey>, AllocError>
     requires { IsDistinct nat_eq (keys_of pairs.now) }
     ensures { IfOk result (λ m. m.entries ≡ pairs.now) }
 {
-    let mut made = IndexMap::new(alloc);
+    let mut made = IndexMap::with_hasher(alloc, HashKey::new(0));
     for (e, version) in pairs {
         made.insert(*e, *version)?;
     }
@@ -507,9 +517,10 @@ fn map_of(alloc: Global, pairs: &[(u32, u64)]) -> Result<IndexMap<u32, u64>, All
 }
 
 // Takes the entities of these pairs out of the map.
-fn take_out(from: &mut IndexMap<u32, u64>, pairs: &[(u32, u64)])
+fn take_out(from: &mut IndexMap<u32, u64, HashKey>, pairs: &[(u32, u64)])
     ensures { (q : ℕ) → lookup (nat_eq q) from.new.entries
-        ≡ if list_any (nat_eq q) (keys_of pairs.now) then None else lookup (nat_eq q) from.old.entries }
+        ≡ if list_any (nat_eq q) (keys_of pairs.now) then None
+        else lookup (nat_eq q) from.old.entries }
 {
     for (e, _) in pairs {
         let _ = from.swap_remove(e);
@@ -553,19 +564,24 @@ fn find_seen<'a>(known: &'a [Seen], e: u32, from: &mut usize) -> Option<&'a Seen
 /// What is known of entities that are neither in view nor near makes no difference: two lists that agree on all the others give the
 /// same looks, which leave the same.
 pub fn only_near_matters()
-    ensures looks { (r : Replica) (own : Pos) (known other : List Seen) → filter (matters r own) known ≡ filter (matters r own) other →
+    ensures looks { (r : Replica) (own : Pos) (known other : List Seen) →
+        filter (matters r own) known ≡ filter (matters r own) other →
         one_look r own known ≡ one_look r own other }
-    ensures kept { (r : Replica) (own : Pos) (known other : List Seen) → IsStrictlySortedBy nat_cmp (map (λ s. s.entity) known) →
-        IsStrictlySortedBy nat_cmp (map (λ s. s.entity) other) → filter (matters r own) known ≡ filter (matters r own) other →
-        after_looks known r (one_look r own known) ≡ after_looks other r (one_look r own known) }
+    ensures kept { (r : Replica) (own : Pos) (known other : List Seen) →
+        IsStrictlySortedBy nat_cmp (map (λ s. s.entity) known) →
+        IsStrictlySortedBy nat_cmp (map (λ s. s.entity) other) → filter (matters r own) known
+        ≡ filter (matters r own) other → after_looks known r (one_look r own known)
+        ≡ after_looks other r (one_look r own known) }
 {}
 
 /// No version shown ever falls: after the looks that `plan` gives for what is known, each entity is shown at the version that it was
 /// shown at, or at a later one, also where it left. And what a look leaves is a view.
 pub fn versions_shown_never_fall()
-    ensures never_fall { (r : Replica) (own : Pos) (known : List Seen) → IsView r → IsStrictlySortedBy nat_cmp (map (λ s. s.entity) known) →
+    ensures never_fall { (r : Replica) (own : Pos) (known : List Seen) → IsView r →
+        IsStrictlySortedBy nat_cmp (map (λ s. s.entity) known) →
         NeverFalls r (after_looks known r (one_look r own known)) }
-    ensures view { (r : Replica) (known : List Seen) (looks : List Look) → IsView r → IsView (after_looks known r looks) }
+    ensures view { (r : Replica) (known : List Seen) (looks : List Look) → IsView r →
+        IsView (after_looks known r looks) }
 {}
 
 /// Where nothing was shown at a greater version than is known, `plan` gives the look at a flat table.

@@ -20,6 +20,7 @@ ghost use Rattle.seam_view.specs.Passing.{places_of, to_come, HasPlaces};
 
 use super::{Look, Seen, find_seen};
 use indexmap::IndexMap;
+use seam_table::HashKey;
 use std::alloc::{AllocError, Global};
 use std::marker::Model;
 use std::mem::replace;
@@ -184,7 +185,8 @@ impl Entered {
     pub fn show(&mut self, e: u32, version: u64, next: &mut usize)
         requires room { list_any (λ p. nat_eq e p.0) self.old.entries ≡ false → 0 < self.old.room }
         ensures entries { self.new.entries ≡ placed e version self.old.entries }
-        ensures room { self.old.room ≤ self.new.room + (if list_any (λ p. nat_eq e p.0) self.old.entries then 0 else 1) }
+        ensures room { self.old.room ≤ self.new.room + (if list_any (λ p. nat_eq e p.0)
+            self.old.entries then 0 else 1) }
     {
         match rank_of(&self.slots, &self.by_number, e, *next) {
             Ok(rank) => {
@@ -207,14 +209,19 @@ impl Entered {
 
     // Takes the entities whose leaves come first among the looks, in enter order, out of those in view in one pass: they are now
     // among those that left. The looks past these leaves remain.
-    pub fn take_out<'a>(&mut self, left: &mut IndexMap<u32, u64>, looks: &'a [Look]) -> &'a [Look]
+    pub fn take_out<'a>(
+        &mut self,
+        left: &mut IndexMap<u32, u64, HashKey>,
+        looks: &'a [Look],
+    ) -> &'a [Look]
         requires room { leaves_in looks.now ≤ spare left.old }
         ensures rest { result.now ≡ looks_past_all looks.now self.old.entries }
         ensures kept { self.new.entries ≡ kept_past_all looks.now self.old.entries }
         ensures left { (q : ℕ) → lookup (nat_eq q) left.new.entries
             ≡ left_past_all looks.now self.old.entries (λ x. lookup (nat_eq x) left.old.entries) q }
         ensures room { self.old.room ≤ self.new.room }
-        ensures room_left { spare left.old + leaves_in result.now ≤ spare left.new + leaves_in looks.now }
+        ensures room_left { spare left.old + leaves_in result.now
+            ≤ spare left.new + leaves_in looks.now }
     {
         let rest = send_off(&mut self.slots, left, looks);
         close_up(&mut self.slots, &mut self.by_number);
@@ -225,14 +232,15 @@ impl Entered {
     // made room for a merge. They are no longer among those that left. The looks past these remain.
     pub fn show_rising<'a>(
         &mut self,
-        left: &mut IndexMap<u32, u64>,
+        left: &mut IndexMap<u32, u64, HashKey>,
         known: &[Seen],
         looks: &'a [Look],
     ) -> &'a [Look]
         requires rising { IsStrictlySortedBy nat_cmp (map (λ s. s.entity) known.now) }
         requires apart { AreApart self.old.entries left.old.entries }
         requires room { enters_in looks.now ≤ self.old.room }
-        ensures kept { AreKept known.now self.old.entries left.old.entries looks.now self.new.entries left.new.entries result.now }
+        ensures kept { AreKept known.now self.old.entries left.old.entries looks.now
+            self.new.entries left.new.entries result.now }
         ensures room { enters_in result.now ≤ self.new.room }
         ensures room_left { spare left.old ≤ spare left.new }
     {
@@ -266,14 +274,17 @@ impl Passing {
     // Passes those with numbers below e. Whether the next one has another number.
     fn pass_below(&mut self, slots: &[Slot], e: u32) -> bool
         requires within { self.old.next ≤ length self.old.all.items }
-        requires room { vec_len self.old.passed + length (to_come self.old) ≤ vec_capacity self.old.passed }
+        requires room { vec_len self.old.passed + length (to_come self.old)
+            ≤ vec_capacity self.old.passed }
         ensures within { self.new.next ≤ length self.new.all.items }
         ensures same { places_of self.new ≡ places_of self.old }
-        ensures below { AllWithin (λ i. number_at slots.now i < e) (places_of self.old) 0 (length self.old.passed.items) →
-            AllWithin (λ i. number_at slots.now i < e) (places_of self.new) 0 (length self.new.passed.items) }
+        ensures below { AllWithin (λ i. number_at slots.now i < e) (places_of self.old) 0
+            (length self.old.passed.items) → AllWithin (λ i. number_at slots.now i < e)
+            (places_of self.new) 0 (length self.new.passed.items) }
         ensures above { result ≡ true → self.new.next < length self.new.all.items →
             e < number_at slots.now (slice_index self.new.all.items self.new.next) }
-        ensures len { vec_len self.new.passed + length (to_come self.new) ≡ vec_len self.old.passed + length (to_come self.old) }
+        ensures len { vec_len self.new.passed + length (to_come self.new)
+            ≡ vec_len self.old.passed + length (to_come self.old) }
         ensures capacity { vec_capacity self.new.passed ≡ vec_capacity self.old.passed }
     {
         for i in self.next..self.all.len() {
@@ -307,7 +318,8 @@ impl Passing {
 // What is known of the entity that enters by the look.
 fn entering<'a>(known: &'a [Seen], look: &Look, from: &mut usize) -> Option<&'a Seen>
     requires { IsStrictlySortedBy nat_cmp (map (λ s. s.entity) known.now) }
-    ensures { IfSome result (λ s. (look.now ≡ Enter s.now.entity) × (seen_of s.now.entity known.now ≡ Some s.now)) }
+    ensures { IfSome result (λ s. (look.now ≡ Enter s.now.entity) ×
+        (seen_of s.now.entity known.now ≡ Some s.now)) }
 {
     match look {
         Look::Enter(e) => find_seen(known, *e, from),
@@ -319,18 +331,20 @@ fn entering<'a>(known: &'a [Seen], look: &Look, from: &mut usize) -> Option<&'a 
 fn show_next(
     slots: &mut Vec<Slot>,
     passing: &mut Passing,
-    left: &mut IndexMap<u32, u64>,
+    left: &mut IndexMap<u32, u64, HashKey>,
     seen: &Seen,
 ) -> bool
     requires by_number { IsByNumber (keys_of (entries_of slots.old.items)) (places_of passing.old) }
     requires within { passing.old.next ≤ length passing.old.all.items }
     requires few { vec_len slots.old < 0xffff_ffff }
-    requires room { (vec_len slots.old < vec_capacity slots.old)
-        × (vec_len passing.old.passed + length (to_come passing.old) < vec_capacity passing.old.passed) }
+    requires room { (vec_len slots.old < vec_capacity slots.old) ×
+        (vec_len passing.old.passed + length (to_come passing.old)
+        < vec_capacity passing.old.passed) }
     ensures by_number { IsByNumber (keys_of (entries_of slots.new.items)) (places_of passing.new) }
     ensures within { passing.new.next ≤ length passing.new.all.items }
-    ensures shown { OnTrue result (IsShown seen.now.entity seen.now.version (entries_of slots.old.items) left.old.entries
-        (entries_of slots.new.items) left.new.entries) }
+    ensures shown { OnTrue result (IsShown seen.now.entity seen.now.version
+        (entries_of slots.old.items) left.old.entries (entries_of slots.new.items)
+        left.new.entries) }
     ensures same { OnFalse result ((slots.new ≡ slots.old) × (left.new ≡ left.old)) }
     ensures len { (vec_len slots.new ≡ vec_len slots.old + (if result then 1 else 0))
         × (vec_len passing.new.passed + length (to_come passing.new)
@@ -355,9 +369,10 @@ fn show_next(
 }
 
 // The entity is no longer among those that left. Mostly none has left, and then nothing is looked up.
-fn take_back(left: &mut IndexMap<u32, u64>, e: u32)
+fn take_back(left: &mut IndexMap<u32, u64, HashKey>, e: u32)
     ensures gone { lookup (nat_eq e) left.new.entries ≡ None }
-    ensures others { (q : ℕ) → nat_eq e q ≡ false → lookup (nat_eq q) left.new.entries ≡ lookup (nat_eq q) left.old.entries }
+    ensures others { (q : ℕ) → nat_eq e q ≡ false → lookup (nat_eq q) left.new.entries
+        ≡ lookup (nat_eq q) left.old.entries }
     ensures room { spare left.old ≤ spare left.new }
 {
     if left.is_empty() {
@@ -371,7 +386,7 @@ fn take_back(left: &mut IndexMap<u32, u64>, e: u32)
 fn show_first<'a>(
     slots: &mut Vec<Slot>,
     passing: &mut Passing,
-    left: &mut IndexMap<u32, u64>,
+    left: &mut IndexMap<u32, u64, HashKey>,
     known: &[Seen],
     looks: &'a [Look],
 ) -> &'a [Look]
@@ -379,12 +394,14 @@ fn show_first<'a>(
     requires by_number { IsByNumber (keys_of (entries_of slots.old.items)) (places_of passing.old) }
     requires within { passing.old.next ≤ length passing.old.all.items }
     requires apart { AreApart (entries_of slots.old.items) left.old.entries }
-    requires room { HasPlaces (enters_in looks.now) (vec_len slots.old) (vec_capacity slots.old) passing.old }
+    requires room { HasPlaces (enters_in looks.now) (vec_len slots.old) (vec_capacity slots.old)
+        passing.old }
     ensures by_number { IsByNumber (keys_of (entries_of slots.new.items)) (places_of passing.new) }
     ensures within { passing.new.next ≤ length passing.new.all.items }
-    ensures kept { AreKept known.now (entries_of slots.old.items) left.old.entries looks.now (entries_of slots.new.items) left.new.entries
-        result.now }
-    ensures room { HasPlaces (enters_in result.now) (vec_len slots.new) (vec_capacity slots.new) passing.new }
+    ensures kept { AreKept known.now (entries_of slots.old.items) left.old.entries looks.now
+        (entries_of slots.new.items) left.new.entries result.now }
+    ensures room { HasPlaces (enters_in result.now) (vec_len slots.new) (vec_capacity slots.new)
+        passing.new }
     ensures room_left { spare left.old ≤ spare left.new }
 {
     let mut from = 0;
@@ -426,14 +443,16 @@ fn entity_at(slots: &[Slot], i: u32) -> u32
 // Whether all have numbers below e.
 fn are_all_below(slots: &[Slot], by_number: &[u32], e: u32) -> bool
     requires { IsByNumber (keys_of (entries_of slots.now)) by_number.now }
-    ensures { result ≡ true → AllWithin (λ i. number_at slots.now i < e) by_number.now 0 (length by_number.now) }
+    ensures { result ≡ true → AllWithin (λ i. number_at slots.now i < e) by_number.now 0
+        (length by_number.now) }
 {
     is_last_below(slots, by_number, e)
 }
 
 // Whether the last of the places, if there is one, has a number below e.
 fn is_last_below(slots: &[Slot], places: &[u32], e: u32) -> bool
-    ensures { result ≡ true → 0 < length places.now → number_at slots.now (slice_index places.now (length places.now - 1)) < e }
+    ensures { result ≡ true → 0 < length places.now → number_at slots.now
+        (slice_index places.now (length places.now - 1)) < e }
 {
     match places.last() {
         Some(place) => entity_at(slots, *place) < e,
@@ -445,8 +464,10 @@ fn is_last_below(slots: &[Slot], places: &[u32], e: u32) -> bool
 fn few_below(slots: &[Slot], by_number: &[u32], e: u32, from: usize) -> Option<usize>
     requires { IsByNumber (keys_of (entries_of slots.now)) by_number.now }
     ensures bound { IfSome result (λ r. r ≤ length by_number.now) }
-    ensures below { IfSome result (λ r. AllWithin (λ i. number_at slots.now i < e) by_number.now 0 r) }
-    ensures above { IfSome result (λ r. AllWithin (λ i. e ≤ number_at slots.now i) by_number.now r (length by_number.now)) }
+    ensures below { IfSome result (λ r. AllWithin (λ i. number_at slots.now i < e) by_number.now 0
+        r) }
+    ensures above { IfSome result (λ r. AllWithin (λ i. e ≤ number_at slots.now i) by_number.now r
+        (length by_number.now)) }
 {
     let len = by_number.len();
     if from > len || from > 0 && entity_at(slots, by_number[from - 1]) >= e {
@@ -468,7 +489,8 @@ fn many_below(slots: &[Slot], by_number: &[u32], e: u32, from: usize) -> usize
     requires { IsByNumber (keys_of (entries_of slots.now)) by_number.now }
     ensures bound { result ≤ length by_number.now }
     ensures below { AllWithin (λ i. number_at slots.now i < e) by_number.now 0 result }
-    ensures above { AllWithin (λ i. e ≤ number_at slots.now i) by_number.now result (length by_number.now) }
+    ensures above { AllWithin (λ i. e ≤ number_at slots.now i) by_number.now result
+        (length by_number.now) }
 {
     match few_below(slots, by_number, e, from) {
         Some(rank) => rank,
@@ -479,9 +501,10 @@ fn many_below(slots: &[Slot], by_number: &[u32], e: u32, from: usize) -> usize
 // Whether the entity is there by number.
 fn is_at(slots: &[Slot], by_number: &[u32], e: u32, rank: usize) -> bool
     requires { IsByNumber (keys_of (entries_of slots.now)) by_number.now }
-    ensures there { OnTrue result ((i : ℕ) × (slice_get by_number.now rank ≡ Some i) × (i < length slots.now)
-        × (number_at slots.now i ≡ e)) }
-    ensures other { OnFalse result (rank < length by_number.now → number_at slots.now (slice_index by_number.now rank) ≢ e) }
+    ensures there { OnTrue result ((i : ℕ) × (slice_get by_number.now rank ≡ Some i) ×
+        (i < length slots.now) × (number_at slots.now i ≡ e)) }
+    ensures other { OnFalse result (rank < length by_number.now →
+        number_at slots.now (slice_index by_number.now rank) ≢ e) }
 {
     match by_number.get(rank) {
         Some(i) => entity_at(slots, *i) == e,
@@ -493,11 +516,13 @@ fn is_at(slots: &[Slot], by_number: &[u32], e: u32, rank: usize) -> bool
 #[inline(always)]
 fn rank_of(slots: &[Slot], by_number: &[u32], e: u32, from: usize) -> Result<usize, usize>
     requires { IsByNumber (keys_of (entries_of slots.now)) by_number.now }
-    ensures there { IfOk result (λ r. (i : ℕ) × (slice_get by_number.now r ≡ Some i) × (i < length slots.now)
-        × (number_at slots.now i ≡ e)) }
+    ensures there { IfOk result (λ r. (i : ℕ) × (slice_get by_number.now r ≡ Some i) ×
+        (i < length slots.now) × (number_at slots.now i ≡ e)) }
     ensures bound { IfErr result (λ r. r ≤ length by_number.now) }
-    ensures below { IfErr result (λ r. AllWithin (λ i. number_at slots.now i < e) by_number.now 0 r) }
-    ensures above { IfErr result (λ r. AllWithin (λ i. e < number_at slots.now i) by_number.now r (length by_number.now)) }
+    ensures below { IfErr result (λ r. AllWithin (λ i. number_at slots.now i < e) by_number.now 0
+        r) }
+    ensures above { IfErr result (λ r. AllWithin (λ i. e < number_at slots.now i) by_number.now r
+        (length by_number.now)) }
 {
     if is_at(slots, by_number, e, from) {
         return Ok(from);
@@ -532,15 +557,21 @@ fn insert_at(places: &mut Vec<u32>, rank: usize, place: u32)
 
 // Finds out where each goes once the entities have left whose leaves come first among the looks, in enter order, and puts these
 // among those that left. The looks past these leaves remain.
-fn send_off<'a>(slots: &mut [Slot], left: &mut IndexMap<u32, u64>, looks: &'a [Look]) -> &'a [Look]
+fn send_off<'a>(
+    slots: &mut [Slot],
+    left: &mut IndexMap<u32, u64, HashKey>,
+    looks: &'a [Look],
+) -> &'a [Look]
     requires few { length slots.old < 2 ^ 32 }
     requires room { leaves_in looks.now ≤ spare left.old }
     ensures same { entries_of slots.new ≡ entries_of slots.old }
     ensures order { GoInOrder 0 slots.new }
-    ensures kept { entries_of (filter stays slots.new) ≡ kept_past_all looks.now (entries_of slots.old) }
+    ensures kept { entries_of (filter stays slots.new) ≡ kept_past_all looks.now
+        (entries_of slots.old) }
     ensures rest { result.now ≡ looks_past_all looks.now (entries_of slots.old) }
     ensures left { (q : ℕ) → lookup (nat_eq q) left.new.entries
-        ≡ left_past_all looks.now (entries_of slots.old) (λ x. lookup (nat_eq x) left.old.entries) q }
+        ≡ left_past_all looks.now (entries_of slots.old) (λ x. lookup (nat_eq x) left.old.entries)
+        q }
     ensures room { spare left.old + leaves_in result.now ≤ spare left.new + leaves_in looks.now }
 {
     let mut rest = looks;
@@ -575,14 +606,15 @@ fn new_place(slots: &[Slot], place: u32) -> u32
 
 // Brings the places by number to where their entities go.
 fn renumber(slots: &[Slot], by_number: &mut Vec<u32>)
-    ensures places { by_number.new.items
-        ≡ filter (λ i. not (nat_eq i nowhere)) (map (λ i. slice_index_or (map (λ s. s.to) slots.now) i nowhere) by_number.old.items) }
+    ensures places { by_number.new.items ≡ filter (λ i. not (nat_eq i nowhere))
+        (map (λ i. slice_index_or (map (λ s. s.to) slots.now) i nowhere) by_number.old.items) }
     ensures len { vec_len by_number.new ≤ vec_len by_number.old }
     ensures capacity { vec_capacity by_number.new ≡ vec_capacity by_number.old }
 {
     by_number.retain_mut(
         |place: &mut u32| -> bool
-            ensures { (place.new ≡ slice_index_or (map (λ s. s.to) slots.entry.now) place.old nowhere) × (result ≡ not (nat_eq place.new nowhere)) }
+            ensures { (place.new ≡ slice_index_or (map (λ s. s.to) slots.entry.now) place.old
+                nowhere) × (result ≡ not (nat_eq place.new nowhere)) }
         {
             *place = new_place(slots, *place);
             *place != NOWHERE
@@ -596,8 +628,10 @@ fn close_up(slots: &mut Vec<Slot>, by_number: &mut Vec<u32>)
     requires by_number { IsByNumber (keys_of (entries_of slots.old.items)) by_number.old.items }
     ensures slots { slots.new.items ≡ filter stays slots.old.items }
     ensures by_number { IsByNumber (keys_of (entries_of slots.new.items)) by_number.new.items }
-    ensures len { (vec_len slots.new ≤ vec_len slots.old) × (vec_len by_number.new ≤ vec_len by_number.old) }
-    ensures capacity { (vec_capacity slots.new ≡ vec_capacity slots.old) × (vec_capacity by_number.new ≡ vec_capacity by_number.old) }
+    ensures len { (vec_len slots.new ≤ vec_len slots.old) ×
+        (vec_len by_number.new ≤ vec_len by_number.old) }
+    ensures capacity { (vec_capacity slots.new ≡ vec_capacity slots.old) ×
+        (vec_capacity by_number.new ≡ vec_capacity by_number.old) }
 {
     renumber(slots, by_number);
     slots.retain(|slot| slot.to != NOWHERE);

@@ -8,7 +8,7 @@ use Rattle.std.proofs.lemmas.Grind.{common_steps}
 use Rattle.seam_words.specs.Words.{is_blank, is_escaped, IsPiece, ArePieces}
 use Rattle.seam_words.specs.Faults.{HasOpenQuote, HasBadEscape, IsNoEscape}
 use Rattle.seam_words.specs.Faults.HasOpenQuote.{unended, followed}
-use Rattle.seam_words.specs.Parts.{IsFirstWord, EndsPieces, ClosesWord, HasPiece, HasBadPiece, HasPieces, RefusesPieces}
+use Rattle.seam_words.specs.WordParts.{IsFirstWord, EndsPieces, ClosesWord, HasPiece, HasBadPiece, HasPieces, RefusesPieces}
 
 -- the bytes that a pattern names after the first
 pub cons_is : (bytes : List ℕ) → 0 < length bytes → bytes ≡ slice_index bytes 0 ∷ take (length bytes - 1) (drop 1 bytes)

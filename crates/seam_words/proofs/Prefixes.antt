@@ -8,7 +8,7 @@ use Rattle.seam_words.specs.declared.words.WordsError.TheVariants.{NotUtf8, Open
 use Rattle.seam_words.specs.Words.{Span, is_blank, IsGap, HasFirstWords, AreWords}
 use Rattle.std.specs.Str.{IsUtf8}
 use Rattle.seam_words.specs.Faults.{HasFaultAt, HasFault, Refuses}
-use Rattle.seam_words.specs.Parts.{IsFirstWord, RefusesWord}
+use Rattle.seam_words.specs.WordParts.{IsFirstWord, RefusesWord}
 use Rattle.seam_words.proofs.Runs.{HasRun}
 
 two_gaps : (a b : List ℕ) → IsGap a → IsGap b → IsGap (a ++ b)

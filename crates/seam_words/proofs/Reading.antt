@@ -10,7 +10,7 @@ use Rattle.seam_words.specs.declared.words.WordsError.{WordsError}
 use Rattle.seam_words.specs.declared.words.WordsError.TheVariants.{TooManyWords}
 use Rattle.seam_words.specs.Words.{Span, is_blank, HasFirstWords, AreWords, bytes_of}
 use Rattle.seam_words.specs.Faults.{BeginsWord, Refuses}
-use Rattle.seam_words.specs.Parts.{IsFirstWord, RefusesWord}
+use Rattle.seam_words.specs.WordParts.{IsFirstWord, RefusesWord}
 use Rattle.seam_words.proofs.Runs.{StopsAt, HasRun, has_run}
 use Rattle.seam_words.proofs.Prefixes.{after_gap, word_first, fault_of_word, has_fault, refused, are_words}
 

@@ -7,7 +7,7 @@ use Rattle.std.proofs.lemmas.Grind.{common_steps}
 use Rattle.seam_words.specs.Words.{is_plain, EndsWord}
 use Rattle.seam_words.specs.Faults.{HasOpenQuote, BeginsWord}
 use Rattle.seam_words.specs.Faults.HasOpenQuote.{inside}
-use Rattle.seam_words.specs.Parts.{IsFirstWord}
+use Rattle.seam_words.specs.WordParts.{IsFirstWord}
 
 -- the bytes are none, or the first fails the test
 abbrev pub StopsAt : (ℕ → Bool) → List ℕ → Type 0

@@ -1,7 +1,7 @@
 -- The texts of a line's words: there is one list of them, and none where the words are at fault.
 use Rattle.std.proofs.Common.{◌≡◌, ℕ, List, map, sym, ap, ◌∙◌}
 use Rattle.seam_words.specs.Words.{Span, bytes_of}
-use Rattle.seam_words.specs.Texts.{HasWords}
+use Rattle.seam_words.specs.SplitWords.{HasWords}
 use Rattle.seam_words.specs.Faults.{Refuses}
 use Rattle.seam_words.specs.declared.words.WordsError.{WordsError}
 use Rattle.seam_words.proofs.Scan.{same_words, same_refusal, no_words}

@@ -1,5 +1,5 @@
 pub mod Words
-pub mod Texts
+pub mod SplitWords
 pub mod Faults
-pub mod Parts
+pub mod WordParts
 pub mod Numbers

@@ -14,6 +14,6 @@ pub fn words_are_one()
 /// A line has one first fault at most, and none where it has 16 words or fewer. It does nothing when it runs.
 pub fn fault_is_one()
     ensures one { (line : List ℕ) (e f : WordsError) → HasFault line e → HasFault line f → e ≡ f }
-    ensures beside_no_words { (line : List ℕ) (spans : List Span) (e : WordsError) → AreWords line spans → length spans ≤ MOST_WORDS →
-        ¬ (HasFault line e) }
+    ensures beside_no_words { (line : List ℕ) (spans : List Span) (e : WordsError) →
+        AreWords line spans → length spans ≤ MOST_WORDS → ¬ (HasFault line e) }
 {}

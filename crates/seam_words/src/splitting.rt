@@ -5,7 +5,8 @@ ghost use Rattle.std.specs.List.{prefix_len};
 ghost use Rattle.std.specs.Str.{IsUtf8};
 ghost use Rattle.seam_words.specs.Words.{is_blank, is_plain, is_escaped, EndsWord};
 ghost use Rattle.seam_words.specs.Faults.{BeginsWord, IsNoEscape};
-ghost use Rattle.seam_words.specs.Parts.{IsFirstWord, RefusesWord, EndsPieces, ClosesWord, HasPiece, HasBadPiece, HasPieces, RefusesPieces};
+ghost use Rattle.seam_words.specs.WordParts.{IsFirstWord, RefusesWord, EndsPieces, ClosesWord, HasPiece, HasBadPiece, HasPieces};
+ghost use Rattle.seam_words.specs.WordParts.{RefusesPieces};
 
 use crate::WordsError;
 
@@ -69,7 +70,8 @@ fn gap_len(bytes: &[u8]) -> usize
 // What follows the word that comes first. Only where a quote follows its plain bytes is it in quotes, or at fault.
 pub(crate) fn after_word(bytes: &[u8]) -> Result<&[u8], WordsError>
     requires { BeginsWord bytes.now }
-    ensures word { IfOk result (λ rest. IsFirstWord (slice_index bytes.now 0 == 34) bytes.now rest.now) }
+    ensures word { IfOk result (λ rest. IsFirstWord (slice_index bytes.now 0 == 34) bytes.now
+        rest.now) }
     ensures fault { IfErr result (RefusesWord bytes.now) }
 {
     let rest = after_plain_bytes(bytes);
@@ -145,7 +147,8 @@ fn ends_pieces(bytes: &[u8]) -> bool
 // What follows the piece that comes first. `None` where a backslash begins no escape.
 fn after_piece(bytes: &[u8]) -> Option<&[u8]>
     requires { ¬ EndsPieces bytes.now }
-    ensures piece { MatchOption result (HasBadPiece bytes.now) (λ rest. HasPiece bytes.now rest.now) }
+    ensures piece { MatchOption result (HasBadPiece bytes.now)
+        (λ rest. HasPiece bytes.now rest.now) }
     ensures shorter { IfSome result (λ rest. length rest.now < length bytes.now) }
 {
     match bytes {
@@ -157,8 +160,9 @@ fn after_piece(bytes: &[u8]) -> Option<&[u8]>
 
 // What follows the byte after a backslash. `None` where it is none that may come there.
 fn after_escaped(bytes: &[u8]) -> Option<&[u8]>
-    ensures { MatchOption result (IsNoEscape bytes.now) (λ rest. (is_escaped (slice_index bytes.now 0) ≡ true)
-        × (bytes.now ≡ slice_index bytes.now 0 ∷ rest.now)) }
+    ensures { MatchOption result (IsNoEscape bytes.now)
+        (λ rest. (is_escaped (slice_index bytes.now 0) ≡ true) ×
+        (bytes.now ≡ slice_index bytes.now 0 ∷ rest.now)) }
 {
     match bytes {
         [b'"' | b'\\' | b'n', rest @ ..] => Some(rest),

@@ -2,7 +2,7 @@
 ghost use Rattle.std.specs.Prelude.{◌≡◌, ◌<◌, ◌^◌, ℕ, List, IfOk, IfErr, IsOkAnd, map, length};
 ghost use Rattle.seam_words.specs.declared.words.WordsError.{WordsError as Errors};
 ghost use Rattle.seam_words.specs.Faults.{Refuses};
-ghost use Rattle.seam_words.specs.Texts.{HasWords};
+ghost use Rattle.seam_words.specs.SplitWords.{HasWords};
 
 use crate::splitting::{after_gap, after_word, after_word_gap, is_utf8};
 use crate::{MOST_WORDS, WordsError};
@@ -19,7 +19,8 @@ pub fn words_of_line<'a, 'b>(
     ensures cause { IfErr result (Refuses line.now) }
 
     // And the other way round: each line has one answer.
-    ensures found { (texts : List (List ℕ)) → HasWords line.now texts → IsOkAnd result (λ words. map (λ w. w.now) words.now ≡ texts) }
+    ensures found { (texts : List (List ℕ)) → HasWords line.now texts →
+        IsOkAnd result (λ words. map (λ w. w.now) words.now ≡ texts) }
     ensures refused { (error : Errors) → Refuses line.now error → result ≡ Err error }
 {
     if !is_utf8(line) {

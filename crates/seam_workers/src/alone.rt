@@ -13,7 +13,8 @@ use std::thread::Threads;
 
 // Whether the node has a task, or a message on a link to it.
 fn has_event<M: Machine>(net: &Net<M>, node: u8) -> bool
-    ensures { result ≡ true → (e : Event) × (enabled M.has_work net.now e ≡ true) × (e.node ≡ node) }
+    ensures { result ≡ true → (e : Event) × (enabled M.has_work net.now e ≡ true) ×
+        (e.node ≡ node) }
 {
     if net.enabled(Event { node, from: None }) {
         return true;
@@ -32,7 +33,8 @@ fn has_event<M: Machine>(net: &Net<M>, node: u8) -> bool
 
 // Whether a node above that one has an event.
 fn has_event_above<M: Machine>(net: &Net<M>, node: u8) -> bool
-    ensures { result ≡ true → (e : Event) × (enabled M.has_work net.now e ≡ true) × (node < e.node) }
+    ensures { result ≡ true → (e : Event) × (enabled M.has_work net.now e ≡ true) ×
+        (node < e.node) }
 {
     for above in node as usize + 1..net.node_count() {
         if has_event(net, above as u8) {
@@ -53,7 +55,8 @@ pub fn alone<M: Machine, G: Gate, R: Threads + Wait + Sync>(
     requires { ArePeers M.peer_count net.old }
     ensures run { IfOk result (λ v. LeadsTo M.has_work M.steps net.old v.items net.new) }
     ensures peers { ArePeers M.peer_count net.new }
-    ensures until { IfOk result (λ v. IsQuiet M.has_work net.new ⊎ TwoHaveEvents M.has_work net.new ⊎ (vec_len v ≡ turns)) }
+    ensures until { IfOk result (λ v. IsQuiet M.has_work net.new ⊎
+        TwoHaveEvents M.has_work net.new ⊎ (vec_len v ≡ turns)) }
 {
     let mut events = Vec::new(alloc);
     for _turn in 0..turns {

@@ -21,8 +21,10 @@ struct Columns<M: Machine> {
 // The parts of the nodes.
 fn in_columns<M: Machine>(alloc: Global, done: Vec<Apart<M>>) -> Result<Columns<M>, AllocError>
     ensures nodes { IfOk result (λ c. c.nodes.items ≡ map (λ v. v.node) done.items) }
-    ensures logs { IfOk result (λ c. map (λ l. l.items) c.logs.items ≡ map (λ v. v.log) done.items) }
-    ensures hands { IfOk result (λ c. map (λ h. h.items) c.hands.items ≡ map (λ v. v.hand) done.items) }
+    ensures logs { IfOk result (λ c. map (λ l. l.items) c.logs.items
+        ≡ map (λ v. v.log) done.items) }
+    ensures hands { IfOk result (λ c. map (λ h. h.items) c.hands.items
+        ≡ map (λ v. v.hand) done.items) }
     ensures ends { IfOk result (λ c. c.ends.items ≡ map (λ v. v.ends) done.items) }
 {
     let mut nodes = Vec::new(alloc);

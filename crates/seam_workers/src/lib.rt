@@ -140,9 +140,12 @@ impl<M: Machine, J: Naming<M, M::Msg> + Claims> Seat<M, J> {
     // Makes one step, if there is one to make.
     fn try_step(&mut self, alloc: Global) -> Try
         ensures me { self.new.me ≡ self.old.me }
-        ensures stepped { result ≡ Try.Stepped → HasStepped M.steps self.old self.new × (self.new.unsent ≡ []) }
-        ensures idle { result ≡ Try.Idle → SameBut self.old self.new × IsIdle M.has_work self.old self.new × (self.new.unsent ≡ []) }
-        ensures memory { result ≡ Try.NoMemory → SameBut self.old self.new ⊎ HasStepped M.steps self.old self.new }
+        ensures stepped { result ≡ Try.Stepped → HasStepped M.steps self.old self.new ×
+            (self.new.unsent ≡ []) }
+        ensures idle { result ≡ Try.Idle → SameBut self.old self.new ×
+            IsIdle M.has_work self.old self.new × (self.new.unsent ≡ []) }
+        ensures memory { result ≡ Try.NoMemory → SameBut self.old self.new ⊎
+            HasStepped M.steps self.old self.new }
     {
         self.logged.try_step(alloc)
     }
@@ -400,7 +403,8 @@ where
     requires each { vec_len start.ends ≡ vec_len start.nodes }
     requires each_claim { vec_len start.claims ≡ vec_len start.nodes }
     ensures many { IfOk result (λ r. vec_len r.nodes ≡ vec_len start.nodes) }
-    ensures runs { IfOk result (λ r. AreRuns M.has_work M.steps M.peer_count J.roots r.nodes.items) }
+    ensures runs { IfOk result (λ r. AreRuns M.has_work M.steps M.peer_count J.roots
+        r.nodes.items) }
     ensures crew { IfOk result (λ r. vec_len r.refused ≡ crew.workers) }
 {
     let Start {
@@ -434,7 +438,8 @@ where
     requires each { vec_len start.ends ≡ vec_len start.nodes }
     requires each_claim { vec_len start.claims ≡ vec_len start.nodes }
     ensures many { IfOk result (λ r. vec_len r.nodes ≡ vec_len start.nodes) }
-    ensures runs { IfOk result (λ r. AreRuns M.has_work M.steps M.peer_count (roots_of start.nodes.items start.ends.items) r.nodes.items) }
+    ensures runs { IfOk result (λ r. AreRuns M.has_work M.steps M.peer_count
+        (roots_of start.nodes.items start.ends.items) r.nodes.items) }
     ensures crew { IfOk result (λ r. vec_len r.refused ≡ crew.workers) }
 {
     run_named::<M, Brand, G, R>(rt, alloc, start, crew, gate)
@@ -489,7 +494,8 @@ where
     requires turns { 1 ≤ crew.turns }
     requires peers { ArePeers M.peer_count net }
     ensures run { IfOk result (λ r. LeadsTo M.has_work M.steps net r.1.items r.0) }
-    ensures tasks { IfOk result (λ r. (k : ℕ) (s : M) → slice_get net.nodes k ≡ Some s → M.has_work s ≡ true → HasEventOf k r.1.items) }
+    ensures tasks { IfOk result (λ r. (k : ℕ) (s : M) → slice_get net.nodes k ≡ Some s →
+        M.has_work s ≡ true → HasEventOf k r.1.items) }
     ensures peers { IfOk result (λ r. ArePeers M.peer_count r.0) }
 {
     let mut net = net;

@@ -84,7 +84,8 @@ pub fn visit<M: Machine, J: Naming<M, M::Msg> + Claims, G: Gate, R: Threads + Wa
     shift: &mut Shift,
 )
     requires { shift.old.tries + 1 < 2 ^ 32 }
-    ensures { (v : LoggedView M M.Msg Global) × (v' : LoggedView M M.Msg Global) × IsCounted M.has_work M.steps v v' shift.old shift.new }
+    ensures { (v : LoggedView M M.Msg Global) × (v' : LoggedView M M.Msg Global) ×
+        IsCounted M.has_work M.steps v v' shift.old shift.new }
 {
     let lock: &Mutex<Seat<M, J>> = place;
     let mut held = lock.lock(rt);

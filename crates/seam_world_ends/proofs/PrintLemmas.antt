@@ -114,7 +114,8 @@ told_prints piece steps sink now pending text told told' (Some st) is (failed, w
 
 -- nothing was printed, since an allocation failed
 pub nothing_prints : (P : List ℕ → List Journal → Type 0) (sink now : SinkState) (pending text : List ℕ) (told told' : Told)
-    (result : Status) → told' ≡ told → StopsBy status.NoMemory sink now text result → Prints P sink now pending text told told' (Some result)
+    (result : Status) → told' ≡ told → StopsBy status.NoMemory sink now text result →
+    Prints P sink now pending text told told' (Some result)
 nothing_prints P sink now pending text told told' result same (inl s) =
     subst (λ (st : Status). Prints P sink now pending text told told' (Some st)) (sym s.0) (s.1, same)
 nothing_prints P sink now pending text told told' result same (inr s) =

@@ -85,9 +85,10 @@ module _ (Open Ended : List Line → List ℕ → List Journal → Type 0) where
   -- an allocation failed, and the text is an open transcript of the first lines
   Tells status.NoMemory old new given text steps = (read : List Line) × AreFirst old new given read × Open read text steps
 
-  -- How a run ends with a status: the bytes that it took, the text that it wrote, after it the fault line, and the steps of its rounds, of
-  -- which the watch was told. The source, the sink and the watch were at `old`, `sink` and `told` when the run began, and at `new`,
-  -- `sink'` and `told'` when it ended.
+  -- How a run ends with a status: the bytes that it took, the text that it wrote, after it the fault line, and the steps of which the watch
+  -- was told. They are those of the rounds of the transcript that the status tells of, all of them. Where the sink failed that is longer
+  -- than the text: the watch may have been told of rounds whose text was not written whole, and of none that was not played. The source,
+  -- the sink and the watch were at `old`, `sink` and `told` when the run began, and at `new`, `sink'` and `told'` when it ended.
   pub record RunEnds (ended : Status) (old new : SourceState) (sink sink' : SinkState) (told told' : Told) : Type 0 where
     pub given : List ℕ
     pub text : List ℕ

@@ -11,8 +11,8 @@ use seam_io::{Sink, write_whole};
 /// Writes the fault line of a status, as much of it as the sink accepts.
 pub fn put_fault<K: Sink>(out: &mut K, status: Status)
     requires { IsRunEnd status ⊎ (status ≡ Status.Usage) }
-    ensures written { (tail : List ℕ) × Appends (K.state out.old).written (K.state out.new).written tail
-        × HasFaultLine status (K.state out.old) (K.state out.new) tail }
+    ensures written { (tail : List ℕ) × Appends (K.state out.old).written (K.state out.new).written
+        tail × HasFaultLine status (K.state out.old) (K.state out.new) tail }
     ensures later { (K.state out.old).faults ≤ (K.state out.new).faults }
 {
     put(out, fault_line(status));
@@ -20,8 +20,9 @@ pub fn put_fault<K: Sink>(out: &mut K, status: Status)
 
 // Writes a line, as much of it as the sink accepts.
 fn put<K: Sink>(out: &mut K, line: &[u8])
-    ensures written { (tail : List ℕ) × Appends (K.state out.old).written (K.state out.new).written tail
-        × ((tail ≡ line.now) ⊎ (IsPrefix tail line.now × Rose (K.state out.old).faults (K.state out.new).faults)) }
+    ensures written { (tail : List ℕ) × Appends (K.state out.old).written (K.state out.new).written
+        tail × ((tail ≡ line.now) ⊎ (IsPrefix tail line.now ×
+        Rose (K.state out.old).faults (K.state out.new).faults)) }
     ensures later { (K.state out.old).faults ≤ (K.state out.new).faults }
 {
     let _ = write_whole(out, line);

@@ -41,9 +41,9 @@ impl Pending {
     /// by itself is written at once.
     #[inline]
     pub fn push<K: Sink>(&mut self, piece: &[u8], out: &mut K) -> Result<(), Failed>
-        ensures prints { (sink : SinkState) (text : List ℕ) → Printed sink (K.state out.old) self.old text →
-            MatchResult result
-            (λ _. Printed sink (K.state out.new) self.new (text ++ piece.now))
+        ensures prints { (sink : SinkState) (text : List ℕ) →
+            Printed sink (K.state out.old) self.old text →
+            MatchResult result (λ _. Printed sink (K.state out.new) self.new (text ++ piece.now))
             (λ _. FailedWithin sink (K.state out.new) (text ++ piece.now)) }
         ensures later { (K.state out.old).faults ≤ (K.state out.new).faults }
     {
@@ -57,9 +57,9 @@ impl Pending {
     // Out of line, so that an empty piece costs no more than its test.
     #[inline(never)]
     fn push_some<K: Sink>(&mut self, piece: &[u8], out: &mut K) -> Result<(), Failed>
-        ensures prints { (sink : SinkState) (text : List ℕ) → Printed sink (K.state out.old) self.old text →
-            MatchResult result
-            (λ _. Printed sink (K.state out.new) self.new (text ++ piece.now))
+        ensures prints { (sink : SinkState) (text : List ℕ) →
+            Printed sink (K.state out.old) self.old text →
+            MatchResult result (λ _. Printed sink (K.state out.new) self.new (text ++ piece.now))
             (λ _. FailedWithin sink (K.state out.new) (text ++ piece.now)) }
         ensures later { (K.state out.old).faults ≤ (K.state out.new).faults }
     {
@@ -76,8 +76,8 @@ impl Pending {
     // Adds a piece to no text.
     fn push_alone<K: Sink>(&mut self, piece: &[u8], out: &mut K) -> Result<(), Failed>
         requires { self.old ≡ [] }
-        ensures prints { (sink : SinkState) (text : List ℕ) → Printed sink (K.state out.old) [] text →
-            MatchResult result
+        ensures prints { (sink : SinkState) (text : List ℕ) →
+            Printed sink (K.state out.old) [] text → MatchResult result
             (λ _. Printed sink (K.state out.new) self.new (text ++ piece.now))
             (λ _. FailedWithin sink (K.state out.new) (text ++ piece.now)) }
         ensures later { (K.state out.old).faults ≤ (K.state out.new).faults }
@@ -102,9 +102,9 @@ impl Pending {
 
     /// Writes what was gathered.
     pub fn write<K: Sink>(&mut self, out: &mut K) -> Result<(), Failed>
-        ensures prints { (sink : SinkState) (text : List ℕ) → Printed sink (K.state out.old) self.old text →
-            MatchResult result
-            (λ _. Printed sink (K.state out.new) [] text)
+        ensures prints { (sink : SinkState) (text : List ℕ) →
+            Printed sink (K.state out.old) self.old text →
+            MatchResult result (λ _. Printed sink (K.state out.new) [] text)
             (λ _. FailedWithin sink (K.state out.new) text) }
         ensures none { OnOk result (self.new ≡ []) }
         ensures later { (K.state out.old).faults ≤ (K.state out.new).faults }

@@ -15,9 +15,9 @@ pub fn write_before_wait<K: Sink>(
     pending: &mut Pending,
     out: &mut K,
 ) -> Result<(), Failed>
-    ensures prints { (sink : SinkState) (text : List ℕ) → Printed sink (K.state out.old) pending.old text →
-        MatchResult result
-        (λ _. Printed sink (K.state out.new) pending.new text)
+    ensures prints { (sink : SinkState) (text : List ℕ) →
+        Printed sink (K.state out.old) pending.old text →
+        MatchResult result (λ _. Printed sink (K.state out.new) pending.new text)
         (λ _. FailedWithin sink (K.state out.new) text) }
     ensures none { OnOk result (HasNoFeed lines.now.held → pending.new ≡ []) }
 {
@@ -29,8 +29,8 @@ pub fn write_before_wait<K: Sink>(
 
 /// Prints a text.
 pub fn print<K: Sink>(text: &[u8], pending: &mut Pending, out: &mut K) -> Option<Status>
-    ensures { (sink : SinkState) (before : List ℕ) → Printed sink (K.state out.old) pending.old before →
-        IsPrinted text.now sink (K.state out.new) pending.new before result }
+    ensures { (sink : SinkState) (before : List ℕ) → Printed sink (K.state out.old) pending.old
+        before → IsPrinted text.now sink (K.state out.new) pending.new before result }
 {
     match pending.push(text, out) {
         Ok(()) => None,
@@ -40,8 +40,8 @@ pub fn print<K: Sink>(text: &[u8], pending: &mut Pending, out: &mut K) -> Option
 
 /// Prints a text, and writes all that was printed.
 pub fn print_and_write<K: Sink>(text: &[u8], pending: &mut Pending, out: &mut K) -> Option<Status>
-    ensures { (sink : SinkState) (before : List ℕ) → Printed sink (K.state out.old) pending.old before →
-        IsPrinted text.now sink (K.state out.new) [] before result }
+    ensures { (sink : SinkState) (before : List ℕ) → Printed sink (K.state out.old) pending.old
+        before → IsPrinted text.now sink (K.state out.new) [] before result }
 {
     match pending.push(text, out) {
         Ok(()) => match pending.write(out) {

@@ -38,7 +38,8 @@ module _ (o : Output) (h : Header) (t : Standing) where
   }
 
   -- a line that ends the round
-  pub synced : (line : Line) (refines : List Piece → Standing → Type 0) (text : List ℕ) (steps : Journal) → Judges h t.book line verdict.Synced →
+  pub synced : (line : Line) (refines : List Piece → Standing → Type 0) (text : List ℕ) (steps : Journal) →
+      Judges h t.book line verdict.Synced →
       RoundEnds o h t refines text steps → LineFollowed o h t line refines text (steps ∷ [])
   synced line refines text steps judges ends = record {
     verdict = verdict.Synced;

@@ -1,20 +1,26 @@
 -- A round that was played.
 use Rattle.std.specs.Prelude.{◌≡◌, ◌≢◌, ◌++◌, ℕ, Bool, true, false, List, Option, None, Some, codes, length, map, MatchBool}
-use Rattle.seam_node_steps.specs.Prelude.{Pos, Division, IsTree, World, TypeDef}
+use Rattle.seam_node_steps.specs.Prelude.{Pos, Division, IsTree, Batch, World, TypeDef}
 use Rattle.seam_rule_rounds.specs.Prelude.{IsBalanced, HasSameCuts, Header, has_balance, tree_of, with_round_ended, Standing, number_text}
 use Rattle.seam_rule_rounds.specs.Prelude.{journal_text, RoundData, Journal}
+use Rattle.seam_law_ghosts.specs.Prelude.{GoesThroughRound}
 use Rattle.seam_law_transcript.specs.Prelude.{IsPlayed, data_of}
 use Rattle.seam_accept.specs.Batches.{batch_of}
 use Rattle.seam_quiet.specs.RoundRuns.{IsWithinTable}
 use Rattle.seam_world_text.specs.Residents.{AreResidents}
-use Rattle.seam_world_text.specs.Texts.{calls_text}
+use Rattle.seam_world_text.specs.RoundParts.{calls_text}
 use Rattle.seam_world_text.specs.declared.residents.Resident.{Resident}
-use Rattle.seam_world_rounds.specs.Transcripts.{HasSteps}
 use Rattle.seam_world_rounds.specs.Output.{round_output, sums_if}
 use Rattle.seam_world_rounds.specs.declared.round.Output.{Output}
 use Rattle.seam_world_rounds.specs.declared.round.Output.TheVariants as output
 use Rattle.seam_world_rounds.specs.declared.round.Played.{Played}
 use Rattle.seam_world_rounds.specs.declared.round.Taken.{Taken}
+
+-- the journal has the steps of a round, phase by phase
+pub record HasSteps {w v : World} {b : Batch} (round : GoesThroughRound w b v) (j : Journal) : Type 0 where
+  pub calls : j.calls ≡ round.call_events
+  pub reaps : j.reaps ≡ round.reap_events
+  pub looks : j.looks ≡ round.look_events
 
 -- a tree balanced by these positions, where that was asked for
 abbrev pub IsBalancedBy : Bool → Division → List Pos → ℕ → Option Division → Type 0

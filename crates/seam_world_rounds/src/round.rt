@@ -8,9 +8,9 @@ ghost use Rattle.seam_accept.specs.Batches.{batch_of};
 ghost use Rattle.seam_world_text.specs.Residents.{ArePresent};
 ghost use Rattle.seam_world_text.specs.Printing.{IsOpenRound};
 ghost use Rattle.seam_world_text.specs.Farewells.{AreFarewells};
-ghost use Rattle.seam_world_text.specs.Texts.{calls_text};
+ghost use Rattle.seam_world_text.specs.RoundParts.{calls_text};
 ghost use Rattle.seam_quiet.specs.RoundRuns.{MayRun};
-ghost use Rattle.seam_quiet.specs.Calls.{Beginning};
+ghost use Rattle.seam_quiet.specs.CallPhase.{Beginning};
 ghost use Rattle.seam_world_rounds.specs.PlayedRound.{HasPlayed, IsBalancedBy, HasTaken, start_text};
 ghost use Rattle.seam_world_rounds.specs.Output.{round_output, sums_if};
 
@@ -21,6 +21,7 @@ use seam_quiet::{Ended, Workers, run_calls, run_ends};
 use seam_report::{push_journal, push_number_line};
 use seam_rule_lines::Header;
 use seam_rule_rounds::Sums;
+use seam_table::HashKey;
 use seam_tree::Tree;
 use seam_watch::Journal;
 use seam_workers::Gate;
@@ -48,6 +49,8 @@ pub enum Output {
 pub struct Playing<'a, G> {
     pub workers: Workers<'a, G>,
     pub output: Output,
+    /// By a hash with this key the world, the book and the texts find entities.
+    pub key: HashKey,
 }
 
 /// What a round left: the world after it, the steps that led there, the tree of the next round if the boundaries were balanced, and the
@@ -89,9 +92,9 @@ fn take_calls(
     round: &PrintedRound,
     called: &World,
 ) -> Result<Taken, AllocError>
-    ensures { IfOk result (λ taken. (h : Headers) (s : Standing) (t : Division) (w v : AnyWorld) (p : IsPlayed h s t w v)
-        (bounds : Option Division) → p.round.called ≡ called.now → IsOpenRound h s round.now →
-        HasTaken output h.defs (data_of h s t w v p bounds) taken) }
+    ensures { IfOk result (λ taken. (h : Headers) (s : Standing) (t : Division) (w v : AnyWorld)
+        (p : IsPlayed h s t w v) (bounds : Option Division) → p.round.called ≡ called.now →
+        IsOpenRound h s round.now → HasTaken output h.defs (data_of h s t w v p bounds) taken) }
 {
     match output {
         Output::Sums => Ok(Taken {
@@ -104,9 +107,10 @@ fn take_calls(
 }
 
 fn take_text(alloc: Global, round: &PrintedRound, called: &World) -> Result<Taken, AllocError>
-    ensures { IfOk result (λ taken. (h : Headers) (s : Standing) (t : Division) (w v : AnyWorld) (p : IsPlayed h s t w v)
-        (bounds : Option Division) → p.round.called ≡ called.now → IsOpenRound h s round.now →
-        taken.text.items ≡ calls_text h.defs (data_of h s t w v p bounds)) }
+    ensures { IfOk result (λ taken. (h : Headers) (s : Standing) (t : Division) (w v : AnyWorld)
+        (p : IsPlayed h s t w v) (bounds : Option Division) → p.round.called ≡ called.now →
+        IsOpenRound h s round.now → taken.text.items
+        ≡ calls_text h.defs (data_of h s t w v p bounds)) }
 {
     let mut text = Vec::new(alloc);
     write_calls(&mut text, round, called)?;
@@ -123,10 +127,12 @@ fn write_text(
     ended: &Ended,
     bounds: &Option<Tree>,
 ) -> Result<(), AllocError>
-    ensures { OnOk result ((h : Headers) (s : Standing) (t : Division) (w : AnyWorld) (p : IsPlayed h s t w ended.now.world) →
-        IsOpenRound h s round.now → AreFarewells h.defs s.book p.round.called kept.now →
+    ensures { OnOk result ((h : Headers) (s : Standing) (t : Division) (w : AnyWorld)
+        (p : IsPlayed h s t w ended.now.world) → IsOpenRound h s round.now →
+        AreFarewells h.defs s.book p.round.called kept.now →
         calls.now ≡ calls_text h.defs (data_of h s t w ended.now.world p bounds.now) →
-        out.new.items ≡ out.old.items ++ played_text traced h.defs (data_of h s t w ended.now.world p bounds.now) ended.now.journal) }
+        out.new.items ≡ out.old.items ++ played_text traced h.defs
+        (data_of h s t w ended.now.world p bounds.now) ended.now.journal) }
 {
     seam_world_text::a_rounds_text_has_two_parts();
     write_start(out, round.number, traced, &ended.journal)?;
@@ -141,9 +147,11 @@ fn sum_up(
     kept: &Farewells,
     ended: &World,
 ) -> Result<Sums, AllocError>
-    ensures { IfOk result (λ sums. (h : Headers) (s : Standing) (t : Division) (w : AnyWorld) (p : IsPlayed h s t w ended.now)
-        (bounds : Option Division) → ArePresent s.book present.now → AreFarewells h.defs s.book p.round.called kept.now →
-        did ≡ length (data_of h s t w ended.now p bounds).did → sums ≡ sums_of (data_of h s t w ended.now p bounds)) }
+    ensures { IfOk result (λ sums. (h : Headers) (s : Standing) (t : Division) (w : AnyWorld)
+        (p : IsPlayed h s t w ended.now) (bounds : Option Division) →
+        ArePresent s.book present.now → AreFarewells h.defs s.book p.round.called kept.now →
+        did ≡ length (data_of h s t w ended.now p bounds).did →
+        sums ≡ sums_of (data_of h s t w ended.now p bounds)) }
 {
     Ok(Sums {
         did,
@@ -162,11 +170,13 @@ fn give_round(
     ended: &Ended,
     bounds: &Option<Tree>,
 ) -> Result<Option<Sums>, AllocError>
-    ensures { IfOk result (λ sums. (h : Headers) (s : Standing) (t : Division) (w : AnyWorld) (p : IsPlayed h s t w ended.now.world) →
-        IsOpenRound h s round.now → AreFarewells h.defs s.book p.round.called kept.now →
+    ensures { IfOk result (λ sums. (h : Headers) (s : Standing) (t : Division) (w : AnyWorld)
+        (p : IsPlayed h s t w ended.now.world) → IsOpenRound h s round.now →
+        AreFarewells h.defs s.book p.round.called kept.now →
         HasTaken output h.defs (data_of h s t w ended.now.world p bounds.now) taken.now →
-        (sums ≡ sums_if output (data_of h s t w ended.now.world p bounds.now)) × (out.new.items
-        ≡ out.old.items ++ round_output output h.defs (data_of h s t w ended.now.world p bounds.now) ended.now.journal)) }
+        (sums ≡ sums_if output (data_of h s t w ended.now.world p bounds.now)) ×
+        (out.new.items ≡ out.old.items ++ round_output output h.defs
+        (data_of h s t w ended.now.world p bounds.now) ended.now.journal)) }
 {
     match output {
         Output::Sums => Ok(Some(sum_up(round.present, taken.did, kept, &ended.world)?)),
@@ -190,9 +200,10 @@ fn balanced(
     ended: &World,
     shift: u32,
 ) -> Result<Option<Tree>, AllocError>
-    ensures { IfOk result (λ bounds. (h : Headers) (s : Standing) (t : Division) (w : AnyWorld) (p : IsPlayed h s t w ended.now) →
-        ArePresent s.book present.now →
-        IsBalancedBy asked tree.now (map (λ l. l.state.pos) (data_of h s t w ended.now p bounds).homes) shift bounds) }
+    ensures { IfOk result (λ bounds. (h : Headers) (s : Standing) (t : Division) (w : AnyWorld)
+        (p : IsPlayed h s t w ended.now) → ArePresent s.book present.now →
+        IsBalancedBy asked tree.now (map (λ l. l.state.pos)
+        (data_of h s t w ended.now p bounds).homes) shift bounds) }
 {
     if !asked {
         return Ok(None);
@@ -218,10 +229,13 @@ pub fn play<G: Gate + Sync, R: Threads + Wait + Sync>(
     ghost from: { Beginning }
     requires world { world ≡ from.world }
     requires batch { batch ≡ from.batch }
-    requires may { (f : Frame) × (clients : ℕ → ClientReplica) × MayRun f clients from.world from.batch }
-    ensures { IfOk result (λ r. (h : Headers) (s : Standing) (tree : Division) → StandsBeside h s tree from.world →
-        from.batch ≡ batch_of h s.book → header.now ≡ h → number ≡ s.rounds + 1 → ArePresent s.book residents.old →
-        HasPlayed playing.now.output h s tree from.world r residents.new out.old.items out.new.items) }
+    requires may { (f : Frame) × (clients : ℕ → ClientReplica) ×
+        MayRun f clients from.world from.batch }
+    ensures { IfOk result (λ r. (h : Headers) (s : Standing) (tree : Division) →
+        StandsBeside h s tree from.world → from.batch ≡ batch_of h s.book → header.now ≡ h →
+        number ≡ s.rounds + 1 → ArePresent s.book residents.old →
+        HasPlayed playing.now.output h s tree from.world r residents.new out.old.items
+        out.new.items) }
 {
     seam_law_transcript::entities_can_be_listed();
     let (tree, asked) = (batch.tree, batch.balance);

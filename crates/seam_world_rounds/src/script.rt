@@ -83,10 +83,10 @@ impl Script {
     ) -> Result<Option<Journal>, AllocError>
         requires length { length line.now ≤ LONGEST_LINE }
         requires ready { (h : Headers) × (t : Standing) × ScriptRefines h t self.old }
-        ensures { IfOk result (λ ended. (h : Headers) (t : Standing) → ScriptRefines h t self.old
-            → (text : List ℕ) × LineRead playing.now.output h t (Content line.now) (Refines playing.now.output h self.old self.new) text
-            (option_to_list ended)
-            × (out.new.items ≡ out.old.items ++ text)) }
+        ensures { IfOk result (λ ended. (h : Headers) (t : Standing) → ScriptRefines h t self.old →
+            (text : List ℕ) × LineRead playing.now.output h t (Content line.now)
+            (Refines playing.now.output h self.old self.new) text (option_to_list ended) ×
+            (out.new.items ≡ out.old.items ++ text)) }
     {
         seam_law_transcript::a_course_begins_and_goes_on();
         self.line = next_count(self.line)?;
@@ -102,8 +102,9 @@ impl Script {
 
     /// Reads a line that is too long.
     pub fn read_long(&mut self, output: Output, out: &mut Vec<u8>) -> Result<(), AllocError>
-        ensures { OnOk result ((h : Headers) (t : Standing) → ScriptRefines h t self.old
-            → (text : List ℕ) × LineRead output h t Long (Refines output h self.old self.new) text [] × (out.new.items ≡ out.old.items ++ text)) }
+        ensures { OnOk result ((h : Headers) (t : Standing) → ScriptRefines h t self.old →
+            (text : List ℕ) × LineRead output h t Long (Refines output h self.old self.new) text
+            [] × (out.new.items ≡ out.old.items ++ text)) }
     {
         seam_law_transcript::a_course_begins_and_goes_on();
         self.line = next_count(self.line)?;
@@ -118,11 +119,13 @@ impl Script {
         accepted: Accepted,
         out: &mut Vec<u8>,
     ) -> Result<Option<Journal>, AllocError>
-        requires accepted { (h : Headers) × (t : Standing) × (line : Lines) × HasAccepted h t line accepted self.old }
-        ensures { IfOk result (λ ended. (h : Headers) (t : Standing) (line : Lines) → HasAccepted h t line accepted self.old
-            → (text : List ℕ)
-            × LineFollowed playing.now.output h (with_line t) line (Refines playing.now.output h self.old self.new) text (option_to_list ended)
-            × (out.new.items ≡ out.old.items ++ text)) }
+        requires accepted { (h : Headers) × (t : Standing) × (line : Lines) ×
+            HasAccepted h t line accepted self.old }
+        ensures { IfOk result (λ ended. (h : Headers) (t : Standing) (line : Lines) →
+            HasAccepted h t line accepted self.old → (text : List ℕ) ×
+            LineFollowed playing.now.output h (with_line t) line
+            (Refines playing.now.output h self.old self.new) text (option_to_list ended) ×
+            (out.new.items ≡ out.old.items ++ text)) }
     {
         seam_law_transcript::a_course_begins_and_goes_on();
         seam_law_transcript::a_round_may_be_run();
@@ -146,9 +149,10 @@ impl Script {
         out: &mut Vec<u8>,
     ) -> Result<Journal, AllocError>
         requires ready { (h : Headers) × (t : Standing) × IsReady h t self.old }
-        ensures { IfOk result (λ steps. (h : Headers) (t : Standing) → IsReady h t self.old
-            → (text : List ℕ) × RoundEnds playing.now.output h t (Refines playing.now.output h self.old self.new) text steps
-            × (out.new.items ≡ out.old.items ++ text)) }
+        ensures { IfOk result (λ steps. (h : Headers) (t : Standing) → IsReady h t self.old →
+            (text : List ℕ) × RoundEnds playing.now.output h t
+            (Refines playing.now.output h self.old self.new) text steps ×
+            (out.new.items ≡ out.old.items ++ text)) }
     {
         seam_law_transcript::a_round_may_be_run();
         seam_law_transcript::a_run_round_is_legal();
@@ -186,9 +190,10 @@ impl Script {
         out: &mut Vec<u8>,
     ) -> Result<Option<Journal>, AllocError>
         requires refines { (h : Headers) × (t : Standing) × ScriptRefines h t self.old }
-        ensures { IfOk result (λ ended. (h : Headers) (t : Standing) → ScriptRefines h t self.old
-            → (text : List ℕ) × InputEnded playing.now.output h t (Gives playing.now.output h self.old self.new) text
-            (option_to_list ended) × (out.new.items ≡ out.old.items ++ text)) }
+        ensures { IfOk result (λ ended. (h : Headers) (t : Standing) → ScriptRefines h t self.old →
+            (text : List ℕ) × InputEnded playing.now.output h t
+            (Gives playing.now.output h self.old self.new) text (option_to_list ended) ×
+            (out.new.items ≡ out.old.items ++ text)) }
     {
         seam_law_transcript::a_round_may_be_run();
         if self.book.count() == 0 {
@@ -201,7 +206,8 @@ impl Script {
 // Begins the next round, with another tree where the boundaries were balanced.
 fn begin_next(book: &mut Book, bounds: Option<Tree>)
     requires { book.old.count ≡ 0 }
-    ensures { (h : Headers) (b : Books) → HoldsBook h b book.old → HoldsBook h (with_bounds b bounds) book.new }
+    ensures { (h : Headers) (b : Books) → HoldsBook h b book.old →
+        HoldsBook h (with_bounds b bounds) book.new }
 {
     if let Some(tree) = bounds {
         book.set_tree(tree);

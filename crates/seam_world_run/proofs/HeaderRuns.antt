@@ -155,7 +155,11 @@ module _ (began now later : SourceState) (reader after : Reader) (text : List �
       let low = here.1 in
       let count = r.count in
       header_stopped began later status.ReadFault (was.given ++ got) r.took (within_limit r limit)
-      (λ o totals. ((let l = was.reading.faults in omega arith), omega arith, nothing_open (was.given ++ got) read here.2 (text, was.are) o)) tt
+      (λ o totals. (
+        (let l = was.reading.faults in omega arith),
+        omega arith,
+        nothing_open (was.given ++ got) read here.2 (text, was.are) o,
+      )) tt
 
   pub header_limit : Reading began later after (was.given ++ got) (read ++ []) → IsExact next.Limit after (was.given ++ got) read →
       StoppedFirst status.Limit began later

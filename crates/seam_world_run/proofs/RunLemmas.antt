@@ -6,14 +6,16 @@ use Rattle.std.proofs.lemmas.List.Elements.{filter_map-append}
 use Rattle.std.specs.Prelude.{MatchOption}
 use Rattle.std.specs.Io.KnownBytes.{Appends}
 use Rattle.std.proofs.lemmas.Option.{same_Some}
-use Rattle.seam_node_steps.specs.Prelude.{World, opened}
+use Rattle.seam_node_steps.specs.Prelude.{Division, World, opened}
 use Rattle.seam_rule_rounds.specs.Prelude.{Rose, SourceState, SinkState, Line, whole_lines_of, Reader, Reading, IsExact, Header}
-use Rattle.seam_rule_rounds.specs.Prelude.{after_header, Piece, Step, PrintLines, journals_of, totals_of, Told, after_all, Journal}
+use Rattle.seam_rule_rounds.specs.Prelude.{after_header, Standing, Piece, Step, PrintLines, journals_of, totals_of, Told, after_all}
+use Rattle.seam_rule_rounds.specs.Prelude.{Journal}
 use Rattle.seam_rule_rounds.specs.declared.totals.Totals.{Totals}
 use Rattle.seam_io.specs.declared.lines.Next.TheVariants as next
 use Rattle.seam_rule_rounds.specs.Transcript.{journal_of}
 use Rattle.seam_rule_lines.proofs.RunLemmas.{run_with_line}
 use Rattle.seam_rule_lines.proofs.HeaderLemmas.{header_of_append}
+use Rattle.seam_law_transcript.specs.Prelude.{GoesOn, MayBreakOff}
 use Rattle.seam_world_rounds.specs.Transcripts.{PlayRounds}
 use Rattle.seam_world_rounds.specs.Following.{LineRead, InputEnded}
 use Rattle.seam_world_rounds.specs.Output.{Counts, output_of, piece_output, sums_for}
@@ -34,7 +36,8 @@ use Rattle.seam_world_ends.proofs.Prefixes.{are_first, within_limit}
 use Rattle.seam_world_ends.proofs.PrintLemmas.{nothing_printed}
 
 -- all of a text was written
-all_written : (o : Output) (totals : Totals) (began later : SourceState) (after : Reader) (sink is : SinkState) (told told' : Told) (st : Status)
+all_written : (o : Output) (totals : Totals) (began later : SourceState) (after : Reader) (sink is : SinkState) (told told' : Told)
+    (st : Status)
     (given : List ℕ) (read : List Line) (text : List ℕ) (steps : List Journal) → Reading began later after given read →
     after.limit ≡ most_bytes → Printed sink is [] text → told' ≡ after_all the_space steps told → (st ≡ status.WriteFault → ⊥) →
     IsRunEnd st → Tells (OpenAs o) (EndedAs o totals) st began later given text steps →
@@ -54,7 +57,8 @@ all_written o totals began later after sink is told told' st given read text ste
 }
 
 -- the sink failed within a text
-sink_failed : (o : Output) (totals : Totals) (began later : SourceState) (after : Reader) (sink is : SinkState) (told told' : Told) (given : List ℕ)
+sink_failed : (o : Output) (totals : Totals) (began later : SourceState) (after : Reader) (sink is : SinkState) (told told' : Told)
+    (given : List ℕ)
     (read : List Line) (text : List ℕ) (steps : List Journal) → Reading began later after given read → after.limit ≡ most_bytes →
     FailedWithin sink is text → told' ≡ after_all the_space steps told →
     IsSoFar (OpenAs o) (EndedAs o totals) began later given text steps → Stopped o totals status.WriteFault began later sink is told told'
@@ -74,7 +78,8 @@ sink_failed o totals began later after sink is told told' given read text steps 
 
 -- the source and the sink after a call, and what is pending then
 module _ (o : Output) (began : SourceState) (sink : SinkState) (told : Told) (now : SourceState) (reader : Reader) (was is : SinkState)
-    (had : Told) (pending : List ℕ) (script : Script) (g : Going o began now reader sink was told had pending script) where
+    (had : Told) (pending : List ℕ) (script : Script) (g : Going o began now reader sink was told had pending script)
+    (law : (h : Header) (t : Standing) (tree : Division) (w : World) → GoesOn h t tree w → MayBreakOff h t w) where
   abbrev text : List ℕ
   text = output_of o g.header.defs g.pieces
 
@@ -102,11 +107,23 @@ module _ (o : Output) (began : SourceState) (sink : SinkState) (told : Told) (no
     counted = g.counted;
   }
 
+  -- the round that is open in the world of a script may break off
+  breaks_off : (t : Standing) (new : Script) (refines : ScriptRefines g.header t new) → MayBreakOff g.header t refines.has.world
+  breaks_off t new refines = law g.header t refines.has.tree refines.has.world refines.has.goes_on
+
   so_far : PrintLines g.read g.header g.pieces g.standing
   so_far = record { count = g.count; rest = g.rest; header = g.begins; run = g.run }
 
   open_so_far : OpenAs o g.read text steps
-  open_so_far = inr (g.header, g.pieces, g.standing, so_far, (g.refines.has.world, g.played), refl, refl)
+  open_so_far = inr (
+    g.header,
+    g.pieces,
+    g.standing,
+    so_far,
+    (g.refines.has.world, g.played, breaks_off g.standing script g.refines),
+    refl,
+    refl,
+  )
 
   -- the sink failed before the next line was read
   pub failed_before : (totals : Totals) → FailedWithin sink is (output_of o g.header.defs g.pieces) →
@@ -189,6 +206,7 @@ module _ (o : Output) (began : SourceState) (sink : SinkState) (told : Told) (no
       (
         taken.after.0.has.world,
         played_more taken.pieces new.world taken.after.0.has.world taken.after.0.has.is taken.after.2,
+        breaks_off taken.next new taken.after.0,
       ),
       ap (λ (x : List ℕ). text ++ x) taken.whole ∙ sym (text_with taken.pieces),
       ap (λ (js : List Journal). steps ++ js) taken.stepped ∙ sym (steps_with taken.pieces),
@@ -226,7 +244,8 @@ module _ (o : Output) (began : SourceState) (sink : SinkState) (told : Told) (no
         Reading began later after (g.given ++ got) (g.read ++ line ∷ [])
         → Prints (LineRead o g.header g.standing line (Refines o g.header script new)) sink is pending'
         (output_of o g.header.defs g.pieces) had has result
-        → MatchOption result (Going o began later after sink is told has pending' new) (λ st. Stopped o totals st began later sink is told has)
+        → MatchOption result (Going o began later after sink is told has pending' new)
+        (λ st. Stopped o totals st began later sink is told has)
     line_printed line got pending' new None r (piece, more, read, p, given) = going_on line got piece pending' more new r read p given
     line_printed line got pending' new (Some status.NoMemory) r p = no_memory got (line ∷ []) r p.0 p.1
     line_printed line got pending' new (Some status.WriteFault) r (inl f) =
@@ -256,7 +275,8 @@ module _ (o : Output) (began : SourceState) (sink : SinkState) (told : Told) (no
         let at = r.ended end.0 in
         (at.1, at.0, end.1)
 
-    pub done : (left : Option World) (got : List ℕ) → Reading began later after (g.given ++ got) (g.read ++ []) → IsExact next.End after (g.given ++ got) g.read
+    pub done : (left : Option World) (got : List ℕ) → Reading began later after (g.given ++ got) (g.read ++ []) →
+        IsExact next.End after (g.given ++ got) g.read
         → Prints (InputEnded o g.header g.standing (Left left)) sink is [] (output_of o g.header.defs g.pieces) had has None →
         Stopped o totals status.Done began later sink is told has
     done left got r exact (piece, more, ends, p, given) =

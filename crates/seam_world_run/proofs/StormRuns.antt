@@ -31,7 +31,8 @@ none_while_open : (lines : List Line) (text : List ℕ) (steps : List Journal) �
 none_while_open lines text steps (inl (none, none', awaits)) = none
 none_while_open lines text steps (inr (h, pieces, t, prints, played, is, are)) = is ∙ nothing_given h.defs pieces
 
-none_at_the_end : (totals : Totals) (lines : List Line) (text : List ℕ) (steps : List Journal) → EndedAs output.Sums totals lines text steps →
+none_at_the_end : (totals : Totals) (lines : List Line) (text : List ℕ) (steps : List Journal) →
+    EndedAs output.Sums totals lines text steps →
     text ≡ []
 none_at_the_end totals lines text steps (h, pieces, prints, played, is, are, counted) = is ∙ nothing_given h.defs pieces
 
@@ -81,7 +82,8 @@ module _ (lines : ℕ) (few : lines ≤ 1000000) (old new : SourceState) (begins
     -- it is run to its end, unless an allocation fails
     runs_through : (st ≡ status.Done) ⊎ (st ≡ status.NoMemory)
     runs_through =
-        is_complete (OpenAs output.Sums) (EndedAs output.Sums totals) st old new nowhere nowhere s.given s.text s.steps s.took s.tells may_complete
+        is_complete (OpenAs output.Sums) (EndedAs output.Sums totals) st old new nowhere nowhere s.given s.text s.steps s.took s.tells
+        may_complete
         no_usage (λ is. absurd (no_fault is))
       where
         no_usage : st ≡ status.Usage → ⊥
@@ -153,7 +155,8 @@ module _ (lines : ℕ) (few : lines ≤ 1000000) (old new : SourceState) (begins
 
       -- what came of writing the summary
       pub storm_written : (now : SinkState) (result : Status) →
-          ((result ≡ status.NoMemory) × (now ≡ mid)) ⊎ StopsBy status.Done mid now summary result → StormStopped lines result sink now told told'
+          ((result ≡ status.NoMemory) × (now ≡ mid)) ⊎ StopsBy status.Done mid now summary result →
+          StormStopped lines result sink now told told'
       storm_written now result (inl (is, same)) =
           subst (λ (x : Status). StormStopped lines x sink now told told') (sym is)
           (subst (λ (x : SinkState). StormStopped lines status.NoMemory sink x told told') (sym same) (record {

@@ -6,7 +6,7 @@ use Rattle.seam_rule_rounds.specs.Prelude.{Rose, SourceState, SinkState, Line, R
 use Rattle.seam_rule_rounds.specs.Prelude.{AwaitHeader, Run, Standing, after_header, Piece, journals_of, Step, PrintLines, PrintAll, Told}
 use Rattle.seam_rule_rounds.specs.Prelude.{after_all, Journal, totals_of}
 use Rattle.seam_rule_rounds.specs.declared.totals.Totals.{Totals}
-use Rattle.seam_world_rounds.specs.Transcripts.{PlayRounds, WerePlayed}
+use Rattle.seam_world_rounds.specs.Transcripts.{PlayRounds, WerePlayed, WerePlayedSoFar}
 use Rattle.seam_world_rounds.specs.Output.{output_of, sums_for}
 use Rattle.seam_world_rounds.specs.declared.round.Output.{Output}
 use Rattle.seam_world_rounds.specs.Script.{ScriptRefines}
@@ -59,7 +59,7 @@ pub record Going (output : Output) (began now : SourceState) (reader : Reader) (
 abbrev pub OpenAs : Output → List Line → List ℕ → List Journal → Type 0
 OpenAs output lines text steps =
     ((text ≡ []) × (steps ≡ []) × AwaitHeader lines)
-    ⊎ ((h : Header) × (pieces : List Piece) × (t : Standing) × PrintLines lines h pieces t × WerePlayed h pieces
+    ⊎ ((h : Header) × (pieces : List Piece) × (t : Standing) × PrintLines lines h pieces t × WerePlayedSoFar h pieces t
     × (text ≡ output_of output h.defs pieces) × (steps ≡ journals_of pieces))
 
 -- an ended transcript of all lines, by what the run gives of it, with what is summed up
@@ -69,7 +69,8 @@ EndedAs output totals lines text steps =
     × (text ≡ output_of output h.defs pieces) × (steps ≡ journals_of pieces) × (totals ≡ totals_of (sums_for output pieces))
 
 -- The run has ended with this status and these totals, but for the fault line.
-pub record Stopped (output : Output) (totals : Totals) (ended : Status) (began now : SourceState) (sink now' : SinkState) (told told' : Told) : Type 0 where
+pub record Stopped (output : Output) (totals : Totals) (ended : Status) (began now : SourceState) (sink now' : SinkState)
+    (told told' : Told) : Type 0 where
   pub given : List ℕ
   pub text : List ℕ
   pub steps : List Journal

@@ -17,6 +17,7 @@ use seam_accept::HeaderLines;
 use seam_io::{Failed, Lines, Next, Sink, Source};
 use seam_rule_lines::Header;
 use seam_rule_rounds::Totals;
+use seam_table::HashKey;
 use seam_toml::HeaderError;
 use seam_watch::{Journal, Watch};
 use seam_workers::Gate;
@@ -46,11 +47,12 @@ pub fn run_body<S: Source, K: Sink, G: Gate + Sync, W: Watch, R: Threads + Wait 
     out: &mut K,
     watch: &mut W,
 ) -> (Status, Totals)
-    ensures stopped { Stopped playing.now.output result.1 result.0 (S.state input.old) (S.state input.new) (K.state out.old)
-        (K.state out.new) (W.told watch.old) (W.told watch.new) }
+    ensures stopped { Stopped playing.now.output result.1 result.0 (S.state input.old)
+        (S.state input.new) (K.state out.old) (K.state out.new) (W.told watch.old)
+        (W.told watch.new) }
     ensures later { (S.state input.old).faults ≤ (S.state input.new).faults }
 {
-    let mut runner = match begin(alloc, input) {
+    let mut runner = match begin(alloc, playing.key, input) {
         Ok(runner) => runner,
         Err(status) => return (status, Totals::new()),
     };
@@ -59,11 +61,11 @@ pub fn run_body<S: Source, K: Sink, G: Gate + Sync, W: Watch, R: Threads + Wait 
 }
 
 // Reads the header, with which the run begins; or answers the status where it ends there.
-fn begin<S: Source>(alloc: Global, input: &mut S) -> Result<Runner, Status>
-    ensures began { MatchResult result
-        (λ r. ((h : Headers) × (t : Standing) × ScriptRefines h t r.script) × ((output : OutputOf) (sink : SinkState) (told : Told) →
-        Going output (S.state input.old) (S.state input.new) r.lines sink sink told told r.pending r.script))
-        (λ s. StoppedFirst s (S.state input.old) (S.state input.new)) }
+fn begin<S: Source>(alloc: Global, key: HashKey, input: &mut S) -> Result<Runner, Status>
+    ensures began { MatchResult result (λ r. ((h : Headers) × (t : Standing) ×
+        ScriptRefines h t r.script) × ((output : OutputOf) (sink : SinkState) (told : Told)
+        → Going output (S.state input.old) (S.state input.new) r.lines sink sink told told
+        r.pending r.script)) (λ s. StoppedFirst s (S.state input.old) (S.state input.new)) }
     ensures later { (S.state input.old).faults ≤ (S.state input.new).faults }
 {
     let pending = match Pending::new(alloc) {
@@ -74,7 +76,7 @@ fn begin<S: Source>(alloc: Global, input: &mut S) -> Result<Runner, Status>
         Ok(lines) => lines,
         Err(_) => return Err(Status::NoMemory),
     };
-    let (header, count) = read_header(alloc, &mut lines, input)?;
+    let (header, count) = read_header(alloc, key, &mut lines, input)?;
     let script = match Script::new(alloc, header, count) {
         Ok(script) => script,
         Err(_) => return Err(Status::NoMemory),
@@ -88,16 +90,25 @@ fn begin<S: Source>(alloc: Global, input: &mut S) -> Result<Runner, Status>
     })
 }
 
-// Reads the header line by line. Answers what it sets, and of how many lines it is; or the status where the run ends there.
+// The header, with this key of the hash by which entities are found.
+fn keyed(header: Header, key: HashKey) -> Header
+    ensures { result ≡ header }
+{
+    let mut keyed = header;
+    keyed.defs.set_hash_key(key);
+    keyed
+}
+
+// Reads the header line by line. Answers what it sets, with the key, and of how many lines it is; or the status where the run ends there.
 fn read_header<S: Source>(
     alloc: Global,
+    key: HashKey,
     lines: &mut Lines,
     input: &mut S,
 ) -> Result<(Header, u64), Status>
-    ensures header { (began : SourceState) → Reading began (S.state input.old) lines.old [] [] → lines.old.limit ≡ most_bytes →
-        MatchResult result
-        (λ h. HasHeader began (S.state input.new) lines.new h.0 h.1)
-        (λ s. StoppedFirst s began (S.state input.new)) }
+    ensures header { (began : SourceState) → Reading began (S.state input.old) lines.old [] [] →
+        lines.old.limit ≡ most_bytes → MatchResult result (λ h. HasHeader began (S.state input.new)
+        lines.new h.0 h.1) (λ s. StoppedFirst s began (S.state input.new)) }
     ensures few { IfOk result (λ h. h.1 ≤ most_lines) }
     ensures later { (S.state input.old).faults ≤ (S.state input.new).faults }
 {
@@ -110,7 +121,7 @@ fn read_header<S: Source>(
         };
         match read_header_line(&mut header, lines, input) {
             Ok(None) => {}
-            Ok(Some(read)) => return Ok((read, count)),
+            Ok(Some(read)) => return Ok((keyed(read, key), count)),
             Err(status) => return Err(status),
         }
     }
@@ -122,7 +133,8 @@ fn read_header_line<S: Source>(
     lines: &mut Lines,
     input: &mut S,
 ) -> Result<Option<Header>, Status>
-    ensures header { (began : SourceState) (read : List Line) → InHeader began (S.state input.old) lines.old header.old read →
+    ensures header { (began : SourceState) (read : List Line) →
+        InHeader began (S.state input.old) lines.old header.old read →
         HeaderLineRead began (S.state input.new) lines.new header.new read result }
     ensures later { (S.state input.old).faults ≤ (S.state input.new).faults }
     ensures falls { IfOk result (λ h. IfNone h (budget lines.new < budget lines.old)) }
@@ -172,9 +184,10 @@ impl Runner {
     ) -> Status
         requires ready { (h : Headers) × (t : Standing) × ScriptRefines h t self.old.script }
         ensures history { (began : SourceState) (sink : SinkState) (told : Told) →
-            Going playing.now.output began (S.state input.old) self.old.lines sink (K.state out.old) told (W.told watch.old)
-            self.old.pending self.old.script →
-            Stopped playing.now.output self.new.script.totals result began (S.state input.new) sink (K.state out.new) told (W.told watch.new) }
+            Going playing.now.output began (S.state input.old) self.old.lines sink (K.state out.old)
+            told (W.told watch.old) self.old.pending self.old.script →
+            Stopped playing.now.output self.new.script.totals result began (S.state input.new) sink
+            (K.state out.new) told (W.told watch.new) }
         ensures later { (S.state input.old).faults ≤ (S.state input.new).faults }
     {
         loop {
@@ -197,17 +210,18 @@ impl Runner {
     ) -> Option<Status>
         requires ready { (h : Headers) × (t : Standing) × ScriptRefines h t self.old.script }
         ensures history { (began : SourceState) (sink : SinkState) (told : Told) →
-            Going playing.now.output began (S.state input.old) self.old.lines sink (K.state out.old) told (W.told watch.old)
-            self.old.pending self.old.script →
-            MatchOption result
-            (Going playing.now.output began (S.state input.new) self.new.lines sink (K.state out.new) told (W.told watch.new)
-            self.new.pending self.new.script)
-            (λ s. Stopped playing.now.output self.new.script.totals s began (S.state input.new) sink (K.state out.new) told
-            (W.told watch.new)) }
+            Going playing.now.output began (S.state input.old) self.old.lines sink (K.state out.old)
+            told (W.told watch.old) self.old.pending self.old.script →
+            MatchOption result (Going playing.now.output began (S.state input.new) self.new.lines
+            sink (K.state out.new) told (W.told watch.new) self.new.pending self.new.script)
+            (λ s. Stopped playing.now.output self.new.script.totals s began (S.state input.new) sink
+            (K.state out.new) told (W.told watch.new)) }
         ensures later { (S.state input.old).faults ≤ (S.state input.new).faults }
         ensures falls { IfNone result (budget self.new.lines < budget self.old.lines) }
-        ensures ready { IfNone result ((h : Headers) × (t : Standing) × ScriptRefines h t self.new.script) }
+        ensures ready { IfNone result ((h : Headers) × (t : Standing) ×
+            ScriptRefines h t self.new.script) }
     {
+        seam_law_transcript::a_round_may_break_off();
         match write_before_wait(&self.lines, &mut self.pending, out) {
             Ok(()) => {}
             Err(Failed) => return Some(Status::WriteFault),
@@ -233,12 +247,14 @@ impl Runner {
         watch: &mut W,
     ) -> Option<Status>
         requires ready { (h : Headers) × (t : Standing) × ScriptRefines h t self.old.script }
-        ensures prints { (h : Headers) (t : Standing) (sink : SinkState) (text : List ℕ) → ScriptRefines h t self.old.script →
-            Printed sink (K.state out.old) self.old.pending text →
-            Prints (LineRead playing.now.output h t (Content self.old.lines.line) (Refines playing.now.output h self.old.script self.new.script)) sink
+        ensures prints { (h : Headers) (t : Standing) (sink : SinkState) (text : List ℕ) →
+            ScriptRefines h t self.old.script → Printed sink (K.state out.old) self.old.pending text
+            → Prints (LineRead playing.now.output h t (Content self.old.lines.line)
+            (Refines playing.now.output h self.old.script self.new.script)) sink
             (K.state out.new) self.new.pending text (W.told watch.old) (W.told watch.new) result }
         ensures lines { self.new.lines ≡ self.old.lines }
-        ensures ready { IfNone result ((h : Headers) × (t : Standing) × ScriptRefines h t self.new.script) }
+        ensures ready { IfNone result ((h : Headers) × (t : Standing) ×
+            ScriptRefines h t self.new.script) }
     {
         self.text.clear();
         match self
@@ -253,12 +269,14 @@ impl Runner {
     // Prints for a line that is too long.
     fn print_long<K: Sink>(&mut self, output: Output, out: &mut K) -> Option<Status>
         requires ready { (h : Headers) × (t : Standing) × ScriptRefines h t self.old.script }
-        ensures prints { (h : Headers) (t : Standing) (sink : SinkState) (text : List ℕ) (told : Told) →
-            ScriptRefines h t self.old.script → Printed sink (K.state out.old) self.old.pending text →
-            Prints (LineRead output h t Long (Refines output h self.old.script self.new.script)) sink (K.state out.new) self.new.pending
-            text told told result }
+        ensures prints { (h : Headers) (t : Standing) (sink : SinkState) (text : List ℕ)
+            (told : Told) → ScriptRefines h t self.old.script →
+            Printed sink (K.state out.old) self.old.pending text →
+            Prints (LineRead output h t Long (Refines output h self.old.script self.new.script))
+            sink (K.state out.new) self.new.pending text told told result }
         ensures lines { self.new.lines ≡ self.old.lines }
-        ensures ready { IfNone result ((h : Headers) × (t : Standing) × ScriptRefines h t self.new.script) }
+        ensures ready { IfNone result ((h : Headers) × (t : Standing) ×
+            ScriptRefines h t self.new.script) }
     {
         self.text.clear();
         match self.script.read_long(output, &mut self.text) {
@@ -276,9 +294,11 @@ impl Runner {
         watch: &mut W,
     ) -> Option<Status>
         requires ready { (h : Headers) × (t : Standing) × ScriptRefines h t self.old.script }
-        ensures { (h : Headers) (t : Standing) (sink : SinkState) (text : List ℕ) → ScriptRefines h t self.old.script →
-            Printed sink (K.state out.old) self.old.pending text →
-            Prints (InputEnded playing.now.output h t (Gives playing.now.output h self.old.script self.new.script)) sink (K.state out.new) [] text (W.told watch.old) (W.told watch.new) result }
+        ensures { (h : Headers) (t : Standing) (sink : SinkState) (text : List ℕ) →
+            ScriptRefines h t self.old.script → Printed sink (K.state out.old) self.old.pending text
+            → Prints (InputEnded playing.now.output h t (Gives playing.now.output h self.old.script
+            self.new.script)) sink (K.state out.new) [] text (W.told watch.old)
+            (W.told watch.new) result }
     {
         self.text.clear();
         match self.script.finish(rt, playing, &mut self.text) {
@@ -294,9 +314,11 @@ impl Runner {
         out: &mut K,
         watch: &mut W,
     ) -> Option<Status>
-        ensures prints { (sink : SinkState) (before : List ℕ) → Printed sink (K.state out.old) self.old.pending before →
-            Prints (λ piece steps. (piece ≡ self.old.text.items) × (steps ≡ option_to_list ended.now)) sink (K.state out.new)
-            self.new.pending before (W.told watch.old) (W.told watch.new) result }
+        ensures prints { (sink : SinkState) (before : List ℕ) →
+            Printed sink (K.state out.old) self.old.pending before →
+            Prints (λ piece steps. (piece ≡ self.old.text.items) ×
+            (steps ≡ option_to_list ended.now)) sink (K.state out.new) self.new.pending before
+            (W.told watch.old) (W.told watch.new) result }
         ensures lines { self.new.lines ≡ self.old.lines }
         ensures script { self.new.script ≡ self.old.script }
     {
@@ -314,9 +336,11 @@ impl Runner {
         watch: &mut W,
     ) -> Option<Status>
         ensures script { self.new.script ≡ self.old.script }
-        ensures prints { (sink : SinkState) (before : List ℕ) → Printed sink (K.state out.old) self.old.pending before →
-            Prints (λ piece steps. (piece ≡ self.old.text.items) × (steps ≡ option_to_list ended.now)) sink (K.state out.new) []
-            before (W.told watch.old) (W.told watch.new) result }
+        ensures prints { (sink : SinkState) (before : List ℕ) →
+            Printed sink (K.state out.old) self.old.pending before →
+            Prints (λ piece steps. (piece ≡ self.old.text.items) ×
+            (steps ≡ option_to_list ended.now)) sink (K.state out.new) [] before
+            (W.told watch.old) (W.told watch.new) result }
     {
         match give(self.alloc, ended, watch) {
             Ok(()) => print_and_write(&self.text, &mut self.pending, out),
@@ -327,7 +351,8 @@ impl Runner {
 
 // Gives the watch the steps of a round that ended, if one did.
 fn give<W: Watch>(alloc: Global, ended: &Option<Journal>, watch: &mut W) -> Result<(), AllocError>
-    ensures given { OnOk result (W.told watch.new ≡ after_all the_space (option_to_list ended.now) (W.told watch.old)) }
+    ensures given { OnOk result (W.told watch.new ≡ after_all the_space (option_to_list ended.now)
+        (W.told watch.old)) }
     ensures err { OnErr result (W.told watch.new ≡ W.told watch.old) }
 {
     match ended {

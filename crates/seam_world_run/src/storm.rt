@@ -11,6 +11,7 @@ use seam_io::{Sink, write_whole};
 use seam_quiet::Workers;
 use seam_rule_rounds::Totals;
 use seam_storm::StormSource;
+use seam_table::HashKey;
 use seam_watch::Watch;
 use seam_workers::Gate;
 use seam_world_ends::Status;
@@ -29,7 +30,8 @@ pub fn run_storm<K: Sink, G: Gate + Sync, W: Watch, R: Threads + Wait + Sync>(
     watch: &mut W,
 ) -> Status
     requires { IsUpTo LONGEST_STORM lines }
-    ensures { StormStopped lines result (K.state out.old) (K.state out.new) (W.told watch.old) (W.told watch.new) }
+    ensures { StormStopped lines result (K.state out.old) (K.state out.new) (W.told watch.old)
+        (W.told watch.new) }
 {
     let mut input = match StormSource::new(alloc, lines) {
         Ok(input) => input,
@@ -38,6 +40,8 @@ pub fn run_storm<K: Sink, G: Gate + Sync, W: Watch, R: Threads + Wait + Sync>(
     let playing = Playing {
         workers,
         output: Output::Sums,
+        // No script chooses the numbers.
+        key: HashKey::new(0),
     };
     let (status, totals) = run_body(rt, alloc, &playing, &mut input, out, watch);
     if !is_done(status) {
@@ -57,8 +61,9 @@ fn is_done(status: Status) -> bool
 
 // Writes the summary of so many lines.
 fn write_summary<K: Sink>(alloc: Global, lines: u32, totals: &Totals, out: &mut K) -> Status
-    ensures { ((result ≡ Status.NoMemory) × (K.state out.new ≡ K.state out.old))
-        ⊎ StopsBy Status.Done (K.state out.old) (K.state out.new) (totals_text lines totals.now) result }
+    ensures { ((result ≡ Status.NoMemory) × (K.state out.new ≡ K.state out.old)) ⊎
+        StopsBy Status.Done (K.state out.old) (K.state out.new) (totals_text lines totals.now)
+        result }
 {
     let mut text = Vec::new(alloc);
     match totals.write(lines, &mut text) {
@@ -67,8 +72,8 @@ fn write_summary<K: Sink>(alloc: Global, lines: u32, totals: &Totals, out: &mut 
     }
 }
 
-// Writes a text, as much of it as the sink accepts.
-fn write_text<K: Sink>(text: &[u8], out: &mut K) -> Status
+/// Writes a text, as much of it as the sink accepts.
+pub fn write_text<K: Sink>(text: &[u8], out: &mut K) -> Status
     ensures { StopsBy Status.Done (K.state out.old) (K.state out.new) text.now result }
 {
     match write_whole(out, text) {

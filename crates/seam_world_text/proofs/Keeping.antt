@@ -77,7 +77,8 @@ MakesNew b =
 -- ---- a round begins
 
 module _ (b : Book) (fresh : MakesNew b) (es : List ℕ) (among : (e : ℕ) → is_among e es ≡ list_any (joins e) b.current)
-    (old mid new : BTreeMap ℕ Resident) (has : Has (live_as (begun b 0)) (has_client (begun b 0)) old) (adds : Adds (creates_of b.current) old mid)
+    (old mid new : BTreeMap ℕ Resident) (has : Has (live_as (begun b 0)) (has_client (begun b 0)) old)
+    (adds : Adds (creates_of b.current) old mid)
     (joined : Joins es mid new) where
   abbrev Result : ℕ → Option Create → Option Create → Type 0
   Result e live now =

@@ -107,7 +107,8 @@ module _ (entities : ℕ → Option Create) (has : ℕ → Bool) (named : AreNam
         subst (λ (d : Create). entities d.entity ≡ Some d) r.2 (made_so r.0 r.1).0
 
     numbers_by : (xs : List (ℕ × Resident)) → ((x : ℕ × Resident) → Contains xs x → x.1.made.entity ≡ x.0) →
-        map (λ (c : Create). c.entity) (map (λ (r : Resident). r.made) (map (λ (x : ℕ × Resident). x.1) xs)) ≡ map (λ (x : ℕ × Resident). x.0) xs
+        map (λ (c : Create). c.entity) (map (λ (r : Resident). r.made) (map (λ (x : ℕ × Resident). x.1) xs))
+        ≡ map (λ (x : ℕ × Resident). x.0) xs
     numbers_by [] each = refl
     numbers_by (x ∷ xs) each =
         (λ i. each x (contains_first x xs) i ∷ numbers_by xs (λ y has. each y (contains_later x y xs has)) i)

@@ -12,7 +12,7 @@ use Rattle.seam_rule_rounds.specs.Prelude.{DoneLine, HomeLine, number_text, done
 use Rattle.seam_rule_rounds.specs.Prelude.{client_text, bounds_text}
 use Rattle.seam_world_text.specs.Finding.{home_found, done_found, home_line_at, homes_found, bases_found, ghosts_found, position_at}
 use Rattle.seam_world_text.specs.Finding.{positions_found}
-use Rattle.seam_world_text.specs.Texts.{calls_text, ends_text, done_of_type, done_of, home_of, base_of, ghosts_of, shown_of}
+use Rattle.seam_world_text.specs.RoundParts.{calls_text, ends_text, done_of_type, done_of, home_of, base_of, ghosts_of, shown_of}
 use Rattle.seam_world_text.specs.declared.farewells.Farewell.{Farewell}
 use Rattle.seam_world_text.specs.Sums.{did_count, and_hp, and_hp_found}
 use Rattle.seam_world_text.specs.declared.residents.Resident.{Resident}

@@ -22,7 +22,7 @@ use Rattle.seam_world_text.specs.Residents.{ArePresent, present_as}
 use Rattle.seam_world_text.specs.Farewells.{AreFarewells, kept_of}
 use Rattle.seam_world_text.specs.Finding.{node_for, done_found, part_found}
 use Rattle.seam_world_text.specs.Finding.{lines_found}
-use Rattle.seam_world_text.specs.Texts.{done_of_type, lines_text, shown_so_far, kept_text, shown_of}
+use Rattle.seam_world_text.specs.RoundParts.{done_of_type, lines_text, shown_so_far, kept_text, shown_of}
 use Rattle.seam_world_text.specs.Sums.{kept_count, shown_count}
 use Rattle.seam_world_text.specs.declared.farewells.Farewell.{Farewell}
 use Rattle.seam_world_text.specs.declared.residents.Resident.{Resident}
@@ -78,7 +78,8 @@ not_false false is = absurd (let z = is in cc)
 module _ (b : Book) (rs : List Resident) (present : ArePresent b rs) where
   -- ---- the calls
 
-  module _ (h : Header) (tree : Division) (some : 1 ≤ h.settings.bases) (u : World) (between : IsBetweenRounds (frame_of h tree) u) (q : Part)
+  module _ (h : Header) (tree : Division) (some : 1 ≤ h.settings.bases) (u : World) (between : IsBetweenRounds (frame_of h tree) u)
+      (q : Part)
       (made : List Create) (listed : Lists (created_as b) made)
       (idle : (c : Create) → was_dead b c.entity ≡ true → done_in h u q c.entity ≡ []) where
     abbrev its_found : Create → List DoneLine
@@ -190,7 +191,8 @@ module _ (b : Book) (rs : List Resident) (present : ArePresent b rs) where
     pub shown_is_counted : sum_by (shown_count kept v) rs ≡ length (flat_map its_lines (filter shows made))
     shown_is_counted =
         same_number_of_each (shown_count kept v) (λ r. length (lines_of_one r)) rs
-        (λ r has. ap (λ x. cond x (kept_count (table.get kept r.made.entity) (length (lines_found v r.made.entity))) 0) (present.clients r has)
+        (λ r has. ap (λ x. cond x (kept_count (table.get kept r.made.entity) (length (lines_found v r.made.entity))) 0)
+        (present.clients r has)
         ∙ count_is r.made (here r has) (shows r.made) refl)
         ∙ sym (length-flat_map lines_of_one rs) ∙ ap length lines_are_printed
 

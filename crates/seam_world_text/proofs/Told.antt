@@ -7,7 +7,7 @@ use Rattle.std.proofs.lemmas.List.{map-append}
 use Rattle.std.proofs.lemmas.List.Concat.{flat_map-append}
 use Rattle.seam_node_steps.specs.Prelude.{TypeDef, Create, Line}
 use Rattle.seam_rule_rounds.specs.Prelude.{ClientLine, client_text}
-use Rattle.seam_world_text.specs.Texts.{lines_text}
+use Rattle.seam_world_text.specs.RoundParts.{lines_text}
 
 abbrev pub line_to : Create → Line → ClientLine
 line_to m l = record { entity = m.entity; ty = m.ty; line = l }
@@ -25,5 +25,6 @@ module _ (defs : List TypeDef) (m : Create) where
       after ≡ o ++ lines_text defs m (take (i + 1) ls)
   one_more_line o before after ls i l lt here was is =
       let more : take (i + 1) ls ≡ take i ls ++ get_or ls i l ∷ [] = rw add-one (take-suc ls i l lt) in
-      is ∙ ap (λ t. t ++ client_text defs (line_to m l)) was ∙ append_assoc o (lines_text defs m (take i ls)) (client_text defs (line_to m l))
+      is ∙ ap (λ t. t ++ client_text defs (line_to m l)) was ∙ append_assoc o (lines_text defs m (take i ls))
+      (client_text defs (line_to m l))
       ∙ ap (λ t. o ++ t) (sym (ap (lines_text defs m) (more ∙ ap (λ x. take i ls ++ x ∷ []) here) ∙ with_last (take i ls) l))

@@ -8,7 +8,7 @@ use Rattle.seam_node_steps.specs.Prelude.{TypeDef, Create, Map, World}
 use Rattle.seam_rule_rounds.specs.Prelude.{Book, destroys, is_shown}
 use Rattle.seam_world_text.specs.Residents.{present_as, is_among}
 use Rattle.seam_world_text.specs.Finding.{lines_found}
-use Rattle.seam_world_text.specs.Texts.{shown_so_far}
+use Rattle.seam_world_text.specs.RoundParts.{shown_so_far}
 use Rattle.seam_world_text.specs.declared.farewells.Farewell.{Farewell}
 use Rattle.seam_world_text.specs.declared.residents.Resident.{Resident}
 

@@ -1,6 +1,6 @@
 pub mod Residents
 pub mod Finding
-pub mod Texts
+pub mod RoundParts
 pub mod Told
 pub mod Farewells
 pub mod Sums

@@ -8,7 +8,7 @@ ghost use Rattle.seam_law_transcript.specs.Prelude.{IsPlayed, data_of};
 ghost use Rattle.seam_defs.specs.declared.flags.Part.TheVariants as part;
 ghost use Rattle.seam_world_text.specs.Finding.{RoutesLeadHome};
 ghost use Rattle.seam_world_text.specs.Printing.{IsOpenRound};
-ghost use Rattle.seam_world_text.specs.Texts.{calls_text, done_of, done_of_type};
+ghost use Rattle.seam_world_text.specs.RoundParts.{calls_text, done_of, done_of_type};
 
 use crate::finding::{home, near_after, part};
 use crate::laws::what_is_found_is_printed;
@@ -30,9 +30,10 @@ pub fn write_calls(
     round: &PrintedRound,
     called: &World,
 ) -> Result<(), AllocError>
-    ensures { OnOk result ((h : Header) (s : Standing) (tree : Division) (w v : AnyWorld) (p : IsPlayed h s tree w v)
-        (bounds : Option Division) → p.round.called ≡ called.now → IsOpenRound h s round.now →
-        out.new.items ≡ out.old.items ++ calls_text h.defs (data_of h s tree w v p bounds)) }
+    ensures { OnOk result ((h : Header) (s : Standing) (tree : Division) (w v : AnyWorld)
+        (p : IsPlayed h s tree w v) (bounds : Option Division) → p.round.called ≡ called.now →
+        IsOpenRound h s round.now → out.new.items ≡ out.old.items
+        ++ calls_text h.defs (data_of h s tree w v p bounds)) }
 {
     what_is_found_is_printed();
     let residents = round.present.by_number();
@@ -48,7 +49,8 @@ fn push_calls(
     ty: u16,
     calls: &[Call],
 ) -> Result<(), AllocError>
-    ensures { OnOk result (out.new.items ≡ out.old.items ++ flat_map (done_text word.now defs.now) (done_of_type ty calls.now)) }
+    ensures { OnOk result (out.new.items ≡ out.old.items ++ flat_map (done_text word.now defs.now)
+        (done_of_type ty calls.now)) }
 {
     for call in calls {
         push_done(out, word, defs, &DoneLine { ty, call })?;
@@ -64,8 +66,8 @@ fn push_did_of(
     resident: &Resident,
     world: &World,
 ) -> Result<Option<u8>, AllocError>
-    ensures { OnOk result (RoutesLeadHome world.now →
-        out.new.items ≡ out.old.items ++ done_of (codes "did ") defs.now part.Cell world.now resident.now) }
+    ensures { OnOk result (RoutesLeadHome world.now → out.new.items ≡ out.old.items
+        ++ done_of (codes "did ") defs.now part.Cell world.now resident.now) }
 {
     let Some((cell, parcel)) = home(world, near, resident.made.entity) else {
         return Ok(near);
@@ -80,8 +82,9 @@ fn push_did(
     residents: &BTreeMap<u32, Resident>,
     world: &World,
 ) -> Result<(), AllocError>
-    ensures { OnOk result (RoutesLeadHome world.now → out.new.items
-        ≡ out.old.items ++ flat_map (λ e. done_of (codes "did ") defs.now part.Cell world.now e.1) residents.now.entries) }
+    ensures { OnOk result (RoutesLeadHome world.now → out.new.items ≡ out.old.items
+        ++ flat_map (λ e. done_of (codes "did ") defs.now part.Cell world.now e.1)
+        residents.now.entries) }
 {
     let mut near = Some(0);
     for (_, resident) in residents {
@@ -97,7 +100,8 @@ fn push_dob_of(
     resident: &Resident,
     world: &World,
 ) -> Result<(), AllocError>
-    ensures { OnOk result (out.new.items ≡ out.old.items ++ done_of (codes "dob ") defs.now part.Base world.now resident.now) }
+    ensures { OnOk result (out.new.items ≡ out.old.items ++ done_of (codes "dob ") defs.now
+        part.Base world.now resident.now) }
 {
     match part(world, resident.made.entity) {
         Some(part) => push_calls(out, b"dob ", defs, resident.made.ty, part.done()),
@@ -111,8 +115,9 @@ fn push_dob(
     residents: &BTreeMap<u32, Resident>,
     world: &World,
 ) -> Result<(), AllocError>
-    ensures { OnOk result (out.new.items
-        ≡ out.old.items ++ flat_map (λ e. done_of (codes "dob ") defs.now part.Base world.now e.1) residents.now.entries) }
+    ensures { OnOk result (out.new.items ≡ out.old.items
+        ++ flat_map (λ e. done_of (codes "dob ") defs.now part.Base world.now e.1)
+        residents.now.entries) }
 {
     for (_, resident) in residents {
         push_dob_of(out, defs, resident, world)?;

@@ -11,7 +11,7 @@ ghost use Rattle.seam_world_text.specs.Finding.{RoutesLeadHome, ghost_line, haun
 ghost use Rattle.seam_world_text.specs.Farewells.{AreFarewells};
 ghost use Rattle.seam_world_text.specs.Printing.{IsOpenRound};
 ghost use Rattle.seam_report.specs.Spelled.{Versions, GoesBy};
-ghost use Rattle.seam_world_text.specs.Texts.{ends_text, home_of, base_of, ghosts_of, lines_text, shown_so_far, shown_of};
+ghost use Rattle.seam_world_text.specs.RoundParts.{ends_text, home_of, base_of, ghosts_of, lines_text, shown_so_far, shown_of};
 ghost use Rattle.seam_world_text.specs.Told.{ShowOf, told_by};
 
 use crate::farewells::Farewells;
@@ -44,9 +44,11 @@ pub fn write_ends(
     ended: &World,
     bounds: &Option<Tree>,
 ) -> Result<(), AllocError>
-    ensures { OnOk result ((h : Header) (s : Standing) (tree : Division) (w : AnyWorld) (p : IsPlayed h s tree w ended.now) →
-        IsOpenRound h s round.now → AreFarewells h.defs s.book p.round.called kept.now →
-        out.new.items ≡ out.old.items ++ ends_text h.defs (data_of h s tree w ended.now p bounds.now)) }
+    ensures { OnOk result ((h : Header) (s : Standing) (tree : Division) (w : AnyWorld)
+        (p : IsPlayed h s tree w ended.now) → IsOpenRound h s round.now →
+        AreFarewells h.defs s.book p.round.called kept.now →
+        out.new.items ≡ out.old.items ++ ends_text h.defs
+        (data_of h s tree w ended.now p bounds.now)) }
 {
     what_is_found_is_printed();
     let residents = round.present.by_number();
@@ -61,9 +63,10 @@ pub fn write_ends(
 
 /// Where the homes are that a round left, in the order of their lines.
 pub fn positions(alloc: Global, present: &Residents, ended: &World) -> Result<Vec<Pos>, AllocError>
-    ensures { IfOk result (λ ps. (h : Header) (s : Standing) (tree : Division) (w : AnyWorld) (p : IsPlayed h s tree w ended.now)
-        (bounds : Option Division) → ArePresent s.book present.now →
-        ps.items ≡ map (λ l. l.state.pos) (data_of h s tree w ended.now p bounds).homes) }
+    ensures { IfOk result (λ ps. (h : Header) (s : Standing) (tree : Division) (w : AnyWorld)
+        (p : IsPlayed h s tree w ended.now) (bounds : Option Division) →
+        ArePresent s.book present.now → ps.items ≡ map (λ l. l.state.pos)
+        (data_of h s tree w ended.now p bounds).homes) }
 {
     what_is_found_is_printed();
     find_positions(alloc, present.by_number(), ended)
@@ -75,7 +78,8 @@ fn find_positions(
     ended: &World,
 ) -> Result<Vec<Pos>, AllocError>
     ensures { IfOk result (λ ps. RoutesLeadHome ended.now →
-        ps.items ≡ flat_map (λ e. positions_found ended.now e.1.made.entity) residents.now.entries) }
+        ps.items ≡ flat_map (λ e. positions_found ended.now e.1.made.entity)
+        residents.now.entries) }
 {
     let mut positions = Vec::new(alloc);
     for (_, resident) in residents {
@@ -97,8 +101,10 @@ fn push_home_of(
     resident: &Resident,
     world: &World,
 ) -> Result<Option<u8>, AllocError>
-    ensures home { OnOk result (RoutesLeadHome world.now → out.new.items ≡ out.old.items ++ home_of defs.now world.now resident.now) }
-    ensures ghosts { OnOk result (RoutesLeadHome world.now → ghosts.new.items ≡ ghosts.old.items ++ ghosts_of world.now resident.now) }
+    ensures home { OnOk result (RoutesLeadHome world.now →
+        out.new.items ≡ out.old.items ++ home_of defs.now world.now resident.now) }
+    ensures ghosts { OnOk result (RoutesLeadHome world.now →
+        ghosts.new.items ≡ ghosts.old.items ++ ghosts_of world.now resident.now) }
 {
     let entity = resident.made.entity;
     let Some((cell, parcel)) = home(world, near, entity) else {
@@ -126,9 +132,11 @@ fn push_homes(
     world: &World,
 ) -> Result<(), AllocError>
     ensures homes { OnOk result (RoutesLeadHome world.now →
-        out.new.items ≡ out.old.items ++ flat_map (λ e. home_of defs.now world.now e.1) residents.now.entries) }
+        out.new.items ≡ out.old.items ++ flat_map (λ e. home_of defs.now world.now e.1)
+        residents.now.entries) }
     ensures ghosts { OnOk result (RoutesLeadHome world.now →
-        ghosts.new.items ≡ ghosts.old.items ++ flat_map (λ e. ghosts_of world.now e.1) residents.now.entries) }
+        ghosts.new.items ≡ ghosts.old.items ++ flat_map (λ e. ghosts_of world.now e.1)
+        residents.now.entries) }
 {
     let mut near = Some(0);
     for (_, resident) in residents {
@@ -146,7 +154,8 @@ fn push_haunt(
     cell: u8,
 ) -> Result<(), AllocError>
     ensures { OnOk result (out.new.items ≡ out.old.items
-        ++ flat_map ghost_text (if set.contains haunts cell then ghost_line entity version cell ∷ [] else [])) }
+        ++ flat_map ghost_text (if set.contains haunts cell
+        then ghost_line entity version cell ∷ [] else [])) }
 {
     if !haunts.holds(cell) {
         return Ok(());
@@ -155,7 +164,8 @@ fn push_haunt(
 }
 
 fn push_haunts(out: &mut Vec<u8>, entity: u32, real: &Real) -> Result<(), AllocError>
-    ensures { OnOk result (out.new.items ≡ out.old.items ++ flat_map ghost_text (flat_map (haunt_line entity real.now.core) cell_numbers)) }
+    ensures { OnOk result (out.new.items ≡ out.old.items
+        ++ flat_map ghost_text (flat_map (haunt_line entity real.now.core) cell_numbers)) }
 {
     let (version, haunts) = (real.public_version(), real.haunts());
     // Most reals have no ghosts.
@@ -176,7 +186,8 @@ fn push_base_of(
     resident: &Resident,
     world: &World,
 ) -> Result<(), AllocError>
-    ensures { OnOk result (out.new.items ≡ out.old.items ++ base_of defs.now world.now resident.now) }
+    ensures { OnOk result (out.new.items ≡ out.old.items ++ base_of defs.now world.now
+        resident.now) }
 {
     let entity = resident.made.entity;
     let Some(part) = part(world, entity) else {
@@ -197,7 +208,8 @@ fn push_bases(
     residents: &BTreeMap<u32, Resident>,
     world: &World,
 ) -> Result<(), AllocError>
-    ensures { OnOk result (out.new.items ≡ out.old.items ++ flat_map (λ e. base_of defs.now world.now e.1) residents.now.entries) }
+    ensures { OnOk result (out.new.items ≡ out.old.items
+        ++ flat_map (λ e. base_of defs.now world.now e.1) residents.now.entries) }
 {
     for (_, resident) in residents {
         push_base_of(out, defs, resident, world)?;
@@ -214,10 +226,12 @@ fn push_lines<'a>(
     made: &Create,
     world: &'a World,
 ) -> Result<(), AllocError>
-    ensures lines { (vs : Versions) → GoesBy vs spellings.old → ShowOf vs (lines_found world.now made.now.entity) →
-        OnOk result (out.new.items ≡ out.old.items ++ shown_so_far spellings.old.defs world.now made.now) }
-    ensures kept { (vs : Versions) → GoesBy vs spellings.old → ShowOf vs (lines_found world.now made.now.entity) →
-        OnOk result (GoesBy vs spellings.new) }
+    ensures lines { (vs : Versions) → GoesBy vs spellings.old →
+        ShowOf vs (lines_found world.now made.now.entity) →
+        OnOk result (out.new.items ≡ out.old.items ++ shown_so_far spellings.old.defs world.now
+        made.now) }
+    ensures kept { (vs : Versions) → GoesBy vs spellings.old →
+        ShowOf vs (lines_found world.now made.now.entity) → OnOk result (GoesBy vs spellings.new) }
     ensures defs { spellings.new.defs ≡ spellings.old.defs }
 {
     match part(world, made.entity) {
@@ -233,8 +247,10 @@ fn push_each<'a>(
     lines: &'a [Line],
 ) -> Result<(), AllocError>
     ensures lines { (vs : Versions) → GoesBy vs spellings.old → ShowOf vs lines.now →
-        OnOk result (out.new.items ≡ out.old.items ++ lines_text spellings.old.defs made.now lines.now) }
-    ensures kept { (vs : Versions) → GoesBy vs spellings.old → ShowOf vs lines.now → OnOk result (GoesBy vs spellings.new) }
+        OnOk result (out.new.items ≡ out.old.items ++ lines_text spellings.old.defs made.now
+        lines.now) }
+    ensures kept { (vs : Versions) → GoesBy vs spellings.old → ShowOf vs lines.now →
+        OnOk result (GoesBy vs spellings.new) }
     ensures defs { spellings.new.defs ≡ spellings.old.defs }
 {
     for line in lines {
@@ -252,9 +268,11 @@ fn push_client_of<'a>(
 ) -> Result<(), AllocError>
     ensures shown { (vs : Versions) → GoesBy vs spellings.old →
         ShowOf vs (told_by kept.now world.now resident.now) →
-        OnOk result (out.new.items ≡ out.old.items ++ shown_of spellings.old.defs kept.now world.now resident.now) }
+        OnOk result (out.new.items ≡ out.old.items ++ shown_of spellings.old.defs kept.now world.now
+        resident.now) }
     ensures kept { (vs : Versions) → GoesBy vs spellings.old →
-        ShowOf vs (told_by kept.now world.now resident.now) → OnOk result (GoesBy vs spellings.new) }
+        ShowOf vs (told_by kept.now world.now resident.now) →
+        OnOk result (GoesBy vs spellings.new) }
     ensures defs { spellings.new.defs ≡ spellings.old.defs }
 {
     if !resident.client {
@@ -273,8 +291,9 @@ fn push_clients(
     kept: &Farewells,
     world: &World,
 ) -> Result<(), AllocError>
-    ensures { (vs : Versions) → All (λ e. ShowOf vs (told_by kept.now world.now e.1)) residents.now.entries →
-        OnOk result (out.new.items ≡ out.old.items ++ flat_map (λ e. shown_of defs.now kept.now world.now e.1) residents.now.entries) }
+    ensures { (vs : Versions) → All (λ e. ShowOf vs (told_by kept.now world.now e.1))
+        residents.now.entries → OnOk result (out.new.items ≡ out.old.items
+        ++ flat_map (λ e. shown_of defs.now kept.now world.now e.1) residents.now.entries) }
 {
     let mut spellings = Spellings::new(*out.allocator(), defs);
     for (_, resident) in residents {

@@ -10,7 +10,7 @@ ghost use Rattle.seam_accept.specs.Batches.{destroyed};
 ghost use Rattle.seam_world_text.specs.Residents.{ArePresent};
 ghost use Rattle.seam_world_text.specs.Finding.{lines_found};
 ghost use Rattle.seam_world_text.specs.Farewells.{AreFarewells, farewell_of};
-ghost use Rattle.seam_world_text.specs.Texts.{lines_text};
+ghost use Rattle.seam_world_text.specs.RoundParts.{lines_text};
 
 use crate::finding::part;
 use crate::residents::Resident;
@@ -66,10 +66,10 @@ pub fn write_farewells(
     destroys: &[u32],
     called: &World,
 ) -> Result<Farewells, AllocError>
-    ensures { IfOk result (λ f. (b : Book) → destroys.now ≡ filter_map destroyed b.current → ArePresent b round.now.present.now →
-        AreFarewells round.now.defs.now b called.now f) }
+    ensures { IfOk result (λ f. (b : Book) → destroys.now ≡ filter_map destroyed b.current →
+        ArePresent b round.now.present.now → AreFarewells round.now.defs.now b called.now f) }
 {
-    let mut kept = Table::new(alloc);
+    let mut kept = Table::new(alloc, round.defs.hash_key());
     let residents = round.present.by_number();
     for e in destroys {
         if let Some(farewell) = farewell_to(alloc, round.defs, residents, *e, called)? {
@@ -125,7 +125,8 @@ pub(crate) fn count_lines(e: u32, world: &World) -> u64
 }
 
 fn push_all(out: &mut Vec<u8>, defs: &Defs, made: &Create, lines: &[Line]) -> Result<(), AllocError>
-    ensures { OnOk result (out.new.items ≡ out.old.items ++ lines_text defs.now made.now lines.now) }
+    ensures { OnOk result (out.new.items ≡ out.old.items ++ lines_text defs.now made.now
+        lines.now) }
 {
     for line in lines {
         push_line(out, defs, made.entity, made.ty, line)?;

@@ -14,21 +14,21 @@ use seam_tree::MOST_CELLS;
 
 // The base node of an entity.
 fn base_of(world: &World, e: u32) -> Option<&Base>
-    ensures { option_copied result ≡ option_and_then base_in (slice_get world.now.nodes (node_for world.now e)) }
+    ensures { option_copied result ≡ option_and_then base_in
+        (slice_get world.now.nodes (node_for world.now e)) }
 {
-    let net = world.net();
-    let bases = net.node_count().saturating_sub(MOST_CELLS) as u32;
+    let bases = world.node_count().saturating_sub(MOST_CELLS) as u32;
     if bases == 0 {
         return None;
     }
-    net.node(base_node_of(e, bases))?.as_base()
+    world.node(base_node_of(e, bases))?.as_base()
 }
 
 // The real of an entity, if it is in that cell.
 fn real_at(world: &World, cell: u8, e: u32) -> Option<&Parcel>
     ensures { option_copied result ≡ real_in ((entity_flow e world.now).slot cell) }
 {
-    world.net().node(cell)?.as_cell()?.real(e)
+    world.node(cell)?.as_cell()?.real(e)
 }
 
 /// The base part of an entity.
@@ -41,7 +41,8 @@ pub(crate) fn part(world: &World, e: u32) -> Option<&BasePart>
 /// The real of an entity, and the cell that it is in, which its base node has the route to. It is looked for in the near cell first, if
 /// there is one, and the route is followed only where it is not there.
 pub(crate) fn home(world: &World, near: Option<u8>, e: u32) -> Option<(u8, &Parcel)>
-    ensures { RoutesLeadHome world.now → option_map (λ p. (p.0, p.1.now)) result ≡ home_found world.now e }
+    ensures { RoutesLeadHome world.now → option_map (λ p. (p.0, p.1.now)) result
+        ≡ home_found world.now e }
 {
     if let Some(cell) = near {
         if let Some(parcel) = real_at(world, cell, e) {

@@ -15,7 +15,7 @@ ghost use Rattle.seam_world_text.specs.Farewells.{AreFarewells};
 ghost use Rattle.seam_world_text.specs.Sums.{shown_count};
 ghost use Rattle.seam_report.specs.Spelled.{Versions};
 ghost use Rattle.seam_world_text.specs.Told.{ShowOf, told_by};
-ghost use Rattle.seam_world_text.specs.Texts.{calls_text, ends_text, done_of_type, shown_of};
+ghost use Rattle.seam_world_text.specs.RoundParts.{calls_text, ends_text, done_of_type, shown_of};
 ghost use Rattle.seam_world_text.specs.declared.farewells.Farewell.{Farewell as AnyFarewell};
 ghost use Rattle.seam_world_text.specs.declared.residents.Resident.{Resident as AnyResident};
 
@@ -33,13 +33,15 @@ pub fn residents_stay_as_lines_come()
         AreResidents (as_begun (with_entry b x)) rs }
     ensures next { (b : Book) (rs : List AnyResident) → AreResidents (with_round_ended b) rs →
         AreResidents (as_begun (with_round_ended b)) rs }
-    ensures balanced { (b : Book) (t : Division) (rs : List AnyResident) → AreResidents (with_round_ended b) rs →
-        AreResidents (as_begun (with_tree (with_round_ended b) t)) rs }
+    ensures balanced { (b : Book) (t : Division) (rs : List AnyResident) →
+        AreResidents (with_round_ended b) rs → AreResidents
+        (as_begun (with_tree (with_round_ended b) t)) rs }
 {}
 
 // The two worlds off which a played round is read are at rest.
 fn a_round_is_read_at_rest()
-    ensures { (h : Header) (s : Standing) (tree : Division) (w v : World) (p : IsPlayed h s tree w v) → AreAtRest h s tree w v p }
+    ensures { (h : Header) (s : Standing) (tree : Division) (w v : World)
+        (p : IsPlayed h s tree w v) → AreAtRest h s tree w v p }
 {
     seam_law_book::lines_bring_what_fits();
     seam_law_book::uncreated_numbers_are_untouched();
@@ -56,34 +58,44 @@ fn a_round_is_read_at_rest()
 /// with what was kept of those whose entities died (`shown`), and how many lines there are (`count`). The lines show one copy of each
 /// entity and version (`versions`). In both worlds each real is where the route of its base node leads (`routes`).
 pub fn what_is_found_is_printed()
-    ensures did { (h : Header) (s : Standing) (tree : Division) (w v : World) (p : IsPlayed h s tree w v) (bounds : Option Division)
-        (rs : List AnyResident) → ArePresent s.book rs →
-        flat_map (λ r. done_of_type r.made.ty (done_found part.Cell p.round.called r.made.entity)) rs
+    ensures did { (h : Header) (s : Standing) (tree : Division) (w v : World)
+        (p : IsPlayed h s tree w v) (bounds : Option Division) (rs : List AnyResident) →
+        ArePresent s.book rs → flat_map (λ r. done_of_type r.made.ty
+        (done_found part.Cell p.round.called r.made.entity)) rs
         ≡ (data_of h s tree w v p bounds).did }
-    ensures dob { (h : Header) (s : Standing) (tree : Division) (w v : World) (p : IsPlayed h s tree w v) (bounds : Option Division)
-        (rs : List AnyResident) → ArePresent s.book rs →
-        flat_map (λ r. done_of_type r.made.ty (done_found part.Base p.round.called r.made.entity)) rs
+    ensures dob { (h : Header) (s : Standing) (tree : Division) (w v : World)
+        (p : IsPlayed h s tree w v) (bounds : Option Division) (rs : List AnyResident) →
+        ArePresent s.book rs → flat_map (λ r. done_of_type r.made.ty
+        (done_found part.Base p.round.called r.made.entity)) rs
         ≡ (data_of h s tree w v p bounds).dob }
-    ensures homes { (h : Header) (s : Standing) (tree : Division) (w v : World) (p : IsPlayed h s tree w v) (bounds : Option Division)
-        (rs : List AnyResident) → ArePresent s.book rs →
-        flat_map (λ r. homes_found v r.made.entity) rs ≡ (data_of h s tree w v p bounds).homes }
-    ensures bases { (h : Header) (s : Standing) (tree : Division) (w v : World) (p : IsPlayed h s tree w v) (bounds : Option Division)
-        (rs : List AnyResident) → ArePresent s.book rs →
-        flat_map (λ r. bases_found v r.made.entity) rs ≡ (data_of h s tree w v p bounds).bases }
-    ensures ghosts { (h : Header) (s : Standing) (tree : Division) (w v : World) (p : IsPlayed h s tree w v) (bounds : Option Division)
-        (rs : List AnyResident) → ArePresent s.book rs →
-        flat_map (λ r. ghosts_found v r.made.entity) rs ≡ (data_of h s tree w v p bounds).ghosts }
-    ensures shown { (h : Header) (s : Standing) (tree : Division) (w v : World) (p : IsPlayed h s tree w v) (bounds : Option Division)
-        (rs : List AnyResident) → ArePresent s.book rs → (kept : Map AnyFarewell) → AreFarewells h.defs s.book p.round.called kept →
-        flat_map (shown_of h.defs kept v) rs ≡ flat_map (client_text h.defs) (data_of h s tree w v p bounds).shown }
-    ensures versions { (h : Header) (s : Standing) (tree : Division) (w v : World) (p : IsPlayed h s tree w v)
-        (rs : List AnyResident) → ArePresent s.book rs → (kept : Map AnyFarewell) → AreFarewells h.defs s.book p.round.called kept →
+    ensures homes { (h : Header) (s : Standing) (tree : Division) (w v : World)
+        (p : IsPlayed h s tree w v) (bounds : Option Division) (rs : List AnyResident) →
+        ArePresent s.book rs → flat_map (λ r. homes_found v r.made.entity) rs
+        ≡ (data_of h s tree w v p bounds).homes }
+    ensures bases { (h : Header) (s : Standing) (tree : Division) (w v : World)
+        (p : IsPlayed h s tree w v) (bounds : Option Division) (rs : List AnyResident) →
+        ArePresent s.book rs → flat_map (λ r. bases_found v r.made.entity) rs
+        ≡ (data_of h s tree w v p bounds).bases }
+    ensures ghosts { (h : Header) (s : Standing) (tree : Division) (w v : World)
+        (p : IsPlayed h s tree w v) (bounds : Option Division) (rs : List AnyResident) →
+        ArePresent s.book rs → flat_map (λ r. ghosts_found v r.made.entity) rs
+        ≡ (data_of h s tree w v p bounds).ghosts }
+    ensures shown { (h : Header) (s : Standing) (tree : Division) (w v : World)
+        (p : IsPlayed h s tree w v) (bounds : Option Division) (rs : List AnyResident) →
+        ArePresent s.book rs → (kept : Map AnyFarewell) →
+        AreFarewells h.defs s.book p.round.called kept → flat_map (shown_of h.defs kept v) rs
+        ≡ flat_map (client_text h.defs) (data_of h s tree w v p bounds).shown }
+    ensures versions { (h : Header) (s : Standing) (tree : Division) (w v : World)
+        (p : IsPlayed h s tree w v) (rs : List AnyResident) → ArePresent s.book rs →
+        (kept : Map AnyFarewell) → AreFarewells h.defs s.book p.round.called kept →
         (vs : Versions) × All (λ r. ShowOf vs (told_by kept v r)) rs }
-    ensures count { (h : Header) (s : Standing) (tree : Division) (w v : World) (p : IsPlayed h s tree w v) (bounds : Option Division)
-        (rs : List AnyResident) → ArePresent s.book rs → (kept : Map AnyFarewell) → AreFarewells h.defs s.book p.round.called kept →
-        sum_by (shown_count kept v) rs ≡ length (data_of h s tree w v p bounds).shown }
-    ensures routes { (h : Header) (s : Standing) (tree : Division) (w v : World) (p : IsPlayed h s tree w v) →
-        RoutesLeadHome p.round.called × RoutesLeadHome v }
+    ensures count { (h : Header) (s : Standing) (tree : Division) (w v : World)
+        (p : IsPlayed h s tree w v) (bounds : Option Division) (rs : List AnyResident) →
+        ArePresent s.book rs → (kept : Map AnyFarewell) →
+        AreFarewells h.defs s.book p.round.called kept → sum_by (shown_count kept v) rs
+        ≡ length (data_of h s tree w v p bounds).shown }
+    ensures routes { (h : Header) (s : Standing) (tree : Division) (w v : World)
+        (p : IsPlayed h s tree w v) → RoutesLeadHome p.round.called × RoutesLeadHome v }
 {
     a_round_is_read_at_rest();
     seam_law_transcript::client_lines_are_gathered();

@@ -55,8 +55,9 @@ impl Residents {
     ///
     /// If allocation fails, some of those that it makes may be missing.
     pub fn begin(&mut self, batch: &Batch) -> Result<(), AllocError>
-        ensures { OnOk result ((h : Header) (b : Book) → AreLegal h.settings → IsOfLines h b → batch.now ≡ batch_of h b →
-            AreResidents (as_begun b) self.old → ArePresent b self.new) }
+        ensures { OnOk result ((h : Header) (b : Book) → AreLegal h.settings → IsOfLines h b →
+            batch.now ≡ batch_of h b → AreResidents (as_begun b) self.old →
+            ArePresent b self.new) }
     {
         seam_law_book::lines_bring_what_fits();
         seam_law_book::uncreated_numbers_are_untouched();
@@ -67,8 +68,8 @@ impl Residents {
 
     /// The open round ends, in which these entities died: the others live.
     pub fn end(&mut self, destroys: &[u32])
-        ensures { (h : Header) (b : Book) → destroys.now ≡ (batch_of h b).destroys → ArePresent b self.old →
-            AreResidents (with_round_ended b) self.new }
+        ensures { (h : Header) (b : Book) → destroys.now ≡ (batch_of h b).destroys →
+            ArePresent b self.old → AreResidents (with_round_ended b) self.new }
     {
         remove_all(&mut self.by_number, destroys);
     }

@@ -32,9 +32,9 @@ const HP_PLACE: usize = 0;
 ///
 /// No memory holds as many as do not fit 64 bits: of those it would answer as if allocation failed.
 pub fn count_did(present: &Residents, called: &World) -> Result<u64, AllocError>
-    ensures { IfOk result (λ n. (h : Header) (s : Standing) (tree : Division) (w v : AnyWorld) (p : IsPlayed h s tree w v)
-        (bounds : Option Division) → p.round.called ≡ called.now → ArePresent s.book present.now →
-        n ≡ length (data_of h s tree w v p bounds).did) }
+    ensures { IfOk result (λ n. (h : Header) (s : Standing) (tree : Division) (w v : AnyWorld)
+        (p : IsPlayed h s tree w v) (bounds : Option Division) → p.round.called ≡ called.now →
+        ArePresent s.book present.now → n ≡ length (data_of h s tree w v p bounds).did) }
 {
     what_is_found_is_printed();
     count_calls(present.by_number(), called)
@@ -45,8 +45,9 @@ pub fn count_did(present: &Residents, called: &World) -> Result<u64, AllocError>
 ///
 /// No memory holds as many as do not fit 64 bits: of those it would answer as if allocation failed.
 pub fn count_shown(present: &Residents, kept: &Farewells, ended: &World) -> Result<u64, AllocError>
-    ensures { IfOk result (λ n. (h : Header) (s : Standing) (tree : Division) (w : AnyWorld) (p : IsPlayed h s tree w ended.now)
-        (bounds : Option Division) → ArePresent s.book present.now → AreFarewells h.defs s.book p.round.called kept.now →
+    ensures { IfOk result (λ n. (h : Header) (s : Standing) (tree : Division) (w : AnyWorld)
+        (p : IsPlayed h s tree w ended.now) (bounds : Option Division) →
+        ArePresent s.book present.now → AreFarewells h.defs s.book p.round.called kept.now →
         n ≡ length (data_of h s tree w ended.now p bounds).shown) }
 {
     what_is_found_is_printed();
@@ -57,9 +58,10 @@ pub fn count_shown(present: &Residents, kept: &Farewells, ended: &World) -> Resu
 ///
 /// No memory holds so many avatars that their sum does not fit 64 bits: of those it would answer as if allocation failed.
 pub fn sum_hp(present: &Residents, ended: &World) -> Result<i64, AllocError>
-    ensures { IfOk result (λ n. (h : Header) (s : Standing) (tree : Division) (w : AnyWorld) (p : IsPlayed h s tree w ended.now)
-        (bounds : Option Division) → ArePresent s.book present.now →
-        n ≡ fold (λ n l. n +ℤ hp_of l) (pos 0) (data_of h s tree w ended.now p bounds).homes) }
+    ensures { IfOk result (λ n. (h : Header) (s : Standing) (tree : Division) (w : AnyWorld)
+        (p : IsPlayed h s tree w ended.now) (bounds : Option Division) →
+        ArePresent s.book present.now → n ≡ fold (λ n l. n +ℤ hp_of l) (pos 0)
+        (data_of h s tree w ended.now p bounds).homes) }
 {
     what_is_found_is_printed();
     sum_homes(present.by_number(), ended)
@@ -78,7 +80,8 @@ fn calls_of(near: Option<u8>, resident: &Resident, world: &World) -> (u64, Optio
 }
 
 fn count_calls(residents: &BTreeMap<u32, Resident>, world: &World) -> Result<u64, AllocError>
-    ensures { IfOk result (λ n. RoutesLeadHome world.now → n ≡ sum_by (λ e. did_count world.now e.1) residents.now.entries) }
+    ensures { IfOk result (λ n. RoutesLeadHome world.now →
+        n ≡ sum_by (λ e. did_count world.now e.1) residents.now.entries) }
 {
     let mut count = 0;
     let mut near = Some(0);
@@ -109,7 +112,8 @@ fn count_told(
     kept: &Farewells,
     world: &World,
 ) -> Result<u64, AllocError>
-    ensures { IfOk result (λ n. n ≡ sum_by (λ e. shown_count kept.now world.now e.1) residents.now.entries) }
+    ensures { IfOk result (λ n. n ≡ sum_by (λ e. shown_count kept.now world.now e.1)
+        residents.now.entries) }
 {
     let mut count = 0;
     for (_, resident) in residents {
@@ -130,7 +134,8 @@ fn hp_in(props: &Props) -> i128
 }
 
 fn and_hp(sum: i64, props: &Props) -> Result<i64, AllocError>
-    ensures { IfOk result (λ n. n ≡ sum +ℤ number_of (value_at props.now (place_of avatar_properties group.Real hp))) }
+    ensures { IfOk result (λ n. n ≡ sum +ℤ number_of (value_at props.now
+        (place_of avatar_properties group.Real hp))) }
 {
     match i64::try_from(i128::from(sum).saturating_add(hp_in(props))) {
         Ok(all) => Ok(all),
@@ -145,7 +150,8 @@ fn and_hp_of(
     resident: &Resident,
     world: &World,
 ) -> Result<(i64, Option<u8>), AllocError>
-    ensures { IfOk result (λ p. RoutesLeadHome world.now → p.0 ≡ and_hp_found world.now sum resident.now) }
+    ensures { IfOk result (λ p. RoutesLeadHome world.now →
+        p.0 ≡ and_hp_found world.now sum resident.now) }
 {
     let Some((cell, parcel)) = home(world, near, resident.made.entity) else {
         return Ok((sum, near));

@@ -6,8 +6,8 @@ use Rattle.seam_law_all.proofs.a_worked_batch_may_be_given.Goals as goal
 pub returns-clause-keeps : goal.returns-clause-keeps
 returns-clause-keeps c =
     let w = c.an_entity_crosses_between_two_witnesses.ensures in
-    c.an_opened_world_keeps_the_records.ensures builtin standard w.may.between.frame (omega arith) w.reach (λ e. new_client standard)
+    c.an_opened_world_keeps_the_records.ensures builtin standard w.may.begin.between.frame (omega arith) w.reach (λ e. new_client standard)
 
 pub returns-clause-may : goal.returns-clause-may
 returns-clause-may c =
-    let w = c.an_entity_crosses_between_two_witnesses.ensures in record { reals = w.may.fits; parts = w.may.brings }
+    let w = c.an_entity_crosses_between_two_witnesses.ensures in record { reals = w.may.begin.fits; parts = w.may.brings }

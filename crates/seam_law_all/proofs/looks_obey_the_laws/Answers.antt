@@ -7,7 +7,10 @@ returns-clause-laws c f clients u k vs v to =
     record {
       one_real = c.looks_keep_reals.ensures.counts f u r.reals vs v to;
       no_other = c.looks_keep_reals.ensures.none f u r.reals vs v to;
+      reals = c.the_last_phases_leave_places.ensures.looks f u r.reals vs v to;
       no_calls = c.looks_keep_reals.ensures.calls f u r.reals vs v to;
+      no_base_calls = c.nothing_is_stray_at_a_base_node_in_the_last_phases.ensures.look_calls f u r.reals r.parts k.small vs v to;
+      copies = c.no_copy_comes_in_the_last_phases.ensures.looks f u r.reals vs v to;
       told = c.each_cell_is_told_what_the_real_wants.ensures.looks f u r.reals r.copies vs v to;
       served = c.each_client_is_shown_its_updates_in_order.ensures.looks f u r.reals r.parts k.small vs v to;
       until = c.each_client_is_shown_one_look.ensures.until f u r.reals r.parts k.small r.copies r.places r.reach room clients r.shown vs v
@@ -16,6 +19,7 @@ returns-clause-laws c f clients u k vs v to =
         messages = c.no_message_to_a_cell_is_stray.ensures.looks f u r.reals vs v to;
         tasks = c.no_task_of_a_cell_is_stray.ensures.looks f u r.reals vs v to;
       };
+      bases = c.nothing_is_stray_at_a_base_node_in_the_last_phases.ensures.looks f u r.reals r.parts k.small vs v to;
       updates = c.an_update_without_a_client_never_comes.ensures.looks f u r.reals r.parts k.small vs v to;
     }
 

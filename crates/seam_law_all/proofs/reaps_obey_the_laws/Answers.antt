@@ -6,7 +6,10 @@ returns-clause-laws c f clients u k es may vs v to =
     record {
       one_real = λ e one others. c.reaps_end_reals.ensures.others f u r.reals es may vs v to e one others;
       no_other = c.reaps_end_reals.ensures.none f u r.reals es may vs v to;
+      reals = c.the_last_phases_leave_places.ensures.reaps f u r.reals es may vs v to;
       no_calls = c.no_call_waits_for_the_reaped.ensures f u r.reals es may vs v to;
+      no_base_calls = c.nothing_is_stray_at_a_base_node_in_the_last_phases.ensures.reap_calls f u r.reals r.parts k.small es may vs v to;
+      copies = c.no_copy_comes_in_the_last_phases.ensures.reaps f u r.reals es may vs v to;
       told = c.no_cell_keeps_a_copy_of_the_reaped.ensures.told f u r.reals r.copies es may vs v to;
       forgotten = c.no_cell_keeps_a_copy_of_the_reaped.ensures.forgotten f u r.reals r.copies es may vs v to;
       parts = c.a_reaped_client_is_shown_no_more.ensures.until f u r.reals r.parts es may vs v to;
@@ -14,6 +17,7 @@ returns-clause-laws c f clients u k es may vs v to =
         messages = c.no_message_to_a_cell_is_stray.ensures.reaps f u r.reals es may vs v to;
         tasks = c.no_task_of_a_cell_is_stray.ensures.reaps f u r.reals es may vs v to;
       };
+      bases = c.nothing_is_stray_at_a_base_node_in_the_last_phases.ensures.reaps f u r.reals r.parts k.small es may vs v to;
       updates = c.an_update_without_a_client_never_comes.ensures.reaps f u r.reals r.parts es may vs v to;
     }
 

@@ -29,6 +29,7 @@ returns-clause-calls c =
 pub returns-clause-updates : goal.returns-clause-updates
 returns-clause-updates c =
     pass_alike c.args.items.now.items c.args.e c.in-Some.part.now c.attach-done.new.self _ c.in-Some.ensures.item refl has_update
-    (either_way has_update (with_proxy (node_with c.args.defs.now 0 standard)) c.in-Some.part.now c.attach-done.new.self c.attach-done.result
+    (either_way has_update (with_proxy (node_with c.args.defs.now 0 standard)) c.in-Some.part.now c.attach-done.new.self
+    c.attach-done.result
     (attached_update (node_with c.args.defs.now 0 standard) c.in-Some.part.now _ c.in-Some.ensures.item c.requires)
     (c.attach-done.ensures.after 0 standard) c.attach-done.ensures.err)

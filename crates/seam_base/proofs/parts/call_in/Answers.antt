@@ -23,7 +23,8 @@ returns-clause-marks c =
     marks_put c.args.items.now.items c.args.call.entity c.in-Some.part.now c.offer-done.new.self _ c.in-Some.ensures.item refl has_call
     c.args.calls.now c.mark.new.marks tt c.requires.marks
     (c.mark.ensures
-    ∙ ((λ i. marked (c.is_ready.ensures i) (c.in-Ok.ensures.ok i) c.args.call.entity tt) ∙ marked_then _ c.args.calls.now c.args.call.entity))
+    ∙ ((λ i. marked (c.is_ready.ensures i) (c.in-Ok.ensures.ok i) c.args.call.entity tt)
+    ∙ marked_then _ c.args.calls.now c.args.call.entity))
 
 pub returns-clause-others : goal.returns-clause-others
 returns-clause-others c =

@@ -25,12 +25,14 @@ returns-then-refuses-clause-after c =
 
 pub returns-then-refuses-clause-marks : goal.returns-then-refuses-clause-marks
 returns-then-refuses-clause-marks c =
-    let stays = unchanged c.args.items.now.items c.args.update.now.entity c.in-Some.part.now c.in-Some.part.now _ c.in-Some.ensures.item refl refl in
+    let stays = unchanged c.args.items.now.items c.args.update.now.entity c.in-Some.part.now c.in-Some.part.now _ c.in-Some.ensures.item
+    refl refl in
     λ q. c.requires.marks q ∙ ap (λ n. passes has_update (table.get n q)) (sym stays)
 
 pub returns-then-refuses-clause-others : goal.returns-then-refuses-clause-others
 returns-then-refuses-clause-others c =
-    let stays = unchanged c.args.items.now.items c.args.update.now.entity c.in-Some.part.now c.in-Some.part.now _ c.in-Some.ensures.item refl refl in
+    let stays = unchanged c.args.items.now.items c.args.update.now.entity c.in-Some.part.now c.in-Some.part.now _ c.in-Some.ensures.item
+    refl refl in
     λ q. ap (λ n. passes has_call (table.get n q)) stays
 
 pub returns-clause-err : goal.returns-clause-err
@@ -40,6 +42,7 @@ returns-clause-err c = on_err c.update_part.result
 
 pub returns-clause-others : goal.returns-clause-others
 returns-clause-others c =
-    pass_alike c.args.items.now.items c.args.update.now.entity c.in-Some.part.now c.update_part.new.part _ c.in-Some.ensures.item refl has_call
+    pass_alike c.args.items.now.items c.args.update.now.entity c.in-Some.part.now c.update_part.new.part _ c.in-Some.ensures.item refl
+    has_call
     (either_way has_call (with_update c.args.update.now) c.in-Some.part.now c.update_part.new.part c.update_part.result refl
     c.update_part.ensures.after c.update_part.ensures.err)

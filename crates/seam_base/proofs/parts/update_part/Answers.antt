@@ -18,7 +18,9 @@ returns-in_err-insert-clause-marks c = λ parts at are e. ap (λ m. is_some (tab
     ∙ sym (pass_alike parts c.args.update.now.entity c.args.part.now c.args.part.now _ at refl has_update refl e)
 
 pub returns-clause-marks : goal.returns-clause-marks
-returns-clause-marks c = λ parts at are. marks_put parts c.args.update.now.entity c.args.part.now c.offer_update-done.new.self _ at refl has_update
+returns-clause-marks c = λ parts at are. marks_put parts c.args.update.now.entity c.args.part.now c.offer_update-done.new.self _ at refl
+    has_update
     c.args.updates.now c.mark.new.marks tt are
     (c.mark.ensures
-    ∙ ((λ i. marked (c.is_client_ready.ensures i) (c.in_ok-insert.ensures.ok i) c.args.update.now.entity tt) ∙ marked_then _ c.args.updates.now c.args.update.now.entity))
+    ∙ ((λ i. marked (c.is_client_ready.ensures i) (c.in_ok-insert.ensures.ok i) c.args.update.now.entity tt)
+    ∙ marked_then _ c.args.updates.now c.args.update.now.entity))

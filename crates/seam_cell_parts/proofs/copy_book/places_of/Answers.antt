@@ -11,7 +11,8 @@ unreachable-requires c =
     let ns = c.deref-e-items.result.now in
     let are = c.deref-e-items.ensures.value ∙ c.in_ok-entities.ensures in
     let i = c.loop-e.e-index in
-    never_missing place_of_copy (copied (map.entries m)) (copied_rise m) ns are i c.loop-e-test.true (c.in_default.ensures ∙ find_copy m (get_or ns i 0))
+    never_missing place_of_copy (copied (map.entries m)) (copied_rise m) ns are i c.loop-e-test.true
+    (c.in_default.ensures ∙ find_copy m (get_or ns i 0))
 
 pub loop-e-preserved : goal.loop-e-preserved
 loop-e-preserved c =
@@ -19,7 +20,8 @@ loop-e-preserved c =
     let ns = c.deref-e-items.result.now in
     let are = c.deref-e-items.ensures.value ∙ c.in_ok-entities.ensures in
     let i = c.loop-e.e-index in
-    placed_more place_of_copy (copied (map.entries m)) (copied_rise m) ns are i c.loop-e-test.true c.in-Some.copy.now c.loop-e.places.items c.push.new.self.items
+    placed_more place_of_copy (copied (map.entries m)) (copied_rise m) ns are i c.loop-e-test.true c.in-Some.copy.now c.loop-e.places.items
+    c.push.new.self.items
     (c.in-Some.ensures ∙ find_copy m (get_or ns i 0)) c.loop-e.invariant
     (c.in_ok-push.ensures.items
     ∙ ap (λ p. c.loop-e.places.items ++ (get_or ns i 0, p) ∷ []) c.place_of.ensures)

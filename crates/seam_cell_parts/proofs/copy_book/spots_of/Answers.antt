@@ -12,6 +12,8 @@ of-requires c =
 
 pub returns : goal.returns
 returns c =
-    kept_noted c.in_ok-spots.spots.list c.in_ok-spots.spots.out (placed_copies c.args.book.now.ghosts) _ (copies_list_rise c.args.book.now.ghosts)
-    (c.in_ok-spots.ensures.list ∙ ap (λ l. Some (map.from_sorted l)) (c.deref.ensures.value ∙ c.in_ok-places.ensures)) c.in_ok-spots.ensures.out
+    kept_noted c.in_ok-spots.spots.list c.in_ok-spots.spots.out (placed_copies c.args.book.now.ghosts) _
+    (copies_list_rise c.args.book.now.ghosts)
+    (c.in_ok-spots.ensures.list ∙ ap (λ l. Some (map.from_sorted l)) (c.deref.ensures.value ∙ c.in_ok-places.ensures))
+    c.in_ok-spots.ensures.out
     (copy_list c.args.book.now.ghosts)

@@ -10,7 +10,8 @@ unreachable-requires c =
     let ns = c.deref-e-items.result.now in
     let are = c.deref-e-items.ensures.value ∙ c.in_ok-entities.ensures in
     let i = c.loop-e.e-index in
-    never_missing place_of_real (map.entries m) (map.entries_sorted m) ns are i c.loop-e-test.true (c.in_default.ensures.item ∙ find_real m (get_or ns i 0))
+    never_missing place_of_real (map.entries m) (map.entries_sorted m) ns are i c.loop-e-test.true (c.in_default.ensures.item
+    ∙ find_real m (get_or ns i 0))
 
 pub loop-e-preserved : goal.loop-e-preserved
 loop-e-preserved c =
@@ -18,7 +19,8 @@ loop-e-preserved c =
     let ns = c.deref-e-items.result.now in
     let are = c.deref-e-items.ensures.value ∙ c.in_ok-entities.ensures in
     let i = c.loop-e.e-index in
-    placed_more place_of_real (map.entries m) (map.entries_sorted m) ns are i c.loop-e-test.true c.in-Some.parcel.now c.loop-e.places.items c.push.new.self.items
+    placed_more place_of_real (map.entries m) (map.entries_sorted m) ns are i c.loop-e-test.true c.in-Some.parcel.now c.loop-e.places.items
+    c.push.new.self.items
     (c.in-Some.ensures.item ∙ find_real m (get_or ns i 0)) c.loop-e.invariant
     (c.in_ok-push.ensures.items
     ∙ ap (λ p. c.loop-e.places.items ++ (get_or ns i 0, p) ∷ []) (c.place_of.ensures ∙ ap place_of_real c.parcel.view_is))

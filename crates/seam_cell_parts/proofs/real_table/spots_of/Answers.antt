@@ -13,5 +13,6 @@ of-requires c =
 pub returns : goal.returns
 returns c =
     kept_noted c.in_ok-spots.spots.list c.in_ok-spots.spots.out (placed_reals c.args.items.now.items) _ (reals_rise c.args.items.now.items)
-    (c.in_ok-spots.ensures.list ∙ ap (λ l. Some (map.from_sorted l)) (c.deref.ensures.value ∙ c.in_ok-places.ensures)) c.in_ok-spots.ensures.out
+    (c.in_ok-spots.ensures.list ∙ ap (λ l. Some (map.from_sorted l)) (c.deref.ensures.value ∙ c.in_ok-places.ensures))
+    c.in_ok-spots.ensures.out
     (real_list c.args.items.now.items)

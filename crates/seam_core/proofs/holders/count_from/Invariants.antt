@@ -6,4 +6,5 @@ use Rattle.seam_core.proofs.Counts.{most}
 use Rattle.seam_core.proofs.holders.count_from.Given as goal
 
 abbrev pub invariant-loop-to : goal.invariant-loop-to
-invariant-loop-to l = l.count ≡ min (l.so_far + totals (λ b. total (carried l.e b)) 0 (take l.to (slice_index_or l.net.rows l.fn.from []))) most
+invariant-loop-to l = l.count ≡ min (l.so_far + totals (λ b. total (carried l.e b)) 0 (take l.to (slice_index_or l.net.rows l.fn.from [])))
+    most

@@ -44,7 +44,8 @@ returns c =
     let g = shown_by c.args.part in
     let answer =
     all_from_yields_List (is_same g) c.all.new.self _ c.all.result c.all.ensures.ran
-    (YieldsList-from_zip (YieldsList-at c.zip-2.ensures.first (YieldsList-from_first (λ p. p.now) properties_left ps (rw c.held.ensures at c.new.ensures)))
+    (YieldsList-from_zip
+    (YieldsList-at c.zip-2.ensures.first (YieldsList-from_first (λ p. p.now) properties_left ps (rw c.held.ensures at c.new.ensures)))
     (YieldsList-at c.zip-2.ensures.second
     (YieldsList-from_zip
     (YieldsList-at c.zip.ensures.first (YieldsList-from_first (λ v. v.now) values_left c.args.old.now c.values.ensures.values))

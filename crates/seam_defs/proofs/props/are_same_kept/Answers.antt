@@ -9,7 +9,8 @@ returns-then-ne c =
     let others-within : c.loop-i.i < length c.args.others.now = omega arith in
     let apart : c.index-values-i.result ≢ c.index-others-i.result = search (rules, tests) in
     let differs =
-    one-differs c.args.values.now c.args.others.now c.loop-i.i c.index-values-i.result c.index-others-i.result c.loop-i-test.true others-within
+    one-differs c.args.values.now c.args.others.now c.loop-i.i c.index-values-i.result c.index-others-i.result c.loop-i-test.true
+    others-within
     c.index-values-i.is c.index-others-i.is c.loop-i.marks (even c.loop-i.marks c.if-marks-eq0.true) in
     ((λ t. absurd cc), (λ same. absurd (apart (differs (c.loop-i.invariant.0 same)))))
 

@@ -8,7 +8,9 @@ use Rattle.seam_defs.specs.Remaining.{shown_of}
 use Rattle.seam_defs.proofs.Marks.{marked-all, marked-out}
 use Rattle.seam_defs.proofs.PropertyPlaces.{zip-nil}
 use Rattle.seam_defs.proofs.props.left_out_of_all.Goals as goal
-use Rattle.seam_defs.proofs.props.left_out_of_all.Goals.{then-passed-values+then-in_group, then-not-in_group, else-not-in_group, else-passed-values, else-passed-values-via-then-passed-values+else-in_group, else-passed-values-via-else-passed-values}
+use Rattle.seam_defs.proofs.props.left_out_of_all.Goals.{then-passed-values+then-in_group, then-not-in_group, else-not-in_group}
+use Rattle.seam_defs.proofs.props.left_out_of_all.Goals.{else-passed-values, else-passed-values-via-then-passed-values+else-in_group}
+use Rattle.seam_defs.proofs.props.left_out_of_all.Goals.{else-passed-values-via-else-passed-values}
 
 dropped : (c : goal.Joined-passed-values) → drop c.loop-property.property-index c.args.properties.now
     ≡ c.property-item.result ∷ drop (c.loop-property.property-index + 1) c.args.properties.now
@@ -34,7 +36,8 @@ loop-property-preserved c =
           let marks : c.if-passed-values.left_out
           ≡ (if in_group p.flag g then c.loop-property.left_out else c.loop-property.left_out + 2 ^ c.loop-property.passed) =
           elim w.if-not-in_group.branch [
-            | then-not-in_group u ↦ rw (w.left_out-is, u.left_out-is, ← w.in_group-then-in_group.ensures, u.if-not-in_group.true, old.mark) refl
+            | then-not-in_group u ↦ rw (w.left_out-is, u.left_out-is, ← w.in_group-then-in_group.ensures, u.if-not-in_group.true, old.mark)
+                refl
             | else-not-in_group u ↦ rw (w.left_out-is, u.left_out-is, ← w.in_group-then-in_group.ensures, u.if-not-in_group.false) refl
           ] in
           record {
@@ -59,7 +62,8 @@ loop-property-preserved c =
                   rw (dropped c, not_held) refl in
                   rw next at old.kept
               | else-passed-values-via-else-passed-values u ↦
-                  let past : drop c.loop-property.passed vs ≡ [] = drop_all c.loop-property.passed vs (omega (arith, u.if-passed-values.false)) in
+                  let past : drop c.loop-property.passed vs ≡ [] =
+                  drop_all c.loop-property.passed vs (omega (arith, u.if-passed-values.false)) in
                   let before = properties_of (drop c.loop-property.property-index c.args.properties.now) c.args.held in
                   let same : shown_of g before (drop c.loop-property.passed vs) ≡ shown_of g qs (drop c.loop-property.passed vs) =
                   rw (past, zip-nil {B = Value} before, zip-nil {B = Value} qs) refl in

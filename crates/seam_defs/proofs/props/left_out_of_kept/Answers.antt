@@ -1,4 +1,5 @@
-use Rattle.std.proofs.Common.{◌≡◌, ◌≢◌, ◌∙◌, refl, sym, ap, ℕ, ◌<◌, ◌≤◌, ◌^◌, ◌+◌, ◌%◌, ◌/◌, add-one, drop, false, if◌then◌else◌, ◌∷◌, arith}
+use Rattle.std.proofs.Common.{◌≡◌, ◌≢◌, ◌∙◌, refl, sym, ap, ℕ, ◌<◌, ◌≤◌, ◌^◌, ◌+◌, ◌%◌, ◌/◌, add-one, drop, false, if◌then◌else◌, ◌∷◌}
+use Rattle.std.proofs.Common.{arith}
 use Rattle.std.specs.Prelude.{◌==◌}
 use Rattle.std.proofs.Math.Nat.{pow-succ'}
 use Rattle.std.proofs.Math.Pow.{pow_mono}
@@ -64,7 +65,8 @@ loop-preserved c =
         | then-not-is_kept w ↦ let is = w.left_out-is in omega arith
         | else-not-is_kept w ↦ let is = w.left_out-is in omega arith
       ];
-      kept = rw marks (marked vs i v c.loop-test.true c.loop-item.is g ps qs before c.loop.left_out c.if-rest-eq0.is_kept low next ∙ old.kept);
+      kept = rw marks (marked vs i v c.loop-test.true c.loop-item.is g ps qs before c.loop.left_out c.if-rest-eq0.is_kept low next
+          ∙ old.kept);
     }
 
 pub returns : goal.returns

@@ -1,5 +1,5 @@
 use Rattle.std.proofs.Common.{sym, ◌∙◌}
-use Rattle.seam_entity.specs.Calls.{item_passes}
+use Rattle.seam_entity.specs.ReadyCalls.{item_passes}
 use Rattle.seam_entity.specs.Executing.{fits_cell_part}
 use Rattle.seam_entity.specs.Preparing.{node_with}
 use Rattle.seam_entity.proofs.FitLemmas.{one_fails, one_passes}

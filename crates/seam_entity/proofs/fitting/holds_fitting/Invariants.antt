@@ -1,6 +1,6 @@
 use Rattle.std.proofs.Common.{◌≡◌, ℕ}
 use Rattle.std.specs.List.{list_all}
-use Rattle.seam_entity.specs.Calls.{item_passes}
+use Rattle.seam_entity.specs.ReadyCalls.{item_passes}
 use Rattle.seam_entity.specs.Executing.{fits_cell_part}
 use Rattle.seam_entity.specs.Preparing.{node_with}
 use Rattle.seam_entity.proofs.fitting.holds_fitting.Given as goal

@@ -6,4 +6,5 @@ use Rattle.seam_judge_expected.proofs.lines.push_ghosts.Given as goal
 
 abbrev pub invariant-loop-cell : goal.invariant-loop-cell
 invariant-loop-cell l = l.ghosts.items ≡ l.initial.ghosts.items
-    ++ map (λ x. record { entity = l.entity; cell = x; version = l.version }) (filter (λ x. set.contains l.cells x) (range_with_len 0 l.cell))
+    ++ map (λ x. record { entity = l.entity; cell = x; version = l.version })
+    (filter (λ x. set.contains l.cells x) (range_with_len 0 l.cell))

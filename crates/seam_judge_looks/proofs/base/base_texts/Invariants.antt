@@ -1,5 +1,5 @@
 use Rattle.std.proofs.Common.{◌≡◌, take, map}
-use Rattle.seam_rule_rounds.specs.Clients.{base_shown}
+use Rattle.seam_rule_rounds.specs.ClientLines.{base_shown}
 use Rattle.seam_judge_data.specs.Standings.{standing_of}
 use Rattle.seam_judge_looks.proofs.base.base_texts.Given as goal
 

@@ -12,5 +12,6 @@ returns c =
     c.append.new.self.items (ap (map (λ x. x.now)) c.as_slice-began.ensures.value ∙ c.in_ok-former.ensures)
     (ap (map (λ x. x.now)) c.deref-2.ensures.value ∙ c.in_ok-order.ensures)
     (c.both.ensures
-    ∙ (λ i. (c.has_joined-joined.ensures ∙ ap (list_any (joins c.args.create.entity)) c.deref.ensures.value) i && c.in_ok-shows.ensures i)) c.new-versions.ensures.items c.in_ok-add_version.ensures
+    ∙ (λ i. (c.has_joined-joined.ensures ∙ ap (list_any (joins c.args.create.entity)) c.deref.ensures.value) i && c.in_ok-shows.ensures i))
+    c.new-versions.ensures.items c.in_ok-add_version.ensures
     c.in_ok-changes.ensures c.in_ok-append.ensures.items

@@ -12,6 +12,7 @@ returns c = λ e.
     let same : c.deref-home-items.result.now ≡ homes =
     c.deref-home-items.ensures.value ∙ ap (λ (r : RoundData). r.homes) c.round.view_is in
     let long = ap length same in
-    let all : take c.loop-home.home-index homes ≡ homes = take_all c.loop-home.home-index homes (omega (arith, long, c.loop-home-test.false)) in
+    let all : take c.loop-home.home-index homes ≡ homes =
+    take_all c.loop-home.home-index homes (omega (arith, long, c.loop-home-test.false)) in
     ap (λ (hs : List Held). place_among hs e) (c.loop-home.invariant ∙ ap (map (held_of c.args.round.now)) all)
     ∙ held_is c.args.round.now e homes

@@ -7,5 +7,8 @@ returns c = (
       let two = c.both.ensures.0 is in
       all_agree c.args.part c.args.accepted.now c.args.executed.now (c.in_ok-of_accepted.ensures.0 two.0)
       (c.in_ok-of_executed.ensures.0 two.1)),
-  (λ full. c.both.ensures.1 (c.in_ok-of_accepted.ensures.1 (λ k d within. full _ _), c.in_ok-of_executed.ensures.1 (λ k d within. full _ _))),
+  (λ full. c.both.ensures.1 (
+    c.in_ok-of_accepted.ensures.1 (λ k d within. full _ _),
+    c.in_ok-of_executed.ensures.1 (λ k d within. full _ _),
+  )),
 )

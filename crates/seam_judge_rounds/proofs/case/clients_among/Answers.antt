@@ -2,7 +2,7 @@ use Rattle.std.proofs.Common.{sym, subst}
 use Rattle.seam_rule_lines.specs.Round.{Lists}
 use Rattle.seam_judge_data.specs.Standings.{standing_of}
 use Rattle.seam_judge_expected.proofs.ListedLemmas.{if_ok}
-use Rattle.seam_judge_rounds.specs.Clients.{client_as}
+use Rattle.seam_judge_rounds.specs.RoundClients.{client_as}
 use Rattle.seam_judge_rounds.proofs.ClientLists.{lists_shown}
 use Rattle.seam_judge_rounds.proofs.case.clients_among.Goals as goal
 

@@ -1,7 +1,7 @@
 use Rattle.std.proofs.Common.{◌≡◌, true, arith, subst}
 use Rattle.seam_rule_rounds.specs.Lines.{ClientLine}
 use Rattle.seam_judge_data.specs.Standings.{standing_of}
-use Rattle.seam_judge_rounds.specs.Clients.{IsTold}
+use Rattle.seam_judge_rounds.specs.RoundClients.{IsTold}
 use Rattle.seam_judge_rounds.proofs.Agreeing.{all_more}
 use Rattle.seam_judge_rounds.proofs.clients.are_told.Goals as goal
 

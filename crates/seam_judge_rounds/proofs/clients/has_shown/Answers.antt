@@ -12,7 +12,8 @@ returns c =
     (standing_of c.args.case.now.after.now) c.args.clients.now c.requires c.do_rise-rise.result c.in_ok-only.only c.in_ok-each.each
     c.in_ok-told.told c.both.result c.both-2.result c.both-3.result
     (rise_of c.args.case.now.round.now c.deref-2.result.now c.do_rise-rise.result
-    (c.deref-2.ensures.value ∙ c.in_ok-entities.ensures ∙ ap (λ (ls : List ClientLine). map (λ l. l.entity) ls) shown) c.do_rise-rise.ensures)
+    (c.deref-2.ensures.value ∙ c.in_ok-entities.ensures ∙ ap (λ (ls : List ClientLine). map (λ l. l.entity) ls) shown)
+    c.do_rise-rise.ensures)
     (only_of (standing_of c.args.case.now.before.now) c.args.case.now.round.now c.deref-3.result.now c.in_ok-only.only again
     c.in_ok-only.ensures)
     c.in_ok-each.ensures c.in_ok-told.ensures c.both.ensures c.both-2.ensures c.both-3.ensures

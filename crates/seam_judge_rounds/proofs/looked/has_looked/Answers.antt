@@ -10,4 +10,5 @@ returns c =
     looked_decided c.args.case.now.header.now (standing_of c.args.case.now.before.now) c.args.case.now.round.now
     (standing_of c.args.case.now.after.now) c.args.live.now c.has_tick-ticked.result c.in_ok-nothing.nothing c.in_ok-one.one
     c.either.result c.both.result
-    (c.has_tick-ticked.ensures ∙ ap (list_any is_tick) c.deref.ensures.value) c.in_ok-nothing.ensures c.in_ok-one.ensures c.either.ensures c.both.ensures
+    (c.has_tick-ticked.ensures ∙ ap (list_any is_tick) c.deref.ensures.value) c.in_ok-nothing.ensures c.in_ok-one.ensures c.either.ensures
+    c.both.ensures

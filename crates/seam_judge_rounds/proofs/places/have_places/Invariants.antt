@@ -4,4 +4,5 @@ use Rattle.seam_judge_data.specs.Standings.{standing_of}
 use Rattle.seam_judge_rounds.proofs.places.have_places.Given as goal
 
 abbrev pub invariant-loop-create : goal.invariant-loop-create
-invariant-loop-create l = (k : ℕ) (d : Create) → k < l.create-index → HasPlace l.header (standing_of l.before) (standing_of l.after) (get_or l.live k d)
+invariant-loop-create l = (k : ℕ) (d : Create) → k < l.create-index →
+    HasPlace l.header (standing_of l.before) (standing_of l.after) (get_or l.live k d)

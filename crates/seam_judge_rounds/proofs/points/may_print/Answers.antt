@@ -9,5 +9,6 @@ pub returns : goal.returns
 returns c =
     let so : has_balance (standing_of c.args.before.now).book ≡ true = first_of (cc, grind arith) in
     if_ok c.is_balanced.result
-    (λ r is. printed c.args.header.now (standing_of c.args.before.now) c.args.homes.now c.args.bounds.now (Some c.args.bounds.now) r so refl is)
+    (λ r is. printed c.args.header.now (standing_of c.args.before.now) c.args.homes.now c.args.bounds.now (Some c.args.bounds.now) r so refl
+    is)
     c.is_balanced.ensures

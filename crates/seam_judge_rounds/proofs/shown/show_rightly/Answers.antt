@@ -8,7 +8,8 @@ use Rattle.seam_judge_rounds.proofs.shown.show_rightly.Goals as goal
 
 pub returns : goal.returns
 returns c =
-    rightly (truth_of c.args.case.now.header.now (standing_of c.args.case.now.before.now) (standing_of c.args.case.now.after.now) c.args.create)
+    rightly (truth_of c.args.case.now.header.now (standing_of c.args.case.now.before.now) (standing_of c.args.case.now.after.now)
+    c.args.create)
     c.args.create.entity (client_of c.in_ok-replica.replica)
     (replica_of c.args.case.now.header.now (standing_of c.args.case.now.before.now) c.args.create.entity) c.deref-2.result.now
     c.deref-3.result.now (shown_by_lines (map (λ x. x.now) c.args.lines.now)) c.in_ok-in_turn.in_turn c.in_ok-so.so c.both.result

@@ -9,7 +9,8 @@ pub returns-clause-legal : goal.returns-clause-legal
 returns-clause-legal c =
     if_ok c.judge_case.result
     (λ o legal.
-    subst (λ (x : Standing). (o ≡ None) ↔ IsRound c.args.header.now (standing_of c.args.before.now) c.args.round.now x) c.in_ok-after.ensures
+    subst (λ (x : Standing). (o ≡ None) ↔ IsRound c.args.header.now (standing_of c.args.before.now) c.args.round.now x)
+    c.in_ok-after.ensures
     legal)
     c.judge_case.ensures.legal
 

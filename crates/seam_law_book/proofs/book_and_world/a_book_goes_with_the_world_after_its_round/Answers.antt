@@ -2,7 +2,7 @@ use Rattle.std.proofs.Common.{◌≡◌, ℕ, None, arith}
 use Rattle.seam_rule_rounds.specs.Prelude.{created_as}
 use Rattle.seam_law_rounds.specs.Prelude.{framed, MayBeLoaded}
 use Rattle.seam_law_clients.specs.Prelude.{clients_loaded, clients_shown}
-use Rattle.seam_law_all.specs.Prelude.{clients_looked}
+use Rattle.seam_law_all.specs.Prelude.{clients_looked, may_load}
 use Rattle.seam_law_book.specs.Prelude.{IsUntouched, as_begun, frame_of}
 use Rattle.seam_accept.specs.Batches.{batch_of}
 use Rattle.seam_law_book.proofs.Given.{present_one}
@@ -20,7 +20,7 @@ returns-clause-round c h b t clients w play v round ended =
     λ e none. c.uncreated_numbers_are_untouched.ensures h (as_begun b) play.legal
     (c.lines_bring_what_fits.ensures.begun h b play.of_lines) e none in
     let may = c.what_lines_bring_fits.ensures.given h b t clients w play in
-    let loads : MayBeLoaded f w B = record { between = play.keeps.reals; parts = play.keeps.parts; fits = may.reals; brings = may.parts } in
+    let loads : MayBeLoaded f w B = may_load play.keeps may in
     let then = clients_shown g (clients_loaded f B clients) round.called in
     let called = c.calls_obey_the_laws.ensures.records f clients w play.keeps B may round.call_events round.called round.calls
     round.calls_done in

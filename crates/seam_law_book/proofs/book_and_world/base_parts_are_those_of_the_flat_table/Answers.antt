@@ -17,6 +17,7 @@ use Rattle.seam_law_book.proofs.Parts.{looks_leave_part}
 use Rattle.seam_law_book.proofs.Bases.{part_leads}
 use Rattle.seam_law_book.proofs.PartsTable.{began_somewhere, begins_part, part_in_table}
 use Rattle.seam_law_book.proofs.book_and_world.base_parts_are_those_of_the_flat_table.Goals as goal
+use Rattle.seam_law_all.specs.Prelude.{may_begin, may_load}
 
 pub returns-clause-loaded : goal.returns-clause-loaded
 returns-clause-loaded c h b t clients w play orders before e p made at there =
@@ -44,13 +45,13 @@ returns-clause-called c h b t clients w play orders before es v run e q made at 
     let may = c.what_lines_bring_fits.ensures.given h b t clients w play in
     let present = present_one h some b t w play.keeps.reals play.goes R untouched play.few play.room in
     let senders = (orderly h (as_begun b) play.legal begun).senders in
-    let loads : MayBeLoaded f w B = record { between = play.keeps.reals; parts = play.keeps.parts; fits = may.reals; brings = may.parts } in
+    let loads : MayBeLoaded f w B = may_load play.keeps may in
     let there = began_somewhere h some b t clients w play.keeps may play.goes R untouched play.few present senders orders before.full
     before.parts e made (live_is_present b e made lives)
     (search_real e (loaded w B)) in
     let had = c.a_base_part_of_a_loaded_world_is_ready.ensures.settled f w B loads e there.0 there.1 there.2 in
-    let became = part_leads (framed f B) e (loaded w B) v es (in_frame f w B play.keeps.reals may.reals)
-    (spared_loaded f w B play.keeps.reals may.reals e there.0 there.1 there.2) run (base_node h e) had.part had.here in
+    let became = part_leads (framed f B) e (loaded w B) v es (in_frame f w B (may_begin play.keeps may))
+    (spared_loaded f w B (may_begin play.keeps may) e there.0 there.1 there.2) run (base_node h e) had.part had.here in
     subst (λ l. IsPartInTable h made (orders part.Base e ++ l) q) (sym (ap done_by_part at))
     (part_in_table h some b t clients w play.keeps may play.goes R untouched play.few present senders orders before.full before.parts e
     made (live_is_present b e made lives) had.part had.here v

@@ -1,14 +1,14 @@
 use Rattle.std.proofs.Common.{◌≡◌, sym, ap, ◌∙◌, inl, inr}
 use Rattle.std.proofs.lemmas.Bool.{cases_eq}
 use Rattle.seam_node_steps.specs.Prelude.{Place, RealView}
-use Rattle.seam_law_calls.specs.Prelude.{entity_flow, real_in}
+use Rattle.seam_law_calls.specs.Prelude.{real_at}
 use Rattle.seam_law_book.proofs.book_and_world.home_lines_are_those_of_the_rules.Goals as goal
 
 pub returns : goal.returns
 returns c h b tree v t goes rows there x k q at lives between =
     let held = goes.live x.entity x lives in
     let same : held.real ≡ q = elim (cases_eq held.cell k) [
-      | inl is ↦ (let z = sym held.here ∙ (ap (λ j. real_in ((entity_flow x.entity v).slot j)) is ∙ at) in cc)
+      | inl is ↦ (let z = sym held.here ∙ (ap (λ j. real_at x.entity v j) is ∙ at) in cc)
       | inr other ↦ absurd (let z = sym ((between.settled x.entity k q at).others held.cell other) ∙ held.here in cc)
     ] in
     let type : q.ty ≡ x.ty = sym (ap (λ (y : RealView). y.ty) same) ∙ held.type in

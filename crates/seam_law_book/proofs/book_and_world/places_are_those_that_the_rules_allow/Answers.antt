@@ -2,7 +2,7 @@ use Rattle.std.proofs.Common.{◌≡◌, ℕ, ◌++◌, None, Some, sym, ap, ◌
 use Rattle.seam_defs.specs.declared.flags.Part.TheVariants as part
 use Rattle.seam_node_steps.specs.Prelude.{RealView, loaded}
 use Rattle.seam_rule_rounds.specs.Prelude.{created_as}
-use Rattle.seam_law_calls.specs.Prelude.{entity_flow, real_in}
+use Rattle.seam_law_calls.specs.Prelude.{real_at}
 use Rattle.seam_law_rounds.specs.Prelude.{framed}
 use Rattle.seam_law_ghosts.specs.Prelude.{first_place, made_real, IsRightPlace}
 use Rattle.seam_law_clients.specs.Prelude.{clients_loaded, clients_shown}
@@ -17,6 +17,7 @@ use Rattle.seam_law_book.proofs.Started.{real_comes}
 use Rattle.seam_law_book.proofs.Done.{began_by, done_cell}
 use Rattle.seam_law_book.proofs.Placing.{placed_by}
 use Rattle.seam_law_book.proofs.book_and_world.places_are_those_that_the_rules_allow.Goals as goal
+use Rattle.seam_law_all.specs.Prelude.{may_begin}
 
 pub returns : goal.returns
 returns c h s t tree clients w play before there v round orders left x k q at lives =
@@ -54,11 +55,11 @@ returns c h s t tree clients w play before there v round orders left x k q at li
     begun).senders
     before.full before.reals there t k q x lives (ap (λ o. o part.Cell e) orders ∙ ap (λ l. s.orders part.Cell e ++ l) done) (left e k q
     at) (record {
-      kept = λ home r here. c.a_round_leaves_right_places.ensures.kept f w B play.keeps.reals may.reals v round e home r here k q at;
-      made = all_turn (λ y. (j : ℕ) (z : RealView) → real_in ((entity_flow y.entity v).slot j) ≡ Some z →
+      kept = λ home r here. c.a_round_leaves_right_places.ensures.kept f w B (may_begin play.keeps may) v round e home r here k q at;
+      made = all_turn (λ y. (j : ℕ) (z : RealView) → real_at y.entity v j ≡ Some z →
           IsRightPlace f B.tree (first_place B.tree y) (made_real f B.tree y) j z)
           (λ y. y.entity ≡ e → IsRightPlace f B.tree (first_place B.tree y) (made_real f B.tree y) k q)
-          (λ y right same. right k q (subst (λ d. real_in ((entity_flow d v).slot k) ≡ Some q) (sym same) at)) B.creates
-          (c.a_round_leaves_right_places.ensures.made f w B play.keeps.reals may.reals v round);
+          (λ y right same. right k q (subst (λ d. real_at d v k ≡ Some q) (sym same) at)) B.creates
+          (c.a_round_leaves_right_places.ensures.made f w B (may_begin play.keeps may) v round);
     }) p.0 p.1 (real_comes h some b tree clients w play.keeps may play.goes R untouched play.few present e p.0 p.1 p.2) (live_is_present b
     e x lives)

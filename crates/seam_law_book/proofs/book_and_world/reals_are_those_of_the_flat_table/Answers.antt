@@ -14,6 +14,7 @@ use Rattle.seam_law_book.proofs.Done.{began_by, done_cell, done_on}
 use Rattle.seam_law_book.proofs.Ended.{live_ended}
 use Rattle.seam_law_book.proofs.Table.{begins_real, in_table}
 use Rattle.seam_law_book.proofs.book_and_world.reals_are_those_of_the_flat_table.Goals as goal
+use Rattle.seam_law_all.specs.Prelude.{may_begin}
 
 pub returns-clause-loaded : goal.returns-clause-loaded
 returns-clause-loaded c h b t clients w play orders before e home r made at there =
@@ -27,7 +28,7 @@ returns-clause-loaded c h b t clients w play orders before e home r made at ther
     let may = c.what_lines_bring_fits.ensures.given h b t clients w play in
     let present = present_one h some b t w play.keeps.reals play.goes R untouched play.few play.room in
     begins_real h some b t clients w play.keeps may play.goes R untouched play.few present (orderly h (as_begun b) play.legal begun).senders
-    orders before.full before.reals (c.a_load_begins_at_former_places.ensures.made f w B play.keeps.reals may.reals) e made there home r at
+    orders before.full before.reals (c.a_load_begins_at_former_places.ensures.made f w B (may_begin play.keeps may)) e made there home r at
 
 pub returns-clause-called : goal.returns-clause-called
 returns-clause-called c h b t clients w play orders before es v run quiet e k q made at lives =
@@ -49,7 +50,7 @@ returns-clause-called c h b t clients w play orders before es v run quiet e k q 
     in_table h some b t clients w play.keeps may play.goes R untouched play.few present (orderly h (as_begun b) play.legal begun).senders
     orders before.full
     before.reals
-    (c.a_load_begins_at_former_places.ensures.made f w B play.keeps.reals may.reals) e made
+    (c.a_load_begins_at_former_places.ensures.made f w B (may_begin play.keeps may)) e made
     (live_is_present b e made lives) p.0 p.1 p.2 v laws k q at
     (done_in h v part.Cell e)
     (done_cell h some b t clients w play.keeps may play.goes R untouched play.few present v es run laws ends then within e k q at)

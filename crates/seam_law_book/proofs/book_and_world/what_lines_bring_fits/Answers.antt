@@ -12,6 +12,7 @@ use Rattle.seam_law_book.proofs.Started.{no_one, made_now, real_comes}
 use Rattle.seam_law_book.proofs.Origins.{was, made}
 use Rattle.seam_law_book.proofs.Clients.{client_given}
 use Rattle.seam_law_book.proofs.book_and_world.what_lines_bring_fits.Goals as goal
+use Rattle.seam_law_all.specs.Prelude.{may_load}
 
 pub returns-clause-given : goal.returns-clause-given
 returns-clause-given c h b t clients w play =
@@ -31,7 +32,7 @@ returns-clause-there c h b t clients w play e d there =
     λ e none. c.uncreated_numbers_are_untouched.ensures h (as_begun b) play.legal begun e none in
     let may = returns-clause-given c h b t clients w play in
     let present = present_one h some b t w play.keeps.reals play.goes R untouched play.few play.room in
-    let loads : MayBeLoaded f w B = record { between = play.keeps.reals; parts = play.keeps.parts; fits = may.reals; brings = may.parts } in
+    let loads : MayBeLoaded f w B = may_load play.keeps may in
     let somewhere : Somewhere e (loaded w B) ⊎ Nowhere e (loaded w B) → Somewhere e (loaded w B) = λ s. elim s [
       | inl p ↦ p
       | inr n ↦

@@ -26,9 +26,9 @@ returns-clause-told c f w b may copies none sees us named v round quiet n low e 
     let between = called_between f w b may copies v round in
     let few : (u : World) → LooksAmong us (λ k. us) u → LooksFit (record { bases = 0; lines = length us; witnesses = λ k. length us }) u =
     λ u among. c.looks_are_about_what_there_is.ensures.few us (λ j. us) 0 u among in
-    let always = c.looks_are_about_what_there_is.ensures.kept us us g (loaded w b) (in_frame f w b may.between may.fits)
+    let always = c.looks_are_about_what_there_is.ensures.kept us us g (loaded w b) (in_frame f w b may.begin)
     (λ x y. ap (λ z. link z.rows x y) (loaded_is w b)
-    ∙ quiet_links node_has_work w may.between.nodes.sound.square may.between.quiet x y) first in
+    ∙ quiet_links node_has_work w may.begin.between.nodes.sound.square may.begin.between.quiet x y) first in
     let called = c.nothing_held_goes_from_record_to_record.ensures.calls f w b may none round.called round.call_events round.calls
     round.calls_done in
     let reaped = c.looks_are_about_what_there_is.ensures.reaps g round.called between called round.gone round.may us us

@@ -22,10 +22,10 @@ returns-clause-known c f e ty first n w v es client h serves spared room most ru
     }) es h serves spared room run
 
 pub returns-clause-round : goal.returns-clause-round
-returns-clause-round c f w b between fits copies e ty first n v es client h serves spared room most run =
+returns-clause-round c f w b begin copies e ty first n v es client h serves spared room most run =
     rightly_leads (framed f b) e ty first n (true_between (framed f b) e (loaded w b) v) client (loaded w b) v most
-    (round_is_true f w b between fits (in_frame f w b between fits)
-    (c.copies_go_from_record_to_record.ensures.loaded f w b between fits copies)
-    (λ u us so_far x k r there. c.ghosts_of_a_round_are_true.ensures.true_copies f w b between fits copies u us so_far x k r there)
+    (round_is_true f w b begin (in_frame f w b begin)
+    (c.copies_go_from_record_to_record.ensures.loaded f w b begin copies)
+    (λ u us so_far x k r there. c.ghosts_of_a_round_are_true.ensures.true_copies f w b begin copies u us so_far x k r there)
     c.others_see_the_ghost.ensures.by_ghost v e)
     es h serves spared room run

@@ -1,19 +1,19 @@
 use Rattle.std.proofs.Common.{◌≡◌, ℕ, ◌<◌, true, inl, inr, Some, ap, ◌∙◌, arith}
 use Rattle.std.specs.FinSet as set
 use Rattle.seam_node_steps.specs.Prelude.{cells_of, cell_count, RealView, copy_if, World}
-use Rattle.seam_law_calls.specs.Prelude.{Frame, entity_flow, real_in}
+use Rattle.seam_law_calls.specs.Prelude.{Frame, real_at}
 use Rattle.seam_law_rounds.specs.Prelude.{IsBetweenRounds}
 use Rattle.seam_law_ghosts.specs.Prelude.{present, copy_at, AreCopiesBetweenRounds}
 use Rattle.seam_law_ghosts.proofs.newest.near_entities_are_known.Goals as goal
 
 module _ (f : Frame) (w : World) (between : IsBetweenRounds f w) (copies : AreCopiesBetweenRounds f w) where
-  cell_is_low : (e i : ℕ) (r : RealView) → real_in ((entity_flow e w).slot i) ≡ Some r → i < cell_count
+  cell_is_low : (e i : ℕ) (r : RealView) → real_at e w i ≡ Some r → i < cell_count
   cell_is_low e i r here =
       let most = between.frame.tree.cells_to in
       let low : i < cells_of f.tree = (between.settled e i r here).fits.home in
       omega (arith, most, low)
 
-  haunt_has_copy : (x j : ℕ) (q : RealView) → real_in ((entity_flow x w).slot j) ≡ Some q → (i : ℕ) → i < cell_count →
+  haunt_has_copy : (x j : ℕ) (q : RealView) → real_at x w j ≡ Some q → (i : ℕ) → i < cell_count →
       set.contains q.haunts i ≡ true → copy_at x w i ≡ Some (present f q)
   haunt_has_copy x j q there i low haunt =
       (copies.settled x j q there).copies i low ∙ ap (λ b. copy_if b (present f q)) haunt

@@ -4,11 +4,11 @@ use Rattle.seam_law_ghosts.proofs.Ending.{looks_stay}
 use Rattle.seam_law_ghosts.proofs.newest.quiet_means_settled.Goals as goal
 
 pub returns-clause-copies : goal.returns-clause-copies
-returns-clause-copies c = λ f w b between fits copies v es run quiet. (calls_end_copied f w b between fits copies v es run quiet).settled
+returns-clause-copies c = λ f w b begin copies v es run quiet. (calls_end_copied f w b begin copies v es run quiet).settled
 
 pub returns-clause-routes : goal.returns-clause-routes
-returns-clause-routes c = λ f w b between fits v es run quiet e k q at.
-    ((calls_end_between f w b between fits v es run quiet).settled e k q at).routes
+returns-clause-routes c = λ f w b begin v es run quiet e k q at.
+    ((calls_end_between f w b begin v es run quiet).settled e k q at).routes
 
 pub returns-clause-looks : goal.returns-clause-looks
 returns-clause-looks c = looks_stay

@@ -54,7 +54,8 @@ returns c h s tree w v p bounds next e shown =
           let x = its_witness g round.reaped reaped.records.reals reaped.records.parts v round.look_events round.looks last.parts e q.0
           q.1 q.2 was seen in
           let fits = reaped.records.shown.each e q.0 was.real was.here x.0 x.1 in
-          let one = c.the_table_of_a_world_is_that_of_the_rules.ensures.one_each h b tree clients w play s.orders p.beside.between.before v round
+          let one = c.the_table_of_a_world_is_that_of_the_rules.ensures.one_each h b tree clients w play s.orders p.beside.between.before v
+          round
           p.ended p.live p.live_listed e shown q.0 q.1 q.2 in
           let looked : replica_of h t e ≡ after_all_shown (then e) (one_look (then e) e rows) =
           sym (c.clients_show_what_they_were_told.ensures.replicas h s tree w v p bounds next e q.0 q.1 q.2 seen)

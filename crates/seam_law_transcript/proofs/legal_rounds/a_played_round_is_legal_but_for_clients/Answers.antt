@@ -33,7 +33,8 @@ returns c h s tree w v p bounds next =
     let full = c.each_part_executed_what_was_accepted.ensures.full h b tree clients w play round.call_events round.called round.calls
     round.calls_done s.orders p.beside.between.before.full in
     let rows = c.reals_are_those_of_the_flat_table.ensures.ended h b tree clients w play s.orders p.beside.between.before v round in
-    let parts = c.base_parts_are_those_of_the_flat_table.ensures.ended h b tree clients w play s.orders p.beside.between.before v round p.ended in
+    let parts = c.base_parts_are_those_of_the_flat_table.ensures.ended h b tree clients w play s.orders p.beside.between.before v round
+    p.ended in
     let there : AreInPlace (place_read v) v = λ e k q at. place_is g v last.reals e k q at in
     let lives : (x : Create) → Contains p.live x → live_as (with_round_ended b) x.entity ≡ Some x =
     λ x has. live_ended b x.entity ∙ (p.live_listed.exact x).0 has in
@@ -43,7 +44,8 @@ returns c h s tree w v p bounds next =
       places = all_of_each (HasPlace h s t) p.live
           (λ x has.
           let held = on.live x.entity x (lives x has) in
-          c.places_are_those_that_the_rules_allow.ensures h s t tree clients w play p.beside.between.before p.beside.between.places v round refl there x
+          c.places_are_those_that_the_rules_allow.ensures h s t tree clients w play p.beside.between.before p.beside.between.places v round
+          refl there x
           held.cell held.real held.here ((p.live_listed.exact x).0 has));
       homes = one_of_each (λ x. homes_read v x.entity) (home_line h t) p.live
           (λ x has.

@@ -1,5 +1,5 @@
-use Rattle.std.proofs.Common.{◌≡◌, ◌+◌, Bool, true, false, ◌++◌, length, Option, None, Some, refl, sym, ap, ◌∙◌, subst}
-use Rattle.std.proofs.Common.{length-append, append-nil}
+use Rattle.std.proofs.Common.{◌≡◌, ◌+◌, Bool, true, false, ◌++◌, length, Option, None, Some, refl, sym, ap, ◌∙◌, subst, length-append}
+use Rattle.std.proofs.Common.{append-nil}
 use Rattle.std.specs.Prelude.{is_some, not, filter, ◌&&◌}
 use Rattle.std.specs.List.{list_any}
 use Rattle.seam_node_steps.specs.Prelude.{Create, is_from, PartView, ProxyView}
@@ -48,7 +48,8 @@ returns-clause-ended c h s tree w v p bounds =
     round.calls_done s.orders p.beside.between.before.full in
     let there : AreInPlace (place_read v) v = λ e k q at. place_is g v last.reals e k q at in
     -- one that lives and has a client
-    let last_of : (x : Create) → live_as b x.entity ≡ Some x → list_any (joins x.entity) (entries b) ≡ true → (q : PartView) (y : ProxyView) →
+    let last_of : (x : Create) → live_as b x.entity ≡ Some x → list_any (joins x.entity) (entries b) ≡ true →
+    (q : PartView) (y : ProxyView) →
     ((entity_flow x.entity v).slot (base_node h x.entity)).base.part ≡ Some q → q.proxy ≡ Some y →
     y.last ≡ length (s.told x.entity ++ told_in r x.entity) = λ x lives joined q y at has.
     let e = x.entity in
@@ -64,7 +65,8 @@ returns-clause-ended c h s tree w v p bounds =
       keeps = c.clients_show_what_they_were_told.ensures.records h s tree w v p bounds (with_round_ended b);
       goes = on;
       before = record {
-        full = λ part e. subst (λ cs. IsFull (λ sender. filter (is_from part e sender) (calls_of cs)) (with_done s.orders (done_in h round.called) part e))
+        full = λ part e. subst (λ cs. IsFull (λ sender. filter (is_from part e sender) (calls_of cs))
+            (with_done s.orders (done_in h round.called) part e))
             (sym (append-nil (entries b))) (full part e);
         reals = c.reals_are_those_of_the_flat_table.ensures.ended h b tree clients w play s.orders p.beside.between.before v round;
         parts = c.base_parts_are_those_of_the_flat_table.ensures.ended h b tree clients w play s.orders p.beside.between.before v round

@@ -21,6 +21,7 @@ use Rattle.seam_law_transcript.proofs.Who.{is_there, was_joined, lives_on, unjoi
 use Rattle.seam_law_transcript.proofs.BaseVersions.{texts_are}
 use Rattle.seam_law_transcript.proofs.Told.{IsShown, by_death, base_texts_are, called_shown, ended_shown, ended_last}
 use Rattle.seam_law_transcript.proofs.legal_rounds.clients_are_shown_base_parts.Goals as goal
+use Rattle.seam_law_all.specs.Prelude.{may_begin, may_load}
 
 pub returns : goal.returns
 returns c h s tree w v p bounds next x is shown =
@@ -38,7 +39,7 @@ returns c h s tree w v p bounds next x is shown =
     λ d none. c.uncreated_numbers_are_untouched.ensures h (as_begun b) play.legal
     (c.lines_bring_what_fits.ensures.begun h b play.of_lines) d none in
     let may = c.what_lines_bring_fits.ensures.given h b tree clients w play in
-    let loads : MayBeLoaded f w B = record { between = play.keeps.reals; parts = play.keeps.parts; fits = may.reals; brings = may.parts } in
+    let loads : MayBeLoaded f w B = may_load play.keeps may in
     let mid = clients_shown g (clients_loaded f B clients) round.called in
     let laws = c.calls_obey_the_laws.ensures.laws f clients w play.keeps B may round.call_events round.called round.calls in
     let called = c.calls_obey_the_laws.ensures.records f clients w play.keeps B may round.call_events round.called round.calls
@@ -58,8 +59,8 @@ returns c h s tree w v p bounds next x is shown =
     l.base_here there in
     -- where its calls have ended
     let one = laws.one_real e
-    (one_holder (frame_of h B.tree) (loaded w B) e l.cell l.real (settled_loaded f w B play.keeps.reals may.reals e l.cell l.real l.here)
-    (no_mail f w B play.keeps.reals may.reals e)) in
+    (one_holder (frame_of h B.tree) (loaded w B) e l.cell l.real (settled_loaded f w B (may_begin play.keeps may) e l.cell l.real l.here)
+    (no_mail f w B (may_begin play.keeps may) e)) in
     let home = quiet_home g round.called called.records.reals e one in
     let done = done_in h round.called part.Base e in
     let deeds = c.each_part_executed_what_was_accepted.ensures.on h b tree clients w play round.call_events round.called round.calls
@@ -72,7 +73,8 @@ returns c h s tree w v p bounds next x is shown =
     (λ i. new i ++ lines_after here l.base.ty l.base.state l.base.version (sym done_is i))
     ∙ texts_are h tree (base_node h e) x l.base (s.orders part.Base e) done begins deeds (is_new_client b e) in
     let told = length (s.told e) in
-    let none : is_among e B.clients ≡ true → told ≡ 0 = λ among. ap length (p.beside.between.untold e (unjoined_before h b R untouched e among)) in
+    let none : is_among e B.clients ≡ true →
+    told ≡ 0 = λ among. ap length (p.beside.between.untold e (unjoined_before h b R untouched e among)) in
     let in_calls : IsShown told (lines_shown h round.called e) texts =
     called_shown f w B loads e told (p.beside.between.numbers e) none l.base y.0 l.base_here y.1 round.called shows in
     let lived : list_any (destroys e) b.current ≡ false → IsShown told (lines_shown h v e) texts

@@ -6,7 +6,7 @@ use Rattle.seam_node_steps.specs.Prelude.{Create, RealView}
 use Rattle.seam_rule_rounds.specs.Prelude.{entries, creates_of, created_as, live_as, joins, destroys, new_client, after_all_shown}
 use Rattle.seam_rule_rounds.specs.Prelude.{after_lines, told_in, replica_of}
 use Rattle.seam_law_flow.specs.Prelude.{letters_of}
-use Rattle.seam_law_calls.specs.Prelude.{entity_flow, real_in, shown_in}
+use Rattle.seam_law_calls.specs.Prelude.{shown_in, real_at}
 use Rattle.seam_law_rounds.specs.Prelude.{framed, MayBeLoaded}
 use Rattle.seam_law_clients.specs.Prelude.{clients_loaded, clients_shown}
 use Rattle.seam_law_book.specs.Prelude.{as_begun, IsUntouched, frame_of}
@@ -20,6 +20,7 @@ use Rattle.seam_law_book.proofs.Ended.{live_ended, client_of}
 use Rattle.seam_law_transcript.proofs.Who.{unjoined_before}
 use Rattle.seam_law_transcript.proofs.Replicas.{begun_by, after_more, fit_by, is_shown_by}
 use Rattle.seam_law_transcript.proofs.legal_rounds.clients_show_what_they_were_told.Goals as goal
+use Rattle.seam_law_all.specs.Prelude.{may_load}
 
 pub returns-clause-replicas : goal.returns-clause-replicas
 returns-clause-replicas c h s tree w v p bounds next e k q at seen =
@@ -46,7 +47,8 @@ returns-clause-replicas c h s tree w v p bounds next e k q at seen =
     let begun : (e : ℕ) → clients_loaded f B clients e ≡ replica_of h s e = λ e.
     begun_by (list_any (λ x. eqb x e) B.clients) (new_client h.settings) (replica_of h s e)
     (λ is.
-    ap (after_lines (new_client h.settings)) (p.beside.between.untold e (unjoined_before h b R untouched e (sym (among_is e B.clients) ∙ is)))) in
+    ap (after_lines (new_client h.settings))
+    (p.beside.between.untold e (unjoined_before h b R untouched e (sym (among_is e B.clients) ∙ is)))) in
     -- of one that lives, and was shown these lines in all
     let told : (x : Create) → live_as b x.entity ≡ Some x → list_any (joins x.entity) (entries b) ≡ true →
     told_in r x.entity ≡ lines_shown h v x.entity = λ x lives joined.
@@ -60,7 +62,7 @@ returns-clause-replicas c h s tree w v p bounds next e k q at seen =
     let lives = sym (live_ended b e) ∙ l.1 in
     let held = on.live e l.0 l.1 in
     let real : held.real ≡ q = elim (cases_eq held.cell k) [
-      | inl is ↦ (let z = sym held.here ∙ (ap (λ j. real_in ((entity_flow e v).slot j)) is ∙ at) in cc)
+      | inl is ↦ (let z = sym held.here ∙ (ap (λ j. real_at e v j) is ∙ at) in cc)
       | inr other ↦ absurd (let z = sym ((last.reals.settled e k q at).others held.cell other) ∙ held.here in cc)
     ] in
     let joined = sym (client_of b e l.0 lives) ∙ sym held.client ∙ ap (λ (z : RealView). is_some z.witness) real ∙ seen in
@@ -82,7 +84,7 @@ returns-clause-records c h s tree w v p bounds next =
     let round = p.round in
     let clients = replica_of h s in
     let may = c.what_lines_bring_fits.ensures.given h b tree clients w play in
-    let loads : MayBeLoaded f w B = record { between = play.keeps.reals; parts = play.keeps.parts; fits = may.reals; brings = may.parts } in
+    let loads : MayBeLoaded f w B = may_load play.keeps may in
     let mid = clients_shown g (clients_loaded f B clients) round.called in
     let called = c.calls_obey_the_laws.ensures.records f clients w play.keeps B may round.call_events round.called round.calls
     round.calls_done in

@@ -2,14 +2,14 @@ use Rattle.std.proofs.Common.{◌≡◌, ℕ, ◌≤◌, true, eqb, List, ◌++�
 use Rattle.std.specs.Prelude.{is_some}
 use Rattle.std.specs.List.{AllByRecursion, list_any}
 use Rattle.seam_law_flow.proofs.TokenLemmas.{sole_here}
-use Rattle.seam_node_steps.specs.Prelude.{LeadsTo, Event, other_of, ghost_of, projected, type_of, Property, State, Call, Create, GhostCopy}
-use Rattle.seam_node_steps.specs.Prelude.{cell_count, RealView, WitnessView, loaded, World, node_steps, node_has_work}
+use Rattle.seam_node_steps.specs.Prelude.{Event, other_of, ghost_of, projected, type_of, Property, State, Call, Create, GhostCopy}
+use Rattle.seam_node_steps.specs.Prelude.{cell_count, RealView, WitnessView, loaded, World}
 use Rattle.seam_rule_rounds.specs.Prelude.{entries, creates_of, created_as, new_client, after_lines, ShowsRightly, IsOwn, IsOther, truth_of}
 use Rattle.seam_rule_rounds.specs.Prelude.{replica_of}
-use Rattle.seam_law_calls.specs.Prelude.{entity_flow, real_in, real_of, HasOne, account_of}
+use Rattle.seam_law_calls.specs.Prelude.{entity_flow, real_in, real_of, HasOne, account_of, RunsTo, real_at}
 use Rattle.seam_law_rounds.specs.Prelude.{framed}
 use Rattle.seam_law_clients.specs.Prelude.{clients_loaded, WasOther, true_between}
-use Rattle.seam_law_all.specs.Prelude.{shown_to}
+use Rattle.seam_law_all.specs.Prelude.{shown_to, may_begin}
 use Rattle.seam_law_book.specs.Prelude.{as_begun, IsPresent, IsUntouched, frame_of, IsDoneOn, done_by_real, done_in}
 use Rattle.seam_law_transcript.specs.Prelude.{may_play, standing_of}
 use Rattle.seam_defs.specs.declared.flags.Group.TheVariants as group
@@ -29,7 +29,8 @@ use Rattle.seam_law_book.proofs.Parts.{both_seen}
 use Rattle.seam_law_transcript.proofs.Who.{is_there, was_joined, unjoined_before, client_by, there_created, there_alive}
 use Rattle.seam_law_transcript.proofs.Replicas.{begun_by}
 use Rattle.seam_law_transcript.proofs.Truths.{own_now_is, from_start, up_to_end, other_is, not_before, not_after, at}
-use Rattle.seam_law_transcript.proofs.Later.{spared_leads, later_calls}
+use Rattle.seam_law_calls.proofs.OneReal.{spared_leads}
+use Rattle.seam_law_transcript.proofs.Later.{later_calls}
 use Rattle.seam_law_transcript.proofs.Rightly.{rightly_by}
 use Rattle.seam_law_transcript.proofs.legal_rounds.what_calls_show_of_cell_parts_is_right.Goals as goal
 
@@ -61,32 +62,32 @@ returns c h s tree w v p bounds next x is shown =
     let y = client_by l.base.proxy (l.client ∙ was_joined b x.entity x is shown) in
     let z = witness_by l.real.witness
     (both_seen l.real.witness l.base.proxy l.base.version
-    (are_for_loaded f w B play.keeps.reals may.reals play.keeps.parts x.entity l.cell l.real l.here l.base l.base_here)
+    (are_for_loaded f w B (may_begin play.keeps may) play.keeps.parts x.entity l.cell l.real l.here l.base l.base_here)
     ∙ ap is_some y.1) in
     -- what an entity executed by some world of the calls comes first of all that it executes
-    let first_done : (e home : ℕ) (r : RealView) → real_in ((entity_flow e start).slot home) ≡ Some r → (u : World) (es ds : List Event) →
-    LeadsTo node_has_work node_steps start es u → LeadsTo node_has_work node_steps u ds round.called → (one : HasOne g e r.ty u) →
+    let first_done : (e home : ℕ) (r : RealView) → real_at e start home ≡ Some r → (u : World) (es ds : List Event) →
+    RunsTo start es u → RunsTo u ds round.called → (one : HasOne g e r.ty u) →
     (more : List Call) × (done_in h round.called part.Cell e ≡ one.real.done ++ more) = λ e home r here u es ds from to one.
-    let settled = settled_loaded f w B play.keeps.reals may.reals e home r here in
+    let settled = settled_loaded f w B (may_begin play.keeps may) e home r here in
     let holds = law.one_real e
-    (one_holder (frame_of h B.tree) start e home r settled (no_mail f w B play.keeps.reals may.reals e)) in
+    (one_holder (frame_of h B.tree) start e home r settled (no_mail f w B (may_begin play.keeps may) e)) in
     let end = quiet_home g round.called called.records.reals e holds in
-    let spared = spared_leads g e start u es (in_frame f w B play.keeps.reals may.reals)
-    (spared_loaded f w B play.keeps.reals may.reals e home r here) from in
+    let spared = spared_leads g e start u es (in_frame f w B (may_begin play.keeps may))
+    (spared_loaded f w B (may_begin play.keeps may) e home r here) from in
     let later = later_calls g called.records.reals.frame e r.ty settled.type u round.called ds one spared to end.node end.real end.here in
     let place = called.records.reals.settled e end.node end.real end.here in
     let low = place.fits.home in
     let most = called.records.reals.frame.tree.cells_to in (
       later.0,
-      one_in (λ j. done_by_real (real_in ((entity_flow e round.called).slot j))) end.node 0 cell_count (omega arith)
+      one_in (λ j. done_by_real (real_at e round.called j)) end.node 0 cell_count (omega arith)
           (omega (arith, low, most)) (λ j n. ap done_by_real (place.others j n))
           ∙ ap done_by_real end.here ∙ later.1,
     ) in
-    let deeds : (e home : ℕ) (r : RealView) → real_in ((entity_flow e start).slot home) ≡ Some r → (d : Create) → IsPresent b e d →
+    let deeds : (e home : ℕ) (r : RealView) → real_at e start home ≡ Some r → (d : Create) → IsPresent b e d →
     AllByRecursion (IsDoneOn part.Cell (type_of h.defs d.ty)) (done_in h round.called part.Cell e) = λ e home r here d present.
     let holds = law.one_real e
-    (one_holder (frame_of h B.tree) start e home r (settled_loaded f w B play.keeps.reals may.reals e home r here)
-    (no_mail f w B play.keeps.reals may.reals e)) in
+    (one_holder (frame_of h B.tree) start e home r (settled_loaded f w B (may_begin play.keeps may) e home r here)
+    (no_mail f w B (may_begin play.keeps may) e)) in
     let end = quiet_home g round.called called.records.reals e holds in
     c.each_part_executed_what_was_accepted.ensures.on h b tree clients w play round.call_events round.called round.calls round.calls_done e
     end.node end.real end.here d present part.Cell in
@@ -98,7 +99,8 @@ returns c h s tree w v p bounds next x is shown =
     let its = ((c.calls_obey_the_laws.ensures.laws f clients w play.keeps B may was.between.before u was.between.from).each e l.cell l.real
     l.here).replays in
     let same = (sole_here real_in real_of (entity_flow e u) its.has.place its.has.real was.real was.node its.has.one was.here).1 in
-    let begins = c.reals_are_those_of_the_flat_table.ensures.loaded h b tree clients w play s.orders p.beside.between.before e l.cell l.real x
+    let begins = c.reals_are_those_of_the_flat_table.ensures.loaded h b tree clients w play s.orders p.beside.between.before e l.cell l.real
+    x
     l.here there in
     let more = first_done e l.cell l.real l.here u was.between.before was.between.after was.between.from was.between.to its.has in
     let further = its.replays.further in
@@ -139,14 +141,17 @@ returns c h s tree w v p bounds next x is shown =
     c.others_see_the_ghost.ensures.shown in
     let by_ghost : (ps : List Property) (s : State) → projected ps group.Ghost group.Other (ghost_of ps s).props ≡ (other_of ps s).props =
     c.others_see_the_ghost.ensures.by_ghost in
-    let low = not_before ghosts by_ghost h (batch_of h b).tree made.0 order done was.first begins all further more.0 split was.copy was.true_ in
-    let high = not_after ghosts by_ghost h (batch_of h b).tree made.0 order done was.first begins all further more.0 split was.copy was.true_ in
+    let low = not_before ghosts by_ghost h (batch_of h b).tree made.0 order done was.first begins all further more.0 split was.copy
+    was.true_ in
+    let high = not_after ghosts by_ghost h (batch_of h b).tree made.0 order done was.first begins all further more.0 split was.copy
+    was.true_ in
     record {
       made = made.0;
       is = created;
       lived = there_alive h b R untouched d made.0 made.1;
       version = at ghosts by_ghost h (batch_of h b).tree made.0 order done was.first begins all further more.0 split was.copy was.true_;
-      had = subst (λ n. (length (s.orders part.Cell n) ≤ at ghosts by_ghost h (batch_of h b).tree made.0 order done was.first begins all further
+      had = subst (λ n. (length (s.orders part.Cell n) ≤ at ghosts by_ghost h (batch_of h b).tree made.0 order done was.first begins all
+          further
           more.0 split was.copy was.true_)
           × (at ghosts by_ghost h (batch_of h b).tree made.0 order done was.first begins all further more.0 split was.copy was.true_
           ≤ length (t.orders part.Cell n))) (sym number) (low, high);

@@ -19,6 +19,7 @@ use Rattle.seam_law_transcript.proofs.Numbered.{loaded_unshown}
 use Rattle.seam_law_transcript.proofs.OneLook.{no_ticks}
 use Rattle.seam_law_transcript.proofs.Tickless.{nothing_shown}
 use Rattle.seam_law_transcript.proofs.legal_rounds.without_a_tick_calls_show_no_cell_parts.Goals as goal
+use Rattle.seam_law_all.specs.Prelude.{may_begin, may_load}
 
 witness_by : (o : Option WitnessView) → is_some o ≡ true → (x : WitnessView) × (o ≡ Some x)
 witness_by None is = absurd (let z = is in cc)
@@ -39,7 +40,7 @@ returns c h s tree w v p tickless x is shown =
     λ d none. c.uncreated_numbers_are_untouched.ensures h (as_begun b) play.legal
     (c.lines_bring_what_fits.ensures.begun h b play.of_lines) d none in
     let may = c.what_lines_bring_fits.ensures.given h b tree clients w play in
-    let loads : MayBeLoaded f w B = record { between = play.keeps.reals; parts = play.keeps.parts; fits = may.reals; brings = may.parts } in
+    let loads : MayBeLoaded f w B = may_load play.keeps may in
     let called = c.calls_obey_the_laws.ensures.records f clients w play.keeps B may round.call_events round.called round.calls
     round.calls_done in
     let there = is_there b e x is shown in
@@ -50,15 +51,16 @@ returns c h s tree w v p tickless x is shown =
     let its = (c.calls_obey_the_laws.ensures.laws f clients w play.keeps B may [] start (record { each = tt; is_run = refl })).each e l.cell
     l.real l.here in
     let one = law.one_real e
-    (one_holder (frame_of h B.tree) start e l.cell l.real (settled_loaded f w B play.keeps.reals may.reals e l.cell l.real l.here)
-    (no_mail f w B play.keeps.reals may.reals e)) in
+    (one_holder (frame_of h B.tree) start e l.cell l.real (settled_loaded f w B (may_begin play.keeps may) e l.cell l.real l.here)
+    (no_mail f w B (may_begin play.keeps may) e)) in
     let home = quiet_home g round.called called.records.reals e one in
     let z = witness_by l.real.witness
     (both_seen l.real.witness l.base.proxy l.base.version
-    (are_for_loaded f w B play.keeps.reals may.reals play.keeps.parts e l.cell l.real l.here l.base l.base_here)
+    (are_for_loaded f w B (may_begin play.keeps may) play.keeps.parts e l.cell l.real l.here l.base l.base_here)
     ∙ ap is_some y.1) in
     let told = length (s.told e) in
-    let new : is_among e B.clients ≡ true → told ≡ 0 = λ among. ap length (p.beside.between.untold e (unjoined_before h b R untouched e among)) in
+    let new : is_among e B.clients ≡ true →
+    told ≡ 0 = λ among. ap length (p.beside.between.untold e (unjoined_before h b R untouched e among)) in
     let none = loaded_unshown f w B loads e told (p.beside.between.numbers e) new l.base y.0 l.base_here y.1 in
     nothing_shown f w B loads (no_ticks h b.current tickless) e l.cell l.real l.here z.0 z.1 l.base y.0 l.base_here y.1 none its.served
     round.called round.call_events round.calls round.calls_done
@@ -67,6 +69,6 @@ returns c h s tree w v p tickless x is shown =
     start round.called round.call_events (its.base_calls l.base l.base_here) client most room looks round.calls).1)
     (λ looks most.
     (c.a_witness_tells_only_in_looks.ensures g e (sent_by l.real) start round.called round.call_events
-    (in_frame f w B play.keeps.reals may.reals) looks most round.calls).1)
+    (in_frame f w B (may_begin play.keeps may)) looks most round.calls).1)
     (λ update client. c.a_clients_updates_come_in_order.ensures.all g e l.real.ty update round.called client round.calls_done)
     home.node home.real home.here

@@ -1,5 +1,5 @@
-use Rattle.std.proofs.Common.{◌≡◌, ℕ, true, false, eqb, [], ◌++◌, map, length, None, Some, refl, sym, ap, ◌∙◌, subst}
-use Rattle.std.proofs.Common.{inl, inr, append-nil, ◌⊎◌}
+use Rattle.std.proofs.Common.{◌≡◌, ℕ, true, false, eqb, [], ◌++◌, map, length, None, Some, refl, sym, ap, ◌∙◌, subst, inl, inr, append-nil}
+use Rattle.std.proofs.Common.{◌⊎◌}
 use Rattle.std.specs.Prelude.{filter, IsTrue}
 use Rattle.std.specs.List.{list_any}
 use Rattle.seam_node_steps.specs.Prelude.{Create}
@@ -28,6 +28,7 @@ use Rattle.seam_law_transcript.proofs.Replicas.{begun_by}
 use Rattle.seam_law_transcript.proofs.Told.{by_death, later_lines}
 use Rattle.seam_law_transcript.proofs.OneLook.{one_look_after}
 use Rattle.seam_law_transcript.proofs.legal_rounds.without_a_tick_each_client_is_shown_one_look.Goals as goal
+use Rattle.seam_law_all.specs.Prelude.{may_load}
 
 pub returns : goal.returns
 returns c h s tree w v p bounds next tickless d seen =
@@ -51,7 +52,7 @@ returns c h s tree w v p bounds next tickless d seen =
     λ d none. c.uncreated_numbers_are_untouched.ensures h (as_begun b) play.legal
     (c.lines_bring_what_fits.ensures.begun h b play.of_lines) d none in
     let may = c.what_lines_bring_fits.ensures.given h b tree clients w play in
-    let loads : MayBeLoaded f w B = record { between = play.keeps.reals; parts = play.keeps.parts; fits = may.reals; brings = may.parts } in
+    let loads : MayBeLoaded f w B = may_load play.keeps may in
     let mid = clients_shown g (clients_loaded f B clients) round.called in
     let called = c.calls_obey_the_laws.ensures.records f clients w play.keeps B may round.call_events round.called round.calls
     round.calls_done in
@@ -87,7 +88,8 @@ returns c h s tree w v p bounds next tickless d seen =
           ∙ ap (λ o. look_by (replica_of h s e) o (rows_but e (world.rows_of v))) (row_found v e ∙ row_nowhere g v last.reals e n)
     ] in gone (search_real e v) in
     let in_calls : list_any (destroys e) b.current ≡ true →
-    map (λ l. l.text) (lines_shown h round.called e) ≡ filter is_base (map (λ l. l.text) (lines_shown h round.called e)) ++ map text.Shown look =
+    map (λ l. l.text) (lines_shown h round.called e) ≡ filter is_base (map (λ l. l.text) (lines_shown h round.called e))
+    ++ map text.Shown look =
     λ dies.
     subst (λ ls. map (λ l. l.text) ls ≡ filter is_base (map (λ l. l.text) ls) ++ map text.Shown look)
     (append-nil (lines_shown h round.called e))
@@ -99,7 +101,8 @@ returns c h s tree w v p bounds next tickless d seen =
     let begun : clients_loaded f B clients e ≡ replica_of h s e =
     begun_by (list_any (λ q. eqb q e) B.clients) (new_client h.settings) (replica_of h s e)
     (λ joins.
-    ap (after_lines (new_client h.settings)) (p.beside.between.untold e (unjoined_before h b R untouched e (sym (among_is e B.clients) ∙ joins)))) in
+    ap (after_lines (new_client h.settings))
+    (p.beside.between.untold e (unjoined_before h b R untouched e (sym (among_is e B.clients) ∙ joins)))) in
     let in_all : list_any (destroys e) b.current ≡ false →
     map (λ l. l.text) (lines_shown h v e) ≡ filter is_base (map (λ l. l.text) (lines_shown h v e)) ++ map text.Shown look = λ not.
     let shows = c.the_base_part_is_shown_at_each_change.ensures.round f w B loads e l.cell l.real l.here round.called round.call_events

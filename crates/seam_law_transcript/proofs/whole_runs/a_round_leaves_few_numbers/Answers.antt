@@ -11,6 +11,7 @@ use Rattle.seam_law_transcript.proofs.Created.{few_created}
 use Rattle.seam_law_transcript.proofs.Present.{names, names_many, is_named}
 use Rattle.seam_law_transcript.proofs.Ends.{reals_after, told_after}
 use Rattle.seam_law_transcript.proofs.whole_runs.a_round_leaves_few_numbers.Goals as goal
+use Rattle.seam_law_all.specs.Prelude.{may_load}
 
 pub returns-clause-bounded : goal.returns-clause-bounded
 returns-clause-bounded c h s tree w g end v round ended =
@@ -23,7 +24,7 @@ returns-clause-few c h s tree w g end v round ended t past rounds =
     let f = frame_of h tree in
     let keeps = g.between.keeps in
     let given = c.a_round_may_be_run.ensures.given h s tree w g end in
-    let loads : MayBeLoaded f w b = record { between = keeps.reals; parts = keeps.parts; fits = given.reals; brings = given.parts } in
+    let loads : MayBeLoaded f w b = may_load keeps given in
     let play = may_play h s tree w (c.a_round_may_be_run.ensures.stands h s tree w g end) in
     let named : AreAmong (names s.book) (loaded w b) = λ e k r at.
     let made = c.what_lines_bring_fits.ensures.comes h s.book tree (replica_of h s) w play e k r at in

@@ -1,11 +1,11 @@
 use Rattle.std.proofs.Common.{ℕ, false, refl}
-use Rattle.seam_node_steps.specs.Prelude.{Create, loaded, reaps_loaded, look_loaded}
+use Rattle.seam_node_steps.specs.Prelude.{Create, World, loaded, reaps_loaded, look_loaded}
 use Rattle.seam_rule_rounds.specs.Prelude.{replica_of}
-use Rattle.seam_law_rounds.specs.Prelude.{framed}
+use Rattle.seam_law_rounds.specs.Prelude.{framed, AreReapable}
 use Rattle.seam_law_clients.specs.Prelude.{clients_loaded, clients_shown}
+use Rattle.seam_law_all.specs.Prelude.{KeepsRecordsWithin}
 use Rattle.seam_law_book.specs.Prelude.{IsPresent, frame_of}
-use Rattle.seam_law_transcript.specs.Prelude.{may_play}
-use Rattle.seam_law_transcript.specs.Turns.{KeepsFirstCalls}
+use Rattle.seam_law_transcript.specs.Prelude.{may_play, dying, EndCalls, KeepsFirstCalls}
 use Rattle.seam_accept.specs.Batches.{batch_of}
 use Rattle.seam_law_rounds.proofs.Ready.{quiet_home}
 use Rattle.seam_law_rounds.proofs.Phases.{calm_leads}
@@ -17,61 +17,57 @@ use Rattle.seam_law_book.proofs.Present.{live_is_present}
 use Rattle.seam_law_transcript.proofs.Turns.{first_calls, still_first}
 use Rattle.seam_law_transcript.proofs.whole_runs.each_part_executes_in_turn.Goals as goal
 
-pub returns-clause-calls : goal.returns-clause-calls
-returns-clause-calls c h s tree w g end e made present es u run =
-    let clients = replica_of h s in
-    let b = batch_of h s.book in
-    let given = c.a_round_may_be_run.ensures.given h s tree w g end in
-    let stands = c.a_round_may_be_run.ensures.stands h s tree w g end in
-    let play = may_play h s tree w stands in
-    let there = c.what_lines_bring_fits.ensures.there h s.book tree clients w play e made present in
-    first_calls h s tree clients w u play.legal.in_range.some_bases
-    (c.lines_bring_what_fits.ensures.brings h s.book play.legal play.of_lines) play.few g.between.before.full e there.real
-    ((c.calls_obey_the_laws.ensures.laws (frame_of h tree) clients w g.between.keeps b given es u run).each e there.cell there.real there.here)
-    there.base there.base_here
-
-pub returns-clause-round : goal.returns-clause-round
-returns-clause-round c h s tree w g end v round ended =
+pub returns : goal.returns
+returns c h s tree w g end =
     let f = frame_of h tree in
     let clients = replica_of h s in
     let b = batch_of h s.book in
     let framed_ = framed f b in
     let keeps = g.between.keeps in
     let given = c.a_round_may_be_run.ensures.given h s tree w g end in
-    let then = clients_shown framed_ (clients_loaded f b clients) round.called in
-    let called = c.calls_obey_the_laws.ensures.records f clients w keeps b given round.call_events round.called round.calls round.calls_done in
-    let reaped = c.reaps_obey_the_laws.ensures.records framed_ then round.called called round.gone round.may round.reap_events round.reaped
-    round.reaps round.reaps_done in
-    let one = c.each_entity_has_one_real_through_a_round.ensures h s tree w g end v round ended in
+    let play = may_play h s tree w (c.a_round_may_be_run.ensures.stands h s tree w g end) in
+    let then = clients_shown framed_ (clients_loaded f b clients) in
+    let called : (u : World) → EndCalls h s w u → KeepsRecordsWithin framed_ (then u) u =
+    λ u at. c.calls_obey_the_laws.ensures.records f clients w keeps b given at.0 u at.1.leads at.1.quiet in
+    let may : (u : World) → EndCalls h s w u → AreReapable u (dying h s) =
+    λ u at. c.what_lines_bring_fits.ensures.reaped h s.book tree clients w keeps given at.0 u at.1.leads at.1.quiet in
+    let one = c.each_entity_has_one_real_through_a_round.ensures h s tree w g end in
     let as_called : (e : ℕ) (made : Create) → IsPresent s.book e made → KeepsFirstCalls s (loaded w b) e =
-    returns-clause-calls c h s tree w g end in
-    let as_reaped : (e : ℕ) (made : Create) → IsPresent s.book e made → KeepsFirstCalls s (reaps_loaded round.called round.gone) e =
     λ e made present es u run.
-    let between = called.records.reals in
-    let home = quiet_home framed_ round.called between e (one.calls e made present round.call_events round.called round.calls) in
-    let told = reaping.is_told e round.gone in
+    let there = c.what_lines_bring_fits.ensures.there h s.book tree clients w play e made present in
+    first_calls h s tree clients w u play.legal.in_range.some_bases
+    (c.lines_bring_what_fits.ensures.brings h s.book play.legal play.of_lines) play.few g.between.before.full e there.real
+    ((c.calls_obey_the_laws.ensures.laws f clients w keeps b given es u run).each e there.cell there.real there.here)
+    there.base there.base_here in
+    let as_reaped : (v : World) → EndCalls h s w v → (e : ℕ) (made : Create) → IsPresent s.book e made →
+    KeepsFirstCalls s (reaps_loaded v (dying h s)) e =
+    λ v at e made present es u run.
+    let between = (called v at).records.reals in
+    let home = quiet_home framed_ v between e (one.calls e made present at.0 v at.1.leads) in
+    let told = reaping.is_told e (dying h s) in
     let calm =
-    calm_leads framed_ between.frame round.called between e home.node home.real home.here told
-    (reaping.small framed_ round.called between round.gone round.may e home.node home.real home.here)
-    (reaps_loaded round.called round.gone) u es
-    (reaping.calm framed_ round.called between round.gone round.may e home.node home.real home.here) run in
-    let obeys = c.reaps_obey_the_laws.ensures.laws framed_ then round.called called round.gone round.may es u run in
-    still_first s e round.called u (as_called e made present round.call_events round.called round.calls)
-    (reaps_leave framed_ round.called between round.gone round.may es u run e) told home.node home.real calm.mail
-    (λ k q at. (q, obeys.parts e home.node home.real home.here k q at, refl)) in
+    calm_leads framed_ between.frame v between e home.node home.real home.here told
+    (reaping.small framed_ v between (dying h s) (may v at) e home.node home.real home.here)
+    (reaps_loaded v (dying h s)) u es
+    (reaping.calm framed_ v between (dying h s) (may v at) e home.node home.real home.here) run in
+    let obeys = c.reaps_obey_the_laws.ensures.laws framed_ (then v) v (called v at) (dying h s) (may v at) es u run in
+    still_first s e v u (as_called e made present at.0 v at.1.leads)
+    (reaps_leave framed_ v between (dying h s) (may v at) es u run e) told home.node home.real calm.mail
+    (λ k q there. (q, obeys.parts e home.node home.real home.here k q there, refl)) in
     record {
       calls = as_called;
       reaps = as_reaped;
-      looks = λ e made lives es u run.
+      looks = λ v at e made lives es u run.
+          let reaped = c.reaps_obey_the_laws.ensures.records framed_ (then at.settled) at.settled (called at.settled at.calls) (dying h s)
+          (may at.settled at.calls) at.events v at.reaps.leads at.reaps.quiet in
           let between = reaped.records.reals in
-          let home = quiet_home framed_ round.reaped between e (one.reaps e made lives round.reap_events round.reaped round.reaps) in
+          let home = quiet_home framed_ v between e (one.reaps at.settled at.calls e made lives at.events v at.reaps.leads) in
           let calm =
-          calm_leads framed_ between.frame round.reaped between e home.node home.real home.here false
-          (looking.small framed_ round.reaped between home.real) (look_loaded round.reaped) u es
-          (looking.calm framed_ round.reaped between e home.node home.real home.here) run in
-          still_first s e round.reaped u
-          (as_reaped e made (live_is_present s.book e made lives) round.reap_events round.reaped round.reaps)
-          (looks_leave framed_ round.reaped between es u run e) false home.node home.real calm.mail
-          (looks_execute_none framed_ round.reaped between u es run e home.real.ty
+          calm_leads framed_ between.frame v between e home.node home.real home.here false (looking.small framed_ v between home.real)
+          (look_loaded v) u es (looking.calm framed_ v between e home.node home.real home.here) run in
+          still_first s e v u
+          (as_reaped at.settled at.calls e made (live_is_present s.book e made lives) at.events v at.reaps.leads)
+          (looks_leave framed_ v between es u run e) false home.node home.real calm.mail
+          (looks_execute_none framed_ v between u es run e home.real.ty
           (reaped.records.parts.parts e home.node home.real home.here));
     }

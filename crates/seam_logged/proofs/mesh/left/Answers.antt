@@ -3,7 +3,7 @@ use Rattle.std.specs.Prelude.{slice_get}
 use Rattle.std.proofs.lemmas.List.{length-append, length-map}
 use Rattle.seam_machine.proofs.Flats.{one_more_row}
 use Rattle.seam_logged.specs.Mesh.{IsCell}
-use Rattle.seam_logged.specs.Parts.{Remaining, Below}
+use Rattle.seam_logged.specs.SomeLinks.{Remaining, Below}
 use Rattle.seam_logged.proofs.Rows.{full_reached}
 use Rattle.seam_logged.proofs.Meets.{AreCells, remaining_all, remaining_less, paired_less, cell_before, cells_none, cells_more, cells_all}
 use Rattle.seam_logged.proofs.mesh.left.Goals as goal

@@ -1,5 +1,5 @@
 use Rattle.std.proofs.Common.{◌≡◌, ◌≤◌, ◌+◌, ◌*◌, length, map}
-use Rattle.seam_logged.specs.Parts.{Remaining}
+use Rattle.seam_logged.specs.SomeLinks.{Remaining}
 use Rattle.seam_logged.proofs.Meets.{AreCells}
 use Rattle.seam_logged.proofs.mesh.left.Given as goal
 

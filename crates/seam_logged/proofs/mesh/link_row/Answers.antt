@@ -1,6 +1,6 @@
 use Rattle.std.proofs.Common.{◌≡◌, ◌∙◌, ◌+◌, ◌*◌, [], ℕ, List, length, drop, map, get_or, ap, sym, subst, arith}
 use Rattle.seam_logged.specs.Mesh.{AreLinked}
-use Rattle.seam_logged.specs.Parts.{Reached}
+use Rattle.seam_logged.specs.SomeLinks.{Reached}
 use Rattle.seam_logged.proofs.Rows.{drop_more, map_drop, head_of_drop, reached_row}
 use Rattle.seam_logged.proofs.mesh.link_row.Goals as goal
 

@@ -1,6 +1,6 @@
 use Rattle.std.proofs.Common.{◌≡◌, ◌*◌, List, length, drop, map}
 use Rattle.seam_logged.specs.Mesh.{AreLinked}
-use Rattle.seam_logged.specs.Parts.{Reached}
+use Rattle.seam_logged.specs.SomeLinks.{Reached}
 use Rattle.seam_logged.proofs.mesh.link_row.Given as goal
 
 abbrev pub invariant-loop-to : goal.invariant-loop-to

@@ -1,7 +1,7 @@
 use Rattle.std.proofs.Common.{◌≡◌, ◌∙◌, ◌+◌, ◌*◌, ℕ, List, length, drop, map, ap, sym, subst, arith}
 use Rattle.seam_machine.proofs.Flats.{one_more_row}
 use Rattle.seam_logged.specs.Mesh.{AreLinked}
-use Rattle.seam_logged.specs.Parts.{Reached}
+use Rattle.seam_logged.specs.SomeLinks.{Reached}
 use Rattle.seam_logged.proofs.Rows.{drop_more, map_drop, reached_full}
 use Rattle.seam_logged.proofs.mesh.linked.Goals as goal
 

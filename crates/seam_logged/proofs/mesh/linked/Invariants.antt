@@ -1,6 +1,6 @@
 use Rattle.std.proofs.Common.{◌≡◌, ◌*◌, drop, map}
 use Rattle.seam_logged.specs.Mesh.{AreLinked}
-use Rattle.seam_logged.specs.Parts.{Reached}
+use Rattle.seam_logged.specs.SomeLinks.{Reached}
 use Rattle.seam_logged.proofs.mesh.linked.Given as goal
 
 abbrev pub invariant-loop-from : goal.invariant-loop-from

@@ -1,7 +1,7 @@
 use Rattle.std.proofs.Common.{rules, ◌≡◌, ◌∙◌, ◌+◌, ◌-◌, ◌∷◌, [], ℕ, length, map, refl, ap, sym, subst, arith, inl, inr}
 use Rattle.std.proofs.lemmas.List.{length-map}
 use Rattle.seam_logged.specs.Mesh.{IsCell}
-use Rattle.seam_logged.specs.Parts.{Remaining, IsRow, Below}
+use Rattle.seam_logged.specs.SomeLinks.{Remaining, IsRow, Below}
 use Rattle.seam_logged.proofs.Rows.{row_reached}
 use Rattle.seam_logged.proofs.Meets.{remaining_all, remaining_less, paired_less, cell_before, row_more, row_none}
 use Rattle.seam_logged.proofs.mesh.meet_row.Goals as goal

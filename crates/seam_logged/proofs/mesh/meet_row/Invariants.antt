@@ -1,5 +1,5 @@
 use Rattle.std.proofs.Common.{◌≡◌, ◌≤◌, ◌+◌, ◌++◌, List, length, map}
-use Rattle.seam_logged.specs.Parts.{Remaining, IsRow}
+use Rattle.seam_logged.specs.SomeLinks.{Remaining, IsRow}
 use Rattle.seam_logged.proofs.mesh.meet_row.Given as goal
 
 abbrev pub invariant-loop-to : goal.invariant-loop-to

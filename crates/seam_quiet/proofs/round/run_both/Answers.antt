@@ -1,6 +1,6 @@
 use Rattle.std.proofs.Common.{sym, subst}
 use Rattle.seam_quiet.specs.RoundRuns.{MayRun}
-use Rattle.seam_quiet.specs.Calls.{HasCalled}
+use Rattle.seam_quiet.specs.CallPhase.{HasCalled}
 use Rattle.seam_quiet.proofs.round.run_both.Goals as goal
 
 pub run_calls-requires-clause-may : goal.run_calls-requires-clause-may

@@ -73,5 +73,6 @@ pub returns-clause-records : goal.returns-clause-records
 returns-clause-records g c =
     IfOk-weaker c.end_phases.result _ _
     (λ r e f clients may.
-    c.a_round_keeps_the_records.ensures.round f clients g.from.world g.from.batch may.keeps may.bounded may.given r.world e.0.round e.0.quiet)
+    c.a_round_keeps_the_records.ensures.round f clients g.from.world g.from.batch may.keeps may.bounded may.given r.world e.0.round
+    e.0.quiet)
     c.end_phases.ensures.stands

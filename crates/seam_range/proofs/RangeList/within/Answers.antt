@@ -10,7 +10,8 @@ use Rattle.seam_range.proofs.RangeList.within.Goals as goal
 pub returns : goal.returns
 returns c =
     let near =
-    subst (λ o. IfSome o (λ v. (q : ℕ) → count_of q v.items ≡ one_if (is_within c.args.p c.args.d) (map.get c.args.self.now q))) c.in-Some.is
+    subst (λ o. IfSome o (λ v. (q : ℕ) → count_of q v.items ≡ one_if (is_within c.args.p c.args.d) (map.get c.args.self.now q)))
+    c.in-Some.is
     c.in_ok-found.ensures.near in
     let places = subst (λ o. IfSome o (λ v. AreInPlace c.args.self.now v.items)) c.in-Some.is c.in_ok-found.ensures.places in
     sorted_when_counted (is_within c.args.p c.args.d) c.self.inside.places c.in-Some.found.items c.sort_unstable_by_key.new.self.items

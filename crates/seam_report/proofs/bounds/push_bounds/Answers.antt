@@ -1,6 +1,6 @@
 use Rattle.std.proofs.Common.{◌<◌, ◌++◌, ◌∙◌, ap, sym, subst, append_assoc}
 use Rattle.std.specs.Option.{IsSome}
-use Rattle.seam_rule_rounds.specs.Texts.{bound_text}
+use Rattle.seam_rule_rounds.specs.RoundTexts.{bound_text}
 use Rattle.seam_report.proofs.Numbered.{text_below, next_bound}
 use Rattle.seam_report.proofs.bounds.push_bounds.Goals.{in-Some+in_ok-push_bound, in_default}
 use Rattle.seam_report.proofs.bounds.push_bounds.Goals as goal

@@ -1,6 +1,6 @@
 use Rattle.std.proofs.Common.{◌≡◌, ◌++◌, take}
 use Rattle.std.specs.List.{flat_map}
-use Rattle.seam_rule_lines.specs.Texts.{done_text}
+use Rattle.seam_rule_lines.specs.LineTexts.{done_text}
 use Rattle.seam_report.proofs.round.push_all_done.Given as goal
 
 abbrev pub invariant-loop-line : goal.invariant-loop-line

@@ -1,6 +1,6 @@
 use Rattle.std.proofs.Common.{◌≡◌, ◌++◌, take}
 use Rattle.std.specs.List.{flat_map}
-use Rattle.seam_rule_rounds.specs.Texts.{client_text}
+use Rattle.seam_rule_rounds.specs.RoundTexts.{client_text}
 use Rattle.seam_report.proofs.round.push_clients.Given as goal
 
 abbrev pub invariant-loop-line : goal.invariant-loop-line

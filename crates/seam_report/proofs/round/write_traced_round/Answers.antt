@@ -1,5 +1,5 @@
 use Rattle.std.proofs.lemmas.Result.{on_ok_weaker}
-use Rattle.seam_rule_rounds.specs.Texts.{journal_text}
+use Rattle.seam_rule_rounds.specs.RoundTexts.{journal_text}
 use Rattle.seam_report.proofs.Parts.{in_three_parts}
 use Rattle.seam_report.proofs.round.write_traced_round.Goals as goal
 

@@ -4,7 +4,7 @@ use Rattle.std.proofs.lemmas.Result.{on_ok_weaker}
 use Rattle.seam_rule_rounds.specs.Prelude.{decimal_of, type_of, TypeDef, GhostCopy, Enter, Set, field, state_text}
 use Rattle.seam_defs.specs.declared.flags.Group.TheVariants as group
 use Rattle.seam_call.specs.declared.shown.ClientText.TheVariants as client
-use Rattle.seam_rule_rounds.specs.Texts.{shown_text, told_text}
+use Rattle.seam_rule_rounds.specs.RoundTexts.{shown_text, told_text}
 use Rattle.seam_report.specs.Spelled.{ShowsOf, IsOf, enter_text, copy_text}
 use Rattle.seam_report.proofs.Spelled.{glue, ended}
 use Rattle.seam_report.proofs.told.push_shown.Goals as goal

@@ -8,4 +8,5 @@ pub returns : goal.returns
 returns c = λ n h k ps qs x y.
     let fine = storm_is_fine n in
     ap (λ sums. totals_text n (totals_of sums))
-    (sums_are_one sender_of (lines_of (text_of_storm n)) h k ps qs (λ i d within. (fine i d within).0) (λ i d within. (fine i d within).1) x y)
+    (sums_are_one sender_of (lines_of (text_of_storm n)) h k ps qs (λ i d within. (fine i d within).0) (λ i d within. (fine i d within).1) x
+    y)

@@ -5,4 +5,5 @@ use Rattle.seam_table.proofs.Table.has_room.Goals as goal
 
 pub returns : goal.returns
 returns g c =
-    c.contains_key.ensures ∙ (sym (room-slot c.self.inside.entries.entries c.args.n) ∙ ap (λ w. set.contains w.room c.args.n) c.self.view_is)
+    c.contains_key.ensures
+    ∙ (sym (room-slot c.self.inside.entries.entries c.args.n) ∙ ap (λ w. set.contains w.room c.args.n) c.self.view_is)

@@ -14,7 +14,8 @@ returns-then-not-is_empty-clause-core c =
     let e = c.show.ensures.entries in
     let v =
     shown_when_entered c.self.inside.view.entries c.show.new.self.entries c.self.inside.left.entries c.swap_remove.new.self.entries
-    c.args.e c.args.version (λ q. ap (lookup (eqb q)) e ∙ lookup_placed c.args.e c.args.version q c.self.inside.view.entries) c.swap_remove.ensures.updates.2 in
+    c.args.e c.args.version (λ q. ap (lookup (eqb q)) e ∙ lookup_placed c.args.e c.args.version q c.self.inside.view.entries)
+    c.swap_remove.ensures.updates.2 in
     (λ i. record { radius = c.self.inside.radius; hysteresis = c.self.inside.hysteresis; entries = e i; shown = v i })
     ∙ ap (λ w. with_version_shown w.core c.args.e c.args.version) c.self.view_is
 
@@ -23,7 +24,8 @@ returns-else-not-is_empty-clause-core c =
     let left = c.self.inside.left.entries in
     let e = c.show.ensures.entries in
     let v =
-    shown_when_entered c.self.inside.view.entries c.show.new.self.entries left left c.args.e c.args.version (λ q. ap (lookup (eqb q)) e ∙ lookup_placed c.args.e c.args.version q c.self.inside.view.entries)
+    shown_when_entered c.self.inside.view.entries c.show.new.self.entries left left c.args.e c.args.version (λ q. ap (lookup (eqb q)) e
+    ∙ lookup_placed c.args.e c.args.version q c.self.inside.view.entries)
     (λ q other. refl) in
     (λ i. record { radius = c.self.inside.radius; hysteresis = c.self.inside.hysteresis; entries = e i; shown = v i })
     ∙ ap (λ w. with_version_shown w.core c.args.e c.args.version) c.self.view_is

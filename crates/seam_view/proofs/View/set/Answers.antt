@@ -24,7 +24,8 @@ invariant_of-self c =
       view_of_lists c.self.inside.radius c.self.inside.hysteresis c.set.new.self.entries left
           (subst (λ xs. IsDistinct eqb (keys_of xs)) (sym placed) (once_placed c.args.e c.args.version es c.self.invariant.0.once)),
       subst (λ xs. AreApart xs left) (sym placed)
-          (apart_when_entered c.args.e c.args.version left left (not_left_when_in c.args.e es left there c.self.invariant.1) (λ q other. refl) es
+          (apart_when_entered c.args.e c.args.version left left (not_left_when_in c.args.e es left there c.self.invariant.1)
+          (λ q other. refl) es
           c.self.invariant.1),
     )
 

@@ -10,4 +10,5 @@ returns c = λ is k d low lt.
     let ps = c.args.by_number.now in
     let some : 0 < length ps = omega (arith, lt) in
     let below : f (get_or ps (length ps - 1) 0) < c.args.e = c.is_last_below.ensures is some in
-    all_below f ps (length ps - 1) c.args.e 0 (rising_at f ps c.requires.rising) (omega (arith, some)) below k d low (omega (arith, lt, some))
+    all_below f ps (length ps - 1) c.args.e 0 (rising_at f ps c.requires.rising) (omega (arith, some)) below k d low
+    (omega (arith, lt, some))

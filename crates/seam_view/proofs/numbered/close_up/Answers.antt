@@ -13,7 +13,8 @@ pub returns-clause-by_number : goal.returns-clause-by_number
 returns-clause-by_number c =
     let old = c.args.slots.now.items in
     let places = c.args.by_number.now.items in
-    let slots : c.retain.new.self.items ≡ filter stays old = filter_same _ stays _ (λ x b g call. search rules) old _ c.retain.ensures.filtered in
+    let slots : c.retain.new.self.items ≡ filter stays old =
+    filter_same _ stays _ (λ x b g call. search rules) old _ c.retain.ensures.filtered in
     let moved = c.renumber.ensures.places ∙ ap (λ ss. filter is_place (map (to_of ss) places)) c.deref.ensures.value in
     subst (λ ps. IsByNumber (keys_of (entries_of c.retain.new.self.items)) ps) (sym moved)
     (subst (λ ss. IsByNumber (keys_of (entries_of ss)) (filter is_place (map (to_of old) places))) (sym slots)

@@ -1,4 +1,5 @@
-use Rattle.std.proofs.Common.{◌≡◌, ◌<◌, ◌≤◌, ◌+◌, ◌++◌, ◌∙◌, ◌&&◌, ℕ, true, false, cond, eqb, take, drop, length, get_or, slice_set, is_some, Some, sym, ap, subst, arith}
+use Rattle.std.proofs.Common.{◌≡◌, ◌<◌, ◌≤◌, ◌+◌, ◌++◌, ◌∙◌, ◌&&◌, ℕ, true, false, cond, eqb, take, drop, length, get_or, slice_set}
+use Rattle.std.proofs.Common.{is_some, Some, sym, ap, subst, arith}
 use Rattle.std.proofs.lemmas.List.{drop-set-lt}
 use Rattle.std.specs.List.{filter}
 use Rattle.std.specs.Map.{lookup}
@@ -7,7 +8,8 @@ use Rattle.seam_view.specs.ByNumber.{GoInOrder, entries_of, stays, nowhere}
 use Rattle.indexmap.specs.IndexMap.{spare}
 use Rattle.seam_view.specs.Replica.{leaves_in}
 use Rattle.seam_view.specs.Together.{leaves_next, looks_past_all, left_past_all}
-use Rattle.seam_view.proofs.Sent.{sent_all, same_entries, go_in_order, kept_when_sent, sent_next, past_next, left_next, none_past, all_sent, one_left}
+use Rattle.seam_view.proofs.Sent.{sent_all, same_entries, go_in_order, kept_when_sent, sent_next, past_next, left_next, none_past, all_sent}
+use Rattle.seam_view.proofs.Sent.{one_left}
 use Rattle.seam_view.proofs.numbered.send_off.Goals as goal
 use Rattle.seam_view.proofs.numbered.send_off.Goals.{in-Some+in-Ok, in-None}
 
@@ -87,20 +89,23 @@ loop-slot-preserved c =
 pub returns-clause-same : goal.returns-clause-same
 returns-clause-same c =
     let end : length c.loop-slot.slots ≤ c.loop-slot.slot-index = omega arith in
-    let is = sym (all_sent c.loop-slot.rest.now c.loop-slot.place c.loop-slot.slot-index c.loop-slot.slots end) ∙ c.loop-slot.invariant.slots in
+    let is = sym (all_sent c.loop-slot.rest.now c.loop-slot.place c.loop-slot.slot-index c.loop-slot.slots end)
+    ∙ c.loop-slot.invariant.slots in
     ap entries_of is ∙ same_entries c.args.looks.now 0 c.args.slots.now
 
 pub returns-clause-order : goal.returns-clause-order
 returns-clause-order c =
     let end : length c.loop-slot.slots ≤ c.loop-slot.slot-index = omega arith in
-    let is = sym (all_sent c.loop-slot.rest.now c.loop-slot.place c.loop-slot.slot-index c.loop-slot.slots end) ∙ c.loop-slot.invariant.slots in
+    let is = sym (all_sent c.loop-slot.rest.now c.loop-slot.place c.loop-slot.slot-index c.loop-slot.slots end)
+    ∙ c.loop-slot.invariant.slots in
     let few = c.requires.few in
     subst (GoInOrder 0) (sym is) (go_in_order c.args.looks.now 0 c.args.slots.now (omega (arith, few)))
 
 pub returns-clause-kept : goal.returns-clause-kept
 returns-clause-kept c =
     let end : length c.loop-slot.slots ≤ c.loop-slot.slot-index = omega arith in
-    let is = sym (all_sent c.loop-slot.rest.now c.loop-slot.place c.loop-slot.slot-index c.loop-slot.slots end) ∙ c.loop-slot.invariant.slots in
+    let is = sym (all_sent c.loop-slot.rest.now c.loop-slot.place c.loop-slot.slot-index c.loop-slot.slots end)
+    ∙ c.loop-slot.invariant.slots in
     let few = c.requires.few in
     ap (λ ss. entries_of (filter stays ss)) is ∙ kept_when_sent c.args.looks.now 0 c.args.slots.now (omega (arith, few))
 

@@ -1,5 +1,5 @@
 use Rattle.std.proofs.Common.{rules, ◌-◌, length, take, drop}
-use Rattle.seam_words.specs.Parts.{ClosesWord}
+use Rattle.seam_words.specs.WordParts.{ClosesWord}
 use Rattle.seam_words.proofs.Pieces.{quoted_first, drop_first, quoted_word, open_quote}
 use Rattle.seam_words.proofs.splitting.after_quoted.Goals as goal
 

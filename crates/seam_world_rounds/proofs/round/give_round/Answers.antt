@@ -10,7 +10,8 @@ returns-in_ok-sum_up-in-Sums c = λ h s t w p round kept taken.
     let r = data_of h s t w c.args.ended.now.world p c.args.bounds.now in
     let out = c.args.out.now.items in
     let is = c.in-Sums.is in
-    subst (λ o. (Some c.in_ok-sum_up-in-Sums.field-0 ≡ sums_if o r) × (out ≡ out ++ round_output o h.defs r c.args.ended.now.journal)) (sym is) (
+    subst (λ o. (Some c.in_ok-sum_up-in-Sums.field-0 ≡ sums_if o r) × (out ≡ out ++ round_output o h.defs r c.args.ended.now.journal))
+    (sym is) (
       ap (λ (x : Sums). Some x) (c.in_ok-sum_up-in-Sums.ensures h s t w p c.args.bounds.now round.present kept (taken.1 is)),
       sym (append-nil out),
     )

@@ -6,7 +6,7 @@ use Rattle.seam_accept.specs.Batches.{batch_of}
 use Rattle.seam_world_text.specs.Farewells.{AreFarewells}
 use Rattle.seam_world_rounds.specs.PlayedRound.{IsBalancedBy}
 use Rattle.seam_quiet.specs.RoundRuns.{MayRun}
-use Rattle.seam_quiet.specs.Calls.{HasCalled}
+use Rattle.seam_quiet.specs.CallPhase.{HasCalled}
 use Rattle.seam_world_rounds.proofs.TextsPlayed.{played_so}
 use Rattle.seam_world_rounds.proofs.round.play.Goals as goal
 
@@ -65,5 +65,6 @@ returns g c = λ h s tree beside brings header number present.
           (subst (λ n. IsBalancedBy c.args.batch.balance c.args.batch.tree (map (λ l. l.state.pos) printed.homes) n bounds)
           (ap (λ (k : Headers). k.settings.balance_shift) header)
           (c.in_ok-bounds.ensures h s tree g.from.world p.0 present)));
-      residents_ = c.end.ensures h s.book (c.as_slice-2.ensures ∙ c.in_ok-ended.ensures.destroys ∙ ap (λ (x : Batch). x.destroys) brings) present;
+      residents_ = c.end.ensures h s.book (c.as_slice-2.ensures ∙ c.in_ok-ended.ensures.destroys ∙ ap (λ (x : Batch). x.destroys) brings)
+          present;
     }

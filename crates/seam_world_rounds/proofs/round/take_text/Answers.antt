@@ -1,6 +1,6 @@
 use Rattle.std.proofs.Common.{◌++◌, ap, ◌∙◌}
 use Rattle.seam_law_transcript.specs.Playing.{data_of}
-use Rattle.seam_world_text.specs.Texts.{calls_text}
+use Rattle.seam_world_text.specs.RoundParts.{calls_text}
 use Rattle.seam_world_rounds.proofs.round.take_text.Goals as goal
 
 pub returns : goal.returns

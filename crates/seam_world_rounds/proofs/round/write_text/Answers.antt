@@ -1,6 +1,6 @@
 use Rattle.std.proofs.Common.{◌++◌, ap, ◌∙◌}
 use Rattle.seam_law_transcript.specs.Playing.{data_of}
-use Rattle.seam_world_text.specs.Texts.{calls_text, ends_text}
+use Rattle.seam_world_text.specs.RoundParts.{calls_text, ends_text}
 use Rattle.seam_world_rounds.specs.PlayedRound.{start_text}
 use Rattle.seam_world_rounds.proofs.TextsPlayed.{text_in_order}
 use Rattle.seam_world_rounds.proofs.Results.{on_ok}

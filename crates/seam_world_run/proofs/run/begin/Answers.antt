@@ -15,7 +15,8 @@ returns-in-Err-new-clause-began g c = nothing_judged _ _ [] (Consumes-nil _) (om
 pub new-requires-3 : goal.new-requires-3
 new-requires-3 g c =
     let has =
-    c.in_ok-header.ensures.header (g.S.Source.state c.args.input.now) (c.in-Ok-new.ensures.reads (g.S.Source.state c.args.input.now)) (rw c.in-Ok-new.ensures.fresh refl) in
+    c.in_ok-header.ensures.header (g.S.Source.state c.args.input.now) (c.in-Ok-new.ensures.reads (g.S.Source.state c.args.input.now))
+    (rw c.in-Ok-new.ensures.fresh refl) in
     record {
       legal = reads_legal has.begins.text _ has.begins.reads;
       sound = reads_defs has.begins.text _ has.begins.reads;

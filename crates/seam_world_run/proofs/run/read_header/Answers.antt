@@ -32,8 +32,8 @@ returns-in-Ok-Some-clause-header g c = λ began reading limit.
     subst (λ (h : Option Header). HeaderLineRead began (g.S.Source.state c.read_header_line.new.input) c.read_header_line.new.lines
     c.read_header_line.new.header was.0 (Ok h))
     c.in-Ok-Some.field-0-is (c.in-Ok-Some.ensures.header began was.0 was.1) in
-    subst (HasHeader began (g.S.Source.state c.read_header_line.new.input) c.read_header_line.new.lines c.in-Ok-Some.read) (sym
-    (c.in-Ok.ensures.next ∙ ap (λ (n : _). n + 1) was.2)) ended
+    rw c.keyed.ensures (subst (HasHeader began (g.S.Source.state c.read_header_line.new.input) c.read_header_line.new.lines
+    c.in-Ok-Some.read) (sym (c.in-Ok.ensures.next ∙ ap (λ (n : _). n + 1) was.2)) ended)
 
 pub returns-in-Err-read_header_line-clause-header : goal.returns-in-Err-read_header_line-clause-header
 returns-in-Err-read_header_line-clause-header g c = λ began reading limit.

@@ -14,5 +14,6 @@ returns-then-not-is_done g c =
 pub returns : goal.returns
 returns g c =
     let done = rw c.if-not-is_done.false at c.is_done.ensures in
-    storm_written c.args.lines c.requires.1 _ _ (ap (λ (v : StormView). Some v.left) c.in-Ok.ensures) (λ rose. omega (arith, rose)) _ _ _ _ _
+    storm_written c.args.lines c.requires.1 _ _ (ap (λ (v : StormView). Some v.left) c.in-Ok.ensures) (λ rose. omega (arith, rose)) _ _ _ _
+    _
     (rw done at c.run_body-status.ensures.stopped) _ c.write_summary.result c.write_summary.ensures

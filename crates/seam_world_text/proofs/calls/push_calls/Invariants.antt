@@ -1,7 +1,7 @@
 use Rattle.std.proofs.Common.{◌≡◌, ◌++◌, take}
 use Rattle.std.specs.List.{flat_map}
-use Rattle.seam_rule_lines.specs.Texts.{done_text}
-use Rattle.seam_world_text.specs.Texts.{done_of_type}
+use Rattle.seam_rule_lines.specs.LineTexts.{done_text}
+use Rattle.seam_world_text.specs.RoundParts.{done_of_type}
 use Rattle.seam_world_text.proofs.calls.push_calls.Given as goal
 
 abbrev pub invariant-loop-call : goal.invariant-loop-call

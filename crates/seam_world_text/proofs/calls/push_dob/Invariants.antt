@@ -2,7 +2,7 @@ use Rattle.std.proofs.Common.{◌≡◌, ◌++◌}
 use Rattle.std.specs.List.{flat_map}
 use Rattle.std.specs.Prelude.{codes}
 use Rattle.seam_defs.specs.declared.flags.Part.TheVariants as part
-use Rattle.seam_world_text.specs.Texts.{done_of}
+use Rattle.seam_world_text.specs.RoundParts.{done_of}
 use Rattle.seam_world_text.proofs.calls.push_dob.Given as goal
 
 abbrev pub invariant-loop-resident : goal.invariant-loop-resident

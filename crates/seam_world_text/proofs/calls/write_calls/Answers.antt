@@ -5,7 +5,7 @@ use Rattle.seam_defs.specs.declared.flags.Part.TheVariants as part
 use Rattle.seam_node_steps.specs.Prelude.{TypeDef, World}
 use Rattle.seam_law_transcript.specs.Prelude.{data_of}
 use Rattle.seam_world_text.specs.Finding.{RoutesLeadHome, done_found}
-use Rattle.seam_world_text.specs.Texts.{calls_text, done_of_type}
+use Rattle.seam_world_text.specs.RoundParts.{calls_text, done_of_type}
 use Rattle.seam_world_text.proofs.Pieces.{calls_written}
 use Rattle.seam_world_text.proofs.calls.write_calls.Goals as goal
 

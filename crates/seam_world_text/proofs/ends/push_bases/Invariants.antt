@@ -1,6 +1,6 @@
 use Rattle.std.proofs.Common.{◌≡◌, ◌++◌}
 use Rattle.std.specs.List.{flat_map}
-use Rattle.seam_world_text.specs.Texts.{base_of}
+use Rattle.seam_world_text.specs.RoundParts.{base_of}
 use Rattle.seam_world_text.proofs.ends.push_bases.Given as goal
 
 abbrev pub invariant-loop-resident : goal.invariant-loop-resident

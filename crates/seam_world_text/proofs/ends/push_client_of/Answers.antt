@@ -1,7 +1,7 @@
 use Rattle.std.proofs.Common.{◌≡◌, ◌++◌, subst, sym, ap, ◌∙◌, rules}
 use Rattle.std.proofs.lemmas.Result.{on_ok_weaker}
 use Rattle.seam_world_text.specs.Finding.{lines_found}
-use Rattle.seam_world_text.specs.Texts.{shown_so_far, shown_of}
+use Rattle.seam_world_text.specs.RoundParts.{shown_so_far, shown_of}
 use Rattle.seam_world_text.specs.Told.{ShowOf, told_by}
 use Rattle.seam_world_text.proofs.ends.push_client_of.Goals as goal
 

@@ -2,7 +2,7 @@ use Rattle.std.proofs.Common.{◌≡◌, ◌++◌, ◌∷◌, ℕ, List, subst, 
 use Rattle.std.specs.List.{All, flat_map}
 use Rattle.std.proofs.lemmas.List.Elements.{All-head, All-tail}
 use Rattle.seam_report.specs.Spelled.{SpellingsView, GoesBy}
-use Rattle.seam_world_text.specs.Texts.{shown_of}
+use Rattle.seam_world_text.specs.RoundParts.{shown_of}
 use Rattle.seam_world_text.specs.Told.{ShowOf, told_by}
 use Rattle.seam_world_text.specs.declared.residents.Resident.{Resident}
 use Rattle.seam_world_text.proofs.ends.push_clients.Goals as goal

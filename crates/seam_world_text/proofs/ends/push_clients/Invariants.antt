@@ -1,7 +1,7 @@
 use Rattle.std.proofs.Common.{◌≡◌, ◌++◌}
 use Rattle.std.specs.List.{All, flat_map}
 use Rattle.seam_report.specs.Spelled.{Versions, GoesBy}
-use Rattle.seam_world_text.specs.Texts.{shown_of}
+use Rattle.seam_world_text.specs.RoundParts.{shown_of}
 use Rattle.seam_world_text.specs.Told.{ShowOf, told_by}
 use Rattle.seam_world_text.proofs.ends.push_clients.Given as goal
 

@@ -1,6 +1,6 @@
 use Rattle.std.proofs.Common.{◌≡◌, ◌++◌, get_or, subst, sym, ap, ◌∙◌}
 use Rattle.seam_call.specs.declared.shown.Line.{Line}
-use Rattle.seam_rule_rounds.specs.Texts.{client_text}
+use Rattle.seam_rule_rounds.specs.RoundTexts.{client_text}
 use Rattle.seam_report.specs.Spelled.{ShowsOf}
 use Rattle.seam_world_text.proofs.Told.{line_to, one_more_line}
 use Rattle.seam_world_text.proofs.ends.push_each.Goals as goal

@@ -1,6 +1,6 @@
 use Rattle.std.proofs.Common.{◌≡◌, ◌++◌, take}
 use Rattle.seam_report.specs.Spelled.{Versions, GoesBy}
-use Rattle.seam_world_text.specs.Texts.{lines_text}
+use Rattle.seam_world_text.specs.RoundParts.{lines_text}
 use Rattle.seam_world_text.specs.Told.{ShowOf}
 use Rattle.seam_world_text.proofs.ends.push_each.Given as goal
 

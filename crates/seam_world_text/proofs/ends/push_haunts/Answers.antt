@@ -37,5 +37,6 @@ loop-cell-preserved c =
     ∙ ap (λ l. l ++ flat_map ghost_text (line n)) c.loop-cell.invariant
     ∙ append_assoc first (flat_map ghost_text before) (flat_map ghost_text (line n))
     ∙ ap (λ l. first ++ l)
-    (sym (ap (flat_map ghost_text) (ap (λ k. flat_map line (range_with_len 0 k)) (add-one n) ∙ next_in_range line 0 n ∙ ap (λ k. before ++ line k) number)
+    (sym (ap (flat_map ghost_text) (ap (λ k. flat_map line (range_with_len 0 k)) (add-one n) ∙ next_in_range line 0 n
+    ∙ ap (λ k. before ++ line k) number)
     ∙ flat_map-append ghost_text before (line n)))

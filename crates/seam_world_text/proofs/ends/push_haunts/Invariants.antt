@@ -1,6 +1,6 @@
 use Rattle.std.proofs.Common.{◌≡◌, ◌++◌}
 use Rattle.std.specs.List.{flat_map, range_with_len}
-use Rattle.seam_rule_rounds.specs.Texts.{ghost_text}
+use Rattle.seam_rule_rounds.specs.RoundTexts.{ghost_text}
 use Rattle.seam_world_text.specs.Finding.{haunt_line}
 use Rattle.seam_world_text.proofs.ends.push_haunts.Given as goal
 

@@ -1,7 +1,7 @@
 use Rattle.std.proofs.Common.{◌≡◌, ◌++◌}
 use Rattle.std.specs.List.{flat_map}
 use Rattle.seam_world_text.specs.Finding.{RoutesLeadHome}
-use Rattle.seam_world_text.specs.Texts.{home_of, ghosts_of}
+use Rattle.seam_world_text.specs.RoundParts.{home_of, ghosts_of}
 use Rattle.seam_world_text.proofs.ends.push_homes.Given as goal
 
 abbrev pub invariant-loop-resident : goal.invariant-loop-resident

@@ -2,9 +2,9 @@ use Rattle.std.proofs.Common.{◌≡◌, ◌++◌, ℕ, List, sym, ap, ◌∙◌
 use Rattle.std.specs.List.{All, flat_map}
 use Rattle.std.proofs.lemmas.Result.{on_ok_weaker}
 use Rattle.seam_defs.specs.declared.types.TypeDef.{TypeDef}
-use Rattle.seam_rule_rounds.specs.Texts.{client_text}
+use Rattle.seam_rule_rounds.specs.RoundTexts.{client_text}
 use Rattle.seam_law_transcript.specs.Playing.{data_of}
-use Rattle.seam_world_text.specs.Texts.{ends_text, ghosts_of, shown_of}
+use Rattle.seam_world_text.specs.RoundParts.{ends_text, ghosts_of, shown_of}
 use Rattle.seam_world_text.specs.Told.{ShowOf, told_by}
 use Rattle.seam_world_text.proofs.Pieces.{ends_written}
 use Rattle.seam_world_text.proofs.Versions.{of_entries}

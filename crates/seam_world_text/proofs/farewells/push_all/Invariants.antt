@@ -1,5 +1,5 @@
 use Rattle.std.proofs.Common.{◌≡◌, ◌++◌, take}
-use Rattle.seam_world_text.specs.Texts.{lines_text}
+use Rattle.seam_world_text.specs.RoundParts.{lines_text}
 use Rattle.seam_world_text.proofs.farewells.push_all.Given as goal
 
 abbrev pub invariant-loop-line : goal.invariant-loop-line

@@ -5,7 +5,7 @@ use Rattle.seam_node_steps.specs.Nodes.{World}
 use Rattle.seam_judge_expected.proofs.ListedLemmas.{if_ok}
 use Rattle.seam_law_transcript.specs.Playing.{data_of}
 use Rattle.seam_world_text.specs.Finding.{RoutesLeadHome, done_found}
-use Rattle.seam_world_text.specs.Texts.{done_of_type}
+use Rattle.seam_world_text.specs.RoundParts.{done_of_type}
 use Rattle.seam_world_text.proofs.Pieces.{did_counted}
 use Rattle.seam_world_text.proofs.sums.count_did.Goals as goal
 

@@ -8,4 +8,5 @@ use Rattle.seam_world_text.proofs.sums.sum_homes.Given as goal
 abbrev pub invariant-loop-resident : goal.invariant-loop-resident
 invariant-loop-resident l =
     RoutesLeadHome l.world →
-    fold (λ z e. and_hp_found l.world z e.1) l.sum l.resident-iterator ≡ fold (λ z e. and_hp_found l.world z e.1) (pos 0) l.residents.entries
+    fold (λ z e. and_hp_found l.world z e.1) l.sum l.resident-iterator ≡ fold (λ z e. and_hp_found l.world z e.1) (pos 0)
+    l.residents.entries

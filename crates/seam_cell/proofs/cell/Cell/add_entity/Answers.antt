@@ -2,7 +2,7 @@ use Rattle.std.proofs.Common.{Some, sym, subst}
 use Rattle.seam_node_steps.specs.Prelude.{IsInSpace, created}
 use Rattle.seam_cell_parts.specs.Kept.{here_in}
 use Rattle.seam_cell.proofs.LoadLemmas.{whole_or, created_fits}
-use Rattle.seam_cell_look.proofs.ToldLemmas.{none_told}
+use Rattle.seam_cell_told.proofs.ToldAgain.{none_told}
 use Rattle.seam_cell.proofs.cell.Cell.add_entity.Goals as goal
 
 pub invariant_of-self : goal.invariant_of-self

@@ -3,7 +3,7 @@ use Rattle.std.specs.FinMap as table
 use Rattle.seam_entity.specs.WitnessLooks.{with_witness}
 use Rattle.seam_cell_parts.specs.Kept.{here_in}
 use Rattle.seam_cell.proofs.LoadLemmas.{whole_or, witness_fits}
-use Rattle.seam_cell_look.proofs.ToldLemmas.{none_told}
+use Rattle.seam_cell_told.proofs.ToldAgain.{none_told}
 use Rattle.seam_cell.proofs.cell.Cell.attach.Goals as goal
 
 pub invariant_of-self : goal.invariant_of-self

@@ -2,7 +2,7 @@ use Rattle.std.proofs.Common.{◌++◌, ap, ◌∙◌}
 use Rattle.std.proofs.lemmas.Result.{on_ok_weaker, on_err_weaker}
 use Rattle.seam_node_steps.specs.Prelude.{From, Hand, cell_steps}
 use Rattle.seam_cell_cases.proofs.StepLemmas.{whole_either}
-use Rattle.seam_cell_look.proofs.ToldLemmas.{none_told}
+use Rattle.seam_cell_told.proofs.ToldAgain.{none_told}
 use Rattle.seam_cell.proofs.cell.Cell.hear_hand.Goals as goal
 
 pub invariant_of-self : goal.invariant_of-self

@@ -6,7 +6,7 @@ use Rattle.seam_entity.specs.declared.message.Msg.TheVariants.{Call}
 use Rattle.seam_cell_parts.specs.Kept.{AreWhole}
 use Rattle.seam_cell_cases.specs.Calling.{is_called, IsTurn}
 use Rattle.seam_cell_cases.proofs.StepLemmas.{by_result, whole_after, whole_again, held_sends, held_left, held_not}
-use Rattle.seam_cell_look.proofs.ToldLemmas.{none_told}
+use Rattle.seam_cell_told.proofs.ToldAgain.{none_told}
 use Rattle.seam_cell.proofs.cell.Cell.hold_call.Goals as goal
 
 pub returns-in_default-clause-sent : goal.returns-in_default-clause-sent

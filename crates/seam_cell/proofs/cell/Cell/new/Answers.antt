@@ -1,6 +1,6 @@
 use Rattle.std.proofs.Common.{ap}
 use Rattle.seam_cell.proofs.CellLemmas.{empty_whole}
-use Rattle.seam_cell_look.proofs.ToldLemmas.{none_told}
+use Rattle.seam_cell_told.proofs.ToldAgain.{none_told}
 use Rattle.seam_cell.proofs.cell.Cell.new.Goals as goal
 
 pub invariant_of-result : goal.invariant_of-result

@@ -7,7 +7,7 @@ use Rattle.seam_cell_cases.specs.Calling.{may_run}
 use Rattle.seam_cell_parts.specs.Stepping.{core_of}
 use Rattle.seam_entity.proofs.HeldLemmas.{both}
 use Rattle.seam_cell_cases.proofs.StepLemmas.{by_result, both_err, whole_after, whole_again, undone, ready_left, TaskLeaves}
-use Rattle.seam_cell_look.proofs.ToldLemmas.{none_told}
+use Rattle.seam_cell_told.proofs.ToldAgain.{none_told}
 use Rattle.seam_cell.proofs.cell.Cell.run_ready.Goals as goal
 
 pub execute_ready-tasked-requires-clause-there : goal.execute_ready-tasked-requires-clause-there

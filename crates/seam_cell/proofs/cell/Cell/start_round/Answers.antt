@@ -1,6 +1,6 @@
 use Rattle.std.proofs.Common.{ap, sym, ◌∙◌}
 use Rattle.seam_cell.proofs.LoadLemmas.{round_whole}
-use Rattle.seam_cell_look.proofs.ToldLemmas.{none_told}
+use Rattle.seam_cell_told.proofs.ToldAgain.{none_told}
 use Rattle.seam_cell.proofs.cell.Cell.start_round.Goals as goal
 
 pub invariant_of-self-2 : goal.invariant_of-self-2

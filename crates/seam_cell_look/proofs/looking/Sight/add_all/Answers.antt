@@ -6,11 +6,11 @@ use Rattle.seam_node_steps.specs.Prelude.{shown_for, CellView, known_to}
 use Rattle.seam_cell_parts.specs.Kept.{here_in}
 use Rattle.seam_cell_parts.specs.News.{listed}
 use Rattle.seam_cell_look.specs.Looking.{seeing}
-use Rattle.seam_cell_look.specs.Told.{known_with}
-use Rattle.seam_cell_look.proofs.ToldLemmas.{told_again}
+use Rattle.seam_cell_seen.specs.Known.{known_with}
+use Rattle.seam_cell_told.proofs.ToldAgain.{told_again}
 use Rattle.seam_cell_look.proofs.LookLemmas.{shown_more}
-use Rattle.seam_cell_look.specs.Updates.{with_shown}
-use Rattle.seam_cell_look.proofs.UpdateLemmas.{shown_twice}
+use Rattle.seam_cell_told.specs.Updates.{with_shown}
+use Rattle.seam_cell_told.proofs.UpdateLemmas.{shown_twice}
 use Rattle.seam_cell_look.proofs.looking.Sight.add_all.Goals as goal
 
 pub loop-look-preserved : goal.loop-look-preserved

@@ -3,8 +3,9 @@ use Rattle.std.specs.List.{filter_map}
 use Rattle.seam_node_steps.specs.Prelude.{shown_for, CellView, known_to}
 use Rattle.seam_cell_parts.specs.Kept.{here_in}
 use Rattle.seam_cell_look.specs.Looking.{seeing}
-use Rattle.seam_cell_look.specs.Told.{known_with, AreStillTold}
-use Rattle.seam_cell_look.specs.Updates.{with_shown}
+use Rattle.seam_cell_seen.specs.Known.{known_with}
+use Rattle.seam_cell_told.specs.Told.{AreStillTold}
+use Rattle.seam_cell_told.specs.Updates.{with_shown}
 use Rattle.seam_cell_look.proofs.looking.Sight.add_all.Given as goal
 
 abbrev pub invariant-loop-look : goal.invariant-loop-look

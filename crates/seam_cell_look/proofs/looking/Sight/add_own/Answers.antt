@@ -3,7 +3,7 @@ use Rattle.std.proofs.lemmas.Result.{on_ok_weaker}
 use Rattle.seam_node_steps.specs.Prelude.{own_of, Own, properties, own_due}
 use Rattle.seam_cell_parts.specs.Kept.{here_in}
 use Rattle.seam_cell_look.specs.Looking.{own_when}
-use Rattle.seam_cell_look.specs.Updates.{with_shown}
+use Rattle.seam_cell_told.specs.Updates.{with_shown}
 use Rattle.seam_cell_look.proofs.looking.Sight.add_own.Goals as goal
 
 pub returns : goal.returns

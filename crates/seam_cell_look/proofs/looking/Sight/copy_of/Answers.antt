@@ -2,9 +2,10 @@ use Rattle.std.proofs.Common.{Some, sym, ap, subst, ◌∙◌}
 use Rattle.seam_node_steps.specs.Cells.{CellView}
 use Rattle.seam_cell_parts.specs.Kept.{here_in}
 use Rattle.seam_cell_look.specs.Looking.{seeing}
-use Rattle.seam_cell_look.specs.Told.{known_with, AreToldBut}
+use Rattle.seam_cell_seen.specs.Known.{known_with}
+use Rattle.seam_cell_told.specs.Told.{AreToldBut}
 use Rattle.seam_cell_look.proofs.LookLemmas.{self_unknown, known_here}
-use Rattle.seam_cell_look.proofs.ToldLemmas.{still_told}
+use Rattle.seam_cell_told.proofs.ToldAgain.{still_told}
 use Rattle.seam_cell_look.proofs.looking.Sight.copy_of.Goals as goal
 
 pub returns-then-e-self-clause-copy : goal.returns-then-e-self-clause-copy
@@ -26,7 +27,8 @@ returns-in_default-2-clause-copy c = λ k.
 pub returns-clause-copy : goal.returns-clause-copy
 returns-clause-copy c = λ k.
     let d : CellView = seeing k (here_in c.args.self.now.known.now) c.args.self.now.reals.now.items c.args.self.now.copies.now.ghosts in
-    ap Some c.in_ok-copy-3.ensures ∙ (sym c.in-Some-2.is ∙ (c.in_ok-copy-2.ensures ∙ sym (known_here d c.args.self.now.own c.args.e c.if-e-self.false)))
+    ap Some c.in_ok-copy-3.ensures
+    ∙ (sym c.in-Some-2.is ∙ (c.in_ok-copy-2.ensures ∙ sym (known_here d c.args.self.now.own c.args.e c.if-e-self.false)))
 
 pub returns-clause-told : goal.returns-clause-told
 returns-clause-told c =

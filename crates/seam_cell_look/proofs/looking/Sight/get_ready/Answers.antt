@@ -12,7 +12,7 @@ use Rattle.seam_node_steps.proofs.Knowing.{known_in_order}
 use Rattle.seam_cell_parts.specs.Kept.{here_in}
 use Rattle.seam_cell_look.specs.Looking.{seeing}
 use Rattle.seam_cell_look.specs.Near.{HasNear, is_early}
-use Rattle.seam_cell_look.specs.Updates.{updates_of}
+use Rattle.seam_cell_told.specs.Updates.{updates_of}
 use Rattle.seam_cell_look.proofs.NearLooks.{looks_same}
 use Rattle.seam_cell_look.proofs.looking.Sight.get_ready.Goals as goal
 

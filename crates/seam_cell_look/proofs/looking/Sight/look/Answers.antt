@@ -17,7 +17,8 @@ returns-then-not-are_numbers_small-clause-witness c = λ k.
     c.get_ready.ensures.same
     ∙ stray_stays h c.args.real.now.core (witness_of c.args.witness.now) (known_to d c.args.self.now.own)
     (c.if-not-are_numbers_small.ensures
-    ∙ λ i. is_small ((c.get_ready.ensures.same i).sent + (c.len-updates.ensures ∙ ap (λ u. length u.shown) (c.in_ok-glance.ensures.shown k)) i))
+    ∙ λ i. is_small ((c.get_ready.ensures.same i).sent + (c.len-updates.ensures ∙ ap (λ u. length u.shown) (c.in_ok-glance.ensures.shown k))
+    i))
 
 pub returns-then-not-are_numbers_small-clause-sent : goal.returns-then-not-are_numbers_small-clause-sent
 returns-then-not-are_numbers_small-clause-sent c = λ k.
@@ -27,7 +28,8 @@ returns-then-not-are_numbers_small-clause-sent c = λ k.
     ∙ ap (λ l. c.args.out.now.items ++ l)
     (stray_is_silent h c.args.real.now.core (witness_of c.args.witness.now) (known_to d c.args.self.now.own)
     (c.if-not-are_numbers_small.ensures
-    ∙ λ i. is_small ((c.get_ready.ensures.same i).sent + (c.len-updates.ensures ∙ ap (λ u. length u.shown) (c.in_ok-glance.ensures.shown k)) i)))
+    ∙ λ i. is_small ((c.get_ready.ensures.same i).sent + (c.len-updates.ensures ∙ ap (λ u. length u.shown) (c.in_ok-glance.ensures.shown k))
+    i)))
 
 pub returns-clause-witness : goal.returns-clause-witness
 returns-clause-witness c = λ k.

@@ -3,7 +3,7 @@ use Rattle.std.specs.List.{filter}
 use Rattle.seam_node_steps.specs.Cells.{CellView}
 use Rattle.seam_cell_parts.specs.Kept.{here_in}
 use Rattle.seam_cell_look.specs.Looking.{seeing}
-use Rattle.seam_cell_look.specs.Near.{seen_at_place, is_other, without_reals, merged}
+use Rattle.seam_cell_seen.specs.Merging.{seen_at_place, is_other, without_reals, merged}
 use Rattle.seam_cell_look.proofs.NearLemmas.{near_are}
 use Rattle.seam_cell_look.proofs.looking.Sight.near.Goals as goal
 

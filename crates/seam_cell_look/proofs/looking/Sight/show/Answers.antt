@@ -3,7 +3,7 @@ use Rattle.std.specs.List.{filter_map}
 use Rattle.seam_node_steps.specs.Prelude.{witness_of, shown_for, CellView, known_to, base_of}
 use Rattle.seam_cell_parts.specs.Kept.{here_in}
 use Rattle.seam_cell_look.specs.Looking.{seeing, own_told}
-use Rattle.seam_cell_look.specs.Updates.{with_shown, updates_of}
+use Rattle.seam_cell_told.specs.Updates.{with_shown, updates_of}
 use Rattle.seam_cell_look.proofs.LookLemmas.{all_is_shown}
 use Rattle.seam_cell_look.proofs.looking.Sight.show.Goals as goal
 

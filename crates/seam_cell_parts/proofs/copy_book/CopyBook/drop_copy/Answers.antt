@@ -17,4 +17,5 @@ pub returns-in-Ok-Ignored-clause-ok : goal.returns-in-Ok-Ignored-clause-ok
 returns-in-Ok-Ignored-clause-ok c =
     ap (λ w. w.ghosts) c.in-Ok-Ignored.ensures.after
     ∙ (book_after c.self.inside.book c.args.e (record { beat = c.args.beat; copy = None })
-    ∙ ap (λ w. set_at w.ghosts c.args.e (ghost_after (map.get w.ghosts c.args.e) (record { beat = c.args.beat; copy = None }))) c.self.view_is)
+    ∙ ap (λ w. set_at w.ghosts c.args.e (ghost_after (map.get w.ghosts c.args.e) (record { beat = c.args.beat; copy = None })))
+    c.self.view_is)

@@ -23,7 +23,8 @@ invariant_of-self-2 c =
     let q = c.self.inside in
     let d = c.in-Some.entry.now in
     queue_still q.entries.items q.place c.first_from-self-inside.result d (record { entity = d.entity; waits = false })
-    c.self.invariant.rising (ap (λ w. w.entity) c.in-Some.ensures.value) (c.first_from-self-inside.ensures ∙ ap passed c.deref.ensures.value)
+    c.self.invariant.rising (ap (λ w. w.entity) c.in-Some.ensures.value) (c.first_from-self-inside.ensures
+    ∙ ap passed c.deref.ensures.value)
 
 pub returns-clause-some : goal.returns-clause-some
 returns-clause-some c =

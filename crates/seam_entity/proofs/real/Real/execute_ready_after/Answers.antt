@@ -1,5 +1,5 @@
 use Rattle.std.proofs.Common.{◌≡◌, ap, sym, ◌∙◌, None}
-use Rattle.seam_entity.specs.Calls.{ready_call}
+use Rattle.seam_entity.specs.ReadyCalls.{ready_call}
 use Rattle.seam_entity.proofs.ReadyLemmas.{ready_is_some}
 use Rattle.seam_entity.proofs.real.Real.execute_ready_after.Goals as goal
 

@@ -1,5 +1,5 @@
 use Rattle.std.proofs.Common.{◌≡◌, ap, sym, ◌∙◌, None, option_copied}
-use Rattle.seam_entity.specs.Calls.{ready_call}
+use Rattle.seam_entity.specs.ReadyCalls.{ready_call}
 use Rattle.seam_entity.proofs.ReadyLemmas.{ready_is_some}
 use Rattle.seam_entity.proofs.real.Real.prepare_ready.Goals as goal
 

@@ -25,7 +25,8 @@ many g c =
     let rows = ap (λ w. length w.rows) c.self.view_is in
     omega (arith, sent, rows, c.self.invariant.0.busy_len)
 
-empty_there : (g : _) (c : After-first g) (k a : ℕ) → k < length c.args.self.now.rows → is_marked c.self.inside.kept.waiting.words k ≡ false →
+empty_there : (g : _) (c : After-first g) (k a : ℕ) → k < length c.args.self.now.rows → is_marked c.self.inside.kept.waiting.words k
+    ≡ false →
     link c.args.self.now.rows a k ≡ []
 empty_there g c k a lt gone =
     let n = c.self.inside in
@@ -39,7 +40,8 @@ pub returns-clause-within : goal.returns-clause-within
 returns-clause-within g c =
     let n = c.self.inside in
     IfSome_then c.first.result c.first.ensures.some
-    (λ k there. let within = marked_within n.kept.waiting.words n.kept.busy.items c.self.invariant.2 k there in omega (arith, within, many g c))
+    (λ k there. let within = marked_within n.kept.waiting.words n.kept.busy.items c.self.invariant.2 k there in
+    omega (arith, within, many g c))
 
 pub returns-clause-first : goal.returns-clause-first
 returns-clause-first g c =

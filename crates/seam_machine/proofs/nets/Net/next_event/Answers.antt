@@ -20,7 +20,8 @@ node_in g c =
     let within = c.in-Some-first_busy.ensures.within in
     omega (arith, within, nodes, square)
 
-known : (g : _) (c : After-first g) → (k : ℕ) → is_marked c.self.inside.tasks.words k ≡ has_task g.M.Machine.has_work (slice_get c.args.self.now.nodes k)
+known : (g : _) (c : After-first g) → (k : ℕ) → is_marked c.self.inside.tasks.words k
+    ≡ has_task g.M.Machine.has_work (slice_get c.args.self.now.nodes k)
 known g c k = c.self.invariant.1 c.if-not-self.false k ∙ ap (λ w. has_task g.M.Machine.has_work (slice_get w.nodes k)) c.self.view_is
 
 pub returns-in-Some-first_busy-clause-enabled : goal.returns-in-Some-first_busy-clause-enabled

@@ -17,7 +17,8 @@ loop-k-2-preserved g c =
     let nodes = c.self.inside.nodes.items in
     let same = ap (λ w. w.nodes) c.self.view_is in
     let at : slice_get c.args.self.now.nodes here ≡ Some c.index.result.now =
-    ap (λ n. slice_get n here) (sym same) ∙ slice_get_read nodes (length nodes) here c.index.result.now refl (omega arith) c.index.ensures in
+    ap (λ n. slice_get n here) (sym same) ∙ slice_get_read nodes (length nodes) here c.index.result.now refl (omega arith) c.index.ensures
+    in
     let off =
     slice_get-map g.M.Machine.has_work c.args.self.now.nodes here
     ∙ (ap (option_map g.M.Machine.has_work) at ∙ ap Some (sym c.has_task.ensures ∙ c.if-has_task.false)) in

@@ -42,7 +42,8 @@ invariant_of-self-2 g c =
       net_fed g.M.Machine.steps c.args.self.now c.args.event c.self.inside.nodes.items c.self.inside.links.rows
           c.feed.new.self.rows c.index_mut-node.result.now c.feed.new.node (ap (λ w. w.nodes) c.self.view_is) (rows_are g i)
           (node_is g ((goal.at.invariant_of-self-2 g c).After-index_mut-node)) c.in_ok-feed.ensures.fed (is_net g i),
-      knows_after g.M.Machine.has_work c.self.inside.nodes.items c.ask.new.tasks.words c.ask.new.asked c.set.new.self.words c.args.event.node
+      knows_after g.M.Machine.has_work c.self.inside.nodes.items c.ask.new.tasks.words c.ask.new.asked c.set.new.self.words
+          c.args.event.node
           c.feed.new.node c.has_task.result (node_in g i) c.has_task.ensures c.set.ensures.there c.set.ensures.others c.ask.ensures,
     )
 

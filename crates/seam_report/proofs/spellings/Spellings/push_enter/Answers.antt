@@ -14,8 +14,10 @@ returns-in-Some-clause-text c vs go known =
     (λ pushed.
     pushed
     ∙ ap (λ l. c.args.out.now.items ++ l)
-    (c.deref.ensures.value ∙ is.text ∙ ap (λ (s : SpellingsView). enter_text s.defs e k ++ copy_text s.defs k ++ 10 ∷ []) c.go_to-place.ensures))
-    (appended c.extend_from_slice.result c.extend_from_slice.new.self.items (c.args.out.now.items ++ c.deref.result.now) c.args.out.now.items
+    (c.deref.ensures.value ∙ is.text ∙ ap (λ (s : SpellingsView). enter_text s.defs e k ++ copy_text s.defs k ++ 10 ∷ [])
+    c.go_to-place.ensures))
+    (appended c.extend_from_slice.result c.extend_from_slice.new.self.items (c.args.out.now.items ++ c.deref.result.now)
+    c.args.out.now.items
     c.extend_from_slice.ensures.items)
 
 pub returns-clause-kept : goal.returns-clause-kept

@@ -12,5 +12,6 @@ returns-in-Err-clause-none c =
     (subst (λ ss. IsByNumber (keys_of (entries_of ss)) c.self.inside.by_number.items) (sym c.deref.ensures.value) c.self.invariant) in
     let none =
     ap (λ ss. list_any (λ p. eqb c.args.e p.0) (entries_of ss)) (sym c.deref.ensures.value)
-    ∙ not_among (entries_of c.deref.result.now) c.deref-2.result.now c.args.e c.in-Err.rank held c.in-Err.ensures.below c.in-Err.ensures.above in
+    ∙ not_among (entries_of c.deref.result.now) c.deref-2.result.now c.args.e c.in-Err.rank held c.in-Err.ensures.below
+    c.in-Err.ensures.above in
     ap (λ w. list_any (λ p. eqb c.args.e p.0) w.entries) (sym c.self.view_is) ∙ none

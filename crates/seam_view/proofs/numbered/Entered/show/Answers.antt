@@ -43,7 +43,8 @@ push_reserved-requires c =
     (subst (λ ss. IsByNumber (keys_of (entries_of ss)) c.self.inside.by_number.items) (sym c.deref.ensures.value) c.self.invariant) in
     let none =
     ap (λ ss. list_any (λ p. eqb c.args.e p.0) (entries_of ss)) (sym c.deref.ensures.value)
-    ∙ not_among (entries_of c.deref.result.now) c.deref-2.result.now c.args.e c.in-Err.rank held c.in-Err.ensures.below c.in-Err.ensures.above in
+    ∙ not_among (entries_of c.deref.result.now) c.deref-2.result.now c.args.e c.in-Err.rank held c.in-Err.ensures.below
+    c.in-Err.ensures.above in
     let room = c.requires.room (ap (λ w. list_any (λ p. eqb c.args.e p.0) w.entries) (sym c.self.view_is) ∙ none) in
     let is = ap (λ w. w.room) c.self.view_is in
     omega (arith, room, is)
@@ -55,7 +56,8 @@ insert_at-requires-clause-room c =
     (subst (λ ss. IsByNumber (keys_of (entries_of ss)) c.self.inside.by_number.items) (sym c.deref.ensures.value) c.self.invariant) in
     let none =
     ap (λ ss. list_any (λ p. eqb c.args.e p.0) (entries_of ss)) (sym c.deref.ensures.value)
-    ∙ not_among (entries_of c.deref.result.now) c.deref-2.result.now c.args.e c.in-Err.rank held c.in-Err.ensures.below c.in-Err.ensures.above in
+    ∙ not_among (entries_of c.deref.result.now) c.deref-2.result.now c.args.e c.in-Err.rank held c.in-Err.ensures.below
+    c.in-Err.ensures.above in
     let room = c.requires.room (ap (λ w. list_any (λ p. eqb c.args.e p.0) w.entries) (sym c.self.view_is) ∙ none) in
     let is = ap (λ w. w.room) c.self.view_is in
     omega (arith, room, is)
@@ -67,7 +69,8 @@ invariant_of-self-in-Err c =
     (subst (λ ss. IsByNumber (keys_of (entries_of ss)) c.self.inside.by_number.items) (sym c.deref.ensures.value) c.self.invariant) in
     let none =
     ap (λ ss. list_any (λ p. eqb c.args.e p.0) (entries_of ss)) (sym c.deref.ensures.value)
-    ∙ not_among (entries_of c.deref.result.now) c.deref-2.result.now c.args.e c.in-Err.rank held c.in-Err.ensures.below c.in-Err.ensures.above in
+    ∙ not_among (entries_of c.deref.result.now) c.deref-2.result.now c.args.e c.in-Err.rank held c.in-Err.ensures.below
+    c.in-Err.ensures.above in
     let room = c.requires.room (ap (λ w. list_any (λ p. eqb c.args.e p.0) w.entries) (sym c.self.view_is) ∙ none) in
     let is = ap (λ w. w.room) c.self.view_is in
     let slots = c.deref.result.now in
@@ -92,11 +95,13 @@ returns-in-Err-clause-entries c =
     (subst (λ ss. IsByNumber (keys_of (entries_of ss)) c.self.inside.by_number.items) (sym c.deref.ensures.value) c.self.invariant) in
     let none =
     ap (λ ss. list_any (λ p. eqb c.args.e p.0) (entries_of ss)) (sym c.deref.ensures.value)
-    ∙ not_among (entries_of c.deref.result.now) c.deref-2.result.now c.args.e c.in-Err.rank held c.in-Err.ensures.below c.in-Err.ensures.above in
+    ∙ not_among (entries_of c.deref.result.now) c.deref-2.result.now c.args.e c.in-Err.rank held c.in-Err.ensures.below
+    c.in-Err.ensures.above in
     let slots = c.self.inside.slots.items in
     ap entries_of c.push_reserved.ensures.items
     ∙ (entries_with_last slots _
-    ∙ (sym (placed_last c.args.e c.args.version (entries_of slots) none) ∙ ap (λ w. placed c.args.e c.args.version w.entries) c.self.view_is))
+    ∙ (sym (placed_last c.args.e c.args.version (entries_of slots) none) ∙ ap (λ w. placed c.args.e c.args.version w.entries)
+    c.self.view_is))
 
 pub returns-in-Err-clause-room : goal.returns-in-Err-clause-room
 returns-in-Err-clause-room c =
@@ -105,7 +110,8 @@ returns-in-Err-clause-room c =
     (subst (λ ss. IsByNumber (keys_of (entries_of ss)) c.self.inside.by_number.items) (sym c.deref.ensures.value) c.self.invariant) in
     let none =
     ap (λ ss. list_any (λ p. eqb c.args.e p.0) (entries_of ss)) (sym c.deref.ensures.value)
-    ∙ not_among (entries_of c.deref.result.now) c.deref-2.result.now c.args.e c.in-Err.rank held c.in-Err.ensures.below c.in-Err.ensures.above in
+    ∙ not_among (entries_of c.deref.result.now) c.deref-2.result.now c.args.e c.in-Err.rank held c.in-Err.ensures.below
+    c.in-Err.ensures.above in
     let one = ap {B = ℕ} (λ b. cond b 0 1) (ap (λ w. list_any (λ p. eqb c.args.e p.0) w.entries) (sym c.self.view_is) ∙ none) in
     let is = ap (λ w. w.room) c.self.view_is in
     let slots = ap length c.push_reserved.ensures.items ∙ length-append c.self.inside.slots.items _ in

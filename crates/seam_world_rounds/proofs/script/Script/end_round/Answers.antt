@@ -34,7 +34,8 @@ returns g c = λ h t ready.
     let number = c.in_ok-self.ensures.next ∙ ap (λ (n : ℕ). n + 1) ready.has.round in
     let left = c.in_ok-played.played in
     let has =
-    played_in h t old ready c.in-Some.world is batch brings c.args.playing.now.output left c.play.new.residents c.args.out.now.items c.play.new.out.items
+    played_in h t old ready c.in-Some.world is batch brings c.args.playing.now.output left c.play.new.residents c.args.out.now.items
+    c.play.new.out.items
     (c.in_ok-played.ensures h t ready.has.tree (beside_in h t old ready c.in-Some.world is batch brings stands) brings ready.has.header
     number present) in
     let p = has.played in
@@ -45,10 +46,8 @@ returns g c = λ h t ready.
           p.made_listed p.live_listed none)
           (λ some u is_tree same balanced. law.balanced h t ready.has.tree ready.has.world ready.has.goes_on ready.may left.world p.round
           p.ended p.made p.live p.made_listed p.live_listed some u is_tree same balanced)
-          (c.each_entity_has_one_real_through_a_round.ensures h t ready.has.tree ready.has.world ready.has.goes_on ready.may left.world
-          p.round p.ended)
-          (c.each_part_executes_in_turn.ensures.round h t ready.has.tree ready.has.world ready.has.goes_on ready.may left.world p.round
-          p.ended)
+          (c.each_entity_has_one_real_through_a_round.ensures h t ready.has.tree ready.has.world ready.has.goes_on ready.may)
+          (c.each_part_executes_in_turn.ensures h t ready.has.tree ready.has.world ready.has.goes_on ready.may)
           (λ r u. c.clients_see_all_within_their_radius.ensures h t ready.has.tree ready.has.world ready.has.goes_on r u)
           refl refl refl refl c.in_ok-self.ensures.next
           (c.begin_next.ensures h _ (c.take_batch-batch.ensures.ended h t.book ready.book)) c.in_ok-self-2.ensures,

@@ -12,7 +12,8 @@ returns-then-count-eq0 g c =
     λ h t was. (
       [],
       nothing_open c.args.playing.now.output h t (Gives c.args.playing.now.output h c.args.self.now c.args.self.now)
-          (no_pieces_counted c.args.playing.now.output _ _ refl, none_played h _ _ refl) (sym (c.count.ensures h t.book was.book) ∙ c.if-count-eq0.true),
+          (no_pieces_counted c.args.playing.now.output _ _ refl, none_played h _ _ refl) (sym (c.count.ensures h t.book was.book)
+          ∙ c.if-count-eq0.true),
       sym (append-nil c.args.out.now.items),
     )
 

@@ -39,7 +39,8 @@ returns-then-count-eq-MOST_LINES g c = λ h t line accepted.
     let was = subst (λ (a : Accepted). HasAccepted h t line a c.args.self.now) c.in-Kept.is accepted in
     let goes = c.a_course_begins_and_goes_on.ensures.entry h t in
     let full = sym (c.count.ensures h (with_entry t.book was.answered.0) was.answered.2) ∙ c.if-count-eq-MOST_LINES.true in
-    let e = c.in_ok-end_round-in-Kept.ensures h (with_book (with_line t) (with_entry t.book was.answered.0)) (kept_ready h t goes line c.args.self.now was
+    let e = c.in_ok-end_round-in-Kept.ensures h (with_book (with_line t) (with_entry t.book was.answered.0))
+    (kept_ready h t goes line c.args.self.now was
     (full_may_end h t goes line c.args.self.now was (c.a_round_may_be_run.ensures.some h) full)) in (
       e.0,
       kept_last c.args.playing.now.output h (with_line t) line was.answered.0
@@ -66,7 +67,8 @@ returns-else-count-eq-MOST_LINES g c = λ h t line accepted.
 pub returns-in_ok-end_round-in-Synced : goal.returns-in_ok-end_round-in-Synced
 returns-in_ok-end_round-in-Synced g c = λ h t line accepted.
     let was = subst (λ (a : Accepted). HasAccepted h t line a c.args.self.now) c.in-Synced.is accepted in
-    let e = c.in_ok-end_round-in-Synced.ensures h (with_line t) (sync_ready h t (c.a_course_begins_and_goes_on.ensures.line h t) line c.args.self.now was
+    let e = c.in_ok-end_round-in-Synced.ensures h (with_line t)
+    (sync_ready h t (c.a_course_begins_and_goes_on.ensures.line h t) line c.args.self.now was
     (sync_may_end h t line c.args.self.now was (c.a_round_may_be_run.ensures.synced h t))) in (
       e.0,
       synced c.args.playing.now.output h (with_line t) line

@@ -29,8 +29,12 @@ returns-in-Ok g c = if_ok c.follow.result
     let accepted =
     has_accepted h t line c.in-Ok.accepted c.args.self.now _ was refl refl refl refl c.in_ok-self.ensures.next c.in_ok-self.ensures.most
     (c.in-Ok.ensures.accepted h t.book was.book) in
-    let f = followed h t line accepted in
-    (f.0, line_read c.args.playing.now.output h t line (Refines c.args.playing.now.output h c.args.self.now c.follow.new.self) f.0 (option_to_list ended) f.1, f.2))
+    let f = followed h t line accepted in (
+      f.0,
+      line_read c.args.playing.now.output h t line (Refines c.args.playing.now.output h c.args.self.now c.follow.new.self) f.0
+          (option_to_list ended) f.1,
+      f.2,
+    ))
     c.follow.ensures
 
 pub returns-in_ok-refuse-in-Err-Cause : goal.returns-in_ok-refuse-in-Err-Cause

@@ -1,0 +1,2 @@
+pub mod ToldAgain
+pub mod UpdateLemmas
