@@ -32,16 +32,18 @@ use Rattle.seam_args.specs.declared.TheConstants.{MOST_WORKERS, MOST_TURNS, LONG
 abbrev rules : List Rule
 rules = command.top.rules
 
--- the place of the first rule with this id, or 4
+-- the place of the first rule with this id, or 6
 abbrev place_of : Text → ℕ
-place_of id = unwrap_or (position (λ (r : Rule). bytes_eq r.id id) rules) 4
+place_of id = unwrap_or (position (λ (r : Rule). bytes_eq r.id id) rules) 6
 
-place_is : (j : ℕ) (d : Rule) → j < 4 → place_of (slice_index_or rules j d).id ≡ j
+place_is : (j : ℕ) (d : Rule) → j < 6 → place_of (slice_index_or rules j d).id ≡ j
 place_is zero d lt = refl
 place_is (suc zero) d lt = refl
 place_is (suc (suc zero)) d lt = refl
 place_is (suc (suc (suc zero))) d lt = refl
-place_is (suc (suc (suc (suc j)))) d lt = absurd (omega arith)
+place_is (suc (suc (suc (suc zero)))) d lt = refl
+place_is (suc (suc (suc (suc (suc zero))))) d lt = refl
+place_is (suc (suc (suc (suc (suc (suc j)))))) d lt = absurd (omega arith)
 
 abbrev has_id : Text → Entry → Bool
 has_id id e = bytes_eq e.0.now id
@@ -71,15 +73,15 @@ text_of_entry : (f : Found) (id : Text) (x : MatchedArg) (t : Text) → matched_
 text_of_entry f id x t found is v = rw (found, is) v
 
 module _ (old : Command) (m : ArgMatches) (p : IsParsedFrom old m) (is : app_of old ≡ command) where
-  count_is : length (args_of old) ≡ 4
+  count_is : length (args_of old) ≡ 6
   count_is = sym (length-map (args_of old) rule_of) ∙ ap (λ (a : App). length a.top.rules) is
 
-  rule_at : (k : ℕ) (d : Arg) → k < 4 → rule_of (slice_index_or (args_of old) k d) ≡ slice_index_or rules k (rule_of d)
+  rule_at : (k : ℕ) (d : Arg) → k < 6 → rule_of (slice_index_or (args_of old) k d) ≡ slice_index_or rules k (rule_of d)
   rule_at k d lt =
       let low : k < length (args_of old) = omega (arith, count_is) in
       sym (get_or-map rule_of (args_of old) k d (rule_of d) low) ∙ ap (λ (a : App). slice_index_or a.top.rules k (rule_of d)) is
 
-  id_at : (k : ℕ) (d : Arg) → k < 4 → place_of (slice_index_or (args_of old) k d).id.now ≡ k
+  id_at : (k : ℕ) (d : Arg) → k < 6 → place_of (slice_index_or (args_of old) k d).id.now ≡ k
   id_at k d lt = ap (λ (r : Rule). place_of r.id) (rule_at k d lt) ∙ place_is k (rule_of d) lt
 
   simple : IsSimple old
@@ -96,6 +98,9 @@ module _ (old : Command) (m : ArgMatches) (p : IsParsedFrom old m) (is : app_of 
     abbrev arg : Arg
     arg = slice_index_or (args_of old) k d
 
+    below : k < 6
+    below = omega (arith, lt)
+
     abbrev test : ValueParser
     test = vp.Signed (pos 1) (pos most)
 
@@ -103,7 +108,7 @@ module _ (old : Command) (m : ArgMatches) (p : IsParsedFrom old m) (is : app_of 
     low = omega (arith, count_is, lt)
 
     rule_is : rule_of arg ≡ number_rule name most defaults
-    rule_is = rule_at k d lt ∙ rule
+    rule_is = rule_at k d below ∙ rule
 
     name_is : arg.id.now ≡ name
     name_is = ap (λ (r : Rule). r.id) rule_is
@@ -112,12 +117,12 @@ module _ (old : Command) (m : ArgMatches) (p : IsParsedFrom old m) (is : app_of 
     rules_by_id : (j : ℕ) (x : Arg) → j < length (args_of p.built) → slice_index_or (args_of p.built) j x ≡ x
         → bytes_eq x.id.now arg.id.now ≡ true → SameRules arg x
     rules_by_id = same_rules_by_id old m p k d low
-        (λ j e below same.
+        (λ j e there same.
         let ids : (slice_index_or (args_of old) j e).id.now ≡ arg.id.now = (bytes_eq-Decides _ _).0 same in
-        sym (id_at j e (omega (arith, below, count_is))) ∙ (ap place_of ids ∙ id_at k d lt))
+        sym (id_at j e (omega (arith, there, count_is))) ∙ (ap place_of ids ∙ id_at k d below))
         (λ auto. elim auto [
-          | inl h ↦ let bad : k ≡ 4 = sym (id_at k d lt) ∙ ap place_of h in absurd (omega (arith, bad, lt))
-          | inr h ↦ let bad : k ≡ 4 = sym (id_at k d lt) ∙ ap place_of h in absurd (omega (arith, bad, lt))
+          | inl h ↦ let bad : k ≡ 4 = sym (id_at k d below) ∙ ap place_of h in absurd (omega (arith, bad, lt))
+          | inr h ↦ let bad : k ≡ 5 = sym (id_at k d below) ∙ ap place_of h in absurd (omega (arith, bad, lt))
         ])
 
     parser_is : (y : Arg) → SameRules arg y → parser_of y ≡ test
@@ -127,7 +132,7 @@ module _ (old : Command) (m : ArgMatches) (p : IsParsedFrom old m) (is : app_of 
         (key : e.0.now ≡ arg.id.now) (pass : EntryPasses p.built e) where
       no_group : e.1.is_group ≡ true → ⊥
       no_group g = elim (pass.3 g) [
-        | inl empty ↦ let bad : k ≡ 4 = sym (id_at k d lt) ∙ ap place_of (sym key ∙ empty) in absurd (omega (arith, bad, lt))
+        | inl empty ↦ let bad : k ≡ 6 = sym (id_at k d below) ∙ ap place_of (sym key ∙ empty) in absurd (omega (arith, bad, lt))
         | inr lots ↦
             let bad : 0 < 0 = rw no_groups at lots in
             absurd (omega arith)

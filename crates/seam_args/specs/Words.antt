@@ -1,5 +1,12 @@
 -- The command line of the server: its command, by clap's own definition of a simple command, and the options of the words.
-use Rattle.std.specs.Prelude.{◌≡◌, ◌↔◌, ◌≤◌, ℕ, ◌∷◌, [], List, Some, pos, codes, true, IfSome, find, option_map, option_and_then}
+use Rattle.std.specs.Prelude.{◌≡◌, ◌↔◌, ◌≤◌, ℕ, ◌∷◌, [], List, Some, pos, codes, true, IfSome, find, map, option_map, option_and_then}
+use Rattle.std.specs.Prelude.{Result, Ok, Err, String, string_bytes}
+use Rattle.std.specs.IoError.{error_kind}
+use Rattle.std.specs.Vec.Iter.{into_iter_items}
+use Rattle.std.specs.declared.alloc.Global.{Global}
+use Rattle.std.specs.declared.io.Error.{Error}
+use Rattle.std.specs.declared.io.ErrorKind.TheVariants.{OutOfMemory}
+use Rattle.std.specs.declared.vec.IntoIter.{IntoIter}
 use Rattle.std.specs.Str.{bytes_eq}
 use Rattle.std.specs.Str.Parse.{digits_value, without_leading_plus}
 use Rattle.clap.specs.Words.{App, Row, Rule, Text, fault_of, new_app, new_rule, one_of, with_rule}
@@ -22,22 +29,44 @@ number_rule name most defaults = record (new_rule name) {
 abbrev pub flag_rule : Text → Rule
 flag_rule name = record (new_rule name) { long = Some name; action = Some SetTrue }
 
--- the command, where the words do not begin with the name of the program
-abbrev pub without_name : App → App
-without_name a = record a { top = record a.top { no_binary_name = true } }
+-- the flag `--help`, which is `-h` too
+abbrev pub help_rule : Rule
+help_rule = record (flag_rule (codes "help")) { short = Some 104 }
 
--- the command of the server
+-- the command without an option that clap adds by itself
+abbrev pub without_help : App → App
+without_help a = record a { top = record a.top { disable_help_flag = true } }
+
+-- the command of the server, whose words begin with the name of the program
 abbrev pub command : App
 command =
-    with_rule (with_rule (with_rule (with_rule (without_name (new_app (codes "seamless")))
+    with_rule (with_rule (with_rule (with_rule (with_rule (with_rule (without_help (new_app (codes "seamless")))
     (number_rule (codes "workers") MOST_WORKERS (codes "4" ∷ [])))
     (number_rule (codes "turns") MOST_TURNS (codes "1000" ∷ [])))
     (number_rule (codes "storm") LONGEST_STORM []))
-    (flag_rule (codes "trace"))
+    (flag_rule (codes "trace")))
+    help_rule)
+    (flag_rule (codes "version"))
 
--- the command refuses the words
-abbrev pub AreRefused : List Text → Type 0
-AreRefused words = fault_of command words ≡ [] → ⊥
+-- What the system answers where it is asked for the words of the command line: texts, of which the first is the program's name, or why it
+-- gives none.
+abbrev pub Answer : Type 0
+Answer = Result (IntoIter (String Global) Global) Error
+
+-- the words that the system gives
+abbrev pub words_of : Answer → List Text
+words_of (Ok words) = map string_bytes (into_iter_items words)
+words_of (Err e) = []
+
+-- the system gives words, and the command does not refuse them
+abbrev pub ArePassed : Answer → Type 0
+ArePassed (Ok words) = fault_of command (words_of (Ok words)) ≡ []
+ArePassed (Err e) = ⊥
+
+-- the command refuses the words, or one of them is no text: the system gives none, and that is not for want of memory
+abbrev pub AreRefused : Answer → Type 0
+AreRefused (Ok words) = ¬ (fault_of command (words_of (Ok words)) ≡ [])
+AreRefused (Err e) = ¬ (error_kind e ≡ OutOfMemory)
 
 -- the number that digits spell, where a plus may come first
 abbrev pub number_of : Text → ℕ
@@ -53,6 +82,8 @@ pub record AreOptions (rows : List Row) (options : Options) : Type 0 where
   pub turns : option_map number_of (one_of (codes "turns") rows) ≡ Some options.turns
   pub storm : option_map number_of (one_of (codes "storm") rows) ≡ options.storm
   pub trace : IsGiven (codes "trace") rows ↔ (options.trace ≡ true)
+  pub help : IsGiven (codes "help") rows ↔ (options.help ≡ true)
+  pub version : IsGiven (codes "version") rows ↔ (options.version ≡ true)
 
 -- a number from 1 to `most`
 abbrev pub IsUpTo : ℕ → ℕ → Type 0

@@ -5,16 +5,23 @@
 //! The command is a simple command of `clap`, so which words are refused and what the others mean is defined there.
 #![tactic(auto)]
 
-ghost use Rattle.std.specs.Prelude.{◌≡◌, [], false, map, IfOk, OnOk, Err};
+ghost use Rattle.std.specs.Prelude.{◌≡◌, ◌↔◌, [], false, true, map, IfOk, OnOk, Err};
+ghost use Rattle.std.specs.IoError.{error_kind};
+ghost use Rattle.std.specs.Vec.Iter.{into_iter_items};
 ghost use Rattle.std.specs.String.{string_bytes};
 ghost use Rattle.clap.specs.Words.{FailsBy, fault_of, found_of, matches_of, rows_of, rule_of};
-ghost use Rattle.seam_args.specs.Words.{command, number_rule, AreRefused, AreOptions, AreInRange};
+ghost use Rattle.seam_args.specs.Words.{command, number_rule, flag_rule, IsGiven, words_of, ArePassed, AreRefused, AreOptions, AreInRange};
 ghost use Rattle.seam_args.specs.Reading.{HasNumbers};
+
+mod refusals;
 
 use clap::error::ErrorKind;
 use clap::parser::ValueSource;
 use clap::{Arg, ArgAction, ArgMatches, Command, value_parser};
-use std::alloc::Global;
+use std::alloc::{AllocError, Global};
+use std::env::Args;
+use std::io;
+pub use refusals::refusal_text;
 use thiserror::Error;
 
 /// The most workers that may run the cells and base nodes.
@@ -43,6 +50,10 @@ pub struct Options {
     pub trace: bool,
     /// How many lines a generated input draws, from 1 to `LONGEST_STORM`. None: the input is read.
     pub storm: Option<u32>,
+    /// Whether the usage text is asked for, in place of a run.
+    pub help: bool,
+    /// Whether the version is asked for, in place of a run. Help goes before it.
+    pub version: bool,
 }
 
 /// Why the words give no options.
@@ -67,6 +78,14 @@ fn number_option<'a>(alloc: Global, name: &'a str, most: u32) -> Arg<'a>
         .value_parser(value_parser!(u32).range(1..=i64::from(most)))
 }
 
+/// An option without a value.
+fn flag<'a>(alloc: Global, name: &'a str) -> Arg<'a>
+    ensures rule { rule_of result ≡ flag_rule name.entry.now }
+    ensures local { result.global ≡ false }
+{
+    Arg::new(alloc, name).long(name).action(ArgAction::SetTrue)
+}
+
 /// What the words give to each option of the command.
 fn matches_of_words<'a>(alloc: Global, words: &'a [String]) -> Result<ArgMatches<'a>, clap::Error>
     ensures fails { FailsBy (fault_of command (map string_bytes words.entry.now)) result }
@@ -76,16 +95,25 @@ fn matches_of_words<'a>(alloc: Global, words: &'a [String]) -> Result<ArgMatches
     let workers = number_option(alloc, "workers", MOST_WORKERS).default_value(DEFAULT_WORKERS);
     let turns = number_option(alloc, "turns", MOST_TURNS).default_value(DEFAULT_TURNS);
     let storm = number_option(alloc, "storm", LONGEST_STORM);
-    let trace = Arg::new(alloc, "trace")
-        .long("trace")
-        .action(ArgAction::SetTrue);
+    let trace = flag(alloc, "trace");
+    let help = flag(alloc, "help").short('h');
+    let version = flag(alloc, "version");
     let command = Command::new(alloc, "seamless")
-        .no_binary_name(true)
+        .disable_help_flag(true)
         .arg(workers)?
         .arg(turns)?
         .arg(storm)?
-        .arg(trace)?;
+        .arg(trace)?
+        .arg(help)?
+        .arg(version)?;
     command.try_get_matches_from(words)
+}
+
+/// Whether the words have a flag.
+fn is_given(matches: &ArgMatches<'_>, name: &str) -> bool
+    ensures { IsGiven name.now (rows_of (found_of matches.now)) ↔ (result ≡ true) }
+{
+    matches.value_source(name) == Some(ValueSource::CommandLine)
 }
 
 /// The options that the matches of the command hold.
@@ -97,20 +125,19 @@ fn options_of(matches: &ArgMatches<'_>) -> Options
     Options {
         workers: matches.get_one::<u32>("workers").unwrap(),
         turns: matches.get_one::<u32>("turns").unwrap(),
-        trace: matches.value_source("trace") == Some(ValueSource::CommandLine),
+        trace: is_given(matches, "trace"),
         storm: matches.get_one::<u32>("storm"),
+        help: is_given(matches, "help"),
+        version: is_given(matches, "version"),
     }
 }
 
-/// The options that the words give, where `words` does not begin with the program's name.
-///
-/// `Usage` comes exactly where the command refuses the words for another cause than memory, `NoMemory` only if an
-/// allocation fails.
-pub fn read_words(alloc: Global, words: &[String]) -> Result<Options, ArgsError>
+/// The options that the words give, of which the first is the program's name.
+fn options_given(alloc: Global, words: &[String]) -> Result<Options, ArgsError>
     ensures passes { OnOk result (fault_of command (map string_bytes words.now) ≡ []) }
     ensures options { IfOk result (AreOptions (matches_of command (map string_bytes words.now))) }
     ensures range { IfOk result AreInRange }
-    ensures usage { result ≡ Err ArgsError.Usage → AreRefused (map string_bytes words.now) }
+    ensures usage { result ≡ Err ArgsError.Usage → ¬ (fault_of command (map string_bytes words.now) ≡ []) }
 {
     match matches_of_words(alloc, words) {
         Ok(matches) => Ok(options_of(&matches)),
@@ -124,13 +151,76 @@ pub fn read_words(alloc: Global, words: &[String]) -> Result<Options, ArgsError>
     }
 }
 
-/// What a person wants to read after `--help` or a wrong word. It ends with a line feed.
-pub fn usage_text() -> &'static str {
+/// The words that the system gives, in a list.
+fn given(alloc: Global, answer: io::Result<Args>) -> Result<Vec<String>, ArgsError>
+    ensures words { IfOk result (λ words. map string_bytes words.items ≡ words_of answer) }
+    ensures gives { IfErr answer (λ _. IsErr result) }
+    ensures usage { result ≡ Err ArgsError.Usage → AreRefused answer }
+{
+    match answer {
+        Ok(args) => match gathered(alloc, args) {
+            Ok(words) => Ok(words),
+            Err(AllocError) => Err(ArgsError::NoMemory),
+        },
+        Err(error) => Err(no_words(&error)),
+    }
+}
+
+/// Why the system gives no words: there is no memory, or one of them is no text.
+fn no_words(error: &io::Error) -> ArgsError
+    ensures { result ≡ ArgsError.Usage → ¬ (error_kind error.now ≡ io.ErrorKind.OutOfMemory) }
+{
+    if error.kind() == io::ErrorKind::OutOfMemory {
+        ArgsError::NoMemory
+    } else {
+        ArgsError::Usage
+    }
+}
+
+/// What is left of the words, in a list.
+fn gathered(alloc: Global, mut args: Args) -> Result<Vec<String>, AllocError>
+    ensures { IfOk result (λ words. words.items ≡ into_iter_items args) }
+{
+    let mut words = Vec::new(alloc);
+    'words: while let Some(word) = args.next() {
+        words.push(word)?;
+    }
+    Ok(words)
+}
+
+/// The options that the words give which the system answers with. The first word is the program's name.
+///
+/// `Usage` comes exactly where a word is no text, or the command refuses the words for another cause than memory; `NoMemory` only if
+/// an allocation fails, in the system too.
+pub fn read_words(alloc: Global, answer: io::Result<Args>) -> Result<Options, ArgsError>
+    ensures passes { OnOk result (ArePassed answer) }
+    ensures options { IfOk result (AreOptions (matches_of command (words_of answer))) }
+    ensures range { IfOk result AreInRange }
+    ensures usage { result ≡ Err ArgsError.Usage → AreRefused answer }
+{
+    let words = given(alloc, answer)?;
+    options_given(alloc, &words)
+}
+
+/// How the program is used: the text that `--help` asks for, and that a person wants to read after a wrong word. It ends with a line feed.
+pub fn usage_text() -> &'static str
+    ensures { result.now ≡ USAGE_TEXT.now }
+{
     USAGE_TEXT
 }
 
-const USAGE_TEXT: &str = "\
+/// The program's name, its version and the kit that it is proved with: the line that `--version` asks for, with its line feed.
+pub fn version_text() -> &'static str
+    ensures { result.now ≡ VERSION_TEXT.now }
+{
+    VERSION_TEXT
+}
+
+/// How the program is used.
+pub const USAGE_TEXT: &str = "\
 usage: seamless [--workers N] [--turns N] [--trace] [--storm N]
+       seamless --help
+       seamless --version
 
 Reads a script from standard input: a header that a line %% ends, and then one command a line. For each round
 it writes to standard output which calls were executed, and where each entity is and what it holds.
@@ -139,7 +229,12 @@ it writes to standard output which calls were executed, and where each entity is
   --turns N     how many turns each worker has in a phase of a round, 1 to 1000000 (1000 if not given)
   --trace       adds the journal of events to each round (no journal if not given)
   --storm N     runs a generated input of N lines in place of standard input, 1 to 1000000 (none if not given)
+  -h, --help    writes this text to standard output, and does nothing else
+  --version     writes the name, the version and the kit, and does nothing else
 
 status: 0 done, 1 usage, 2 bad header, 3 read fault, 4 write fault, 5 limit, 6 no memory
 formats: docs/FORMATS.md
 ";
+
+/// The name, the version of `CHANGELOG.md` and the kit of `README.md`.
+pub const VERSION_TEXT: &str = "seamless 0.2 (rattle-kit-13f logic dac8208d650f15bf)\n";

@@ -4,6 +4,7 @@ use seam_watch::Watch;
 use seam_workers::Gate;
 use seam_world::{Status, run_seamless};
 use std::alloc::{AllocError, Global};
+use std::env::Args;
 use std::sync::Wait;
 use std::thread::Threads;
 
@@ -51,13 +52,14 @@ fn sink_of(alloc: Global, run: &Run) -> Result<MemSink, AllocError> {
     MemSink::new(alloc, run.streams.limit, fails)
 }
 
-// The words as text of their own.
-fn words_of(alloc: Global, run: &Run) -> Result<Vec<String>, AllocError> {
+// The program's name and then the words, as the system answers with them.
+fn words_of(alloc: Global, run: &Run) -> Result<Args, AllocError> {
     let mut words = Vec::new(alloc);
+    words.push(String::from_str(alloc, "seamless")?)?;
     for text in run.words.iter() {
         words.push(String::from_str(alloc, text)?)?;
     }
-    Ok(words)
+    Ok(words.into_iter())
 }
 
 /// Runs a script through a gate and beside a watch, and gives its status and what was written.
@@ -71,6 +73,6 @@ pub fn play<R: Threads + Wait + Sync, G: Gate + Sync, W: Watch>(
     let words = words_of(alloc, run)?;
     let mut input = input_of(alloc, run)?;
     let mut out = sink_of(alloc, run)?;
-    let status = run_seamless(rt, alloc, &words, &mut input, &mut out, gate, watch);
+    let status = run_seamless(rt, alloc, Ok(words), &mut input, &mut out, gate, watch);
     Ok((status, out))
 }

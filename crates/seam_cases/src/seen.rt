@@ -62,11 +62,10 @@ fn an_answer_is_written_before_the_next_read(rt: HostRuntime) -> Result<(), Fail
         typed: 0,
     });
     let mut out = RealSink::new(Screen { shown: &shown });
-    let words = Vec::new(rt.alloc());
     let status = run_seamless(
         &rt,
         rt.alloc(),
-        &words,
+        Ok(Vec::new(rt.alloc()).into_iter()),
         &mut input,
         &mut out,
         &OpenGate,

@@ -1,13 +1,17 @@
-use seam_args::{ArgsError, Options, read_words, usage_text};
+use seam_args::{ArgsError, Options, read_words, refusal_text, usage_text};
 use std::alloc::Global;
+use std::env::Args;
+use std::io;
 use std::test::Fail;
 
-fn words_of(alloc: Global, texts: &[&str]) -> Result<Vec<String>, Fail> {
+// What the system answers with: the program's name, and then these words.
+fn answer(alloc: Global, texts: &[&str]) -> Result<io::Result<Args>, Fail> {
     let mut words = Vec::new(alloc);
+    words.push(String::from_str(alloc, "seamless")?)?;
     for text in texts.iter() {
         words.push(String::from_str(alloc, text)?)?;
     }
-    Ok(words)
+    Ok(Ok(words.into_iter()))
 }
 
 fn options(workers: u32, turns: u32, trace: bool, storm: Option<u32>) -> Options {
@@ -16,12 +20,22 @@ fn options(workers: u32, turns: u32, trace: bool, storm: Option<u32>) -> Options
         turns,
         trace,
         storm,
+        help: false,
+        version: false,
+    }
+}
+
+// The options of no words, but for these two.
+fn asks(help: bool, version: bool) -> Options {
+    Options {
+        help,
+        version,
+        ..options(4, 1_000, false, None)
     }
 }
 
 fn read(alloc: Global, texts: &[&str]) -> Result<Result<Options, ArgsError>, Fail> {
-    let words = words_of(alloc, texts)?;
-    Ok(read_words(alloc, &words))
+    Ok(read_words(alloc, answer(alloc, texts)?))
 }
 
 const REFUSED: Result<Options, ArgsError> = Err(ArgsError::Usage);
@@ -56,14 +70,46 @@ fn words_give_their_options_or_are_refused(rt: HostRuntime) -> Result<(), Fail> 
         (&["--trace", "--trace"], REFUSED),
         (&["--trace=true"], REFUSED),
         (&["--workers"], REFUSED),
-        (&["--help"], REFUSED),
-        (&["-h"], REFUSED),
+        (&["--help"], Ok(asks(true, false))),
+        (&["-h"], Ok(asks(true, false))),
+        (&["--version"], Ok(asks(false, true))),
+        (&["--version", "--help"], Ok(asks(true, true))),
+        (&["--help", "--world"], REFUSED),
+        (&["-h", "--help"], REFUSED),
+        (&["--workers=+04", "--"], Ok(options(4, 1_000, false, None))),
         (&["--world"], REFUSED),
         (&["world"], REFUSED),
     ];
     for (texts, wanted) in rows.iter() {
         let read = read(rt.alloc(), texts)?;
         assert!(rt; read == *wanted);
+    }
+    Ok(())
+}
+
+// An answer without words.
+fn none(kind: io::ErrorKind) -> io::Result<Args> {
+    Err(io::Error::from(kind))
+}
+
+#[test]
+fn without_words_there_are_no_options(rt: HostRuntime) {
+    let alloc = rt.alloc();
+    let no_text = read_words(alloc, none(io::ErrorKind::InvalidData));
+    let no_memory = read_words(alloc, none(io::ErrorKind::OutOfMemory));
+    assert!(rt; (no_text, no_memory) == (REFUSED, Err(ArgsError::NoMemory)));
+}
+
+#[test]
+fn a_refusal_names_the_word(rt: HostRuntime) -> Result<(), Fail> {
+    let rows = [
+        (["--workers", "17"], "'17'"),
+        (["a.txt", "--trace"], "a.txt: input comes on standard input: seamless < a.txt\n"),
+        (["--trace", "--trace"], "'--trace'"),
+    ];
+    for (texts, part) in rows.iter() {
+        let text = refusal_text(rt.alloc(), answer(rt.alloc(), texts)?)?;
+        assert!(rt; text.contains(*part));
     }
     Ok(())
 }
@@ -76,6 +122,8 @@ fn usage_tells_input_options_statuses_and_formats(rt: HostRuntime) {
         "\n  --turns N     how many turns each worker has in a phase of a round, 1 to 1000000 (1000 if not given)\n",
         "\n  --trace       adds the journal of events to each round (no journal if not given)\n",
         "\n  --storm N     runs a generated input of N lines in place of standard input, 1 to 1000000 (none if not given)\n",
+        "\n  -h, --help    writes this text to standard output, and does nothing else\n",
+        "\n  --version     writes the name, the version and the kit, and does nothing else\n",
         "\nstatus: 0 done, 1 usage, 2 bad header, 3 read fault, 4 write fault, 5 limit, 6 no memory\n",
         "\nformats: docs/FORMATS.md\n",
     ];

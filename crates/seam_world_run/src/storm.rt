@@ -67,8 +67,8 @@ fn write_summary<K: Sink>(alloc: Global, lines: u32, totals: &Totals, out: &mut 
     }
 }
 
-// Writes a text, as much of it as the sink accepts.
-fn write_text<K: Sink>(text: &[u8], out: &mut K) -> Status
+/// Writes a text, as much of it as the sink accepts.
+pub fn write_text<K: Sink>(text: &[u8], out: &mut K) -> Status
     ensures { StopsBy Status.Done (K.state out.old) (K.state out.new) text.now result }
 {
     match write_whole(out, text) {

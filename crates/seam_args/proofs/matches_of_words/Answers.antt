@@ -5,7 +5,7 @@ use Rattle.clap.specs.Words.{App, FailsBy, Rule, Text, app_of, fault_of, is_simp
 use Rattle.clap.specs.Words.{with_rule}
 use Rattle.clap.specs.Simple.{app_of_fields}
 use Rattle.clap.proofs.OnLiterals.{clap_on_literals}
-use Rattle.seam_args.specs.Words.{command, flag_rule, number_rule, without_name}
+use Rattle.seam_args.specs.Words.{command, flag_rule, help_rule, number_rule, without_help}
 use Rattle.seam_args.specs.declared.TheConstants.{MOST_WORKERS, MOST_TURNS, LONGEST_STORM}
 use Rattle.seam_args.proofs.Found.{has_numbers}
 use Rattle.seam_args.proofs.matches_of_words.Goals as goal
@@ -22,6 +22,10 @@ simple = refl
 abbrev with_default : List Text → Rule → Rule
 with_default defaults r = record r { defaults = defaults }
 
+-- a rule with the short name -h
+abbrev with_h : Rule → Rule
+with_h r = record r { short = Some 104 }
+
 pub returns : goal.returns
 returns c =
     let workers_is : rule_of c.default_value-workers.result ≡ number_rule (codes "workers") MOST_WORKERS (codes "4" ∷ []) =
@@ -30,14 +34,18 @@ returns c =
     ap rule_of c.default_value-turns.ensures ∙ ap (with_default (codes "1000" ∷ [])) c.number_option-2.ensures.rule in
     let storm_is : rule_of c.number_option-storm.result ≡ number_rule (codes "storm") LONGEST_STORM [] =
     c.number_option-storm.ensures.rule in
-    let trace_is : rule_of c.action-trace.result ≡ flag_rule (codes "trace") = search rules in
-    let named : app_of c.no_binary_name.result ≡ without_name (new_app (codes "seamless")) =
-    ap app_of_fields c.no_binary_name.ensures ∙ ap without_name c.new-2.ensures.app in
+    let trace_is : rule_of c.flag-trace.result ≡ flag_rule (codes "trace") = c.flag-trace.ensures.rule in
+    let help_is : rule_of c.short-help.result ≡ help_rule = ap rule_of c.short-help.ensures ∙ ap with_h c.flag.ensures.rule in
+    let version_is : rule_of c.flag-version.result ≡ flag_rule (codes "version") = c.flag-version.ensures.rule in
+    let named : app_of c.disable_help_flag.result ≡ without_help (new_app (codes "seamless")) =
+    ap app_of_fields c.disable_help_flag.ensures ∙ ap without_help c.new.ensures.app in
     let command_is : app_of c.in_ok-command.command ≡ command =
     c.in_ok-command.ensures.shape (search rules) ∙ ap₂ with_rule
+    (c.in_ok-arg-5.ensures.shape (search rules) ∙ ap₂ with_rule
+    (c.in_ok-arg-4.ensures.shape (search rules) ∙ ap₂ with_rule
     (c.in_ok-arg-3.ensures.shape (search rules) ∙ ap₂ with_rule
     (c.in_ok-arg-2.ensures.shape (search rules) ∙ ap₂ with_rule
-    (c.in_ok-arg.ensures.shape (search rules) ∙ ap₂ with_rule named workers_is) turns_is) storm_is) trace_is in
+    (c.in_ok-arg.ensures.shape (search rules) ∙ ap₂ with_rule named workers_is) turns_is) storm_is) trace_is) help_is) version_is in
     let words = map string_bytes c.args.words.now in
     let parse = c.try_get_matches_from in
     record {
@@ -46,5 +54,5 @@ returns c =
       found = IfOk-weaker parse.result _ _
           (λ m h. (h (ap is_simple command_is ∙ simple)).0 ∙ ap (λ (a : App). matches_of a words) command_is) parse.ensures.matches;
       numbers = IfOk-weaker parse.result _ _
-          (λ m h. has_numbers c.in_ok-command.command m h command_is c.action-trace.result) parse.ensures.parsed;
+          (λ m h. has_numbers c.in_ok-command.command m h command_is c.flag-trace.result) parse.ensures.parsed;
     }

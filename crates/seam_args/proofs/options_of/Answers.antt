@@ -4,7 +4,7 @@ use Rattle.std.specs.Str.Parse.{ParsesUnsigned, ExplainsUnsignedError, HasUnsign
 use Rattle.clap.specs.Words.{found_of, one_of, rows_of}
 use Rattle.seam_args.specs.declared.TheConstants.{MOST_WORKERS, MOST_TURNS, LONGEST_STORM}
 use Rattle.seam_args.specs.Words.{IsUpTo, number_of}
-use Rattle.seam_args.proofs.Numbers.{number_is_read, no_number_is_read, source_is_of_row, words_are_tested}
+use Rattle.seam_args.proofs.Numbers.{number_is_read, no_number_is_read}
 use Rattle.seam_args.proofs.options_of.Goals as goal
 
 pub returns : goal.returns
@@ -26,14 +26,14 @@ returns c =
     ] in
     let workers_is : workers.0 ≡ c.unwrap.result = some_is _ _ (sym workers.1 ∙ c.unwrap.ensures) in
     let turns_is : turns.0 ≡ c.unwrap-2.result = some_is _ _ (sym turns.1 ∙ c.unwrap-2.ensures) in
-    let source = source_is_of_row found (codes "trace") ∙ sym c.value_source.ensures in
-    let tested = words_are_tested _ refl refl c.value_source.result c.eq.result c.eq.ensures in
     record {
       options = record {
         workers = workers.3 ∙ ap Some workers_is;
         turns = turns.3 ∙ ap Some turns_is;
         storm = storm.0;
-        trace = (λ given. tested.0 (sym source ∙ given), λ yes. source ∙ tested.1 yes);
+        trace = c.is_given-trace.ensures;
+        help = c.is_given-help.ensures;
+        version = c.is_given-version.ensures;
       };
       range = record {
         workers = subst (IsUpTo MOST_WORKERS) workers_is workers.2;
