@@ -75,10 +75,9 @@ fn begins_command(line: &[u8]) -> bool {
         .iter()
         .position(|byte| !byte.is_ascii_alphabetic())
         .unwrap_or(line.len());
-    match (line.get(..end), line.get(end..)) {
-        (Some(word), Some(rest)) => {
-            is_command(word) && !rest.trim_ascii_start().starts_with(b"=") && !rest.starts_with(b".")
-        }
-        _ => false,
+    if end > line.len() {
+        return false;
     }
+    let (word, rest) = line.split_at(end);
+    is_command(word) && !rest.trim_ascii_start().starts_with(b"=") && !rest.starts_with(b".")
 }

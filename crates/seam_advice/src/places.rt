@@ -1,5 +1,5 @@
 // Where a header is at fault.
-use crate::lines::{Slip, header_text};
+use crate::lines::{HeaderText, Slip, header_text};
 use seam_toml::{Fault, Role, has_fault, is_at_fault, read_document};
 use std::alloc::{AllocError, Global};
 use std::io::Eprint;
@@ -21,22 +21,25 @@ pub fn tell_place<E: Eprint>(rt: &E, alloc: Global, cause: u8, bytes: &[u8]) {
 // The place, in words; none where it cannot be told.
 fn place(alloc: Global, cause: u8, bytes: &[u8]) -> Result<String, AllocError> {
     let header = header_text(alloc, bytes)?;
-    match (cause, header.slip) {
-        (1 | 9 | 10, Some((number, slip))) => slip_place(alloc, number, slip),
-        (1, None) => toml_place(alloc, &header.text),
-        (9 | 10, None) => Ok(String::new(alloc)),
-        _ => match fault_of(cause) {
-            Some(fault) => key_place(alloc, fault, &header.text),
-            None => Ok(String::new(alloc)),
-        },
+    match (fault_of(cause), cause) {
+        (Some(fault), _) => key_place(alloc, fault, &header.text),
+        (None, 1) => toml_place(alloc, &header),
+        _ => slip_place(alloc, header.slip),
     }
 }
 
-fn slip_place(alloc: Global, number: usize, slip: Slip) -> Result<String, AllocError> {
+fn slip_place(alloc: Global, slip: Option<(usize, Slip)>) -> Result<String, AllocError> {
     match slip {
-        Slip::Blanks => format!(in alloc; "line {number} has blanks beside %%; a header ends at a line that is %% alone"),
-        Slip::Mark => format!(in alloc; "line {number} has a byte order mark before %%; a header ends at a line that is %% alone"),
-        Slip::Command => format!(in alloc; "line {number} begins with the name of a command: is the line %% missing?"),
+        Some((number, Slip::Blanks)) => {
+            format!(in alloc; "line {number} has blanks beside %%; a header ends at a line that is %% alone")
+        }
+        Some((number, Slip::Mark)) => {
+            format!(in alloc; "line {number} has a byte order mark before %%; a header ends at a line that is %% alone")
+        }
+        Some((number, Slip::Command)) => {
+            format!(in alloc; "line {number} begins with the name of a command: is the line %% missing?")
+        }
+        None => Ok(String::new(alloc)),
     }
 }
 
@@ -53,17 +56,18 @@ fn fault_of(cause: u8) -> Option<Fault> {
     }
 }
 
-// The line and the column of what is no TOML, and what is wrong with it.
-fn toml_place(alloc: Global, text: &[u8]) -> Result<String, AllocError> {
-    match toml::table_from_slice(alloc, text) {
-        Ok(_) => Ok(String::new(alloc)),
-        Err(error) => match error.span() {
-            Some(span) => {
-                let (line, column) = position(text, span.start);
-                format!(in alloc; "line {line}, column {column}: {}", error.message())
-            }
-            None => Err(AllocError),
-        },
+// The line and the column of what is no TOML, and what is wrong with it; or the slip, where that comes first.
+fn toml_place(alloc: Global, header: &HeaderText) -> Result<String, AllocError> {
+    let Err(error) = toml::table_from_slice(alloc, &header.text) else {
+        return Ok(String::new(alloc));
+    };
+    let Some(span) = error.span() else {
+        return Err(AllocError);
+    };
+    let (line, column) = position(&header.text, span.start);
+    match header.slip {
+        Some((number, _)) if number <= line => slip_place(alloc, header.slip),
+        _ => format!(in alloc; "line {line}, column {column}: {}", error.message()),
     }
 }
 
@@ -84,7 +88,7 @@ fn position(text: &[u8], at: usize) -> (usize, usize) {
 
 // A table of a header, and what it is for.
 #[derive(Clone, Copy)]
-struct Place<'a> {
+struct Level<'a> {
     role: Role,
     table: &'a Table,
 }
@@ -95,7 +99,7 @@ fn key_place(alloc: Global, fault: Fault, text: &[u8]) -> Result<String, AllocEr
         return Err(AllocError);
     };
     let mut path = String::from_str(alloc, "the key ")?;
-    let mut at = Place {
+    let mut at = Level {
         role: Role::Header,
         table: &document,
     };
@@ -112,9 +116,9 @@ fn key_place(alloc: Global, fault: Fault, text: &[u8]) -> Result<String, AllocEr
 fn below<'a>(
     alloc: Global,
     fault: Fault,
-    at: Place<'a>,
+    at: Level<'a>,
     path: &mut String,
-) -> Result<Option<Place<'a>>, AllocError> {
+) -> Result<Option<Level<'a>>, AllocError> {
     if fault == Fault::NoSuchKey {
         if let Some(key) = strange_key(&at.role, at.table) {
             push_key(path, key)?;
@@ -129,7 +133,7 @@ fn below<'a>(
         return Ok(None);
     }
     match value.as_table() {
-        Some(table) => Ok(Some(Place { role, table })),
+        Some(table) => Ok(Some(Level { role, table })),
         None => Ok(None),
     }
 }

@@ -1,7 +1,7 @@
 // The streams of a person: what was read first, what is said at a terminal, and whether the reader of the output is still there.
 use crate::commands::COMMANDS_TEXT;
 use seam_toml::MOST_HEADER_BYTES;
-use std::alloc::{AllocError, Global};
+use std::alloc::Global;
 use std::io;
 use std::io::{Eprint, ErrorKind, Read, Write};
 
@@ -61,8 +61,8 @@ impl<E: Eprint, R: Read> Read for Listener<'_, E, R> {
     fn read(&mut self, buf: &mut [u8]) -> io::Result<usize> {
         self.greet();
         let count = self.inner.read(buf)?;
-        if let Some(piece) = buf.get(..count) {
-            self.hear(piece);
+        if count <= buf.len() {
+            self.hear(&buf[..count]);
         }
         Ok(count)
     }

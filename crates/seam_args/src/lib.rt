@@ -151,21 +151,6 @@ fn options_given(alloc: Global, words: &[String]) -> Result<Options, ArgsError>
     }
 }
 
-/// The words that the system gives, in a list.
-fn given(alloc: Global, answer: io::Result<Args>) -> Result<Vec<String>, ArgsError>
-    ensures words { IfOk result (λ words. map string_bytes words.items ≡ words_of answer) }
-    ensures gives { IfErr answer (λ _. IsErr result) }
-    ensures usage { result ≡ Err ArgsError.Usage → AreRefused answer }
-{
-    match answer {
-        Ok(args) => match gathered(alloc, args) {
-            Ok(words) => Ok(words),
-            Err(AllocError) => Err(ArgsError::NoMemory),
-        },
-        Err(error) => Err(no_words(&error)),
-    }
-}
-
 /// Why the system gives no words: there is no memory, or one of them is no text.
 fn no_words(error: &io::Error) -> ArgsError
     ensures { result ≡ ArgsError.Usage → ¬ (error_kind error.now ≡ io.ErrorKind.OutOfMemory) }
@@ -177,15 +162,28 @@ fn no_words(error: &io::Error) -> ArgsError
     }
 }
 
-/// What is left of the words, in a list.
-fn gathered(alloc: Global, mut args: Args) -> Result<Vec<String>, AllocError>
+/// The words in a list.
+fn gathered(alloc: Global, args: Args) -> Result<Vec<String>, AllocError>
     ensures { IfOk result (λ words. words.items ≡ into_iter_items args) }
 {
     let mut words = Vec::new(alloc);
-    'words: while let Some(word) = args.next() {
+    for word in args {
         words.push(word)?;
     }
     Ok(words)
+}
+
+/// The options that the words give, of which the first is the program's name.
+fn options_in(alloc: Global, args: Args) -> Result<Options, ArgsError>
+    ensures passes { OnOk result (fault_of command (map string_bytes (into_iter_items args)) ≡ []) }
+    ensures options { IfOk result (AreOptions (matches_of command (map string_bytes (into_iter_items args)))) }
+    ensures range { IfOk result AreInRange }
+    ensures usage { result ≡ Err ArgsError.Usage → ¬ (fault_of command (map string_bytes (into_iter_items args)) ≡ []) }
+{
+    match gathered(alloc, args) {
+        Ok(words) => options_given(alloc, &words),
+        Err(AllocError) => Err(ArgsError::NoMemory),
+    }
 }
 
 /// The options that the words give which the system answers with. The first word is the program's name.
@@ -198,8 +196,10 @@ pub fn read_words(alloc: Global, answer: io::Result<Args>) -> Result<Options, Ar
     ensures range { IfOk result AreInRange }
     ensures usage { result ≡ Err ArgsError.Usage → AreRefused answer }
 {
-    let words = given(alloc, answer)?;
-    options_given(alloc, &words)
+    match answer {
+        Ok(args) => options_in(alloc, args),
+        Err(error) => Err(no_words(&error)),
+    }
 }
 
 /// How the program is used: the text that `--help` asks for, and that a person wants to read after a wrong word. It ends with a line feed.

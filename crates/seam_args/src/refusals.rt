@@ -1,5 +1,5 @@
 // What is wrong with words that are refused, for a person.
-use crate::{ArgsError, given, matches_of_words};
+use crate::{ArgsError, gathered, matches_of_words, no_words};
 use clap::error::ErrorKind;
 use std::alloc::{AllocError, Global};
 use std::env::Args;
@@ -8,12 +8,17 @@ use std::io;
 /// What is wrong with the words that the system answers with, for a person: `clap`'s own text up to the usage, and what to do instead of
 /// naming a file. It is empty for words that the command does not refuse, and ends with a line feed otherwise.
 pub fn refusal_text(alloc: Global, answer: io::Result<Args>) -> Result<String, AllocError> {
-    match given(alloc, answer) {
-        Ok(words) => text_for(alloc, &words),
-        Err(ArgsError::Usage) => {
-            String::from_str(alloc, "error: a word of the command line is not UTF-8\n\n")
+    match answer {
+        Ok(args) => {
+            let words = gathered(alloc, args)?;
+            text_for(alloc, &words)
         }
-        Err(ArgsError::NoMemory) => Err(AllocError),
+        Err(error) => match no_words(&error) {
+            ArgsError::Usage => {
+                String::from_str(alloc, "error: a word of the command line is not UTF-8\n\n")
+            }
+            ArgsError::NoMemory => Err(AllocError),
+        },
     }
 }
 

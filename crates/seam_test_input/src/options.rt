@@ -28,9 +28,12 @@ fn options(workers: u32, turns: u32, trace: bool, storm: Option<u32>) -> Options
 // The options of no words, but for these two.
 fn asks(help: bool, version: bool) -> Options {
     Options {
+        workers: 4,
+        turns: 1_000,
+        trace: false,
+        storm: None,
         help,
         version,
-        ..options(4, 1_000, false, None)
     }
 }
 

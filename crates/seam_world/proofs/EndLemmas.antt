@@ -150,8 +150,8 @@ starved Version source old new told tail a f = untouched (TellsOfShown VERSION_T
 starved (Storm lines) source old new told tail a f =
     ends_as_asked (Storm lines) status.NoMemory source source old old new told told (refl, nothing_run lines old told) tail a f
 starved (Script traced) source old new told tail a f =
-    ends_as_asked (Script traced) status.NoMemory source source old old new told told
-    (totals_of [], nothing_judged source source [] (Consumes-nil source.left) (omega arith) (text_output traced) (totals_of []) old told) tail a f
+    let stopped = nothing_judged source source [] (Consumes-nil source.left) (omega arith) (text_output traced) (totals_of []) old told in
+    ends_as_asked (Script traced) status.NoMemory source source old old new told told (totals_of [], stopped) tail a f
 starved Nothing source old new told tail a f = untouched TellsOfNothing status.NoMemory source old new told (inr refl, refl) tail a f
 
 -- the words were refused, or there was no memory for them
@@ -197,8 +197,8 @@ request_is (Ok words) o passed are =
 request_is (Err e) o passed are = absurd passed
 
 -- a text was written, and nothing else was done
-pub shown_as_asked : (r : Request) (text : List ℕ) (st : Status) (source : SourceState) (old mid : SinkState) (told : Told) → IsTextFor r text →
-    StopsBy status.Done old mid text st → StopsAs r st source source old mid told told
+pub shown_as_asked : (r : Request) (text : List ℕ) (st : Status) (source : SourceState) (old mid : SinkState) (told : Told) →
+    IsTextFor r text → StopsBy status.Done old mid text st → StopsAs r st source source old mid told told
 shown_as_asked Usage text st source old mid told is s =
     (refl, refl, subst (λ (x : List ℕ). StopsBy status.Done old mid x st) is s)
 shown_as_asked Version text st source old mid told is s =

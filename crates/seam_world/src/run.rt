@@ -26,15 +26,14 @@ use std::thread::Threads;
 /// happened in it.
 ///
 /// The words are what the system answers with, the program's name first (`env::args`). They may ask for a generated input (`seam_storm`):
-/// then that is run in place of the script, the source is not read, and only the summary is written (`seam_rule_rounds`). Or they ask for the
-/// usage text or the version: then that is written, and nothing else is done. A word that is no text is refused like any other
-/// (`seam_args`).
+/// then that is run in place of the script, the source is not read, and only the summary is written (`seam_rule_rounds`). Or they ask for
+/// the usage text or the version: then that is written, and nothing else is done. A word that is no text is refused (`seam_args`).
 ///
 /// The words say how many workers play the rounds. Each worker calls the gate before each try of a step. The watch is given the journal of
 /// each round as it ends, with space 0.
 ///
-/// Every end but `Done` and `WriteFault` writes a fault line last; if that fails, the status stays. So it is where the system has no memory
-/// for the words.
+/// Every end but `Done` and `WriteFault` writes a fault line last, also where the system has no memory for the words; if that fails, the
+/// status stays.
 pub fn run_seamless<S: Source, K: Sink, G: Gate + Sync, W: Watch, R: Threads + Wait + Sync>(
     rt: &R,
     alloc: Global,

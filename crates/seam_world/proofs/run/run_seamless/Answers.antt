@@ -7,7 +7,7 @@ use Rattle.seam_world.proofs.run.run_seamless.Goals as goal
 
 pub returns-clause-ends : goal.returns-clause-ends
 returns-clause-ends g c =
-    let s = rw (← c.in-Ok.ensures.request) c.answer-status.ensures.stopped in
+    let s = rw (← c.in-Ok.ensures.request) at c.answer-status.ensures.stopped in
     let w = c.put_fault-2.ensures.written in
     ends_as_asked _ _ _ _ _ _ _ _ _ s w.0 w.1 w.2
 
