@@ -6,7 +6,6 @@
 #![tactic(auto)]
 
 ghost use Rattle.std.specs.Prelude.{◌≡◌, ◌↔◌, [], false, true, map, IfOk, OnOk, Err};
-ghost use Rattle.std.specs.IoError.{error_kind};
 ghost use Rattle.std.specs.Vec.Iter.{into_iter_items};
 ghost use Rattle.std.specs.String.{string_bytes};
 ghost use Rattle.clap.specs.Words.{FailsBy, fault_of, found_of, matches_of, rows_of, rule_of};
@@ -153,7 +152,7 @@ fn options_given(alloc: Global, words: &[String]) -> Result<Options, ArgsError>
 
 /// Why the system gives no words: there is no memory, or one of them is no text.
 fn no_words(error: &io::Error) -> ArgsError
-    ensures { result ≡ ArgsError.Usage → ¬ (error_kind error.now ≡ io.ErrorKind.OutOfMemory) }
+    ensures { result ≡ ArgsError.Usage → AreRefused (Err error.now) }
 {
     if error.kind() == io::ErrorKind::OutOfMemory {
         ArgsError::NoMemory

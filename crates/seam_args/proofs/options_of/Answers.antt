@@ -31,9 +31,9 @@ returns c =
         workers = workers.3 ∙ ap Some workers_is;
         turns = turns.3 ∙ ap Some turns_is;
         storm = storm.0;
-        trace = c.is_given-trace.ensures;
-        help = c.is_given-help.ensures;
-        version = c.is_given-version.ensures;
+        trace = c.is_given.ensures;
+        help = c.is_given-2.ensures;
+        version = c.is_given-3.ensures;
       };
       range = record {
         workers = subst (IsUpTo MOST_WORKERS) workers_is workers.2;
