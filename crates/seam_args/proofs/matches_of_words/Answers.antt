@@ -1,4 +1,4 @@
-use Rattle.std.proofs.Common.{rules, ap, ap₂, refl, codes, true, map, List, [], ◌∷◌, ◌≡◌, ◌∙◌, subst}
+use Rattle.std.proofs.Common.{rules, ap, ap₂, refl, codes, true, map, List, [], ◌∷◌, ◌≡◌, ◌∙◌, subst, Some}
 use Rattle.std.proofs.lemmas.Result.{IfOk-weaker}
 use Rattle.std.specs.String.{string_bytes}
 use Rattle.clap.specs.Words.{App, FailsBy, Rule, Text, app_of, fault_of, is_simple, is_simple_and_free, matches_of, new_app, rule_of}
