@@ -31,13 +31,19 @@ fn place(alloc: Global, cause: u8, bytes: &[u8]) -> Result<String, AllocError> {
 fn slip_place(alloc: Global, slip: Option<(usize, Slip)>) -> Result<String, AllocError> {
     match slip {
         Some((number, Slip::Blanks)) => {
-            format!(in alloc; "line {number} has blanks beside %%; a header ends at a line that is %% alone")
+            format!(in alloc;
+                "line {number} has blanks beside %%; a header ends at a line that is %% alone"
+            )
         }
         Some((number, Slip::Mark)) => {
-            format!(in alloc; "line {number} has a byte order mark before %%; a header ends at a line that is %% alone")
+            format!(in alloc;
+                "line {number} has a byte order mark before %%; a header ends at a line that is %% alone"
+            )
         }
         Some((number, Slip::Command)) => {
-            format!(in alloc; "line {number} begins with the name of a command: is the line %% missing?")
+            format!(in alloc;
+                "line {number} begins with the name of a command: is the line %% missing?"
+            )
         }
         None => Ok(String::new(alloc)),
     }

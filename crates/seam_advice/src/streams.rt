@@ -8,7 +8,8 @@ use std::io::{Eprint, ErrorKind, Read, Write};
 // The most bytes that are kept: those of the longest header, if each of its lines had a carriage return, and of the line that ends it.
 const MOST_KEPT: usize = 2 * MOST_HEADER_BYTES + 4;
 
-const GREETING: &str = "seamless: type a header or %%, then commands (help lists them); end with control-D";
+const GREETING: &str =
+    "seamless: type a header or %%, then commands (help lists them); end with control-D";
 
 /// A reader that keeps the first bytes which it read. Where a person types them it says what is expected, and answers the line `help` with
 /// the commands, on standard error.

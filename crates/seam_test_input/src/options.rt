@@ -107,7 +107,10 @@ fn without_words_there_are_no_options(rt: HostRuntime) {
 fn a_refusal_names_the_word(rt: HostRuntime) -> Result<(), Fail> {
     let rows = [
         (["--workers", "17"], "'17'"),
-        (["a.txt", "--trace"], "a.txt: input comes on standard input: seamless < a.txt\n"),
+        (
+            ["a.txt", "--trace"],
+            "a.txt: input comes on standard input: seamless < a.txt\n",
+        ),
         (["--trace", "--trace"], "'--trace'"),
     ];
     for (texts, part) in rows.iter() {

@@ -210,9 +210,12 @@ shown_as_asked Nothing text st source old mid told is s = absurd is
 -- the statuses of a text that is written, and when they come
 pub shown_status : (text : List ℕ) (st : Status) (old mid : SinkState) → StopsBy status.Done old mid text st →
     IsRunEnd st × ((st ≡ status.ReadFault) → ⊥) × ((st ≡ status.WriteFault) → Rose old.faults mid.faults) × (old.faults ≤ mid.faults)
-shown_status text st old mid (inl (is, p)) =
-    (subst IsRunEnd (sym is) tt, (λ e. let bad : status.Done ≡ status.ReadFault = sym is ∙ e in cc),
-    (λ e. let bad : status.Done ≡ status.WriteFault = sym is ∙ e in cc), p.later)
+shown_status text st old mid (inl (is, p)) = (
+  subst IsRunEnd (sym is) tt,
+  (λ e. let bad : status.Done ≡ status.ReadFault = sym is ∙ e in cc),
+  (λ e. let bad : status.Done ≡ status.WriteFault = sym is ∙ e in cc),
+  p.later,
+)
 shown_status text st old mid (inr (is, x)) =
     (subst IsRunEnd (sym is) tt, (λ e. let bad : status.WriteFault ≡ status.ReadFault = sym is ∙ e in cc), (λ e. x.rose), x.later)
 
