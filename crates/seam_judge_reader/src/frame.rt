@@ -1,0 +1,141 @@
+// A script and what was printed for it, in one input.
+ghost use Rattle.std.specs.Prelude.{◌≡◌, ◌≤◌, ◌++◌, ◌∷◌, IfSome, length};
+ghost use Rattle.seam_value.specs.Values.{decimal_of};
+
+use crate::pieces::after_line;
+use seam_value::whole_number;
+
+/// A script, and what was printed for it.
+#[derive(Clone, Copy)]
+pub struct Parts<'a> {
+    pub script: &'a [u8],
+    pub printed: &'a [u8],
+}
+
+/// The parts of an input whose first line is the number of bytes of the script, which come next; the rest was printed. `None` where the
+/// first line is no number below 2^32, or fewer bytes come after it.
+pub fn framed(input: &[u8]) -> Option<Parts<'_>>
+    ensures { IfSome result (λ parts. input.now
+        ≡ decimal_of (length parts.script.now) ++ 10 ∷ parts.script.now ++ parts.printed.now) }
+{
+    let end = input.iter().position(|byte| *byte == b'\n')?;
+    let count = whole_number(&input[..end])? as usize;
+    let rest = &input[end + 1..];
+    if rest.len() < count {
+        return None;
+    }
+    let (script, printed) = rest.split_at(count);
+    Some(Parts { script, printed })
+}
+
+/// The parts of an input that is framed, or in which a script comes first and then what was printed for it. In that case the last line
+/// `round 1` that a line of a round comes after begins the first round, or, where none does, the first such end of a line, since a
+/// script's last line may lack its line feed. The refusals right before it were printed, too.
+pub fn parts_of(input: &[u8]) -> Parts<'_> {
+    match framed(input) {
+        Some(parts) => parts,
+        None => {
+            let script = before_refusals(&input[..round_place(input)]);
+            let (script, printed) = input.split_at(script.len().min(input.len()));
+            Parts { script, printed }
+        }
+    }
+}
+
+// The line that begins the first round.
+const FIRST_ROUND: &[u8] = b"round 1\n";
+
+// How the lines of the first round begin.
+const ROUND_LINES: [&[u8]; 9] = [
+    b"did ", b"dob ", b"home ", b"base ", b"ghost ", b"to ", b"bound ", b"phase ", b"end 1\n",
+];
+
+// Where the first round begins, or the input's length.
+fn round_place(input: &[u8]) -> usize
+    ensures { result ≤ length input.now }
+{
+    let mut found = input.len();
+    let mut rest = input;
+    while !rest.is_empty() {
+        let after = after_line(rest);
+        let place = input.len() - rest.len();
+        let line = &rest[..rest.len() - after.len()];
+        if line.ends_with(FIRST_ROUND) && is_in_round(after) {
+            if line.len() == FIRST_ROUND.len() {
+                found = place;
+            } else if found == input.len() {
+                found = input.len() - after.len() - FIRST_ROUND.len();
+            }
+        }
+        rest = after;
+    }
+    found
+}
+
+fn is_in_round(text: &[u8]) -> bool {
+    ROUND_LINES.iter().any(|word| text.starts_with(*word))
+}
+
+// What comes before the refusals that end a text: of these each is a line, but that the first may end a line of something else.
+fn before_refusals(text: &[u8]) -> &[u8] {
+    let mut rest = text;
+    for _ in 0..text.len() {
+        let Some(place) = refusal_place(rest) else {
+            return rest;
+        };
+        rest = &rest[..place];
+        if !rest.is_empty() && !rest.ends_with(b"\n") {
+            return rest;
+        }
+    }
+    rest
+}
+
+// Where the refusal begins that ends a text, if one does.
+fn refusal_place(text: &[u8]) -> Option<usize>
+    ensures { IfSome result (λ place. place ≤ length text.now) }
+{
+    let [lines @ .., b'\n'] = text else {
+        return None;
+    };
+    let mut found = None;
+    for place in last_line(lines)..lines.len() {
+        if is_refusal(&lines[place..]) {
+            found = Some(place);
+        }
+    }
+    found
+}
+
+// Where the last line begins.
+fn last_line(text: &[u8]) -> usize
+    ensures { result ≤ length text.now }
+{
+    for place in (0..text.len()).rev() {
+        if text[place] == b'\n' {
+            return place + 1;
+        }
+    }
+    0
+}
+
+// Whether this is `line`, a number and a cause. A cause begins with a small letter, as no argument of a command does.
+fn is_refusal(line: &[u8]) -> bool {
+    let [b'l', b'i', b'n', b'e', b' ', words @ ..] = line else {
+        return false;
+    };
+    let Some(end) = words.iter().position(|byte| *byte == b' ') else {
+        return false;
+    };
+    let (number, cause) = words.split_at(end);
+    let is_number = !number.is_empty() && number.iter().all(|byte| byte.is_ascii_digit());
+    let is_cause = match cause {
+        [b' ', b'a'..=b'z', others @ ..] => others.iter().all(|byte| is_of_cause(*byte)),
+        _ => false,
+    };
+    is_number && is_cause
+}
+
+fn is_of_cause(byte: u8) -> bool {
+    matches!(byte, b'a'..=b'z' | b' ' | b'1'..=b'4')
+}
