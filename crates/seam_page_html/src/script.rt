@@ -20,7 +20,7 @@ h2 { font-size: 15px; margin: 10px 0 4px; }
 input[type=number] { width: 90px; }
 table { border-collapse: collapse; font-size: 12px; }
 td, th { padding: 0 6px; text-align: right; }
-#cells { column-count: 2; }
+#cells { display: flex; gap: 24px; }
 .swatch { display: inline-block; width: 10px; height: 10px; margin-right: 4px; }
 p { margin: 2px 0; }
 pre { font: 12px monospace; max-height: 150px; overflow: auto; margin: 2px 0; padding: 4px; background: #f4f4f4; white-space: pre-wrap; }
@@ -203,12 +203,15 @@ function circle(pen, [x, y], radius) {
 }
 
 function haloed(pen, text, x, y) {
+  const dash = pen.getLineDash();
+  pen.setLineDash([]);
   pen.lineJoin = 'round';
   pen.lineWidth = 3;
   pen.strokeStyle = '#ffffff';
   pen.strokeText(text, x, y);
   pen.fillStyle = '#222222';
   pen.fillText(text, x, y);
+  pen.setLineDash(dash);
 }
 
 function drawAreas(pen, round) {
@@ -246,6 +249,8 @@ function ghostPlace(round, home, cell, margin) {
 
 function drawGhosts(pen, round, radius) {
   pen.setLineDash(radius > 4 ? [3, 2] : []);
+  pen.textAlign = 'center';
+  pen.font = '11px Helvetica, Arial, sans-serif';
   for (const [entity, cells] of round.ghosts) {
     const home = round.homes.get(entity);
     const isChosen = entity === chosen.entity;
@@ -258,6 +263,7 @@ function drawGhosts(pen, round, radius) {
       pen.strokeStyle = COLORS[meets ? cell : home.cell];
       pen.lineWidth = isChosen ? 2.5 : radius > 4 ? 1.6 : 0.7;
       pen.stroke();
+      if (radius > 10 && !meets) haloed(pen, entity, at[0], at[1] + 4);
     });
   }
   pen.setLineDash([]);
