@@ -45,35 +45,48 @@ pub fn parts_of(input: &[u8]) -> Parts<'_> {
 // The line that begins the first round.
 const FIRST_ROUND: &[u8] = b"round 1\n";
 
-// How the lines of the first round begin.
-const ROUND_LINES: [&[u8]; 9] = [
-    b"did ", b"dob ", b"home ", b"base ", b"ghost ", b"to ", b"bound ", b"phase ", b"end 1\n",
-];
-
 // Where the first round begins, or the input's length.
 fn round_place(input: &[u8]) -> usize
     ensures { result ≤ length input.now }
 {
     let mut found = input.len();
     let mut rest = input;
-    while !rest.is_empty() {
+    for _ in 0..input.len() {
         let after = after_line(rest);
-        let place = input.len() - rest.len();
         let line = &rest[..rest.len() - after.len()];
         if line.ends_with(FIRST_ROUND) && is_in_round(after) {
-            if line.len() == FIRST_ROUND.len() {
-                found = place;
-            } else if found == input.len() {
-                found = input.len() - after.len() - FIRST_ROUND.len();
-            }
+            let place = input.len().saturating_sub(after.len());
+            found = better_place(found, input.len(), line, place);
+        }
+        if after.is_empty() {
+            break;
         }
         rest = after;
     }
-    found
+    found.min(input.len())
 }
 
+// Where the first round begins, if that is at the end of a line which ends at a place: the last whole line counts, or else the first end.
+fn better_place(found: usize, none: usize, line: &[u8], end: usize) -> usize {
+    if line.len() == FIRST_ROUND.len() || found == none {
+        end.saturating_sub(FIRST_ROUND.len())
+    } else {
+        found
+    }
+}
+
+// Whether a text begins with a line that a round has after its number.
 fn is_in_round(text: &[u8]) -> bool {
-    ROUND_LINES.iter().any(|word| text.starts_with(*word))
+    let is_of_part = text.starts_with(b"did ")
+        || text.starts_with(b"dob ")
+        || text.starts_with(b"home ")
+        || text.starts_with(b"base ");
+    let is_other = text.starts_with(b"ghost ")
+        || text.starts_with(b"to ")
+        || text.starts_with(b"bound ")
+        || text.starts_with(b"phase ")
+        || text.starts_with(b"end 1\n");
+    is_of_part || is_other
 }
 
 // What comes before the refusals that end a text: of these each is a line, but that the first may end a line of something else.
@@ -108,10 +121,9 @@ fn refusal_place(text: &[u8]) -> Option<usize>
 }
 
 // Where the last line begins.
-fn last_line(text: &[u8]) -> usize
-    ensures { result ≤ length text.now }
-{
-    for place in (0..text.len()).rev() {
+fn last_line(text: &[u8]) -> usize {
+    for before in 1..text.len() {
+        let place = text.len() - before;
         if text[place] == b'\n' {
             return place + 1;
         }
@@ -128,7 +140,7 @@ fn is_refusal(line: &[u8]) -> bool {
         return false;
     };
     let (number, cause) = words.split_at(end);
-    let is_number = !number.is_empty() && number.iter().all(|byte| byte.is_ascii_digit());
+    let is_number = !number.is_empty() && number.iter().all(|byte| matches!(*byte, b'0'..=b'9'));
     let is_cause = match cause {
         [b' ', b'a'..=b'z', others @ ..] => others.iter().all(|byte| is_of_cause(*byte)),
         _ => false,

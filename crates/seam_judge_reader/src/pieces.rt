@@ -19,7 +19,7 @@ pub fn split_steps(text: &[u8]) -> (&[u8], &[u8], &[u8])
     ensures { result.0.now ++ result.1.now ++ result.2.now ≡ text.now }
 {
     let (first, others) = text.split_at(text.len() - after_line(text).len());
-    let (steps, rest) = others.split_at(others.len() - after_steps(others).len());
+    let (steps, rest) = others.split_at(others.len().saturating_sub(after_steps(others).len()));
     (first, steps, rest)
 }
 
@@ -50,11 +50,9 @@ fn after_round(text: &[u8]) -> &[u8]
 }
 
 // What comes after the lines of steps that come first.
-fn after_steps(text: &[u8]) -> &[u8]
-    ensures { length result.now ≤ length text.now }
-{
+fn after_steps(text: &[u8]) -> &[u8] {
     let mut rest = text;
-    while !rest.is_empty() {
+    for _ in 0..text.len() {
         if !rest.starts_with(b"phase ") && !rest.starts_with(b"step ") {
             return rest;
         }

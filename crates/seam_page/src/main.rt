@@ -28,17 +28,20 @@ fn main(rt: HostRuntime) -> ExitCode {
 }
 
 fn run(rt: &HostRuntime) -> Result<(), Fault> {
-    match env::args(rt) {
-        Ok(args) if args.skip(1).next().is_none() => {}
-        Ok(_) => return Err(Fault::Usage),
+    let mut words = match env::args(rt) {
+        Ok(args) => args.skip(1),
         Err(error) => return Err(io_fault(error, Fault::Usage)),
+    };
+    if words.next().is_some() {
+        return Err(Fault::Usage);
     }
     let mut text = Vec::new(rt.alloc());
     if let Err(error) = rt.reader().read_to_end(&mut text) {
         return Err(io_fault(error, Fault::NotReadable));
     }
     let page = page_of(rt.alloc(), &text)?;
-    match writer(rt).write_all(&page) {
+    let mut out = writer(rt);
+    match out.write_all(&page) {
         Ok(()) => Ok(()),
         Err(_) => Err(Fault::NotWritable),
     }

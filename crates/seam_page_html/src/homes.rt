@@ -17,12 +17,19 @@ pub(crate) fn push_homes(
     homes: &[HomeLine],
 ) -> Result<(), AllocError> {
     for home in homes {
-        match before.and_then(|played| played.home_of(home.entity)) {
+        match last_of(before, home.entity) {
             Some(last) => push_changed(out, defs, last, calls, home)?,
             None => push_new(out, defs, home)?,
         }
     }
     Ok(())
+}
+
+fn last_of(before: Option<&Played>, entity: u32) -> Option<&HomeLine> {
+    match before {
+        Some(played) => played.home_of(entity),
+        None => None,
+    }
 }
 
 /// Appends the entities of a round that are in the next one no more.

@@ -37,9 +37,12 @@ impl Clients {
 
     fn show_line(&mut self, line: &ClientLine) -> Result<(), AllocError> {
         self.make(line.entity)?;
-        match (&line.line.text, self.views.get_mut(&line.entity)) {
-            (ClientText::Shown(shown), Some(view)) => keep(view, shown),
-            _ => Ok(()),
+        let ClientText::Shown(shown) = &line.line.text else {
+            return Ok(());
+        };
+        match self.views.get_mut(&line.entity) {
+            Some(view) => keep(view, shown),
+            None => Ok(()),
         }
     }
 
@@ -61,12 +64,20 @@ impl Clients {
             if let Some(view) = self.views.get(&home.entity) {
                 views.push(View {
                     entity: home.entity,
-                    others: view.iter().copied().collect(alloc)?,
+                    others: others_in(alloc, view)?,
                 })?;
             }
         }
         Ok(views)
     }
+}
+
+fn others_in(alloc: Global, view: &IndexSet<u32>) -> Result<Vec<u32>, AllocError> {
+    let mut others = Vec::new(alloc);
+    for other in view {
+        others.push(*other)?;
+    }
+    Ok(others)
 }
 
 // Keeps what is in view after one thing more was shown.

@@ -12,9 +12,6 @@ const BESIDE: Point = Point { x: 7, y: 4 };
 // The least number that is too long for a dot.
 const LEAST_LONG_NUMBER: u32 = 1000;
 
-// The most entities whose dots have numbers.
-const MOST_NUMBERED: usize = 150;
-
 /// The dots of a picture, which are the smaller the more entities there are. Where there are many, numbers are titles, which a reader sees
 /// who points at the dot.
 #[derive(Clone, Copy)]
@@ -28,7 +25,7 @@ impl Dots {
     /// The dots of so many entities.
     pub(crate) fn of(count: usize) -> Dots {
         let (size, radius) = match count {
-            0..=MOST_NUMBERED => (Size::Large, 11),
+            0..=150 => (Size::Large, 11),
             151..=600 => (Size::Small, 6),
             601..=2_500 => (Size::Small, 4),
             2_501..=12_000 => (Size::Tiny, 2),

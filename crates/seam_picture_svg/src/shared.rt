@@ -25,11 +25,14 @@ impl Points {
 
     /// Adds an entity at a point.
     pub(crate) fn add(&mut self, point: Point, entity: u32) -> Result<(), AllocError> {
-        if let Some(shared) = self.points.get_mut(&point) {
-            shared.count = shared.count.saturating_add(1);
-            return Ok(());
-        }
-        match self.points.insert(point, Shared { entity, count: 1 }) {
+        let shared = match self.points.get(&point) {
+            Some(shared) => Shared {
+                entity: shared.entity,
+                count: shared.count.saturating_add(1),
+            },
+            None => Shared { entity, count: 1 },
+        };
+        match self.points.insert(point, shared) {
             Ok(_) => Ok(()),
             Err(_) => Err(AllocError),
         }
