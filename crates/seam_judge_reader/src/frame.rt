@@ -19,12 +19,15 @@ pub fn framed(input: &[u8]) -> Option<Parts<'_>>
         ≡ decimal_of (length parts.script.now) ++ 10 ∷ parts.script.now ++ parts.printed.now) }
 {
     let end = input.iter().position(|byte| *byte == b'\n')?;
-    let count = whole_number(&input[..end])? as usize;
-    let rest = &input[end + 1..];
-    if rest.len() < count {
+    let (line, rest) = input.split_at(end);
+    let count = whole_number(line)? as usize;
+    let [b'\n', others @ ..] = rest else {
+        return None;
+    };
+    if others.len() < count {
         return None;
     }
-    let (script, printed) = rest.split_at(count);
+    let (script, printed) = others.split_at(count);
     Some(Parts { script, printed })
 }
 
