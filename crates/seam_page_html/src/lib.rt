@@ -19,11 +19,11 @@
 #![tactic(auto)]
 
 mod calls;
-mod data;
 mod ghosts;
 mod homes;
 mod lines;
 mod page;
+mod page_data;
 mod script;
 
 pub use page::page_of;

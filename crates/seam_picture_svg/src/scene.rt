@@ -44,6 +44,7 @@ const NAME: Point = Point { x: 10, y: 24 };
 const PLACES: Point = Point { x: 10, y: 40 };
 
 /// A round to be drawn: what was printed of it, what clients have in view after it, and how far views reach.
+#[derive(Clone, Copy)]
 pub(crate) struct Scene<'a> {
     played: &'a Played,
     views: &'a [View],

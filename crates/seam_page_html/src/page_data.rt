@@ -13,7 +13,7 @@ use std::alloc::{AllocError, Global};
 
 /// The data of the rounds so far, and what they left.
 #[derive(Drop)]
-pub(crate) struct Data {
+pub(crate) struct PageData {
     alloc: Global,
     text: Vec<u8>,
     before: Option<Played>,
@@ -21,10 +21,10 @@ pub(crate) struct Data {
     bases: Bases,
 }
 
-impl Data {
+impl PageData {
     /// There is no round.
-    pub(crate) fn new(alloc: Global) -> Data {
-        Data {
+    pub(crate) fn new(alloc: Global) -> PageData {
+        PageData {
             alloc,
             text: Vec::new(alloc),
             before: None,
