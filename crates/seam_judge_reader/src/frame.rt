@@ -1,5 +1,5 @@
 // A script and what was printed for it, in one input.
-ghost use Rattle.std.specs.Prelude.{◌≡◌, ◌≤◌, ◌++◌, ◌∷◌, IfSome, length};
+ghost use Rattle.std.specs.Prelude.{◌≡◌, ◌++◌, ◌∷◌, IfSome, length};
 ghost use Rattle.seam_value.specs.Values.{decimal_of};
 
 use crate::pieces::after_line;
@@ -38,8 +38,9 @@ pub fn parts_of(input: &[u8]) -> Parts<'_> {
     match framed(input) {
         Some(parts) => parts,
         None => {
-            let script = before_refusals(&input[..round_place(input)]);
-            let (script, printed) = input.split_at(script.len().min(input.len()));
+            let before_round = &input[..round_place(input).min(input.len())];
+            let length = before_refusals(before_round).len();
+            let (script, printed) = input.split_at(length.min(input.len()));
             Parts { script, printed }
         }
     }
@@ -49,9 +50,7 @@ pub fn parts_of(input: &[u8]) -> Parts<'_> {
 const FIRST_ROUND: &[u8] = b"round 1\n";
 
 // Where the first round begins, or the input's length.
-fn round_place(input: &[u8]) -> usize
-    ensures { result ≤ length input.now }
-{
+fn round_place(input: &[u8]) -> usize {
     let mut found = input.len();
     let mut rest = input;
     for _ in 0..input.len() {
@@ -66,12 +65,12 @@ fn round_place(input: &[u8]) -> usize
         }
         rest = after;
     }
-    found.min(input.len())
+    found
 }
 
 // Where the first round begins, if that is at the end of a line which ends at a place: the last whole line counts, or else the first end.
-fn better_place(found: usize, none: usize, line: &[u8], end: usize) -> usize {
-    if line.len() == FIRST_ROUND.len() || found == none {
+fn better_place(found: usize, unfound: usize, line: &[u8], end: usize) -> usize {
+    if line.len() == FIRST_ROUND.len() || found == unfound {
         end.saturating_sub(FIRST_ROUND.len())
     } else {
         found
@@ -99,7 +98,7 @@ fn before_refusals(text: &[u8]) -> &[u8] {
         let Some(place) = refusal_place(rest) else {
             return rest;
         };
-        rest = &rest[..place];
+        rest = &rest[..place.min(rest.len())];
         if !rest.is_empty() && !rest.ends_with(b"\n") {
             return rest;
         }
@@ -108,9 +107,7 @@ fn before_refusals(text: &[u8]) -> &[u8] {
 }
 
 // Where the refusal begins that ends a text, if one does.
-fn refusal_place(text: &[u8]) -> Option<usize>
-    ensures { IfSome result (λ place. place ≤ length text.now) }
-{
+fn refusal_place(text: &[u8]) -> Option<usize> {
     let [lines @ .., b'\n'] = text else {
         return None;
     };
