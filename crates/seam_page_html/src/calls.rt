@@ -107,7 +107,10 @@ fn push_call(
 
 // A move of the entity whose number is so much more than that of the last one that was moved, modulo 2^32.
 fn push_move(out: &mut Vec<u8>, call: &Call, more: u32, to: Pos) -> Result<(), AllocError> {
-    push_words(out, b"m", &[u64::from(more)])?;
+    out.push(b'm')?;
+    if more != 1 {
+        push_words(out, b"", &[u64::from(more)])?;
+    }
     match call.sender {
         Sender::Base(node) => {
             out.extend_from_slice(b" b")?;

@@ -113,8 +113,10 @@ const READERS = {
     for (let i = 0; i < numbers.length; i += 4) round.areas.push(numbers.slice(i, i + 4));
   },
   m(round, line) {
-    const [, more, sender, x, z] = line.split(' ');
-    round.moved = (round.moved + Number(more)) % 4294967296;
+    const words = line.split(' ');
+    const more = words.length > 4 ? Number(words[1]) : 1;
+    const [sender, x, z] = words.slice(-3);
+    round.moved = (round.moved + more) % 4294967296;
     round.calls.push({ part: 'did', entity: round.moved, text: sender + ' move ' + x + ' ' + z });
     execute(round, round.moved, { x: Number(x), z: Number(z) });
   },
@@ -407,7 +409,7 @@ function tellEntity(round) {
   texts(by('state'), [
     home.type + ' in cell ' + home.cell + ' at x = ' + home.x + ', z = ' + home.z + ', after ' + home.version + ' calls',
     'cell part: ' + (home.state || 'no properties'),
-    'base part, after so many calls: ' + (round.bases.get(chosen.entity) || 'none'),
+    'base part after ' + split(round.bases.get(chosen.entity) || '0', 1).join(' calls: '),
     'ghosts in cells: ' + ((round.ghosts.get(chosen.entity) || []).join(', ') || 'none'),
     'seen by the clients of: ' + (seers.join(', ') || 'nobody'),
   ]);
