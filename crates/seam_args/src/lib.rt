@@ -17,10 +17,10 @@ mod refusals;
 use clap::error::ErrorKind;
 use clap::parser::ValueSource;
 use clap::{Arg, ArgAction, ArgMatches, Command, value_parser};
+pub use refusals::refusal_text;
 use std::alloc::{AllocError, Global};
 use std::env::Args;
 use std::io;
-pub use refusals::refusal_text;
 use thiserror::Error;
 
 /// The most workers that may run the cells and base nodes.
@@ -88,7 +88,8 @@ fn flag<'a>(alloc: Global, name: &'a str) -> Arg<'a>
 /// What the words give to each option of the command.
 fn matches_of_words<'a>(alloc: Global, words: &'a [String]) -> Result<ArgMatches<'a>, clap::Error>
     ensures fails { FailsBy (fault_of command (map string_bytes words.entry.now)) result }
-    ensures found { IfOk result (λ m. rows_of (found_of m) ≡ matches_of command (map string_bytes words.entry.now)) }
+    ensures found { IfOk result (λ m. rows_of (found_of m)
+        ≡ matches_of command (map string_bytes words.entry.now)) }
     ensures numbers { IfOk result (λ m. HasNumbers (found_of m)) }
 {
     let workers = number_option(alloc, "workers", MOST_WORKERS).default_value(DEFAULT_WORKERS);
@@ -136,7 +137,8 @@ fn options_given(alloc: Global, words: &[String]) -> Result<Options, ArgsError>
     ensures passes { OnOk result (fault_of command (map string_bytes words.now) ≡ []) }
     ensures options { IfOk result (AreOptions (matches_of command (map string_bytes words.now))) }
     ensures range { IfOk result AreInRange }
-    ensures usage { result ≡ Err ArgsError.Usage → ¬ (fault_of command (map string_bytes words.now) ≡ []) }
+    ensures usage { result ≡ Err ArgsError.Usage → ¬ (fault_of command (map string_bytes words.now)
+        ≡ []) }
 {
     match matches_of_words(alloc, words) {
         Ok(matches) => Ok(options_of(&matches)),
@@ -175,9 +177,11 @@ fn gathered(alloc: Global, args: Args) -> Result<Vec<String>, AllocError>
 /// The options that the words give, of which the first is the program's name.
 fn options_in(alloc: Global, args: Args) -> Result<Options, ArgsError>
     ensures passes { OnOk result (fault_of command (map string_bytes (into_iter_items args)) ≡ []) }
-    ensures options { IfOk result (AreOptions (matches_of command (map string_bytes (into_iter_items args)))) }
+    ensures options { IfOk result (AreOptions (matches_of command
+        (map string_bytes (into_iter_items args)))) }
     ensures range { IfOk result AreInRange }
-    ensures usage { result ≡ Err ArgsError.Usage → ¬ (fault_of command (map string_bytes (into_iter_items args)) ≡ []) }
+    ensures usage { result ≡ Err ArgsError.Usage → ¬ (fault_of command
+        (map string_bytes (into_iter_items args)) ≡ []) }
 {
     match gathered(alloc, args) {
         Ok(words) => options_given(alloc, &words),

@@ -51,7 +51,12 @@ fn push_file(alloc: Global, words: &[String], text: &mut String) -> Result<(), A
     'words: for word in words.iter().skip(1) {
         let named = format!(in alloc; "error: unexpected argument '{}' found", word.as_str())?;
         if !word.starts_with('-') && text.starts_with(named.as_str()) {
-            write!(text, "{}: input comes on standard input: seamless < {}\n", word.as_str(), word.as_str())?;
+            write!(
+                text,
+                "{}: input comes on standard input: seamless < {}\n",
+                word.as_str(),
+                word.as_str()
+            )?;
             return Ok(());
         }
     }

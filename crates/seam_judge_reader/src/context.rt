@@ -2,7 +2,7 @@
 ghost use Rattle.seam_defs.specs.Types.{IsType};
 
 use crate::words::Words;
-use seam_call::Create;
+use indexmap::IndexMap;
 use seam_defs::{Args, Deed, TypeDef};
 use seam_judge_data::Standing;
 use seam_rule_lines::{Entry, Header};
@@ -11,23 +11,37 @@ use std::alloc::{AllocError, Global};
 // The number of no type and of no method.
 const NONE: u16 = u16::MAX;
 
-/// The header, and the standing with the entities that were created.
-#[derive(Clone, Copy)]
+/// The header, the standing, and the types of the entities that were created, by the entities' numbers.
+#[derive(Drop)]
 pub(crate) struct LineContext<'a> {
     pub(crate) alloc: Global,
     pub(crate) header: &'a Header,
     pub(crate) standing: &'a Standing,
+    types: IndexMap<u32, u16>,
 }
 
 impl<'a> LineContext<'a> {
+    pub(crate) fn of(
+        alloc: Global,
+        header: &'a Header,
+        standing: &'a Standing,
+    ) -> Result<LineContext<'a>, AllocError> {
+        let mut types = IndexMap::new(alloc);
+        add_types(&mut types, &standing.past)?;
+        add_types(&mut types, &standing.current)?;
+        Ok(LineContext {
+            alloc,
+            header,
+            standing,
+            types,
+        })
+    }
+
     /// The number of the type of an entity. An entity that was not created has a type without properties and methods.
     pub(crate) fn type_of(&self, entity: u32) -> u16 {
-        match created_among(&self.standing.past, entity) {
-            Some(create) => create.ty,
-            None => match created_among(&self.standing.current, entity) {
-                Some(create) => create.ty,
-                None => NONE,
-            },
+        match self.types.get(&entity) {
+            Some(ty) => *ty,
+            None => NONE,
         }
     }
 
@@ -61,14 +75,19 @@ fn method_named(t: &TypeDef, name: &[u8]) -> u16
     t.find_method(name).unwrap_or(NONE)
 }
 
-// What made an entity, among entries.
-fn created_among(entries: &[Entry], entity: u32) -> Option<Create> {
+// Adds the types of the entities that entries made.
+fn add_types(types: &mut IndexMap<u32, u16>, entries: &[Entry]) -> Result<(), AllocError> {
     for entry in entries {
         if let Entry::Created(create) = entry {
-            if create.entity == entity {
-                return Some(*create);
-            }
+            keep_type(types, create.entity, create.ty)?;
         }
     }
-    None
+    Ok(())
+}
+
+fn keep_type(types: &mut IndexMap<u32, u16>, entity: u32, ty: u16) -> Result<(), AllocError> {
+    match types.insert(entity, ty) {
+        Ok(_) => Ok(()),
+        Err(_) => Err(AllocError),
+    }
 }

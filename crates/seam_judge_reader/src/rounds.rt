@@ -41,11 +41,7 @@ pub fn read_lines(
     standing: &Standing,
     text: &[u8],
 ) -> Result<Round, AllocError> {
-    let known = LineContext {
-        alloc,
-        header,
-        standing,
-    };
+    let known = LineContext::of(alloc, header, standing)?;
     let mut round = no_round(alloc, standing);
     for line in text.split(|byte| *byte == b'\n') {
         let words = Words::of(alloc, line)?;

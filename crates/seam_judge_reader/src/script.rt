@@ -6,6 +6,7 @@ use seam_accept::{Accepted, Book, HeaderLines, Refusal, next_count};
 use seam_call::{Batch, Order};
 use seam_io::LONGEST_LINE;
 use seam_judge_data::{Round, Standing};
+use seam_judge_expected::tree_in;
 use seam_judge_rounds::{is_numbered, standing_after};
 use seam_rule_lines::{Cause, Entry, Header, MOST_LINES};
 use seam_toml::HeaderError;
@@ -138,6 +139,15 @@ impl ScriptReader {
             None => Ok(false),
         }
     }
+
+    /// Ends the open round as `end_round` does, for whoever reads on and judges nothing: of the standing that the round leaves, only the
+    /// counts, the boundaries and the entities that were created are kept. Its time and room do not grow with the rounds before.
+    pub fn pass_round(&mut self, round: &Round) -> Result<bool, AllocError> {
+        match &mut self.script {
+            Some(script) => script.pass_round(round),
+            None => Ok(false),
+        }
+    }
 }
 
 // A script after its header. The book gives away each line at once, so that it never has lines of a round; the standing keeps them.
@@ -203,12 +213,42 @@ impl Script {
             return Ok(false);
         }
         self.standing = standing_after(alloc, &self.standing, round)?;
+        self.begin_round(round);
+        Ok(true)
+    }
+
+    fn pass_round(&mut self, round: &Round) -> Result<bool, AllocError> {
+        if !is_numbered(&self.standing, round) {
+            return Ok(false);
+        }
+        self.standing.tree = match &round.bounds {
+            Some(tree) => *tree,
+            None => tree_in(&self.standing),
+        };
+        add_creates(&mut self.standing.past, &self.standing.current)?;
+        self.standing.current.clear();
+        self.standing.rounds = round.number;
+        self.begin_round(round);
+        Ok(true)
+    }
+
+    // The book goes on after a round.
+    fn begin_round(&mut self, round: &Round) {
         let _ = self.book.take_batch();
         if let Some(tree) = &round.bounds {
             self.book.set_tree(*tree);
         }
-        Ok(true)
     }
+}
+
+// Adds the entries that made entities.
+fn add_creates(entries: &mut Vec<Entry>, further: &[Entry]) -> Result<(), AllocError> {
+    for entry in further {
+        if let Entry::Created(create) = entry {
+            entries.push(Entry::Created(*create))?;
+        }
+    }
+    Ok(())
 }
 
 // What a batch of one line adds.

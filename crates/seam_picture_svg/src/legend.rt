@@ -1,5 +1,5 @@
 // The legend below a picture.
-use crate::dots::{draw_client_ring, draw_ghost, draw_home};
+use crate::dots::Dots;
 use crate::drawing::{Drawing, Point};
 use crate::map::{BOTTOM, LEFT};
 use crate::style::Style;
@@ -25,14 +25,15 @@ const ENTITY: u32 = 7;
 
 /// Adds what each sign is.
 pub(crate) fn draw_legend(drawing: &mut Drawing) -> Result<(), AllocError> {
-    draw_home(drawing, FIRST, CELL, ENTITY)?;
+    let dots = Dots::of(1);
+    dots.draw_home(drawing, FIRST, CELL, ENTITY)?;
     draw_words(drawing, FIRST, "home")?;
     let copy = FIRST.plus(STEP);
-    draw_ghost(drawing, copy, CELL, ENTITY)?;
+    dots.draw_ghost(drawing, copy, CELL, ENTITY)?;
     draw_words(drawing, copy, "ghost")?;
     let client = copy.plus(STEP);
-    draw_client_ring(drawing, client)?;
-    draw_home(drawing, client, CELL, ENTITY)?;
+    dots.draw_client_ring(drawing, client)?;
+    dots.draw_home(drawing, client, CELL, ENTITY)?;
     draw_words(drawing, client, "has a client")?;
     draw_view(drawing, client.plus(STEP))
 }

@@ -1,0 +1,37 @@
+// Lines of words and numbers.
+use seam_value::push_number;
+use std::alloc::AllocError;
+
+/// Appends a line: a word, and numbers after it.
+pub(crate) fn push_line(out: &mut Vec<u8>, word: &[u8], numbers: &[u64]) -> Result<(), AllocError> {
+    push_words(out, word, numbers)?;
+    out.push(b'\n')
+}
+
+/// Appends a word, and numbers after it.
+pub(crate) fn push_words(
+    out: &mut Vec<u8>,
+    word: &[u8],
+    numbers: &[u64],
+) -> Result<(), AllocError> {
+    out.extend_from_slice(word)?;
+    for number in numbers {
+        out.push(b' ')?;
+        push_number(out, *number)?;
+    }
+    Ok(())
+}
+
+/// Appends a text as the data of a page have it, in which nothing is HTML and no line ends but at a line feed.
+pub(crate) fn push_escaped(out: &mut Vec<u8>, text: &[u8]) -> Result<(), AllocError> {
+    for byte in text {
+        match byte {
+            b'&' => out.extend_from_slice(b"&amp;")?,
+            b'<' => out.extend_from_slice(b"&lt;")?,
+            b'\r' => out.extend_from_slice(b"&#13;")?,
+            0 => out.extend_from_slice(b"&#0;")?,
+            _ => out.push(*byte)?,
+        }
+    }
+    Ok(())
+}

@@ -1,0 +1,115 @@
+// How the pieces of a picture look.
+use std::fmt;
+
+/// How large a dot is, which says how its edge looks.
+#[derive(Clone, Copy, PartialEq, Eq)]
+pub(crate) enum Size {
+    Large,
+    Small,
+    Tiny,
+}
+
+// The classes of the style sheet. A large dot needs none.
+impl fmt::Display for Size {
+    fn fmt<W: fmt::Write>(&self, f: &mut fmt::Formatter<W>) -> fmt::Result {
+        match self {
+            Size::Large => Ok(()),
+            Size::Small => write!(f, " small"),
+            Size::Tiny => write!(f, " tiny"),
+        }
+    }
+}
+
+/// What a piece of the picture is, which says how it looks. The number is that of the cell whose color it has.
+#[derive(Clone, Copy)]
+pub(crate) enum Style {
+    Paper,
+    Title,
+    Note,
+    EndNote,
+    Area(u8),
+    Border,
+    CellName,
+    CellNote,
+    View,
+    InView,
+    GhostLine(u8),
+    Ghost(u8, Size),
+    Ring(u8, Size),
+    GhostNumber,
+    Home(u8, Size),
+    HomeNumber,
+    LongNumber,
+    Count,
+    Client,
+}
+
+// The classes of the style sheet.
+impl fmt::Display for Style {
+    fn fmt<W: fmt::Write>(&self, f: &mut fmt::Formatter<W>) -> fmt::Result {
+        match self {
+            Style::Paper => write!(f, "paper"),
+            Style::Title => write!(f, "title"),
+            Style::Note => write!(f, "note"),
+            Style::EndNote => write!(f, "note end"),
+            Style::Area(cell) => write!(f, "area of{cell}"),
+            Style::Border => write!(f, "border"),
+            Style::CellName => write!(f, "halo cell name"),
+            Style::CellNote => write!(f, "halo cell"),
+            Style::View => write!(f, "view"),
+            Style::InView => write!(f, "in-view"),
+            Style::GhostLine(cell) => write!(f, "ghost-line of{cell}"),
+            Style::Ghost(cell, size) => write!(f, "ghost of{cell}{size}"),
+            Style::Ring(cell, size) => write!(f, "ring of{cell}{size}"),
+            Style::GhostNumber => write!(f, "number"),
+            Style::Home(cell, size) => write!(f, "home of{cell}{size}"),
+            Style::HomeNumber => write!(f, "number on-dot"),
+            Style::LongNumber => write!(f, "halo long"),
+            Style::Count => write!(f, "halo bold"),
+            Style::Client => write!(f, "client"),
+        }
+    }
+}
+
+/// The style sheet: how each class looks, and the colors of the sixteen cells, which are quiet where an area has them. Any two of the
+/// colors are at least 18 apart in the space CIELAB, for a reader with all kinds of cones and for one who lacks any one of them.
+pub(crate) const STYLE_SHEET: &str = "\
+text { font: 12px Helvetica, Arial, sans-serif; fill: #222222; }
+.paper { fill: #ffffff; }
+.title { font-size: 22px; font-weight: bold; }
+.note { fill: #555555; }
+.end { text-anchor: end; }
+.area { fill: currentColor; fill-opacity: 0.13; }
+.border { fill: none; stroke: #7c828c; stroke-width: 1.5; }
+.halo { paint-order: stroke; stroke: #ffffff; stroke-width: 3px; stroke-linejoin: round; }
+.cell { font-size: 10px; }
+.name { font-size: 18px; font-weight: bold; }
+.view { fill: #333333; fill-opacity: 0.04; stroke: #333333; stroke-width: 1.3; stroke-dasharray: 7 5; }
+.in-view { stroke: #333333; stroke-width: 1.2; stroke-opacity: 0.6; }
+.ghost-line { stroke: currentColor; stroke-width: 1.2; stroke-dasharray: 2 3; }
+.ghost { fill: #ffffff; stroke: currentColor; stroke-width: 1.8; stroke-dasharray: 3 2; }
+.ring { fill: none; stroke: currentColor; stroke-width: 1.8; stroke-dasharray: 3 2; }
+.home { fill: currentColor; stroke: #ffffff; stroke-width: 1.5; }
+.client { fill: none; stroke: #222222; stroke-width: 2; }
+.number { text-anchor: middle; }
+.bold { font-weight: bold; }
+.on-dot { font-weight: bold; fill: #ffffff; paint-order: stroke; stroke: #222222; stroke-width: 2px; }
+.small { stroke-width: 0.6; stroke-dasharray: none; }
+.tiny { stroke-width: 0.3; stroke-dasharray: none; }
+.of0 { color: #689efa; }
+.of1 { color: #c8621a; }
+.of2 { color: #156861; }
+.of3 { color: #b74dc0; }
+.of4 { color: #fdad03; }
+.of5 { color: #6204ef; }
+.of6 { color: #96ce72; }
+.of7 { color: #641800; }
+.of8 { color: #0fd3e6; }
+.of9 { color: #7e7d9c; }
+.of10 { color: #957056; }
+.of11 { color: #7b0287; }
+.of12 { color: #7366fb; }
+.of13 { color: #372a35; }
+.of14 { color: #d5bbb0; }
+.of15 { color: #760ab9; }
+";
