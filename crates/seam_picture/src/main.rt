@@ -1,39 +1,51 @@
 // SPDX-License-Identifier: MIT
 
-//! Draws one round of a script as a picture: `seam_picture [ROUND]` reads a script and what was printed for it on standard input, and
-//! writes an SVG of that round, or of the last one, to standard output (`seam_picture_svg`).
+//! Draws one round of a script as a picture: `seam_picture [ROUND]` reads a script and after it all that was printed for it on standard
+//! input, and writes an SVG of that round, or of the last one, to standard output.
 //!
-//! The status is 0, or 1 for words that are no number, 2 for input that is no script with such a round, 3 and 4 where reading and writing
-//! fails, and 6 without memory; then standard error has a line, and standard output nothing, or at 4 the prefix of a picture.
+//! The picture has the space with its cells, each entity at its place, in the color of the cell where it lives, its ghosts in the cells
+//! that have them, and for each client how far its view reaches, and lines to what it has in view. The status is 0, or 1 for words that
+//! are no number, 2 for input that is no script with such a round, 3 and 4 where reading and writing fails, and 6 without memory; then
+//! standard error has a line, and standard output nothing, or at 4 the prefix of a picture.
 #![tactic(auto)]
 
-use seam_picture_svg::picture_of;
-use seam_replay::{Fault, io_fault};
+mod dots;
+mod drawing;
+mod fault;
+mod following;
+mod input;
+mod legend;
+mod map;
+mod scene;
+mod style;
+
+use crate::fault::{Fault, io_fault};
+use crate::following::scene_of;
+use crate::input::Input;
 use std::env;
 use std::io::Read;
 use std::process::ExitCode;
 
 fn main(rt: HostRuntime) -> ExitCode {
-    let Err(fault) = run(&rt) else {
-        return ExitCode::from(0);
-    };
-    // If that fails, nobody reads it.
-    let _ = match fault {
-        Fault::Usage => eprintln!(rt;
-            "seam_picture: usage: seam_picture [ROUND], with a script and what was printed for it on standard input"
-        ),
-        _ => eprintln!(rt; "seam_picture: {fault}"),
-    };
-    ExitCode::from(fault.status())
+    match run(&rt) {
+        Ok(()) => ExitCode::from(0),
+        Err(fault) => {
+            // If that fails, nobody reads it.
+            let _ = eprintln!(rt; "seam_picture: {fault}");
+            ExitCode::from(fault.status())
+        }
+    }
 }
 
 fn run(rt: &HostRuntime) -> Result<(), Fault> {
+    let alloc = rt.alloc();
     let wanted = wanted_round(rt)?;
-    let mut text = Vec::new(rt.alloc());
+    let mut text = Vec::new(alloc);
     if let Err(error) = rt.reader().read_to_end(&mut text) {
         return Err(io_fault(error, Fault::NotReadable));
     }
-    let picture = picture_of(rt.alloc(), &text, wanted)?;
+    let input = Input::of(alloc, text.as_slice())?;
+    let picture = scene_of(alloc, &input, wanted)?.draw(alloc)?;
     match print!(rt; "{picture}") {
         Ok(()) => Ok(()),
         Err(_) => Err(Fault::NotWritable),

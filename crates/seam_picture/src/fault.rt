@@ -1,13 +1,13 @@
-// Why a round is not there to be drawn.
+// Why no picture was drawn.
 use seam_judge_reader::BadScript;
 use std::alloc::AllocError;
 use std::io;
 use thiserror::Error;
 
-/// Why a program that draws rounds draws nothing.
+/// Why no picture was drawn.
 #[derive(Clone, Copy, Debug, PartialEq, Eq, Error)]
-pub enum Fault {
-    #[error("the words of the command line are not those of this program")]
+pub(crate) enum Fault {
+    #[error("usage: seam_picture [ROUND], with a script and after it what was printed for it on standard input")]
     Usage,
     #[error("the script has no line \"%%\" that ends its header")]
     NoHeader,
@@ -29,7 +29,7 @@ pub enum Fault {
 
 impl Fault {
     /// The exit status, which is that of a run of a script with such a fault.
-    pub fn status(self) -> u8 {
+    pub(crate) fn status(self) -> u8 {
         match self {
             Fault::Usage => 1,
             Fault::NoHeader
@@ -63,7 +63,7 @@ impl From<BadScript> for Fault {
 }
 
 /// The fault of a call of the system that gave an error: the other one, if it is not want of memory.
-pub fn io_fault(error: io::Error, other: Fault) -> Fault {
+pub(crate) fn io_fault(error: io::Error, other: Fault) -> Fault {
     if error.kind() == io::ErrorKind::OutOfMemory {
         Fault::NoMemory
     } else {

@@ -1,5 +1,5 @@
 // The legend below a picture.
-use crate::dots::Dots;
+use crate::dots::{draw_client_ring, draw_ghost, draw_home};
 use crate::drawing::{Drawing, Point};
 use crate::map::{BOTTOM, LEFT};
 use crate::style::Style;
@@ -25,15 +25,14 @@ const ENTITY: u32 = 7;
 
 /// Adds what each sign is.
 pub(crate) fn draw_legend(drawing: &mut Drawing) -> Result<(), AllocError> {
-    let dots = Dots::of(1);
-    dots.draw_home(drawing, FIRST, CELL, ENTITY)?;
+    draw_home(drawing, FIRST, CELL, ENTITY)?;
     draw_words(drawing, FIRST, "home")?;
     let copy = FIRST.plus(STEP);
-    dots.draw_ghost(drawing, copy, CELL, ENTITY)?;
+    draw_ghost(drawing, copy, CELL, ENTITY)?;
     draw_words(drawing, copy, "ghost")?;
     let client = copy.plus(STEP);
-    dots.draw_client_ring(drawing, client)?;
-    dots.draw_home(drawing, client, CELL, ENTITY)?;
+    draw_client_ring(drawing, client)?;
+    draw_home(drawing, client, CELL, ENTITY)?;
     draw_words(drawing, client, "has a client")?;
     draw_view(drawing, client.plus(STEP))
 }

@@ -4,7 +4,7 @@ use std::alloc::{AllocError, Global};
 use std::fmt::Display;
 
 /// A point of a drawing.
-#[derive(Clone, Copy, PartialEq, Eq, Hash)]
+#[derive(Clone, Copy)]
 pub(crate) struct Point {
     pub(crate) x: u64,
     pub(crate) y: u64,
@@ -80,21 +80,6 @@ impl Drawing {
         writeln!(
             self.text,
             "<circle class=\"{style}\" cx=\"{x}\" cy=\"{y}\" r=\"{radius}\"/>"
-        )
-    }
-
-    /// A filled circle about a point, with a number as its title.
-    pub(crate) fn dot(
-        &mut self,
-        style: Style,
-        center: Point,
-        radius: u64,
-        title: u32,
-    ) -> Result<(), AllocError> {
-        let Point { x, y } = center;
-        writeln!(
-            self.text,
-            "<circle class=\"{style}\" cx=\"{x}\" cy=\"{y}\" r=\"{radius}\"><title>{title}</title></circle>"
         )
     }
 
