@@ -122,5 +122,5 @@ fn push_move(out: &mut Vec<u8>, call: &Call, more: u32, to: Pos) -> Result<(), A
         }
     }
     push_words(out, b"", &[u64::from(to.x), u64::from(to.z)])?;
-    out.push(b'\n')
+    out.extend_from_slice(b"\n")
 }

@@ -78,7 +78,7 @@ fn push_cells(out: &mut Vec<u8>, entity: u32, cells: &CellSet) -> Result<(), All
             push_number(out, u64::from(cell))?;
         }
     }
-    out.push(b'\n')
+    out.extend_from_slice(b"\n")
 }
 
 /// The last line of each base part.

@@ -5,7 +5,7 @@ use std::alloc::AllocError;
 /// Appends a line: a word, and numbers after it.
 pub(crate) fn push_line(out: &mut Vec<u8>, word: &[u8], numbers: &[u64]) -> Result<(), AllocError> {
     push_words(out, word, numbers)?;
-    out.push(b'\n')
+    out.extend_from_slice(b"\n")
 }
 
 /// Appends a word, and numbers after it.

@@ -99,7 +99,7 @@ fn push_areas(out: &mut Vec<u8>, tree: &Tree) -> Result<(), AllocError> {
             push_words(out, b"", &[u64::from(high.x), u64::from(high.z)])?;
         }
     }
-    out.push(b'\n')
+    out.extend_from_slice(b"\n")
 }
 
 fn push_all_shown(out: &mut Vec<u8>, defs: &Defs, lines: &[ClientLine]) -> Result<(), AllocError> {

@@ -7,7 +7,7 @@ use crate::map::{BOTTOM, Frame, LEFT, Map, RIGHT, TOP};
 use crate::shared::Points;
 use crate::style::Style;
 use seam_geo::{Pos, Rect};
-use seam_judge_data::{GhostLine, HomeLine};
+use seam_judge_data::{GhostLine, HomeLine, Round};
 use seam_replay::Played;
 use std::alloc::{AllocError, Global};
 
@@ -83,7 +83,7 @@ impl<'a> Scene<'a> {
 
     /// The picture, as an SVG.
     pub(crate) fn draw(&self, alloc: Global) -> Result<String, AllocError> {
-        let number = self.played.round.number;
+        let number = self.round().number;
         let mut drawing = Drawing::new(alloc, SIZE, format_args!("Round {number}"))?;
         self.draw_areas(&mut drawing)?;
         self.draw_views(&mut drawing)?;
@@ -93,6 +93,10 @@ impl<'a> Scene<'a> {
         self.draw_ends(&mut drawing)?;
         draw_legend(&mut drawing)?;
         drawing.end()
+    }
+
+    fn round(&self) -> &Round {
+        &self.played.round
     }
 
     fn map(&self) -> Map {
@@ -139,7 +143,7 @@ impl<'a> Scene<'a> {
 
     // The title, and where the space begins and ends.
     fn draw_ends(&self, drawing: &mut Drawing) -> Result<(), AllocError> {
-        let number = self.played.round.number;
+        let number = self.round().number;
         let size = self.played.tree.size();
         drawing.words(Style::Title, TITLE, format_args!("Round {number}"))?;
         drawing.words(Style::Note, Z_NOTE, format_args!("z = {size}"))?;
@@ -181,7 +185,7 @@ impl<'a> Scene<'a> {
             entity: 0,
             count: 0,
         };
-        for copy in &self.played.round.ghosts {
+        for copy in &self.round().ghosts {
             if let Some(home) = self.played.home_of(copy.entity) {
                 self.draw_ghost(drawing, &mut rings, home, copy)?;
             }
@@ -213,7 +217,7 @@ impl<'a> Scene<'a> {
     // The homes, of those at one point the first, and then how many are where.
     fn draw_homes(&self, alloc: Global, drawing: &mut Drawing) -> Result<(), AllocError> {
         let points = self.points(alloc)?;
-        for home in &self.played.round.homes {
+        for home in &self.round().homes {
             let point = self.map().point(home.state.pos);
             if 0 < points.count_for(point, home.entity) {
                 self.dots.draw_home(drawing, point, home.cell, home.entity)?;
@@ -224,14 +228,14 @@ impl<'a> Scene<'a> {
 
     fn points(&self, alloc: Global) -> Result<Points, AllocError> {
         let mut points = Points::new(alloc);
-        for home in &self.played.round.homes {
+        for home in &self.round().homes {
             points.add(self.map().point(home.state.pos), home.entity)?;
         }
         Ok(points)
     }
 
     fn draw_counts(&self, drawing: &mut Drawing, points: &Points) -> Result<(), AllocError> {
-        for home in &self.played.round.homes {
+        for home in &self.round().homes {
             let point = self.map().point(home.state.pos);
             let count = points.count_for(point, home.entity);
             self.dots.draw_count(drawing, point, count)?;

@@ -7,7 +7,7 @@ use Rattle.seam_node_steps.specs.Prelude.{node_steps, node_has_work, Cell, Base,
 use Rattle.seam_law_calls.specs.Prelude.{Frame}
 use Rattle.seam_law_rounds.specs.Prelude.{numbers_of, AreReapable, MayBeLoaded}
 use Rattle.seam_law_ghosts.specs.Prelude.{GoesThroughRound}
-use Rattle.seam_law_all.specs.Prelude.{KeepsRecordsWithin, ObeysLaws}
+use Rattle.seam_law_all.specs.Prelude.{KeepsRecordsWithin, ObeysLaws, may_load}
 use Rattle.seam_law_bounds.specs.Prelude.{witnesses_at, all_witnesses, entities, cell_orders, base_orders, tick_orders, events_of_round}
 use Rattle.seam_law_bounds.specs.Prelude.{events_of_looks}
 use Rattle.seam_net_runs.specs.Finishing.{EndsWithin}
@@ -31,7 +31,7 @@ beat_may_rise r small = by r.beat (omega (arith, small))
 
 module _ (f : Frame) (clients : ℕ → ClientReplica) (w : World) (b : Batch) (may : MayRun f clients w b) where
   pub may_be_loaded : MayBeLoaded f w b
-  may_be_loaded = record { between = may.keeps.reals; parts = may.keeps.parts; fits = may.given.reals; brings = may.given.parts }
+  may_be_loaded = may_load may.keeps may.given
 
   -- where the calls have ended, the batch's destroys may be reaped
   pub reapable : (u : World) → ObeysLaws f clients w b u → (g : Frame) (shown : ℕ → ClientReplica) → KeepsRecordsWithin g shown u →

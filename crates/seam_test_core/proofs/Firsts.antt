@@ -1,5 +1,5 @@
 -- Worlds of the standard settings may be loaded first.
-use Rattle.std.proofs.Common.{◌≡◌, ◌∙◌, ℕ, List, [], ◌∷◌, None, refl, sym, ap, subst, arith}
+use Rattle.std.proofs.Common.{◌≡◌, ◌∙◌, ℕ, List, [], ◌∷◌, None, Some, refl, sym, ap, subst, arith}
 use Rattle.std.specs.Prelude.{slice_get, eqb, map}
 use Rattle.std.specs.List.{AllByRecursion, IsDistinct}
 use Rattle.seam_tree.specs.Division.{IsInSpace}

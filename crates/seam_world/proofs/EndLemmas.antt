@@ -252,3 +252,8 @@ completes_as_asked (Storm lines) st before after old mid new told told' (unread,
     by_status status.Limit allowed tells failed = absurd tells
     by_status status.NoMemory allowed tells failed = inr refl
 completes_as_asked Nothing st before after old mid new told told' s later may = absurd s
+
+-- words that pass are not refused
+pub never_both : (a : Answer) → ArePassed a → AreRefused a → ⊥
+never_both (Ok words) passed refused = refused passed
+never_both (Err e) passed refused = passed

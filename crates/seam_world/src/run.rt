@@ -1,12 +1,12 @@
 // What the words of the command line ask for is run, and its fault line is written.
-ghost use Rattle.std.specs.Prelude.{◌≡◌, ◌≤◌, ◌⊎◌, IfOk, IfErr, MatchOption};
+ghost use Rattle.std.specs.Prelude.{◌≡◌, ◌≤◌, ◌⊎◌, IfOk, IfErr, OnOk, MatchOption};
 ghost use Rattle.seam_rule_rounds.specs.Prelude.{Rose};
 ghost use Rattle.seam_world_ends.specs.Status.{IsRunEnd};
 ghost use Rattle.seam_world_ends.specs.Ends.{MayComplete};
 ghost use Rattle.seam_world_rounds.specs.Output.{text_output};
 ghost use Rattle.seam_world.specs.Requests.{request_of, request_for, request_to_run, EndsAs};
 ghost use Rattle.seam_world.specs.Stopping.{StopsAs, IsTextFor};
-ghost use Rattle.seam_args.specs.Words.{AreInRange, AreRefused};
+ghost use Rattle.seam_args.specs.Words.{AreInRange, ArePassed, AreRefused};
 
 use seam_args::{ArgsError, Options, read_words, usage_text, version_text};
 use seam_io::{Sink, Source};
@@ -89,6 +89,7 @@ pub fn run_seamless<
 fn asked(alloc: Global, words: io::Result<Args>) -> Result<Options, Status>
     ensures request { IfOk result (λ o. request_of words
         ≡ request_for o.help o.version o.trace o.storm) }
+    ensures passes { OnOk result (ArePassed words) }
     ensures range { IfOk result AreInRange }
     ensures err { IfErr result (λ s. (s ≡ Status.NoMemory)
         ⊎ ((s ≡ Status.Usage) × AreRefused words)) }

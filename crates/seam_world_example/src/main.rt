@@ -8,6 +8,8 @@ use seam_io::{RealSink, RealSource};
 use seam_watch::JournalLog;
 use seam_workers::OpenGate;
 use seam_world::{Status, run_seamless};
+use std::alloc::{AllocError, Global};
+use std::env::Args;
 use std::io;
 use std::process::ExitCode;
 
@@ -25,15 +27,25 @@ call c1 2 hit 5
 // How the lines begin that the client of entity 1 is shown.
 const SHOWN: &[u8] = b"to 1 ";
 
+// Words of a command line as the system answers with them: here the program's name alone.
+fn name_alone(alloc: Global) -> Result<Args, AllocError> {
+    let mut words = Vec::new(alloc);
+    words.push(String::from_str(alloc, "example")?)?;
+    Ok(words.into_iter())
+}
+
 fn main(rt: HostRuntime) -> ExitCode {
     let alloc = rt.alloc();
+    let Ok(words) = name_alone(alloc) else {
+        return ExitCode::from(Status::NoMemory.code());
+    };
     // What is printed goes into memory that grows.
     let mut printed = Vec::new(alloc);
     let mut journals = JournalLog::new(alloc);
     let status = run_seamless(
         &rt,
         alloc,
-        &[],
+        Ok(words),
         &mut RealSource::new(SCRIPT),
         &mut RealSink::new(&mut printed),
         &OpenGate,

@@ -2,7 +2,7 @@ use Rattle.std.proofs.Common.{inl, inr, ap, subst}
 use Rattle.std.specs.Prelude.{◌≡◌, ◌⊎◌}
 use Rattle.seam_args.specs.Words.{AreRefused}
 use Rattle.seam_world.specs.Requests.{Request, Nothing, request_of}
-use Rattle.seam_world.proofs.EndLemmas.{ends_as_asked, ends_unasked, completes_as_asked, refused_is_nothing}
+use Rattle.seam_world.proofs.EndLemmas.{ends_as_asked, ends_unasked, completes_as_asked, never_both, refused_is_nothing}
 use Rattle.seam_world.proofs.run.run_seamless.Goals as goal
 
 pub returns-clause-ends : goal.returns-clause-ends
@@ -14,6 +14,9 @@ returns-clause-ends g c =
 pub returns-clause-complete : goal.returns-clause-complete
 returns-clause-complete g c = λ may_run may.
     completes_as_asked _ _ _ _ _ _ _ _ _ c.answer-status.ensures.stopped c.put_fault-2.ensures.later may
+
+pub returns-clause-refused : goal.returns-clause-refused
+returns-clause-refused g c refused = absurd (never_both _ c.in-Ok.ensures.passes refused)
 
 pub returns-in-Err-clause-ends : goal.returns-in-Err-clause-ends
 returns-in-Err-clause-ends g c =
