@@ -19,7 +19,7 @@ use Rattle.seam_entity.specs.Here.{Here, cell_numbers, base_numbers}
 use Rattle.seam_entity.specs.ReadyCalls.{ready_order}
 use Rattle.seam_entity.specs.Executing.{fits_real, fits_copy, may_settle, may_execute, may_call, with_offer, executed, executed_ready}
 use Rattle.seam_entity.specs.Executing.{shows}
-use Rattle.seam_node_steps.specs.Slots.{Slot, NextPlace, SlotStep, rests, unless_stray, becomes, sends, heard}
+use Rattle.seam_node_steps.specs.Slots.{Slot, NextPlace, SlotStep, rests, unless_stray, becomes, heard}
 use Rattle.seam_node_steps.specs.Settle.{settled}
 
 -- ---- calls
@@ -30,17 +30,14 @@ offered h t s r k Less = rests
 offered h t s r k Equal = settled h t s (executed h r k) (shows h r k)
 offered h t s r k Greater = becomes (record s { real = Some (with_offer r k) })
 
--- call, real here: the call is offered to its sender's order
-abbrev pub call_real_here : Here → Division → Slot → RealView → CallData → SlotStep
-call_real_here h t s r k = offered h t s r k (nat_cmp k.number (order_of r.orders k.sender).next)
-
 -- call, next place: the call is sent to the next place, as it is
 abbrev pub call_next_place : CallData → Option NextPlace → SlotStep
 call_next_place k None = rests
-call_next_place k (Some n) = sends ((n.cell, Call k) ∷ [])
+call_next_place k (Some n) = record { slot = None; unlisted = false; sent = (n.cell, Call k) ∷ [] }
 
+-- where the real is here, the call is offered to its sender's order
 abbrev pub call : Here → Division → Slot → CallData → Option RealView → SlotStep
-call h t s k (Some r) = call_real_here h t s r k
+call h t s k (Some r) = offered h t s r k (nat_cmp k.number (order_of r.orders k.sender).next)
 call h t s k None = call_next_place k s.next
 
 -- a call that the real here may not be offered, or neither the real nor a next place is here
@@ -74,12 +71,9 @@ abbrev pub is_cell_if : Bool → Division → ℕ → Bool
 is_cell_if true t k = nat_lt k (cells_of t)
 is_cell_if false t k = true
 
-abbrev pub haunts_cell : Division → RealView → ℕ → Bool
-haunts_cell t r k = is_cell_if (set.contains r.haunts k) t k
-
 -- this cell and the real's haunts are cells of the tree
 abbrev pub is_in_tree : Here → Division → RealView → Bool
-is_in_tree h t r = nat_lt h.me (cells_of t) && list_all (haunts_cell t r) cell_numbers
+is_in_tree h t r = nat_lt h.me (cells_of t) && list_all (λ k. is_cell_if (set.contains r.haunts k) t k) cell_numbers
 
 -- the real fits, its haunts and this cell are in the tree, and its numbers are small
 abbrev pub may_come : Here → Division → RealView → Bool

@@ -24,14 +24,8 @@ in_first_cell = record { home = 0; ghosts = set.empty }
 
 -- after a header of so many lines
 abbrev pub after_header : Header → ℕ → Standing
-after_header h count = record {
-  lines = count;
-  rounds = 0;
-  book = empty_book h.settings.size;
-  orders = λ p e. [];
-  places = λ e. in_first_cell;
-  told = λ e. [];
-}
+after_header h n =
+    record { lines = n; rounds = 0; book = empty_book h.settings.size; orders = λ p e. []; places = λ e. in_first_cell; told = λ e. [] }
 
 -- one more line was read
 abbrev pub with_line : Standing → Standing
