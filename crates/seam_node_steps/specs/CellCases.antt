@@ -57,11 +57,8 @@ currents h r = map (current_to h r) (base_numbers h)
 
 -- hand-over comes: the real is placed, the next place goes, the own book drops the copy at the real's beat, and every base node is told
 abbrev pub hand_over_comes : Here → Slot → RealView → SlotStep
-hand_over_comes h s r = record {
-  slot = Some (heard (record s { real = Some r; next = None }) r.beat None);
-  unlisted = false;
-  sent = currents h r;
-}
+hand_over_comes h s r =
+    record { slot = Some (heard (record s { real = Some r; next = None }) r.beat None); unlisted = false; sent = currents h r }
 
 abbrev pub has_small_numbers : RealView → Bool
 has_small_numbers r = is_small r.beat && (is_small r.generation && is_small r.version)
