@@ -132,7 +132,8 @@ module _ (h : Header) (some : 1 ≤ h.settings.bases) (b : Book) (t : Division) 
       ap (λ o. letters_of (from_sender n) (done_by_part o)) (part_is e v (base_node h e) ∙ had.here)
       ∙ (ended e p.0 p.1 p.2).base_calls (base_node h e) had.part had.here n ∙ base_calls h some b R few t e n
   executed_base e (inr none) n =
-      ap (λ o. letters_of (from_sender n) (done_by_part o)) (part_is e v (base_node h e) ∙ no_part e none) ∙ sym (no_calls e none part.Base n)
+      ap (λ o. letters_of (from_sender n) (done_by_part o)) (part_is e v (base_node h e) ∙ no_part e none)
+      ∙ sym (no_calls e none part.Base n)
 
   executed : (p : Part) (e n : ℕ) → letters_of (from_sender n) (done_in h v p e) ≡ calls_from p e n (calls_of b.current)
   executed part.Cell e n = executed_cell e (search_real e v) n

@@ -128,7 +128,8 @@ module _ (z : Sizes) where
   call_weighs h t s k (Some r) n is at =
       let w = had s r is in
       let one =
-      rests_by (not (may_call h r k)) s (offered h t s r k (nat_cmp k.number (order_of r.orders k.sender).next)) (real_weight z r + settling z) (omega (arith, w))
+      rests_by (not (may_call h r k)) s (offered h t s r k (nat_cmp k.number (order_of r.orders k.sender).next))
+      (real_weight z r + settling z) (omega (arith, w))
       (offered_weigh h t s r k (nat_cmp k.number (order_of r.orders k.sender).next) is refl) in
       omega (arith, one, w)
   call_weighs h t s k None None is at = omega arith

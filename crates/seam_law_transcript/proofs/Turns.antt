@@ -1,5 +1,6 @@
 -- Calls in turn, at every step of a round: what a part executed so far are the first ones of each sender's calls.
-use Rattle.std.proofs.Common.{◌≡◌, ℕ, ◌≤◌, Bool, true, false, List, [], ◌∷◌, ◌++◌, Option, None, Some, refl, sym, ap, ◌∙◌, subst, inl, inr, arith}
+use Rattle.std.proofs.Common.{◌≡◌, ℕ, ◌≤◌, Bool, true, false, List, [], ◌∷◌, ◌++◌, Option, None, Some, refl, sym, ap, ◌∙◌, subst, inl, inr}
+use Rattle.std.proofs.Common.{arith}
 use Rattle.std.specs.List.{AllByRecursion}
 use Rattle.std.proofs.lemmas.Bool.{cases_eq, eq-eqb, false≢true}
 use Rattle.std.specs.Prelude.{Contains, ◌==◌}
@@ -8,8 +9,8 @@ use Rattle.seam_rule_rounds.specs.Prelude.{Header, calls_of, accepted, IsFull, C
 use Rattle.seam_law_flow.specs.Prelude.{Flow, letters_of, more_letter, TokenPlace, In, On, Sole, Desk, Mail, Item, desk_of, parcel_of}
 use Rattle.seam_law_flow.specs.Prelude.{AreInTurn}
 use Rattle.seam_machine.specs.Nets.{link}
-use Rattle.seam_law_calls.specs.Prelude.{entity_flow, kept_if, mine, real_of, from_sender, is_from, desk_for, cell_mail, real_desk, as_sender}
-use Rattle.seam_law_calls.specs.Prelude.{as_base_sender, part_desk, real_at}
+use Rattle.seam_law_calls.specs.Prelude.{entity_flow, kept_if, mine, real_of, from_sender, is_from, desk_for, cell_mail, real_desk}
+use Rattle.seam_law_calls.specs.Prelude.{as_sender, as_base_sender, part_desk, real_at}
 use Rattle.seam_law_rounds.specs.Prelude.{next_from, next_to, base_calls_of}
 use Rattle.seam_law_ghosts.specs.Prelude.{WasThere}
 use Rattle.seam_law_all.specs.CallLaws.{GoesRightly}

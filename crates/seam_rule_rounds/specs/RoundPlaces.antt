@@ -20,7 +20,8 @@ distances s =
 -- where an entity was held when the round began: a new one in the cell in which it is made, and nowhere else
 abbrev pub place_before : Standing → Create → Place
 place_before s c =
-    if list_any (makes c.entity) s.book.current then record { home = leaf_at (tree_of s.book) c.pos; ghosts = set.empty } else s.places c.entity
+    if list_any (makes c.entity) s.book.current then record { home = leaf_at (tree_of s.book) c.pos; ghosts = set.empty }
+    else s.places c.entity
 
 -- an entity may have the place that it is left in: settled, by the round's tree, where it was when the round began and after each
 -- call that its cell part executed in the round

@@ -1,5 +1,6 @@
 -- What the words of the command line ask for, and how a run ends that was asked for it.
-use Rattle.std.specs.Prelude.{◌≡◌, ◌⊎◌, ℕ, Bool, true, false, List, [], ◌∷◌, ◌++◌, Option, None, Some, Ok, Err, codes, if◌then◌else◌, option_map}
+use Rattle.std.specs.Prelude.{◌≡◌, ◌⊎◌, ℕ, Bool, true, false, List, [], ◌∷◌, ◌++◌, Option, None, Some, Ok, Err, codes, if◌then◌else◌}
+use Rattle.std.specs.Prelude.{option_map}
 use Rattle.std.specs.Io.KnownBytes.{Appends}
 use Rattle.clap.specs.Words.{Kinds, Row, fault_of, matches_of, one_of}
 use Rattle.seam_rule_rounds.specs.Prelude.{SourceState, SinkState, Told}

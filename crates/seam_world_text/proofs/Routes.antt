@@ -9,7 +9,8 @@ use Rattle.seam_rule_rounds.specs.Prelude.{Header}
 use Rattle.seam_law_calls.specs.Prelude.{entity_flow, real_in, proxy_of, lines_in}
 use Rattle.seam_law_rounds.specs.Prelude.{IsBetweenRounds}
 use Rattle.seam_law_ghosts.specs.Prelude.{present, AreCopiesBetweenRounds}
-use Rattle.seam_law_book.specs.Prelude.{frame_of, base_node, done_by_real, done_by_part, done_in, ghost_read, ghosts_read, real_here, copy_here}
+use Rattle.seam_law_book.specs.Prelude.{frame_of, base_node, done_by_real, done_by_part, done_in, ghost_read, ghosts_read}
+use Rattle.seam_law_book.specs.Prelude.{real_here, copy_here}
 use Rattle.seam_law_transcript.specs.Prelude.{home_if, homes_read, base_if, bases_read, lines_shown}
 use Rattle.seam_defs.specs.declared.flags.Part.TheVariants as part
 use Rattle.seam_law_rounds.proofs.Shape.{Somewhere, Nowhere, search_real}

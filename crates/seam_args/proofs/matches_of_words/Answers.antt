@@ -60,7 +60,8 @@ returns c =
     let storm_is : rule_of c.number_option-storm.result ≡ number_rule (codes "storm") LONGEST_STORM [] =
     c.number_option-storm.ensures.rule in
     let trace_is : rule_of c.flag-trace.result ≡ flag_rule (codes "trace") = c.flag-trace.ensures.rule in
-    let help_is : rule_of c.short-help.result ≡ with_h (flag_rule (codes "help")) = ap rule_of c.short-help.ensures ∙ ap with_h c.flag.ensures.rule in
+    let help_is : rule_of c.short-help.result ≡ with_h (flag_rule (codes "help")) =
+    ap rule_of c.short-help.ensures ∙ ap with_h c.flag.ensures.rule in
     let version_is : rule_of c.flag-version.result ≡ flag_rule (codes "version") = c.flag-version.ensures.rule in
     let named : app_of c.disable_help_flag.result ≡ without_help (new_app (codes "seamless")) =
     ap app_of_fields c.disable_help_flag.ensures ∙ ap without_help c.new.ensures.app in

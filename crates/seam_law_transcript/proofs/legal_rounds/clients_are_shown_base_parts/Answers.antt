@@ -67,7 +67,8 @@ returns c h s tree w v p bounds next x is shown =
     let done = done_in h round.called part.Base e in
     let deeds = c.each_part_executed_what_was_accepted.ensures.on h b tree clients w play round.call_events round.called round.calls
     round.calls_done e home.node home.real home.here x there part.Base in
-    let done_is : done ≡ shows.calls = ap done_by_part (part_is e round.called (base_node h e) ∙ shows.is) ∙ shows.done ∙ ap (λ d. d ++ shows.calls) begins.idle in
+    let done_is : done ≡ shows.calls =
+    ap done_by_part (part_is e round.called (base_node h e) ∙ shows.is) ∙ shows.done ∙ ap (λ d. d ++ shows.calls) begins.idle in
     let new : base_lines y.0.lines ≡ (if is_new_client b e then first_lines here l.base else []) =
     first ∙ ap (λ n. if n then first_lines here l.base else []) (among_is e B.clients ∙ among_joined e b.current) in
     let texts = base_lines y.0.lines ++ lines_after here l.base.ty l.base.state l.base.version shows.calls in
