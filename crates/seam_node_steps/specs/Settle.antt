@@ -36,7 +36,7 @@ told e beat c false false changed = None
 
 abbrev pub told_unless : Bool → ℕ → Option Msg → Option (ℕ × Msg)
 told_unless true k m = None
-told_unless false k m = option_map (λ (told : Msg). (k, told)) m
+told_unless false k m = option_map (λ (x : Msg). (k, x)) m
 
 -- what cell k is told of a real that settles in cell j with these haunts: this cell and cell j are told nothing
 abbrev pub ghost_message : Here → RealView → ℕ → Cells → Bool → ℕ → Option (ℕ × Msg)

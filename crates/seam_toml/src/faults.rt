@@ -1,7 +1,7 @@
 // What is at fault in the values of a header.
 ghost use Rattle.std.specs.Prelude.{◌≡◌, ◌↔◌, IsTrue, IfOk, MatchOption};
 ghost use Rattle.seam_value.specs.declared.types.ValueType.{ValueType as Types};
-ghost use Rattle.toml.specs.Data.{table};
+ghost use Rattle.toml.specs.Data.{table as toml_table};
 ghost use Rattle.toml.specs.View.{view, table_view, items_view};
 ghost use Rattle.seam_toml.specs.declared.faults.Fault.{Fault as Faults};
 ghost use Rattle.seam_toml.specs.Faults.{HasStrangeKey, Lacks, LacksKey, AreTypeNames, AreTexts, IsOfKind};
@@ -151,7 +151,7 @@ fn are_too_near(role: &Role, value: &Value) -> bool
 
 fn sets_too_near(table: &Table) -> bool
     ensures { IsTrue result ↔ IsAtFault Fault.GhostTooNear Role.Settings
-        (table (table_view table.now)) }
+        (toml_table (table_view table.now)) }
 {
     match read_settings(table) {
         Some(settings) => !settings.ghosts_reach(),
@@ -249,7 +249,7 @@ fn fits_type(t: ValueType, value: &Value) -> bool
 
 fn has_bad_default(table: &Table) -> bool
     ensures { IsTrue result ↔ IsAtFault Fault.BadDefault Role.Property
-        (table (table_view table.now)) }
+        (toml_table (table_view table.now)) }
 {
     match (type_of(table), member(table, "default")) {
         (Some(t), Some(value)) => !fits_type(t, value),
