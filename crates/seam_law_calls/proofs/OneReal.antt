@@ -19,6 +19,7 @@ use Rattle.seam_net_runs.proofs.Runs.{leads_keeps}
 use Rattle.seam_law_flow.proofs.Following.{slots_kept, letters_kept, came}
 use Rattle.seam_law_flow.proofs.TokenLemmas.{sole_came, sole_goes, token_turns}
 use Rattle.seam_entity.specs.declared.message.Msg.TheVariants.{Call}
+use Rattle.seam_node_steps.specs.CellCases.{haunts_cell}
 use Rattle.seam_law_calls.proofs.Keeping.{run_keeps}
 use Rattle.seam_law_calls.proofs.Classify.{frame_happens, event_moves_with}
 use Rattle.seam_law_calls.proofs.Holds.{all_two, below_is}
@@ -35,11 +36,10 @@ haunt_by f r j true is low = below_is j (cells_of f.tree) (low j is)
 haunt_by f r j false is low = refl
 
 haunts_in : (f : Frame) (r : RealView) → ((j : ℕ) → set.contains r.haunts j ≡ true → j < cells_of f.tree) → (js : List ℕ) →
-    list_all (λ k. is_cell_if (set.contains r.haunts k) f.tree k) js ≡ true
+    list_all (haunts_cell f.tree r) js ≡ true
 haunts_in f r low [] = refl
 haunts_in f r low (j ∷ js) =
-    all_two (is_cell_if (set.contains r.haunts j) f.tree j) (list_all (λ k. is_cell_if (set.contains r.haunts k) f.tree k) js)
-    (haunt_by f r j (set.contains r.haunts j) refl low)
+    all_two (haunts_cell f.tree r j) (list_all (haunts_cell f.tree r) js) (haunt_by f r j (set.contains r.haunts j) refl low)
     (haunts_in f r low js)
 
 module _ (f : Frame) (e ty k : ℕ) where

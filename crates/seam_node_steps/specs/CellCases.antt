@@ -68,9 +68,12 @@ abbrev pub is_cell_if : Bool → Division → ℕ → Bool
 is_cell_if true t k = nat_lt k (cells_of t)
 is_cell_if false t k = true
 
+abbrev pub haunts_cell : Division → RealView → ℕ → Bool
+haunts_cell t r k = is_cell_if (set.contains r.haunts k) t k
+
 -- this cell and the real's haunts are cells of the tree
 abbrev pub is_in_tree : Here → Division → RealView → Bool
-is_in_tree h t r = nat_lt h.me (cells_of t) && list_all (λ k. is_cell_if (set.contains r.haunts k) t k) cell_numbers
+is_in_tree h t r = nat_lt h.me (cells_of t) && list_all (haunts_cell t r) cell_numbers
 
 -- the real fits, its haunts and this cell are in the tree, and its numbers are small
 abbrev pub may_come : Here → Division → RealView → Bool
