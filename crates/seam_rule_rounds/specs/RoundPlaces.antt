@@ -14,8 +14,7 @@ use Rattle.seam_rule_rounds.specs.Standing.{Standing}
 
 -- up to which distances from its area a cell keeps an entity, gets a ghost of it, and keeps that ghost
 abbrev pub distances : Settings → Distances
-distances s =
-    record { kept = s.offload_hysteresis; near = s.ghost_distance; far = s.ghost_distance + s.ghost_hysteresis }
+distances s = record { kept = s.offload_hysteresis; near = s.ghost_distance; far = s.ghost_distance + s.ghost_hysteresis }
 
 -- where an entity was held when the round began: a new one in the cell in which it is made, and nowhere else
 abbrev pub place_before : Standing → Create → Place

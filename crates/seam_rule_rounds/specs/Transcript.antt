@@ -72,8 +72,7 @@ pub record PrintLines (lines : List Line) (h : Header) (pieces : List Piece) (t 
 
 -- what is printed at the end of the input: a last round, where a line was accepted since the last one ended
 abbrev pub EndsInput : Header → Standing → List Piece → Type 0
-EndsInput h s pieces =
-    MatchBool (open_lines s.book == 0) (pieces ≡ []) ((t : Standing) × EndsRound h s pieces t)
+EndsInput h s pieces = MatchBool (open_lines s.book == 0) (pieces ≡ []) ((t : Standing) × EndsRound h s pieces t)
 
 -- all pieces that are printed for an input after this header, by its end
 abbrev pub PrintAll : List Line → Header → List Piece → Type 0
