@@ -18,34 +18,23 @@ use Rattle.seam_args.specs.declared.TheConstants.{MOST_WORKERS, MOST_TURNS, LONG
 
 -- an option whose value is a number from 1 to `most`, with these defaults
 abbrev pub number_rule : Text → ℕ → List Text → Rule
-number_rule name most defaults = record (new_rule name) {
-  long = Some name;
-  action = Some Set;
-  defaults = defaults;
-  parser = Some (parser.Signed (pos 1) (pos most));
-}
+number_rule name most defaults =
+    record (new_rule name) { long = Some name; action = Some Set; defaults = defaults; parser = Some (parser.Signed (pos 1) (pos most)) }
 
 -- a flag, which has no value
 abbrev pub flag_rule : Text → Rule
 flag_rule name = record (new_rule name) { long = Some name; action = Some SetTrue }
 
--- the flag `--help`, which is `-h` too
-abbrev pub help_rule : Rule
-help_rule = record (flag_rule (codes "help")) { short = Some 104 }
-
--- the command without an option that clap adds by itself
-abbrev pub without_help : App → App
-without_help a = record a { top = record a.top { disable_help_flag = true } }
-
--- the command of the server, whose words begin with the name of the program
+-- the command of the server, whose words begin with the name of the program; clap adds no option by itself, and `--help` is `-h` too
 abbrev pub command : App
 command =
-    with_rule (with_rule (with_rule (with_rule (with_rule (with_rule (without_help (new_app (codes "seamless")))
+    let app = new_app (codes "seamless") in
+    with_rule (with_rule (with_rule (with_rule (with_rule (with_rule (record app { top = record app.top { disable_help_flag = true } })
     (number_rule (codes "workers") MOST_WORKERS (codes "4" ∷ [])))
     (number_rule (codes "turns") MOST_TURNS (codes "1000" ∷ [])))
     (number_rule (codes "storm") LONGEST_STORM []))
     (flag_rule (codes "trace")))
-    help_rule)
+    (record (flag_rule (codes "help")) { short = Some 104 }))
     (flag_rule (codes "version"))
 
 -- What the system answers where it is asked for the words of the command line: texts, of which the first is the program's name, or why it

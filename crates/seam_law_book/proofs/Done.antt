@@ -1,7 +1,7 @@
 -- What a round leaves executed is what its lines brought, part by part.
 use Rattle.std.proofs.Common.{◌≡◌, ℕ, ◌≤◌, List, [], ◌∷◌, Some, None, refl, sym, ap, ◌∙◌, subst, arith, inl, inr, ◌⊎◌, Bool, true, false}
 use Rattle.std.proofs.Common.{cond}
-use Rattle.std.specs.Prelude.{◌==◌, ◌&&◌}
+use Rattle.std.specs.Prelude.{◌==◌, ◌&&◌, slice_get}
 use Rattle.std.specs.List.{AllByRecursion}
 use Rattle.std.proofs.lemmas.Bool.{eqb-true}
 use Rattle.seam_node_steps.specs.Prelude.{part_of_deed, type_of, is_for, same_part, rank_of, Event, Division, Part, Call as CallData}
@@ -11,7 +11,7 @@ use Rattle.seam_law_flow.specs.Prelude.{letters_of}
 use Rattle.seam_law_calls.specs.Prelude.{mine, entity_flow, real_of, from_sender, RunsTo, real_at, real_in}
 use Rattle.seam_law_all.specs.Prelude.{ObeysLaws, EndsRightly, KeepsRecords, KeepsRecordsWithin, MayBeGiven, may_begin}
 use Rattle.seam_law_book.specs.Prelude.{as_begun, IsPresent, IsFitCall, calls_from, Brings, IsUntouched, frame_of, base_node, GoesWith}
-use Rattle.seam_law_book.specs.Prelude.{HasRoomForCalls, done_by_real, done_by_part, done_in, with_done, IsDoneOn}
+use Rattle.seam_law_book.specs.Prelude.{HasRoomForCalls, done_by_real, done_by_part, done_in, with_done, IsDoneOn, real_here}
 use Rattle.seam_machine.proofs.Quiet.{quiet_links}
 use Rattle.seam_defs.specs.declared.flags.Part.TheVariants as part
 use Rattle.seam_rule_lines.proofs.BookEntries.{differ}
@@ -29,6 +29,7 @@ use Rattle.seam_law_book.proofs.Numbering.{cell_calls, base_calls}
 use Rattle.seam_law_book.proofs.Fitting.{type_by}
 use Rattle.seam_law_book.proofs.Started.{nobody, no_part_there, real_comes}
 use Rattle.seam_law_calls.proofs.Reaped.{part_stays_gone}
+use Rattle.seam_law_book.proofs.Found.{real_is, part_is}
 use Rattle.seam_law_book.proofs.Executed.{letters_are_of_place, all_by_place, one_in, none_in, executes_all}
 
 part_by : (p q : Part) → same_part p q ≡ true → p ≡ q
@@ -110,12 +111,13 @@ module _ (h : Header) (some : 1 ≤ h.settings.bases) (b : Book) (t : Division) 
       let settled = within.records.reals.settled e k q at in
       let home = settled.fits.home in
       let most = within.records.reals.frame.tree.cells_to in
-      one_in (λ j. done_by_real (real_at e v j)) k 0 cell_count (omega arith) (omega (arith, home, most))
-      (λ j n. ap done_by_real (settled.others j n))
-      ∙ ap done_by_real at
+      one_in (λ j. done_by_real (real_here e (slice_get v.nodes j))) k 0 cell_count (omega arith) (omega (arith, home, most))
+      (λ j n. ap done_by_real (real_is e v j ∙ settled.others j n))
+      ∙ ap done_by_real (real_is e v k ∙ at)
 
   none_done : (e : ℕ) → Nowhere e v → done_in h v part.Cell e ≡ []
-  none_done e n = none_in (λ j. done_by_real (real_at e v j)) 0 cell_count (λ j le. ap done_by_real (n j))
+  none_done e n =
+      none_in (λ j. done_by_real (real_here e (slice_get v.nodes j))) 0 cell_count (λ j le. ap done_by_real (real_is e v j ∙ n j))
 
   executed_cell : (e : ℕ) → Somewhere e v ⊎ Nowhere e v → (n : ℕ) →
       letters_of (from_sender n) (done_in h v part.Cell e) ≡ calls_from part.Cell e n (calls_of b.current)
@@ -127,10 +129,11 @@ module _ (h : Header) (some : 1 ≤ h.settings.bases) (b : Book) (t : Division) 
       letters_of (from_sender n) (done_in h v part.Base e) ≡ calls_from part.Base e n (calls_of b.current)
   executed_base e (inl p) n =
       let had = within.records.parts.parts e p.0 p.1 p.2 in
-      ap (λ o. letters_of (from_sender n) (done_by_part o)) had.here
+      ap (λ o. letters_of (from_sender n) (done_by_part o)) (part_is e v (base_node h e) ∙ had.here)
       ∙ (ended e p.0 p.1 p.2).base_calls (base_node h e) had.part had.here n ∙ base_calls h some b R few t e n
   executed_base e (inr none) n =
-      ap (λ o. letters_of (from_sender n) (done_by_part o)) (no_part e none) ∙ sym (no_calls e none part.Base n)
+      ap (λ o. letters_of (from_sender n) (done_by_part o)) (part_is e v (base_node h e) ∙ no_part e none)
+      ∙ sym (no_calls e none part.Base n)
 
   executed : (p : Part) (e n : ℕ) → letters_of (from_sender n) (done_in h v p e) ≡ calls_from p e n (calls_of b.current)
   executed part.Cell e n = executed_cell e (search_real e v) n

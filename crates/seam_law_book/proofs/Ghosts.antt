@@ -1,15 +1,16 @@
 -- The ghost lines that are read off a world are those of the rules.
 use Rattle.std.proofs.Common.{◌≡◌, ℕ, zero, suc, ◌+◌, ◌<◌, ◌≤◌, Bool, true, false, cond, List, [], ◌∷◌, ◌++◌, map, length, refl, sym, ap}
 use Rattle.std.proofs.Common.{◌∙◌, arith}
-use Rattle.std.specs.Prelude.{filter}
+use Rattle.std.specs.Prelude.{filter, slice_get}
 use Rattle.std.specs.FinSet as set
 use Rattle.std.specs.List.{flat_map, range_with_len}
 use Rattle.seam_node_steps.specs.Prelude.{Division, cells_of, Create, GhostCopy, cell_count, RealView, World, copy_if}
 use Rattle.seam_rule_rounds.specs.Prelude.{Header, public_at, GhostLine, ghost_cells, ghost_lines, Standing}
 use Rattle.seam_law_calls.specs.Prelude.{RealFits}
-use Rattle.seam_law_ghosts.specs.Prelude.{place_of, present, copy_at, AreSettled}
-use Rattle.seam_law_book.specs.Prelude.{frame_of, IsInTable, ghost_read, ghosts_read}
+use Rattle.seam_law_ghosts.specs.Prelude.{place_of, present, AreSettled}
+use Rattle.seam_law_book.specs.Prelude.{frame_of, IsInTable, ghost_read, ghosts_read, copy_here}
 use Rattle.seam_defs.specs.declared.flags.Part.TheVariants as part
+use Rattle.seam_law_book.proofs.Found.{copy_is}
 
 is_false : (b : Bool) → (b ≡ true → ⊥) → b ≡ false
 is_false true not = absurd (not refl)
@@ -60,9 +61,9 @@ module _ (h : Header) (tree : Division) (v : World) (t : Standing) (c : Create) 
   haunted j = set.contains q.haunts j
 
   each_read : (j : ℕ) → j < cell_count →
-      ghost_read c.entity j (copy_at c.entity v j) ≡ cond (haunted j) (ghost_line c.entity q.public j ∷ []) []
+      ghost_read c.entity j (copy_here c.entity (slice_get v.nodes j)) ≡ cond (haunted j) (ghost_line c.entity q.public j ∷ []) []
   each_read j lt =
-      ap (ghost_read c.entity j) (copies.copies j lt) ∙ read_if c.entity j (haunted j) (present (frame_of h tree) q)
+      ap (ghost_read c.entity j) (copy_is c.entity v j ∙ copies.copies j lt) ∙ read_if c.entity j (haunted j) (present (frame_of h tree) q)
 
   beyond : (j : ℕ) → cells_of tree ≤ j → haunted j ≡ false
   beyond j le = is_false (haunted j) (λ is. let below = fits.haunts j is in omega (arith, below, le))
@@ -70,7 +71,7 @@ module _ (h : Header) (tree : Division) (v : World) (t : Standing) (c : Create) 
   pub ghosts_are : ghosts_read c.entity v ≡ ghost_lines h tree t c
   ghosts_are =
       let order = t.orders part.Cell c.entity in
-      read_are haunted (ghost_line c.entity q.public) (λ j. ghost_read c.entity j (copy_at c.entity v j)) 0 cell_count
+      read_are haunted (ghost_line c.entity q.public) (λ j. ghost_read c.entity j (copy_here c.entity (slice_get v.nodes j))) 0 cell_count
       (λ j lt. each_read j (omega (arith, lt)))
       ∙ ap (map (ghost_line c.entity q.public)) (first_pass haunted 0 (cells_of tree) cell_count few (λ j le. beyond j (omega (arith, le))))
       ∙ ap (λ n. map (ghost_line c.entity n) (ghost_cells tree (place_of k q))) row.public

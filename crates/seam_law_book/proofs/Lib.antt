@@ -17,6 +17,7 @@ mod Playing
 pub mod Ended
 pub mod Executed
 pub mod Accounts
+pub mod Found
 mod Done
 mod Table
 mod Placing

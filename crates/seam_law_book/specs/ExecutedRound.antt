@@ -1,11 +1,12 @@
 -- What a round executed, read off the world in which its calls left the nodes quiet, and the flat table after it.
-use Rattle.std.specs.Prelude.{◌≡◌, ℕ, length, List, [], ◌++◌, Option, None, Some}
+use Rattle.std.specs.Prelude.{◌≡◌, ℕ, length, List, [], ◌++◌, slice_get, Option, None, Some}
 use Rattle.std.specs.List.{flat_map}
 use Rattle.seam_node_steps.specs.Prelude.{part_of_deed, Part, TypeDef, Call, Create, cell_numbers, RealView, PartView, World}
 use Rattle.seam_rule_rounds.specs.Prelude.{Header, Book, live_as, flat, Orders, public_at}
 use Rattle.seam_law_calls.specs.Prelude.{entity_flow, real_at}
 use Rattle.seam_defs.specs.declared.flags.Part.TheVariants as part
 use Rattle.seam_law_book.specs.Going.{base_node}
+use Rattle.seam_law_book.specs.LookUps.{real_here, part_here}
 
 -- the calls that a real, and a base part, executed in the round
 abbrev pub done_by_real : Option RealView → List Call
@@ -18,8 +19,8 @@ done_by_part (Some p) = p.done
 
 -- what each part of each entity executed: its cell part in whichever cell the real is, its base part at the entity's base node
 abbrev pub done_in : Header → World → Orders
-done_in h w part.Cell e = flat_map (λ k. done_by_real (real_at e w k)) cell_numbers
-done_in h w part.Base e = done_by_part ((entity_flow e w).slot (base_node h e)).base.part
+done_in h w part.Cell e = flat_map (λ k. done_by_real (real_here e (slice_get w.nodes k))) cell_numbers
+done_in h w part.Base e = done_by_part (part_here e (slice_get w.nodes (base_node h e)))
 
 -- the orders of all rounds once these were executed too
 abbrev pub with_done : Orders → Orders → Orders

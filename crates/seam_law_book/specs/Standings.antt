@@ -1,15 +1,16 @@
 -- Where a standing has the entities of a world, the home, base and ghost lines that are read off one, and what clients show.
-use Rattle.std.specs.Prelude.{◌≡◌, ℕ, List, [], ◌∷◌, Option, None, Some}
+use Rattle.std.specs.Prelude.{◌≡◌, ℕ, List, [], ◌∷◌, slice_get, Option, None, Some}
 use Rattle.std.specs.List.{flat_map}
-use Rattle.seam_node_steps.specs.Prelude.{copy_in, Place, GhostCopy, cell_numbers, RealView, PartView, World, Division}
+use Rattle.seam_node_steps.specs.Prelude.{Place, GhostCopy, cell_numbers, RealView, PartView, World, Division}
 use Rattle.seam_rule_rounds.specs.Prelude.{HomeLine, BaseLine, Header, Book, ClientReplica, GhostLine}
-use Rattle.seam_law_calls.specs.Prelude.{real_at, entity_flow}
+use Rattle.seam_law_calls.specs.Prelude.{real_at}
 use Rattle.seam_law_rounds.specs.Prelude.{framed}
 use Rattle.seam_law_ghosts.specs.Prelude.{place_of, GoesThroughRound}
 use Rattle.seam_law_clients.specs.Prelude.{clients_loaded, clients_shown}
 use Rattle.seam_law_all.specs.Prelude.{clients_looked}
 use Rattle.seam_accept.specs.Batches.{batch_of}
 use Rattle.seam_law_book.specs.Going.{frame_of}
+use Rattle.seam_law_book.specs.LookUps.{copy_here}
 
 -- each real is in the cell, and has a ghost in the cells, that these places say
 abbrev pub AreInPlace : (ℕ → Place) → World → Type 0
@@ -30,7 +31,7 @@ ghost_read e k (Some c) = record { entity = e; cell = k; version = c.version } �
 
 -- the ghost lines of an entity: of each cell that has a copy of it
 abbrev pub ghosts_read : ℕ → World → List GhostLine
-ghosts_read e w = flat_map (λ k. ghost_read e k (copy_in ((entity_flow e w).slot k).cell.slot.ghost)) cell_numbers
+ghosts_read e w = flat_map (λ k. ghost_read e k (copy_here e (slice_get w.nodes k))) cell_numbers
 
 -- what clients show after the calls of a round: what they were shown since its load
 abbrev pub clients_called : Header → Division → (ℕ → ClientReplica) → Book → World → ℕ → ClientReplica

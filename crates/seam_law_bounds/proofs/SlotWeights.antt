@@ -23,7 +23,7 @@ use Rattle.seam_law_bounds.specs.Prelude.{Sizes, settle_weight, settling, look_w
 use Rattle.seam_view.specs.declared.Look.{Look}
 use Rattle.seam_entity.specs.declared.message.Msg.TheVariants.{Call}
 use Rattle.seam_table.proofs.Found.{found}
-use Rattle.seam_node_steps.specs.CellCases.{offered, call_real_here, call}
+use Rattle.seam_node_steps.specs.CellCases.{offered, call}
 use Rattle.seam_law_calls.proofs.HeldCounts.{turn_counts, early_counts, taken_counts}
 use Rattle.seam_law_calls.proofs.PartSteps.{equal_of, greater_of}
 use Rattle.seam_law_bounds.proofs.Counts.{one_more, chosen_are_few}
@@ -128,7 +128,8 @@ module _ (z : Sizes) where
   call_weighs h t s k (Some r) n is at =
       let w = had s r is in
       let one =
-      rests_by (not (may_call h r k)) s (call_real_here h t s r k) (real_weight z r + settling z) (omega (arith, w))
+      rests_by (not (may_call h r k)) s (offered h t s r k (nat_cmp k.number (order_of r.orders k.sender).next))
+      (real_weight z r + settling z) (omega (arith, w))
       (offered_weigh h t s r k (nat_cmp k.number (order_of r.orders k.sender).next) is refl) in
       omega (arith, one, w)
   call_weighs h t s k None None is at = omega arith

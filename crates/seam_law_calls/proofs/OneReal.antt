@@ -208,7 +208,8 @@ reap_by e (From a m) h is = mine_by (concerns e m) refl is
     mine_by : (b : Bool) → concerns e m ≡ b → kept_if b m ≡ Some (Reap e) → ⊥
     mine_by true c at =
         let same : m ≡ Reap e = cc in
-        let yes : (is_some (reaped_by m) && concerns e m) ≡ true = ap (λ x. is_some (reaped_by x) && concerns e m) same ∙ c in
+        let yes : reaps e (Some (From a m)) ≡ true =
+        ap (λ x. reaps e (Some (From a x))) same ∙ (ap (concerns e) (sym same) ∙ c) in
         let both = sym yes ∙ h in
         cc
     mine_by false c at = cc

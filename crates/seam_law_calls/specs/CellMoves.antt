@@ -69,7 +69,7 @@ pub data CellMoves (h : Here) (t : Division) (e : ℕ) (s : AtCell) (i : Option 
       → CellMoves h t e s i v sent
   -- a call is passed on to the next place
   passes : (c : CallData) (n : NextPlace) → i ≡ Some (Call c) → c.entity ≡ e → s.slot.real ≡ None → s.slot.next ≡ Some n
-      → Does s (slot_step.sends ((n.cell, Call c) ∷ [])) v sent → CellMoves h t e s i v sent
+      → Does s (record { slot = None; unlisted = false; sent = (n.cell, Call c) ∷ [] }) v sent → CellMoves h t e s i v sent
   -- a hand-over comes
   lands : (r : RealView) → i ≡ Some (Hand r) → r.entity ≡ e → s.slot.real ≡ None → may_come h t r ≡ true
       → Does s (hand_over_comes h s.slot r) v sent → CellMoves h t e s i v sent

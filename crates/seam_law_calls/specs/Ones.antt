@@ -1,12 +1,12 @@
 -- Exactly one real: where it is, and what it is.
-use Rattle.std.specs.Prelude.{◌≡◌, ℕ, ◌<◌, Bool, false, ◌&&◌, is_some, List, [], ◌∷◌, Option, None, Some}
+use Rattle.std.specs.Prelude.{◌≡◌, ℕ, ◌<◌, ◌==◌, Bool, false, List, [], ◌∷◌, Option, None, Some}
 use Rattle.std.specs.List.{AllByRecursion}
 use Rattle.seam_node_steps.specs.Prelude.{IsTree, AreDefs, Order, RealView, Msg, Hand, Reap, limit, input_from, happens, Input, Task, From}
 use Rattle.seam_node_steps.specs.Prelude.{Event, World, node_steps}
 use Rattle.seam_law_flow.specs.Prelude.{TokenPlace, Sole}
 use Rattle.seam_call.specs.declared.order.Order.TheVariants as order
 use Rattle.seam_law_calls.specs.Frames.{Frame, IsInFrame}
-use Rattle.seam_law_calls.specs.Sights.{Has, concerns, entity_flow}
+use Rattle.seam_law_calls.specs.Sights.{Has, entity_flow}
 use Rattle.seam_law_calls.specs.Fits.{IsFitReal, IsFitHand}
 use Rattle.seam_law_calls.specs.Burdens.{burden}
 use Rattle.seam_law_calls.specs.Replays.{Replays}
@@ -78,9 +78,8 @@ pub record OneFrom (f : Frame) (e ty : ℕ) (start : RealView) (w : World) : Typ
 
 -- the input is the entity's Reap
 abbrev pub reaps : ℕ → Option (Input Msg) → Bool
-reaps e None = false
-reaps e (Some Task) = false
-reaps e (Some (From a m)) = is_some (reaped_by m) && concerns e m
+reaps e (Some (From a (Reap x))) = x == e
+reaps e other = false
 
 -- none of the events feeds the entity's Reap to a node
 abbrev pub NoReapComes : ℕ → World → List Event → Type 0

@@ -39,7 +39,7 @@ reap_fed : (e : ℕ) (i : Input Msg) → letter_in (mine e) i ≡ Some (Reap e) 
 reap_fed e Task h = cc
 reap_fed e (From a m) h =
     let two = kept_is m (Reap e) (concerns e m) h in
-    ap (λ x. is_some (reaped_by x) && concerns e m) two.1 ∙ two.0
+    ap (λ x. reaps e (Some (From a x))) two.1 ∙ (ap (concerns e) (sym two.1) ∙ two.0)
 
 -- ---- a calm entity, over every list of events
 

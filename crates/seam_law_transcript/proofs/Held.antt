@@ -1,6 +1,6 @@
 -- What is read of each entity, gathered over lists of them.
 use Rattle.std.proofs.Common.{◌≡◌, ℕ, ◌+◌, ◌<◌, List, [], ◌∷◌, ◌++◌, map, Some, refl, ap, ◌∙◌, arith}
-use Rattle.std.specs.Prelude.{Contains, slice_index_or}
+use Rattle.std.specs.Prelude.{Contains, slice_get, slice_index_or}
 use Rattle.std.specs.List.{All, flat_map}
 use Rattle.std.proofs.lemmas.List.Elements.{All-nil, All-cons}
 use Rattle.seam_node_steps.specs.Prelude.{cell_count, RealView, World}
@@ -8,10 +8,11 @@ use Rattle.seam_rule_rounds.specs.Prelude.{in_first_cell}
 use Rattle.seam_law_calls.specs.Prelude.{Frame, real_at}
 use Rattle.seam_law_rounds.specs.Prelude.{IsBetweenRounds}
 use Rattle.seam_law_ghosts.specs.Prelude.{place_of}
-use Rattle.seam_law_book.specs.Prelude.{home_read}
+use Rattle.seam_law_book.specs.Prelude.{home_read, real_here}
 use Rattle.seam_law_transcript.specs.Prelude.{home_if, homes_read, place_read}
 use Rattle.seam_rule_lines.proofs.Lists.{contains_first, contains_later}
 use Rattle.seam_law_book.proofs.Executed.{one_in}
+use Rattle.seam_law_book.proofs.Found.{real_is}
 use Rattle.seam_law_transcript.specs.Reading.{place_if}
 
 -- ---- over a list
@@ -43,13 +44,13 @@ module _ (f : Frame) (v : World) (between : IsBetweenRounds f v) (e k : ℕ) (r 
 
   pub home_is : homes_read v e ≡ home_read e k r ∷ []
   home_is =
-      one_in (λ j. home_if e j (real_at e v j)) k 0 cell_count (omega arith) in_cells
-      (λ j n. ap (home_if e j) ((between.settled e k r at).others j n))
-      ∙ ap (home_if e k) at
+      one_in (λ j. home_if e j (real_here e (slice_get v.nodes j))) k 0 cell_count (omega arith) in_cells
+      (λ j n. ap (home_if e j) (real_is e v j ∙ (between.settled e k r at).others j n))
+      ∙ ap (home_if e k) (real_is e v k ∙ at)
 
   pub place_is : place_read v e ≡ place_of k r
   place_is =
       ap (λ l. slice_index_or l 0 in_first_cell)
-      (one_in (λ j. place_if j (real_at e v j)) k 0 cell_count (omega arith) in_cells
-      (λ j n. ap (place_if j) ((between.settled e k r at).others j n))
-      ∙ ap (place_if k) at)
+      (one_in (λ j. place_if j (real_here e (slice_get v.nodes j))) k 0 cell_count (omega arith) in_cells
+      (λ j n. ap (place_if j) (real_is e v j ∙ (between.settled e k r at).others j n))
+      ∙ ap (place_if k) (real_is e v k ∙ at))

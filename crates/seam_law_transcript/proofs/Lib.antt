@@ -1,6 +1,7 @@
 mod Listing
 mod Gathered
 mod Held
+mod LinesHeld
 mod Who
 mod Numbered
 mod BaseVersions

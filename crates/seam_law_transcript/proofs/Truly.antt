@@ -273,7 +273,7 @@ module _ (h : Header) (b : Book) (orders : Orders) (live : List Create) (listed 
         ap (λ n. Some (n, last.1)) (now ∙ sym version) ∙ ap (λ (y : State). Some (own.version, y)) state
 
     one_in_view : (x v : ℕ) → IsShownNow c own (rows_but me rows) x v → table.get c.others.shown x ≡ Some v →
-        IsShownPresent c (rows_but me rows) x v
+        IsShownPresent c own (rows_but me rows) x v
     one_in_view x v now shown =
         let k = so.shown x v shown in
         let o = so.others x k.0 k.1 in
@@ -291,6 +291,7 @@ module _ (h : Header) (b : Book) (orders : Orders) (live : List Create) (listed 
         record {
           row = now.row;
           is = now.is;
+          within = now.within;
           newest = omega (arith, public, at, same);
           copy =
               k.1
@@ -301,13 +302,13 @@ module _ (h : Header) (b : Book) (orders : Orders) (live : List Create) (listed 
         }
 
     all_in_view : (ps : List (ℕ × ℕ)) → AllByRecursion (λ p. IsShownNow c own (rows_but me rows) p.0 p.1) ps → AreShown c.others.shown ps →
-        AllByRecursion (λ p. IsShownPresent c (rows_but me rows) p.0 p.1) ps
+        AllByRecursion (λ p. IsShownPresent c own (rows_but me rows) p.0 p.1) ps
     all_in_view [] now shown = tt
     all_in_view (p ∷ ps) now shown = (one_in_view p.0 p.1 now.0 shown.0, all_in_view ps now.1 shown.1)
 
     pub shows_present : ShowsPresent c own (rows_but me rows)
     shows_present = record {
       itself = itself_by c.own refl sees.own;
-      table_ = sees;
+      near = sees.near;
       each = all_in_view c.others.entries sees.in_view_ so.view.shown;
     }

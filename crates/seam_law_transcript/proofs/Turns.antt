@@ -1,13 +1,16 @@
 -- Calls in turn, at every step of a round: what a part executed so far are the first ones of each sender's calls.
 use Rattle.std.proofs.Common.{◌≡◌, ℕ, ◌≤◌, Bool, true, false, List, [], ◌∷◌, ◌++◌, Option, None, Some, refl, sym, ap, ◌∙◌, subst, inl, inr}
+use Rattle.std.proofs.Common.{arith}
 use Rattle.std.specs.List.{AllByRecursion}
-use Rattle.std.proofs.lemmas.Bool.{cases_eq}
+use Rattle.std.proofs.lemmas.Bool.{cases_eq, eq-eqb, false≢true}
+use Rattle.std.specs.Prelude.{Contains, ◌==◌}
 use Rattle.seam_node_steps.specs.Prelude.{Part, Division, Call as CallData, Batch, RealView, Msg, Hand, PartView, World, loaded}
 use Rattle.seam_rule_rounds.specs.Prelude.{Header, calls_of, accepted, IsFull, ClientReplica, Standing}
 use Rattle.seam_law_flow.specs.Prelude.{Flow, letters_of, more_letter, TokenPlace, In, On, Sole, Desk, Mail, Item, desk_of, parcel_of}
 use Rattle.seam_law_flow.specs.Prelude.{AreInTurn}
-use Rattle.seam_law_calls.specs.Prelude.{entity_flow, kept_if, real_of, from_sender, is_from, desk_for, cell_mail, real_desk, as_sender}
-use Rattle.seam_law_calls.specs.Prelude.{as_base_sender, part_desk, real_at}
+use Rattle.seam_machine.specs.Nets.{link}
+use Rattle.seam_law_calls.specs.Prelude.{entity_flow, kept_if, mine, real_of, from_sender, is_from, desk_for, cell_mail, real_desk}
+use Rattle.seam_law_calls.specs.Prelude.{as_sender, as_base_sender, part_desk, real_at}
 use Rattle.seam_law_rounds.specs.Prelude.{next_from, next_to, base_calls_of}
 use Rattle.seam_law_ghosts.specs.Prelude.{WasThere}
 use Rattle.seam_law_all.specs.CallLaws.{GoesRightly}
@@ -17,12 +20,39 @@ use Rattle.seam_defs.specs.declared.flags.Part.TheVariants as part
 use Rattle.seam_entity.specs.declared.message.Msg.TheVariants.{Call}
 use Rattle.seam_accept.specs.Batches.{batch_of}
 use Rattle.seam_law_rounds.specs.Between as core
+use Rattle.seam_rule_lines.proofs.Lists.{contains_cases}
+use Rattle.seam_law_book.proofs.Found.{real_is, part_is}
 use Rattle.seam_law_flow.proofs.TokenLemmas.{sole_here}
 use Rattle.seam_law_rounds.proofs.Calm.{IsCalmTo}
 use Rattle.seam_law_book.proofs.Adding.{all_turn}
 use Rattle.seam_law_book.proofs.Untouched.{IsFromSender, known_is_sender}
 use Rattle.seam_law_book.proofs.Numbering.{cell_calls, base_calls}
 use Rattle.seam_law_book.proofs.Executed.{executes_first}
+
+-- ---- the hand-overs of an entity
+
+-- what is so of the reals in the letters about the entity is so of each of its reals in the messages
+module _ (P : RealView → Type 0) (e : ℕ) where
+  abbrev IsSo : Msg → Type 0
+  IsSo m = (r : RealView) → real_of m ≡ Some r → P r
+
+  later_letters : (o : Option Msg) (ls : List Msg) → AllByRecursion IsSo (more_letter o ls) → AllByRecursion IsSo ls
+  later_letters None ls all = all
+  later_letters (Some l) ls all = all.1
+
+  this_letter : (b : Bool) (m : Msg) (ls : List Msg) → b ≡ true → AllByRecursion IsSo (more_letter (kept_if b m) ls) → IsSo m
+  this_letter true m ls is all = all.0
+  this_letter false m ls is all = absurd (false≢true is)
+
+  pub in_letters : (ms : List Msg) → AllByRecursion IsSo (letters_of (mine e) ms) → (r : RealView) → Contains ms (Hand r) →
+      r.entity ≡ e → P r
+  in_letters [] all r (k, within, at) is = absurd (omega arith)
+  in_letters (m ∷ ms) all r has is = elim (contains_cases m (Hand r) ms has) [
+    | inl same ↦
+        this_letter (r.entity == e) (Hand r) (letters_of (mine e) ms) (eq-eqb r.entity e is)
+        (subst (λ x. AllByRecursion IsSo (letters_of (mine e) (x ∷ ms))) same all) r refl
+    | inr later ↦ in_letters ms (later_letters (mine e m) (letters_of (mine e) ms) all) r later is
+  ]
 
 -- ---- the one desk, where a real carries it
 
@@ -142,7 +172,11 @@ module _ (h : Header) (s : Standing) (tree : Division) (clients : ℕ → Client
         ))
 
     pub first_calls : HasFirstCalls s e u
-    first_calls = record { cell = record { cells = in_cell; hands = handed }; base = at_base }
+    first_calls = record {
+      cell = λ k q at. in_cell k q (sym (real_is e u k) ∙ at);
+      hand = λ a k. in_letters (λ q. AreFirstCalls s part.Cell e q.done) e (link u.rows a k) (handed a k);
+      base = λ k p at. at_base k p (sym (part_is e u k) ∙ at);
+    }
 
 -- ---- as the dead are reaped and the witnesses look
 
@@ -158,15 +192,15 @@ pub still_first : (s : Standing) (e : ℕ) (u v : World) → HasFirstCalls s e u
     ((k : ℕ) (q : PartView) → ((entity_flow e v).slot k).base.part ≡ Some q →
     (p : PartView) × (((entity_flow e u).slot k).base.part ≡ Some p) × (q.done ≡ p.done)) → HasFirstCalls s e v
 still_first s e u v had reals told home r mail parts = record {
-  cell = record {
-    cells = λ k q at.
-        let was = reals k q at in
-        subst (AreFirstCalls s part.Cell e) (sym (ap (λ (y : RealView). y.done) was.same)) (had.cell.cells k was.real was.here);
-    hands = λ a k.
-        all_turn (IsCalmTo told home r k) (λ m. (q : RealView) → real_of m ≡ Some q → AreFirstCalls s part.Cell e q.done)
-        (λ m calm q is. absurd (let z = sym (none_handed told home r k m calm) ∙ is in cc)) ((entity_flow e v).mail a k) (mail a k);
-  };
+  cell = λ k q at.
+      let was = reals k q (sym (real_is e v k) ∙ at) in
+      subst (AreFirstCalls s part.Cell e) (sym (ap (λ (y : RealView). y.done) was.same))
+      (had.cell k was.real (real_is e u k ∙ was.here));
+  hand = λ a k.
+      in_letters (λ q. AreFirstCalls s part.Cell e q.done) e (link v.rows a k)
+      (all_turn (IsCalmTo told home r k) (λ m. (q : RealView) → real_of m ≡ Some q → AreFirstCalls s part.Cell e q.done)
+      (λ m calm q is. absurd (let z = sym (none_handed told home r k m calm) ∙ is in cc)) ((entity_flow e v).mail a k) (mail a k));
   base = λ k q at.
-      let was = parts k q at in
-      subst (AreFirstCalls s part.Base e) (sym was.2) (had.base k was.0 was.1);
+      let was = parts k q (sym (part_is e v k) ∙ at) in
+      subst (AreFirstCalls s part.Base e) (sym was.2) (had.base k was.0 (part_is e u k ∙ was.1));
 }

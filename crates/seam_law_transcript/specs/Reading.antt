@@ -1,12 +1,12 @@
 -- What a round prints and leaves, read off two of the worlds that it goes through: the one where its calls have ended, and the last one.
-use Rattle.std.specs.Prelude.{ℕ, ◌+◌, ◌++◌, List, [], ◌∷◌, map, filter, slice_index_or, Option, None, Some, if◌then◌else◌}
+use Rattle.std.specs.Prelude.{ℕ, ◌+◌, ◌++◌, List, [], ◌∷◌, map, filter, slice_get, slice_index_or, Option, None, Some, if◌then◌else◌}
 use Rattle.std.specs.List.{flat_map, list_any}
 use Rattle.seam_node_steps.specs.Prelude.{Division, Place, Create, Line, cell_numbers, RealView, PartView, World}
 use Rattle.seam_rule_rounds.specs.Prelude.{Header, Book, destroys, is_shown, HomeLine, BaseLine, done_lines, ClientLine, RoundData, told_in}
 use Rattle.seam_rule_rounds.specs.Prelude.{Standing, in_first_cell}
-use Rattle.seam_law_calls.specs.Prelude.{entity_flow, proxy_of, lines_in, real_at}
+use Rattle.seam_law_calls.specs.Prelude.{proxy_of, lines_in}
 use Rattle.seam_law_ghosts.specs.Prelude.{place_of}
-use Rattle.seam_law_book.specs.Prelude.{base_node, done_in, with_done, home_read, base_read, ghosts_read}
+use Rattle.seam_law_book.specs.Prelude.{base_node, done_in, with_done, home_read, base_read, ghosts_read, real_here, part_here}
 use Rattle.seam_defs.specs.declared.flags.Part.TheVariants as part
 
 -- ---- of one entity
@@ -17,7 +17,7 @@ home_if e k None = []
 home_if e k (Some r) = home_read e k r ∷ []
 
 abbrev pub homes_read : World → ℕ → List HomeLine
-homes_read w e = flat_map (λ k. home_if e k (real_at e w k)) cell_numbers
+homes_read w e = flat_map (λ k. home_if e k (real_here e (slice_get w.nodes k))) cell_numbers
 
 -- where it is held
 abbrev pub place_if : ℕ → Option RealView → List Place
@@ -25,7 +25,7 @@ place_if k None = []
 place_if k (Some r) = place_of k r ∷ []
 
 abbrev pub place_read : World → ℕ → Place
-place_read w e = slice_index_or (flat_map (λ k. place_if k (real_at e w k)) cell_numbers) 0 in_first_cell
+place_read w e = slice_index_or (flat_map (λ k. place_if k (real_here e (slice_get w.nodes k))) cell_numbers) 0 in_first_cell
 
 -- the base line of its base part
 abbrev pub base_if : ℕ → Option PartView → List BaseLine
@@ -33,11 +33,11 @@ base_if e None = []
 base_if e (Some p) = base_read e p ∷ []
 
 abbrev pub bases_read : Header → World → ℕ → List BaseLine
-bases_read h w e = base_if e ((entity_flow e w).slot (base_node h e)).base.part
+bases_read h w e = base_if e (part_here e (slice_get w.nodes (base_node h e)))
 
 -- the lines that its client was shown in the round so far
 abbrev pub lines_shown : Header → World → ℕ → List Line
-lines_shown h w e = lines_in (proxy_of ((entity_flow e w).slot (base_node h e)).base.part)
+lines_shown h w e = lines_in (proxy_of (part_here e (slice_get w.nodes (base_node h e))))
 
 -- and in the whole round; those of one that dies in it up to where the calls have ended, since nothing is left of it after
 abbrev pub lines_told : Header → Book → World → World → ℕ → List Line

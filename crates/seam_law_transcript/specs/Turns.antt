@@ -1,11 +1,12 @@
 -- In turn: at every step of a round each part has executed, of the calls that were accepted for it from each sender, the first ones.
-use Rattle.std.specs.Prelude.{◌≡◌, ℕ, List, ◌++◌, Some}
-use Rattle.seam_node_steps.specs.Prelude.{Event, Part, Call, Create, PartView, loaded, reaps_loaded, look_loaded, World}
+use Rattle.std.specs.Prelude.{◌≡◌, ℕ, List, ◌++◌, Contains, slice_get, Some}
+use Rattle.seam_node_steps.specs.Prelude.{Event, Part, Call, Create, RealView, PartView, Hand, loaded, reaps_loaded, look_loaded, World}
 use Rattle.seam_rule_lines.specs.Orders.{IsLegal}
 use Rattle.seam_rule_rounds.specs.Prelude.{Header, accepted, live_as, Standing}
-use Rattle.seam_law_calls.specs.Prelude.{entity_flow, EachReal, RunsTo}
+use Rattle.seam_machine.specs.Nets.{link}
+use Rattle.seam_law_calls.specs.Prelude.{RunsTo}
 use Rattle.seam_law_ghosts.specs.Prelude.{GoesThroughRound}
-use Rattle.seam_law_book.specs.Prelude.{IsPresent}
+use Rattle.seam_law_book.specs.Prelude.{IsPresent, real_here, part_here}
 use Rattle.seam_defs.specs.declared.flags.Part.TheVariants as part
 use Rattle.seam_accept.specs.Batches.{batch_of}
 use Rattle.seam_law_transcript.specs.Phases.{dying, EndCalls, EndReaps}
@@ -17,8 +18,9 @@ AreFirstCalls s p e done = IsLegal (accepted s.book p e) (s.orders p e ++ done)
 
 -- so it is with the cell part of entity e, in a cell or in the hand-over that carries it, and with its base part, at whichever node
 pub record HasFirstCalls (s : Standing) (e : ℕ) (u : World) : Type 0 where
-  pub cell : EachReal e (λ r. AreFirstCalls s part.Cell e r.done) u
-  pub base : (k : ℕ) (p : PartView) → ((entity_flow e u).slot k).base.part ≡ Some p → AreFirstCalls s part.Base e p.done
+  pub cell : (k : ℕ) (r : RealView) → real_here e (slice_get u.nodes k) ≡ Some r → AreFirstCalls s part.Cell e r.done
+  pub hand : (a k : ℕ) (r : RealView) → Contains (link u.rows a k) (Hand r) → r.entity ≡ e → AreFirstCalls s part.Cell e r.done
+  pub base : (k : ℕ) (p : PartView) → part_here e (slice_get u.nodes k) ≡ Some p → AreFirstCalls s part.Base e p.done
 
 -- whatever events happen from the world w on
 abbrev pub KeepsFirstCalls : Standing → World → ℕ → Type 0

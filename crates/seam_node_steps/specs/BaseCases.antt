@@ -99,10 +99,6 @@ abbrev pub on_route : Option RouteView → Msg → List (ℕ × Msg)
 on_route None m = []
 on_route (Some r) m = (r.cell, m) ∷ []
 
--- cell order: the call goes to the route's cell
-abbrev pub cell_order : BaseView → CallData → Stepped BaseView Msg
-cell_order b k = record { state = b; sent = on_route (table.get b.routes k.entity) (Call k) }
-
 -- base order: where this is the entity's base node as base call, else the call goes to that node
 abbrev pub base_order : Bool → BaseView → CallData → Stepped BaseView Msg
 base_order true b k = sends_none (base_call b k)
@@ -114,19 +110,14 @@ is_base_node_of h e = base_of h e == h.me
 abbrev pub tick_to : ℕ → ℕ × Msg
 tick_to k = (k, Tick)
 
--- tick order: every cell of the tree is told, in rising number
-abbrev pub tick_order : BaseView → Stepped BaseView Msg
-tick_order b = record { state = b; sent = map tick_to (range_with_len 0 b.cells) }
-
--- reap order: the route's cell is told, and the base part goes where it is here; the route stays
-abbrev pub reap_order : BaseView → ℕ → Stepped BaseView Msg
-reap_order b e = record { state = record b { parts = table.remove b.parts e }; sent = on_route (table.get b.routes e) (Reap e) }
-
+-- cell order: the call goes to the route's cell; tick order: every cell of the tree is told, in rising number; reap order: the route's cell
+-- is told, and the base part goes where it is here, but the route stays
 abbrev pub order_of_node : BaseView → Order → Stepped BaseView Msg
-order_of_node b (order.Cell k) = cell_order b k
+order_of_node b (order.Cell k) = record { state = b; sent = on_route (table.get b.routes k.entity) (Call k) }
 order_of_node b (order.Base k) = base_order (is_base_node_of b.here k.entity) b k
-order_of_node b order.Tick = tick_order b
-order_of_node b (order.Reap e) = reap_order b e
+order_of_node b order.Tick = record { state = b; sent = map tick_to (range_with_len 0 b.cells) }
+order_of_node b (order.Reap e) =
+    record { state = record b { parts = table.remove b.parts e }; sent = on_route (table.get b.routes e) (Reap e) }
 
 -- an order about an entity without a route, or a base order whose call is stray here
 abbrev pub stray_order : BaseView → Order → Bool

@@ -19,7 +19,7 @@ use Rattle.seam_entity.specs.Here.{Here, cell_numbers, base_numbers}
 use Rattle.seam_entity.specs.ReadyCalls.{ready_order}
 use Rattle.seam_entity.specs.Executing.{fits_real, fits_copy, may_settle, may_execute, may_call, with_offer, executed, executed_ready}
 use Rattle.seam_entity.specs.Executing.{shows}
-use Rattle.seam_node_steps.specs.Slots.{Slot, NextPlace, SlotStep, rests, unless_stray, becomes, sends, heard}
+use Rattle.seam_node_steps.specs.Slots.{Slot, NextPlace, SlotStep, rests, unless_stray, becomes, heard}
 use Rattle.seam_node_steps.specs.Settle.{settled}
 
 -- ---- calls
@@ -30,17 +30,14 @@ offered h t s r k Less = rests
 offered h t s r k Equal = settled h t s (executed h r k) (shows h r k)
 offered h t s r k Greater = becomes (record s { real = Some (with_offer r k) })
 
--- call, real here: the call is offered to its sender's order
-abbrev pub call_real_here : Here → Division → Slot → RealView → CallData → SlotStep
-call_real_here h t s r k = offered h t s r k (nat_cmp k.number (order_of r.orders k.sender).next)
-
 -- call, next place: the call is sent to the next place, as it is
 abbrev pub call_next_place : CallData → Option NextPlace → SlotStep
 call_next_place k None = rests
-call_next_place k (Some n) = sends ((n.cell, Call k) ∷ [])
+call_next_place k (Some n) = record { slot = None; unlisted = false; sent = (n.cell, Call k) ∷ [] }
 
+-- where the real is here, the call is offered to its sender's order
 abbrev pub call : Here → Division → Slot → CallData → Option RealView → SlotStep
-call h t s k (Some r) = call_real_here h t s r k
+call h t s k (Some r) = offered h t s r k (nat_cmp k.number (order_of r.orders k.sender).next)
 call h t s k None = call_next_place k s.next
 
 -- a call that the real here may not be offered, or neither the real nor a next place is here
@@ -60,11 +57,8 @@ currents h r = map (current_to h r) (base_numbers h)
 
 -- hand-over comes: the real is placed, the next place goes, the own book drops the copy at the real's beat, and every base node is told
 abbrev pub hand_over_comes : Here → Slot → RealView → SlotStep
-hand_over_comes h s r = record {
-  slot = Some (heard (record s { real = Some r; next = None }) r.beat None);
-  unlisted = false;
-  sent = currents h r;
-}
+hand_over_comes h s r =
+    record { slot = Some (heard (record s { real = Some r; next = None }) r.beat None); unlisted = false; sent = currents h r }
 
 abbrev pub has_small_numbers : RealView → Bool
 has_small_numbers r = is_small r.beat && (is_small r.generation && is_small r.version)

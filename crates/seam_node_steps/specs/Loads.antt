@@ -145,19 +145,13 @@ with_orders w os = fold with_order w os
 
 -- ---- the three loads
 
-abbrev pub with_created : Division → World → Create → World
-with_created t w x = with_nodes w (created_at t x)
-
-abbrev pub with_client : World → ℕ → World
-with_client w e = with_nodes w (attached e)
-
 -- a batch is loaded: base nodes begin the round, entities are created, clients attached, cells begin the round, and the orders
 -- are given
 abbrev pub loaded : World → Batch → World
 loaded w b =
     let begun : World = with_nodes w (base_round (cells_of b.tree)) in
-    let made : World = fold (with_created b.tree) begun b.creates in
-    let joined : World = fold with_client made b.clients in
+    let made : World = fold (λ u x. with_nodes u (created_at b.tree x)) begun b.creates in
+    let joined : World = fold (λ u e. with_nodes u (attached e)) made b.clients in
     with_orders (with_nodes joined (cell_round b.tree)) b.orders
 
 abbrev pub reap_ordered_at : ℕ → NodeView → NodeView

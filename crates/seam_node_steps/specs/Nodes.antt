@@ -15,16 +15,10 @@ pub data NodeView : Type 0 where
 abbrev pub World : Type 0
 World = NetView NodeView Msg
 
-abbrev pub as_cell : Stepped CellView Msg → Stepped NodeView Msg
-as_cell t = record { state = Cell t.state; sent = t.sent }
-
-abbrev pub as_base : Stepped BaseView Msg → Stepped NodeView Msg
-as_base t = record { state = Base t.state; sent = t.sent }
-
 -- what a step leaves and sends
 abbrev pub node_steps : NodeView → Input Msg → Stepped NodeView Msg
-node_steps (Cell c) i = as_cell (cell_steps c i)
-node_steps (Base b) i = as_base (base_steps b i)
+node_steps (Cell c) i = let t = cell_steps c i in record { state = Cell t.state; sent = t.sent }
+node_steps (Base b) i = let t = base_steps b i in record { state = Base t.state; sent = t.sent }
 
 -- the task is there
 abbrev pub node_has_work : NodeView → Bool

@@ -34,12 +34,9 @@ told e beat c true true false = None
 told e beat c false true changed = Some (GhostDrop e beat)
 told e beat c false false changed = None
 
-abbrev pub addressed : ℕ → Msg → ℕ × Msg
-addressed k m = (k, m)
-
 abbrev pub told_unless : Bool → ℕ → Option Msg → Option (ℕ × Msg)
 told_unless true k m = None
-told_unless false k m = option_map (addressed k) m
+told_unless false k m = option_map (λ (x : Msg). (k, x)) m
 
 -- what cell k is told of a real that settles in cell j with these haunts: this cell and cell j are told nothing
 abbrev pub ghost_message : Here → RealView → ℕ → Cells → Bool → ℕ → Option (ℕ × Msg)

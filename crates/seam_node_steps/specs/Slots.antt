@@ -37,10 +37,6 @@ unless_stray false t = t
 abbrev pub becomes : Slot → SlotStep
 becomes s = record { slot = Some s; unlisted = false; sent = [] }
 
--- these are sent, and nothing else changes
-abbrev pub sends : List (ℕ × Msg) → SlotStep
-sends ms = record { slot = None; unlisted = false; sent = ms }
-
 -- the own book takes a message of this beat: it is ignored unless its beat is greater than any heard before
 abbrev pub heard : Slot → ℕ → Option GhostCopy → Slot
 heard s beat copy = record s { ghost = ghost_after s.ghost (record { beat = beat; copy = copy }) }

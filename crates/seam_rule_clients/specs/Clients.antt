@@ -32,16 +32,12 @@ new_client s = record {
 abbrev pub with_copy_shown : ClientReplica → ℕ → GhostCopy → ClientReplica
 with_copy_shown c e k = record c { others = with_version_shown c.others e k.version; copies = table.insert c.copies e k }
 
--- another entity left the view; how it was last shown is still known
-abbrev pub with_one_left : ClientReplica → ℕ → ClientReplica
-with_one_left c e = record c { others = record c.others { entries = without e c.others.entries } }
-
--- what a client shows after one thing more was shown
+-- what a client shows after one thing more was shown: how another entity that left the view was last shown is still known
 abbrev pub after_shown : ClientReplica → Shown → ClientReplica
 after_shown c (Own version state) = record c { own = Some (version, state) }
 after_shown c (Enter e copy) = with_copy_shown c e copy
 after_shown c (Set e copy) = with_copy_shown c e copy
-after_shown c (Leave e) = with_one_left c e
+after_shown c (Leave e) = record c { others = record c.others { entries = without e c.others.entries } }
 
 -- after one thing after another
 abbrev pub after_all_shown : ClientReplica → List Shown → ClientReplica

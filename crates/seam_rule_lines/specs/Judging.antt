@@ -175,10 +175,6 @@ IsNoNumber word = (n : ℕ) → ¬ (SpellsNumber word n)
 abbrev pub IsNoEntity : language.Word → Type 0
 IsNoEntity word = (e : ℕ) → ¬ (SpellsPositive word e)
 
--- the word is no axis
-abbrev pub IsNoAxis : language.Word → Type 0
-IsNoAxis axis_name = (a : Axis) → ¬ (language.axis_text a ≡ axis_name)
-
 -- the word is the number of an entity that does not live
 abbrev pub IsDead : Book → language.Word → Type 0
 IsDead b entity = (e : ℕ) × SpellsPositive entity e × (live_as b e ≡ None)
@@ -212,7 +208,8 @@ HoldsAgainst h b (language.Client entity) cause.Exists = (e : ℕ) × SpellsPosi
 HoldsAgainst h b (language.Client entity) cause.Full =
     (made : Create) × NamesLive b entity made × IsFalse (has_client b made.entity) × (MOST_CLIENTS ≤ count_of_clients b)
 HoldsAgainst h b (language.Client entity) cause.Dead = IsDead b entity
-HoldsAgainst h b (language.Cut cell axis_name at) cause.BadNumber = IsNoNumber cell ⊎ (IsNoAxis axis_name ⊎ IsNoNumber at)
+HoldsAgainst h b (language.Cut cell axis_name at) cause.BadNumber =
+    IsNoNumber cell ⊎ (((a : Axis) → ¬ (language.axis_text a ≡ axis_name)) ⊎ IsNoNumber at)
 HoldsAgainst h b (language.Cut cell axis_name at) (cause.CutRefused error) =
     (c : ℕ) × (by : Boundary) × SpellsNumber cell c × language.SpellsBoundary axis_name at by × RefusesCut (tree_of b) c by error
 HoldsAgainst h b (language.Shift boundary at) cause.BadNumber = IsNoNumber boundary ⊎ IsNoNumber at

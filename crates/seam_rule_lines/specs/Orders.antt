@@ -20,7 +20,3 @@ IsFull from order = (s : Sender) → of_sender s order ≡ from s
 -- for each part of each entity the calls that it executed, in their order
 abbrev pub Orders : Type 0
 Orders = Part → ℕ → List Call
-
--- nothing was executed so far
-abbrev pub no_orders : Orders
-no_orders p e = []

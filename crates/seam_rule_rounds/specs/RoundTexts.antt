@@ -47,8 +47,7 @@ client_text defs l = codes "to " ++ decimal_of l.entity ++ field l.line.number +
 
 -- a boundary: its number, its axis and its place
 abbrev pub bound_text : ℕ × Cut → List ℕ
-bound_text b =
-    codes "bound " ++ decimal_of b.0 ++ 32 ∷ axis_text b.1.boundary.axis ++ field b.1.boundary.at ++ 10 ∷ []
+bound_text b = codes "bound " ++ decimal_of b.0 ++ 32 ∷ axis_text b.1.boundary.axis ++ field b.1.boundary.at ++ 10 ∷ []
 
 -- the boundaries of a tree, from number 1 on; nothing where there is no tree
 abbrev pub bounds_text : Option Division → List ℕ

@@ -4,7 +4,7 @@ use Rattle.std.specs.FinSet as set
 use Rattle.seam_haunt.specs.Places.{Place}
 use Rattle.seam_call.specs.declared.shown.Line.{Line}
 use Rattle.seam_toml.specs.declared.header.Header.{Header}
-use Rattle.seam_rule_lines.specs.Orders.{Orders, no_orders}
+use Rattle.seam_rule_lines.specs.Orders.{Orders}
 use Rattle.seam_rule_clients.specs.Clients.{ClientReplica, new_client, after_lines}
 use Rattle.seam_rule_lines.specs.Book.{Book, empty_book}
 
@@ -24,14 +24,8 @@ in_first_cell = record { home = 0; ghosts = set.empty }
 
 -- after a header of so many lines
 abbrev pub after_header : Header → ℕ → Standing
-after_header h count = record {
-  lines = count;
-  rounds = 0;
-  book = empty_book h.settings.size;
-  orders = no_orders;
-  places = λ e. in_first_cell;
-  told = λ e. [];
-}
+after_header h n =
+    record { lines = n; rounds = 0; book = empty_book h.settings.size; orders = λ p e. []; places = λ e. in_first_cell; told = λ e. [] }
 
 -- one more line was read
 abbrev pub with_line : Standing → Standing

@@ -49,15 +49,14 @@ journals_of pieces = filter_map journal_of pieces
 abbrev pub EndsRound : Header → Standing → List Piece → Standing → Type 0
 EndsRound h s pieces t = (r : RoundData) × (j : Journal) × (pieces ≡ Ended s r j t ∷ []) × IsRound h s r t
 
--- a line was accepted, with which the standing is `s`: where the round is full, it ends
-abbrev pub Keeps : Header → Standing → List Piece → Standing → Type 0
-Keeps h s pieces t = MatchBool (open_lines s.book == MOST_LINES) (EndsRound h s pieces t) ((pieces ≡ []) × (t ≡ s))
-
--- what is printed for a line that the standing has counted, by the verdict on it, and the standing after it
+-- what is printed for a line that the standing has counted, by the verdict on it, and the standing after it: a round that an accepted line
+-- fills ends
 abbrev pub Follows : Header → Standing → Verdict → List Piece → Standing → Type 0
 Follows h s verdict.Skipped pieces t = (pieces ≡ []) × (t ≡ s)
 Follows h s (verdict.Refused c) pieces t = (pieces ≡ Refusal s.lines c ∷ []) × (t ≡ s)
-Follows h s (verdict.Accepted x) pieces t = Keeps h (with_book s (with_entry s.book x)) pieces t
+Follows h s (verdict.Accepted x) pieces t =
+    let kept = with_book s (with_entry s.book x) in
+    MatchBool (open_lines kept.book == MOST_LINES) (EndsRound h kept pieces t) ((pieces ≡ []) × (t ≡ kept))
 Follows h s verdict.Synced pieces t = EndsRound h s pieces t
 
 -- the next line is read, with what is printed for it
@@ -73,8 +72,7 @@ pub record PrintLines (lines : List Line) (h : Header) (pieces : List Piece) (t 
 
 -- what is printed at the end of the input: a last round, where a line was accepted since the last one ended
 abbrev pub EndsInput : Header → Standing → List Piece → Type 0
-EndsInput h s pieces =
-    MatchBool (open_lines s.book == 0) (pieces ≡ []) ((t : Standing) × EndsRound h s pieces t)
+EndsInput h s pieces = MatchBool (open_lines s.book == 0) (pieces ≡ []) ((t : Standing) × EndsRound h s pieces t)
 
 -- all pieces that are printed for an input after this header, by its end
 abbrev pub PrintAll : List Line → Header → List Piece → Type 0

@@ -2,7 +2,7 @@
 
 ghost use Rattle.std.specs.Prelude.{◌≡◌, ◌+◌, ◌/◌, ◌%◌, ◌<◌, ◌≤◌, ◌^◌, ◌++◌, ◌∷◌, [], true, false, length};
 ghost use Rattle.arrayvec.specs.ArrayVec.{array_vec_len};
-ghost use Rattle.seam_storm.specs.Storm.{next_seed, field, sender, move_line, call_line, method_of, is_move, draw, entity, kind};
+ghost use Rattle.seam_storm.specs.Storm.{next_seed, field, sender, move_line, call_line, method_of, is_move, draw, entity};
 ghost use Rattle.seam_storm.specs.Storm.{drawn_line, seed_after, sync_after};
 ghost use Rattle.seam_storm.specs.Inside.{rest_of, IsLines};
 

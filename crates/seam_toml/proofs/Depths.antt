@@ -1,12 +1,12 @@
 -- What may be under a key of a table is less deep than the table, so that a search of a header ends.
-use Rattle.std.proofs.Common.{◌≡◌, ℕ, ◌<◌, Bool, true, false, if◌then◌else◌, List, [], ◌∷◌, Option, Some, None, unwrap_or, ap, arith}
+use Rattle.std.proofs.Common.{◌≡◌, ℕ, ◌<◌, Bool, true, false, if◌then◌else◌, List, [], ◌∷◌, codes, Option, Some, None, unwrap_or, ap, arith}
 use Rattle.std.specs.Bool.{⊤}
 use Rattle.std.proofs.lemmas.Option.{none-some}
 use Rattle.seam_defs.specs.Types.{is_name}
 use Rattle.seam_toml.specs.declared.roles.Role.{Role}
 use Rattle.seam_toml.specs.declared.roles.Role.TheVariants as role
 use Rattle.seam_toml.specs.Roles.{Keys, role_in, role_under, is_method_name}
-use Rattle.seam_toml.specs.Roles.{header_keys, setting_keys, type_keys, property_keys, method_keys}
+use Rattle.seam_toml.specs.Roles.{setting_keys, method_keys}
 
 -- how many tables what is for this is deep, at most
 abbrev pub depth : Role → ℕ
@@ -32,6 +32,15 @@ depth_of_if n false x c rest here more is = more is
 depth_in : (n : ℕ) (es : Keys) (key : List ℕ) (c : Role) → AllBelow n es → role_in es key ≡ Some c → depth c < n
 depth_in n [] key c below is = absurd (none-some _ is)
 depth_in n (e ∷ es) key c below is = depth_of_if n _ e.1 c (role_in es key) below.0 (depth_in n es key c below.1) is
+
+abbrev header_keys : Keys
+header_keys = (codes "version", role.Version) ∷ (codes "settings", role.Settings) ∷ (codes "type", role.Types) ∷ []
+
+abbrev type_keys : Keys
+type_keys = (codes "properties", role.Properties) ∷ (codes "methods", role.Methods) ∷ []
+
+abbrev property_keys : Keys
+property_keys = (codes "type", role.TypeName) ∷ (codes "flag", role.Flag) ∷ (codes "default", role.Default) ∷ []
 
 pub depth_under : (r : Role) (key : List ℕ) (c : Role) → role_under r key ≡ Some c → depth c < depth r
 depth_under role.Header key c is = depth_in 5 header_keys key c (omega arith, (omega arith, (omega arith, tt))) is

@@ -31,7 +31,7 @@ use Rattle.seam_toml.specs.Roles.{role_under, is_method_name}
 use Rattle.seam_toml.specs.Tables.{Each, EachUnder, EachItem, EachItemUnder}
 use Rattle.seam_toml.specs.Definitions.{HasType, HasPart, NamesType, Says, data_of, exposed_or_not}
 use Rattle.seam_toml.specs.Definitions.{DefinesProperty, DefinesMethod, DefinesType, DefinesTypes}
-use Rattle.seam_toml.specs.Faults.{HasStrangeKey, LacksKey, IsTypeName, AreTypeNames, AreTexts, IsPartName, IsOfKind, IsNoFlag}
+use Rattle.seam_toml.specs.Faults.{HasStrangeKey, LacksKey, IsTypeName, AreTypeNames, AreTexts, IsPartName, IsOfKind}
 use Rattle.seam_toml.specs.Faults.{FitsType, HasBadText, AreBadTexts, HasBadBody, IsBadMethod, HasBadMethod, AreBadMethods}
 use Rattle.seam_defs.specs.declared.settings.Settings.{Settings}
 use Rattle.seam_defs.specs.Settings.{GhostsReach}
@@ -108,7 +108,7 @@ part_in : (d : Data) → IsPartName d → (p : Part) × (d ≡ string (part_name
 part_in (string s) is = (is.0, ap string (sym is.1))
 part_in d is = absurd is
 
-flag_in : (d : Data) → ¬ (¬ (IsSome (as_str d))) → ¬ (IsNoFlag role.Flag d) → ((f : Flag) → ¬ (d ≡ string (flag_name f))) → ⊥
+flag_in : (d : Data) → ¬ (¬ (IsSome (as_str d))) → ¬ (IsAtFault BadFlag role.Flag d) → ((f : Flag) → ¬ (d ≡ string (flag_name f))) → ⊥
 flag_in (string s) h bad k = bad (λ f e. k f (ap string (sym e)))
 flag_in (table ms) h bad k = h (λ e. false≢true e)
 flag_in (integer z) h bad k = h (λ e. false≢true e)

@@ -9,7 +9,9 @@ use Rattle.seam_toml.specs.declared.settings.Setting.{Setting}
 use Rattle.seam_toml.specs.declared.settings.Setting.TheVariants as setting
 use Rattle.seam_toml.specs.Settings.{field_of, Sets, HasBadSetting}
 use Rattle.seam_toml.specs.Header.{SetsUnder}
-use Rattle.seam_toml.specs.Faults.{SetsTooNear}
+use Rattle.seam_toml.specs.Faults.{IsAtFault}
+use Rattle.seam_toml.specs.declared.faults.Fault.TheVariants.{GhostTooNear}
+use Rattle.seam_toml.specs.declared.roles.Role.TheVariants as role
 
 pub field_is_one : (ms : Members) (a b : Settings) → Sets ms a → Sets ms b → (one : Setting) → field_of a one ≡ field_of b one
 field_is_one ms a b f g one = ap (λ o. unwrap_or o 0) (sym (f one) ∙ g one)
@@ -25,7 +27,8 @@ reach_is_one ms a b f g reach =
     let ghost_distance : a.ghost_distance ≡ b.ghost_distance = field_is_one ms a b f g setting.GhostDistance in
     omega (arith, reach, radius, view, offload, ghost_distance)
 
-pub near_by_reach : (ms : Members) (s : Settings) (b : Bool) → Sets ms s → (IsTrue b ↔ GhostsReach s) → IsTrue (not b) ↔ SetsTooNear ms
+pub near_by_reach : (ms : Members) (s : Settings) (b : Bool) → Sets ms s → (IsTrue b ↔ GhostsReach s) →
+    IsTrue (not b) ↔ IsAtFault GhostTooNear role.Settings (table ms)
 near_by_reach ms s true sets is = ((λ e. absurd (false≢true e)), λ w. absurd (w.2 (reach_is_one ms s w.0 sets w.1 (is.0 refl))))
 near_by_reach ms s false sets is = ((λ _. (s, sets, λ h. absurd (false≢true (is.1 h)))), λ _. refl)
 

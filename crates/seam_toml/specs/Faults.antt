@@ -40,11 +40,6 @@ LacksKey role.Property ms = Lacks (codes "type") ms ⊎ (Lacks (codes "flag") ms
 LacksKey role.Method ms = Lacks (codes "part") ms
 LacksKey r ms = ⊥
 
--- a table where one has to be has a key that it may not have, or lacks one that it has to have
-abbrev pub HasWrongKeys : Role → Data → Type 0
-HasWrongKeys r (table ms) = IsTrue (is_table r) × (HasStrangeKey r ms ⊎ LacksKey r ms)
-HasWrongKeys r d = ⊥
-
 -- ---- kinds of values
 
 -- a text that names a type of values
@@ -84,26 +79,13 @@ IsOfKind role.Arguments d = IsListOf AreTypeNames d
 IsOfKind role.Body d = IsListOf AreTexts d
 IsOfKind r d = IsSome (as_table d)
 
--- ---- flags, defaults
-
--- a text where a flag has to be is the name of none
-abbrev pub IsNoFlag : Role → Data → Type 0
-IsNoFlag role.Flag (string s) = (f : Flag) → flag_name f ≢ s
-IsNoFlag r d = ⊥
+-- ---- defaults
 
 -- a whole number or a text that fits a type of values
 abbrev pub FitsType : ValueType → Data → Type 0
 FitsType t (integer z) = Fits (Number z) t
 FitsType t (string s) = Fits (Text s) t
 FitsType t d = ⊥
-
--- a property's default does not fit its type
-abbrev pub HasBadDefault : Members → Type 0
-HasBadDefault ms = (t : ValueType) × (d : Data) × HasType ms t × (get_member (codes "default") ms ≡ Some d) × ¬ (FitsType t d)
-
-abbrev pub IsBadProperty : Role → Data → Type 0
-IsBadProperty role.Property (table ms) = HasBadDefault ms
-IsBadProperty r d = ⊥
 
 -- ---- bodies
 
@@ -146,11 +128,7 @@ pub record HasBadBodies (ms : Members) : Type 0 where
   pub properties : EachUnder DefinesProperty (get_member (codes "properties") ms) ps
   pub bad : AreBadMethods ps (get_member (codes "methods") ms)
 
-abbrev pub IsBadType : Role → Data → Type 0
-IsBadType role.Type (table ms) = HasBadBodies ms
-IsBadType r d = ⊥
-
--- ---- limits, distances
+-- ---- limits
 
 -- how many members or items a value has
 abbrev pub count : Members → ℕ
@@ -175,25 +153,21 @@ AreTooMany role.Arguments d = MOST_ARGUMENTS < size_of d
 AreTooMany role.Body d = MOST_OPERATIONS < size_of d
 AreTooMany r d = ⊥
 
--- the table sets settings with which ghosts do not reach far enough
-abbrev pub SetsTooNear : Members → Type 0
-SetsTooNear ms = (s : Settings) × Sets ms s × ¬ (GhostsReach s)
-
-abbrev pub AreTooNear : Role → Data → Type 0
-AreTooNear role.Settings (table ms) = SetsTooNear ms
-AreTooNear r d = ⊥
-
 -- ---- a fault of a value
 
--- the value itself is at fault
+-- The value itself is at fault: a table where one has to be has a key that it may not have, or lacks one that it has to have; it is of
+-- another kind; a text where a flag has to be names none; a property's default does not fit its type; a type has a bad body; there are too
+-- many; settings are such that ghosts do not reach far enough.
 abbrev pub IsAtFault : Fault → Role → Data → Type 0
-IsAtFault NoSuchKey r d = HasWrongKeys r d
+IsAtFault NoSuchKey r (table ms) = IsTrue (is_table r) × (HasStrangeKey r ms ⊎ LacksKey r ms)
 IsAtFault BadType r d = ¬ (IsOfKind r d)
-IsAtFault BadFlag r d = IsNoFlag r d
-IsAtFault BadDefault r d = IsBadProperty r d
-IsAtFault BadBody r d = IsBadType r d
+IsAtFault BadFlag role.Flag (string s) = (f : Flag) → flag_name f ≢ s
+IsAtFault BadDefault role.Property (table ms) =
+    (t : ValueType) × (d : Data) × HasType ms t × (get_member (codes "default") ms ≡ Some d) × ¬ (FitsType t d)
+IsAtFault BadBody role.Type (table ms) = HasBadBodies ms
 IsAtFault TooManyNames r d = AreTooMany r d
-IsAtFault GhostTooNear r d = AreTooNear r d
+IsAtFault GhostTooNear role.Settings (table ms) = (s : Settings) × Sets ms s × ¬ (GhostsReach s)
+IsAtFault f r d = ⊥
 
 -- ---- a fault anywhere
 

@@ -16,9 +16,6 @@ abbrev pub role_in : Keys → List ℕ → Option Role
 role_in [] key = None
 role_in (e ∷ es) key = if bytes_eq key e.0 then Some e.1 else role_in es key
 
-abbrev pub header_keys : Keys
-header_keys = (codes "version", role.Version) ∷ (codes "settings", role.Settings) ∷ (codes "type", role.Types) ∷ []
-
 abbrev setting_key : Setting → List ℕ × Role
 setting_key s = (key_of s, role.Setting s)
 
@@ -29,12 +26,6 @@ setting_keys =
     ∷ setting_key setting.GhostDistance ∷ setting_key setting.GhostHysteresis
     ∷ setting_key setting.BalanceShift ∷ setting_key setting.Bases ∷ []
 
-abbrev pub type_keys : Keys
-type_keys = (codes "properties", role.Properties) ∷ (codes "methods", role.Methods) ∷ []
-
-abbrev pub property_keys : Keys
-property_keys = (codes "type", role.TypeName) ∷ (codes "flag", role.Flag) ∷ (codes "default", role.Default) ∷ []
-
 abbrev pub method_keys : Keys
 method_keys = (codes "part", role.Part) ∷ (codes "exposed", role.Exposed) ∷ (codes "args", role.Arguments) ∷ (codes "body", role.Body) ∷ []
 
@@ -44,12 +35,14 @@ is_method_name key = is_name key && not (bytes_eq key (codes "move"))
 
 -- what the value under a key of a table is for, by what the table is for: None where such a table may not have the key
 abbrev pub role_under : Role → List ℕ → Option Role
-role_under role.Header key = role_in header_keys key
+role_under role.Header key =
+    role_in ((codes "version", role.Version) ∷ (codes "settings", role.Settings) ∷ (codes "type", role.Types) ∷ []) key
 role_under role.Settings key = role_in setting_keys key
 role_under role.Types key = if is_name key then Some role.Type else None
-role_under role.Type key = role_in type_keys key
+role_under role.Type key = role_in ((codes "properties", role.Properties) ∷ (codes "methods", role.Methods) ∷ []) key
 role_under role.Properties key = if is_name key then Some role.Property else None
-role_under role.Property key = role_in property_keys key
+role_under role.Property key =
+    role_in ((codes "type", role.TypeName) ∷ (codes "flag", role.Flag) ∷ (codes "default", role.Default) ∷ []) key
 role_under role.Methods key = if is_method_name key then Some role.Method else None
 role_under role.Method key = role_in method_keys key
 role_under r key = None

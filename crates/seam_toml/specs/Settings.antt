@@ -60,14 +60,10 @@ abbrev pub number_or_standard : Setting → Option Data → Option ℕ
 number_or_standard s None = Some (field_of standard s)
 number_or_standard s (Some d) = number_of s d
 
--- what the table makes of a setting
-abbrev pub setting_in : Members → Setting → Option ℕ
-setting_in ms s = number_or_standard s (get_member (key_of s) ms)
-
 -- the table sets these settings: each is what is under its key, or the standard one where nothing is
 abbrev pub Sets : Members → Settings → Type 0
-Sets ms s = (one : Setting) → setting_in ms one ≡ Some (field_of s one)
+Sets ms s = (one : Setting) → number_or_standard one (get_member (key_of one) ms) ≡ Some (field_of s one)
 
 -- what is under the key of a setting is no whole number in its range
 abbrev pub HasBadSetting : Members → Type 0
-HasBadSetting ms = (one : Setting) × (setting_in ms one ≡ None)
+HasBadSetting ms = (one : Setting) × (number_or_standard one (get_member (key_of one) ms) ≡ None)

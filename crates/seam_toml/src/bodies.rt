@@ -5,10 +5,11 @@ ghost use Rattle.toml.specs.View.{view, table_view, items_view};
 ghost use Rattle.seam_value.specs.declared.types.ValueType.{ValueType as Types};
 ghost use Rattle.seam_defs.specs.declared.flags.Part.{Part as Parts};
 ghost use Rattle.seam_defs.specs.Types.{are_rising, names_of_properties};
+ghost use Rattle.seam_toml.specs.declared.faults.Fault.TheVariants.{BadBody};
 ghost use Rattle.seam_toml.specs.Tables.{EachItem};
 ghost use Rattle.seam_toml.specs.Definitions.{HasPart, HasArguments, NamesType};
 ghost use Rattle.seam_toml.specs.Faults.{IsBadText, HasBadText, AreBadTexts, HasBadBody};
-ghost use Rattle.seam_toml.specs.Faults.{IsBadMethod, HasBadMethod, AreBadMethods, HasBadBodies, IsBadType};
+ghost use Rattle.seam_toml.specs.Faults.{IsBadMethod, HasBadMethod, AreBadMethods, HasBadBodies, IsAtFault};
 
 use crate::Role;
 use crate::members::member;
@@ -205,7 +206,8 @@ fn has_bad_bodies(alloc: Global, table: &Table) -> Result<bool, AllocError>
 
 // Whether the value is for a type, and has a method with a bad body.
 pub(crate) fn is_bad_type(alloc: Global, role: &Role, value: &Value) -> Result<bool, AllocError>
-    ensures { IfOk result (λ answer. IsTrue answer ↔ IsBadType role.now (view value.now)) }
+    ensures { IfOk result (λ answer. IsTrue answer ↔ IsAtFault BadBody role.now
+        (view value.now)) }
 {
     match (role, value.as_table()) {
         (Role::Type, Some(table)) => has_bad_bodies(alloc, table),

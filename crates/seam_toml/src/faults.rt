@@ -1,12 +1,12 @@
 // What is at fault in the values of a header.
 ghost use Rattle.std.specs.Prelude.{◌≡◌, ◌↔◌, IsTrue, IfOk, MatchOption};
 ghost use Rattle.seam_value.specs.declared.types.ValueType.{ValueType as Types};
+ghost use Rattle.toml.specs.Data.{table as toml_table};
 ghost use Rattle.toml.specs.View.{view, table_view, items_view};
 ghost use Rattle.seam_toml.specs.declared.faults.Fault.{Fault as Faults};
-ghost use Rattle.seam_toml.specs.Faults.{HasStrangeKey, Lacks, LacksKey, HasWrongKeys, AreTypeNames, AreTexts, IsOfKind, IsNoFlag};
-ghost use Rattle.seam_toml.specs.Definitions.{HasType};
-ghost use Rattle.seam_toml.specs.Faults.{AreTooMany, AreTooNear, FitsType, HasBadDefault, IsBadProperty};
-ghost use Rattle.seam_toml.specs.Faults.{IsTypeName, IsPartName, IsListOf, SetsTooNear, size_of, count, count_items};
+ghost use Rattle.seam_toml.specs.Faults.{HasStrangeKey, Lacks, LacksKey, AreTypeNames, AreTexts, IsOfKind};
+ghost use Rattle.seam_toml.specs.Faults.{AreTooMany, FitsType};
+ghost use Rattle.seam_toml.specs.Faults.{IsTypeName, IsPartName, IsListOf, size_of, count, count_items};
 ghost use Rattle.seam_toml.specs.Faults.{IsAtFault, HasFault, HasFaultBelow, TopIsAtFault, HeaderHas, IsFirstFault};
 
 use crate::bodies::is_bad_type;
@@ -42,7 +42,7 @@ pub enum Fault {
 // ---- keys
 
 fn has_wrong_keys(role: &Role, value: &Value) -> bool
-    ensures { IsTrue result ↔ HasWrongKeys role.now (view value.now) }
+    ensures { IsTrue result ↔ IsAtFault Fault.NoSuchKey role.now (view value.now) }
 {
     match value.as_table() {
         Some(table) => role.is_table() && (has_strange_key(role, table) || lacks_key(role, table)),
@@ -129,7 +129,7 @@ fn are_texts(items: &[Value]) -> bool
 }
 
 fn is_no_flag(role: &Role, value: &Value) -> bool
-    ensures { IsTrue result ↔ IsNoFlag role.now (view value.now) }
+    ensures { IsTrue result ↔ IsAtFault Fault.BadFlag role.now (view value.now) }
 {
     match (role, value.as_str()) {
         (Role::Flag, Some(name)) => match Flag::named(name) {
@@ -141,7 +141,7 @@ fn is_no_flag(role: &Role, value: &Value) -> bool
 }
 
 fn are_too_near(role: &Role, value: &Value) -> bool
-    ensures { IsTrue result ↔ AreTooNear role.now (view value.now) }
+    ensures { IsTrue result ↔ IsAtFault Fault.GhostTooNear role.now (view value.now) }
 {
     match (role, value.as_table()) {
         (Role::Settings, Some(table)) => sets_too_near(table),
@@ -150,7 +150,8 @@ fn are_too_near(role: &Role, value: &Value) -> bool
 }
 
 fn sets_too_near(table: &Table) -> bool
-    ensures { IsTrue result ↔ SetsTooNear (table_view table.now) }
+    ensures { IsTrue result ↔ IsAtFault Fault.GhostTooNear Role.Settings
+        (toml_table (table_view table.now)) }
 {
     match read_settings(table) {
         Some(settings) => !settings.ghosts_reach(),
@@ -247,7 +248,8 @@ fn fits_type(t: ValueType, value: &Value) -> bool
 }
 
 fn has_bad_default(table: &Table) -> bool
-    ensures { IsTrue result ↔ HasBadDefault (table_view table.now) }
+    ensures { IsTrue result ↔ IsAtFault Fault.BadDefault Role.Property
+        (toml_table (table_view table.now)) }
 {
     match (type_of(table), member(table, "default")) {
         (Some(t), Some(value)) => !fits_type(t, value),
@@ -256,7 +258,7 @@ fn has_bad_default(table: &Table) -> bool
 }
 
 fn is_bad_property(role: &Role, value: &Value) -> bool
-    ensures { IsTrue result ↔ IsBadProperty role.now (view value.now) }
+    ensures { IsTrue result ↔ IsAtFault Fault.BadDefault role.now (view value.now) }
 {
     match (role, value.as_table()) {
         (Role::Property, Some(table)) => has_bad_default(table),

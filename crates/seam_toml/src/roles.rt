@@ -1,6 +1,6 @@
 // The grammar of a header.
 ghost use Rattle.std.specs.Prelude.{◌≡◌, Some, None, if◌then◌else◌};
-ghost use Rattle.seam_toml.specs.Roles.{role_in, header_keys, setting_keys, type_keys, property_keys, method_keys};
+ghost use Rattle.seam_toml.specs.Roles.{role_in, setting_keys, method_keys};
 ghost use Rattle.seam_toml.specs.Roles.{is_method_name, role_under, is_table};
 
 use crate::Setting;
@@ -82,7 +82,7 @@ pub(crate) fn is_method_name(key: &str) -> bool
 }
 
 fn under_header(key: &str) -> Option<Role>
-    ensures { result ≡ role_in header_keys key.now }
+    ensures { result ≡ role_under Role.Header key.now }
 {
     match key {
         "version" => Some(Role::Version),
@@ -109,7 +109,7 @@ fn under_settings(key: &str) -> Option<Role>
 }
 
 fn under_type(key: &str) -> Option<Role>
-    ensures { result ≡ role_in type_keys key.now }
+    ensures { result ≡ role_under Role.Type key.now }
 {
     match key {
         "properties" => Some(Role::Properties),
@@ -119,7 +119,7 @@ fn under_type(key: &str) -> Option<Role>
 }
 
 fn under_property(key: &str) -> Option<Role>
-    ensures { result ≡ role_in property_keys key.now }
+    ensures { result ≡ role_under Role.Property key.now }
 {
     match key {
         "type" => Some(Role::TypeName),

@@ -1,9 +1,10 @@
 // The settings of a header.
 ghost use Rattle.std.specs.Prelude.{◌≡◌, ◌≤◌, IfSome, MatchOption};
+ghost use Rattle.toml.specs.Data.{get_member};
 ghost use Rattle.toml.specs.View.{view, table_view};
 ghost use Rattle.seam_defs.specs.Settings.{standard, AreInRange};
 ghost use Rattle.seam_toml.specs.Settings.{key_of, field_of, IsInRange, least_of, greatest_of, in_range, number_of};
-ghost use Rattle.seam_toml.specs.Settings.{setting_in, Sets, HasBadSetting};
+ghost use Rattle.seam_toml.specs.Settings.{number_or_standard, Sets, HasBadSetting};
 
 use crate::members::member;
 use seam_defs::{LARGEST_SIZE, LONGEST_DISTANCE, MOST_BASE_NODES, Settings};
@@ -89,7 +90,8 @@ impl Setting {
 
     /// What a table of settings makes of this setting: the standard one where the table does not have its key.
     pub fn number_in(self, table: &Table) -> Option<u32>
-        ensures value { result ≡ setting_in (table_view table.now) self }
+        ensures value { result ≡ number_or_standard self
+            (get_member (key_of self) (table_view table.now)) }
         ensures range { IfSome result (IsInRange self) }
     {
         match member(table, self.key()) {

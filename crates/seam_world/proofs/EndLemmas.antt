@@ -2,14 +2,14 @@
 use Rattle.std.proofs.Common.{◌≡◌, ◌∙◌, inl, inr, ℕ, ◌≤◌, Bool, true, false, List, [], ◌∷◌, Option, None, Some, refl, sym, ap}
 use Rattle.std.proofs.Common.{subst, arith, append-nil, codes}
 use Rattle.std.proofs.KnownBytes.{Appends-trans, Consumes-nil}
-use Rattle.std.specs.Prelude.{◌↔◌, ◌⊎◌, Ok, Err}
+use Rattle.std.specs.Prelude.{◌↔◌, ◌⊎◌, Ok, Err, option_map}
 use Rattle.std.specs.Io.KnownBytes.{Appends}
-use Rattle.clap.specs.Words.{Kinds, Row, fault_of, matches_of}
+use Rattle.clap.specs.Words.{Kinds, Row, fault_of, matches_of, one_of}
 use Rattle.clap.specs.declared.parser.matches.ValueSource.{ValueSource}
 use Rattle.clap.specs.declared.parser.matches.ValueSource.TheVariants.{CommandLine, DefaultValue}
 use Rattle.seam_rule_rounds.specs.Prelude.{Rose, SourceState, SinkState, Line, whole_lines_of, totals_of, Told, Journal}
 use Rattle.seam_rule_rounds.specs.declared.totals.Totals.{Totals}
-use Rattle.seam_args.specs.Words.{Answer, AreOptions, ArePassed, AreRefused, command, words_of}
+use Rattle.seam_args.specs.Words.{Answer, AreOptions, ArePassed, AreRefused, command, number_of, words_of}
 use Rattle.seam_args.specs.declared.Options.{Options}
 use Rattle.seam_args.specs.declared.TheConstants.{USAGE_TEXT, VERSION_TEXT}
 use Rattle.seam_world_rounds.specs.Transcripts.{IsOpen, IsEnded}
@@ -26,9 +26,9 @@ use Rattle.seam_world_run.proofs.HeaderRuns.{nothing_judged}
 use Rattle.seam_world_ends.proofs.Completing.{is_complete}
 use Rattle.seam_world_run.proofs.StormRuns.{nothing_run}
 use Rattle.seam_world.specs.Requests.{Request, Usage, Version, Storm, Script, Nothing, request_of, request_for, request_unless, EndsAs}
-use Rattle.seam_world.specs.Requests.{UnplayedEnds, TellsOfShown, TellsOfNothing}
+use Rattle.seam_world.specs.Requests.{UnplayedEnds, TellsOfShown}
 use Rattle.seam_world.specs.Stopping.{StopsAs, StopsShown, IsTextFor}
-use Rattle.seam_world.specs.Words.{is_of_words, asks_for, storm_among}
+use Rattle.seam_world.specs.Words.{is_of_words, asks_for}
 
 -- what tells of transcripts tells of others that they are
 module _ (Open Ended Open' Ended' : List Line → List ℕ → List Journal → Type 0)
@@ -143,6 +143,10 @@ untouched : (Tells : Status → List ℕ → Type 0) (st : Status) (source : Sou
 untouched Tells st source old new told tells tail a f =
     record { text = []; tail = tail; unread = refl; wrote = a; tells = tells; last = f; untold = refl }
 
+-- what a status tells where the words are refused
+abbrev TellsOfNone : Status → List ℕ → Type 0
+TellsOfNone ended text = ((ended ≡ status.Usage) ⊎ (ended ≡ status.NoMemory)) × (text ≡ [])
+
 -- there was no memory for the words
 starved : (r : Request) (source : SourceState) (old new : SinkState) (told : Told) (tail : List ℕ) → Appends old.written new.written tail →
     HasFaultLine status.NoMemory old new tail → EndsAs r status.NoMemory source source old new told told
@@ -153,7 +157,7 @@ starved (Storm lines) source old new told tail a f =
 starved (Script traced) source old new told tail a f =
     let stopped = nothing_judged source source [] (Consumes-nil source.left) (omega arith) (text_output traced) (totals_of []) old told in
     ends_as_asked (Script traced) status.NoMemory source source old old new told told (totals_of [], stopped) tail a f
-starved Nothing source old new told tail a f = untouched TellsOfNothing status.NoMemory source old new told (inr refl, refl) tail a f
+starved Nothing source old new told tail a f = untouched TellsOfNone status.NoMemory source old new told (inr refl, refl) tail a f
 
 -- the words were refused, or there was no memory for them
 pub ends_unasked : (r : Request) (st : Status) (source : SourceState) (old new : SinkState) (told : Told) →
@@ -164,7 +168,7 @@ ends_unasked r st source old new told (inl is) tail a f =
     (starved r source old new told tail a (subst (λ (x : Status). HasFaultLine x old new tail) is f))
 ends_unasked r st source old new told (inr (is, nothing)) tail a f =
     subst (λ (x : Request). EndsAs x st source source old new told told) (sym nothing)
-    (untouched TellsOfNothing st source old new told (inl is, refl) tail a f)
+    (untouched TellsOfNone st source old new told (inl is, refl) tail a f)
 
 -- words that are refused ask for nothing
 pub refused_is_nothing : (answer : Answer) → AreRefused answer → request_of answer ≡ Nothing
@@ -190,10 +194,11 @@ request_is (Ok words) o passed are =
     let help = flag_is _ _ are.help in
     let version = flag_is _ _ are.version in
     let trace = flag_is _ _ are.trace in
+    let storm = option_map number_of (one_of (codes "storm") rows) in
     ap (λ (ks : Kinds). request_unless ks rows) passed
-    ∙ ap (λ (b : Bool). request_for b (asks_for (codes "version") rows) (asks_for (codes "trace") rows) (storm_among rows)) help
-    ∙ ap (λ (b : Bool). request_for o.help b (asks_for (codes "trace") rows) (storm_among rows)) version
-    ∙ ap (λ (b : Bool). request_for o.help o.version b (storm_among rows)) trace
+    ∙ ap (λ (b : Bool). request_for b (asks_for (codes "version") rows) (asks_for (codes "trace") rows) storm) help
+    ∙ ap (λ (b : Bool). request_for o.help b (asks_for (codes "trace") rows) storm) version
+    ∙ ap (λ (b : Bool). request_for o.help o.version b storm) trace
     ∙ ap (λ (n : Option ℕ). request_for o.help o.version o.trace n) are.storm
 request_is (Err e) o passed are = absurd passed
 

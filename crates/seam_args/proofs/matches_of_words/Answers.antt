@@ -10,7 +10,7 @@ use Rattle.clap.specs.declared.builder.command.Command.{Command}
 use Rattle.clap.specs.declared.error.Error.{Error}
 use Rattle.clap.specs.declared.parser.matches.ArgMatches.{ArgMatches}
 use Rattle.clap.proofs.OnLiterals.{clap_on_literals}
-use Rattle.seam_args.specs.Words.{command, flag_rule, help_rule, number_rule, without_help}
+use Rattle.seam_args.specs.Words.{command, flag_rule, number_rule}
 use Rattle.seam_args.specs.Reading.{HasNumbers}
 use Rattle.seam_args.specs.declared.TheConstants.{MOST_WORKERS, MOST_TURNS, LONGEST_STORM}
 use Rattle.seam_args.proofs.Found.{has_numbers}
@@ -31,6 +31,10 @@ with_default defaults r = record r { defaults = defaults }
 -- a rule with the short name -h
 abbrev with_h : Rule → Rule
 with_h r = record r { short = Some 104 }
+
+-- a command without an option that clap adds by itself
+abbrev without_help : App → App
+without_help a = record a { top = record a.top { disable_help_flag = true } }
 
 -- what a parse by a command that has the form of the server's gives
 module _ (built : Command) (words : List Text) (parse : Result ArgMatches Error) (is : app_of built ≡ command) where
@@ -56,7 +60,8 @@ returns c =
     let storm_is : rule_of c.number_option-storm.result ≡ number_rule (codes "storm") LONGEST_STORM [] =
     c.number_option-storm.ensures.rule in
     let trace_is : rule_of c.flag-trace.result ≡ flag_rule (codes "trace") = c.flag-trace.ensures.rule in
-    let help_is : rule_of c.short-help.result ≡ help_rule = ap rule_of c.short-help.ensures ∙ ap with_h c.flag.ensures.rule in
+    let help_is : rule_of c.short-help.result ≡ with_h (flag_rule (codes "help")) =
+    ap rule_of c.short-help.ensures ∙ ap with_h c.flag.ensures.rule in
     let version_is : rule_of c.flag-version.result ≡ flag_rule (codes "version") = c.flag-version.ensures.rule in
     let named : app_of c.disable_help_flag.result ≡ without_help (new_app (codes "seamless")) =
     ap app_of_fields c.disable_help_flag.ensures ∙ ap without_help c.new.ensures.app in

@@ -15,6 +15,7 @@ use Rattle.seam_law_book.proofs.Given.{present_one}
 use Rattle.seam_law_book.proofs.Ended.{live_ended}
 use Rattle.seam_law_book.proofs.Parts.{looks_leave_part}
 use Rattle.seam_law_book.proofs.Bases.{part_leads}
+use Rattle.seam_law_book.proofs.Found.{part_is}
 use Rattle.seam_law_book.proofs.PartsTable.{began_somewhere, begins_part, part_in_table}
 use Rattle.seam_law_book.proofs.book_and_world.base_parts_are_those_of_the_flat_table.Goals as goal
 use Rattle.seam_law_all.specs.Prelude.{may_begin, may_load}
@@ -52,7 +53,7 @@ returns-clause-called c h b t clients w play orders before es v run e q made at 
     let had = c.a_base_part_of_a_loaded_world_is_ready.ensures.settled f w B loads e there.0 there.1 there.2 in
     let became = part_leads (framed f B) e (loaded w B) v es (in_frame f w B (may_begin play.keeps may))
     (spared_loaded f w B (may_begin play.keeps may) e there.0 there.1 there.2) run (base_node h e) had.part had.here in
-    subst (λ l. IsPartInTable h made (orders part.Base e ++ l) q) (sym (ap done_by_part at))
+    subst (λ l. IsPartInTable h made (orders part.Base e ++ l) q) (sym (ap done_by_part (part_is e v (base_node h e) ∙ at)))
     (part_in_table h some b t clients w play.keeps may play.goes R untouched play.few present senders orders before.full before.parts e
     made (live_is_present b e made lives) had.part had.here v
     became q at)

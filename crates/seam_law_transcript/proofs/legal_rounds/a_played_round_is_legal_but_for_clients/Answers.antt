@@ -5,7 +5,8 @@ use Rattle.seam_node_steps.specs.Prelude.{Create}
 use Rattle.seam_rule_rounds.specs.Prelude.{live_as, tree_of, with_round_ended, replica_of, HasPlace, home_line, base_line, ghost_lines}
 use Rattle.seam_law_rounds.specs.Prelude.{framed}
 use Rattle.seam_law_clients.specs.Prelude.{clients_loaded, clients_shown}
-use Rattle.seam_law_book.specs.Prelude.{frame_of, AreInPlace, ghosts_read}
+use Rattle.seam_law_book.specs.Prelude.{frame_of, base_node, AreInPlace, ghosts_read}
+use Rattle.seam_law_book.proofs.Found.{part_is}
 use Rattle.seam_law_transcript.specs.Prelude.{may_play, standing_of, homes_read, base_if, bases_read, place_read}
 use Rattle.seam_accept.specs.Batches.{batch_of}
 use Rattle.seam_law_book.proofs.Ended.{live_ended}
@@ -57,7 +58,7 @@ returns c h s tree w v p bounds next =
       bases = one_of_each (λ x. bases_read h v x.entity) (base_line h t) p.live
           (λ x has.
           let held = on.live x.entity x (lives x has) in
-          ap (base_if x.entity) held.base_here
+          ap (base_if x.entity) (part_is x.entity v (base_node h x.entity) ∙ held.base_here)
           ∙ ap (λ l. l ∷ [])
           (c.base_lines_are_those_of_the_rules.ensures h (with_round_ended b) (tree_of b) v t on parts x held.base held.base_here
           (lives x has)));

@@ -1,4 +1,4 @@
-use Rattle.std.proofs.Common.{◌≡◌, ℕ, ◌+◌, true, false, [], ◌++◌, map, length, None, Some, sym, ap, ◌∙◌}
+use Rattle.std.proofs.Common.{◌≡◌, ℕ, ◌+◌, true, false, [], ◌++◌, map, length, None, Some, sym, ap, ◌∙◌, subst}
 use Rattle.std.specs.Prelude.{if◌then◌else◌}
 use Rattle.std.specs.List.{list_any}
 use Rattle.seam_defs.specs.declared.flags.Part.TheVariants as part
@@ -8,7 +8,9 @@ use Rattle.seam_law_calls.specs.Prelude.{here_at, entity_flow}
 use Rattle.seam_law_rounds.specs.Prelude.{framed, MayBeLoaded}
 use Rattle.seam_law_clients.specs.Prelude.{base_lines, first_lines, lines_after, clients_loaded, clients_shown}
 use Rattle.seam_law_book.specs.Prelude.{as_begun, IsUntouched, frame_of, base_node, done_by_part, done_in}
-use Rattle.seam_law_transcript.specs.Prelude.{may_play, standing_of, lines_shown, lines_told}
+use Rattle.seam_law_book.proofs.Found.{part_is}
+use Rattle.seam_law_transcript.specs.Prelude.{may_play, standing_of, lines_told}
+use Rattle.seam_law_transcript.proofs.LinesHeld.{lines_held, told_held}
 use Rattle.seam_accept.specs.Batches.{batch_of}
 use Rattle.seam_law_rounds.proofs.Going.{settled_loaded}
 use Rattle.seam_law_rounds.proofs.Loaded.{no_mail}
@@ -65,7 +67,8 @@ returns c h s tree w v p bounds next x is shown =
     let done = done_in h round.called part.Base e in
     let deeds = c.each_part_executed_what_was_accepted.ensures.on h b tree clients w play round.call_events round.called round.calls
     round.calls_done e home.node home.real home.here x there part.Base in
-    let done_is : done ≡ shows.calls = ap done_by_part shows.is ∙ shows.done ∙ ap (λ d. d ++ shows.calls) begins.idle in
+    let done_is : done ≡ shows.calls =
+    ap done_by_part (part_is e round.called (base_node h e) ∙ shows.is) ∙ shows.done ∙ ap (λ d. d ++ shows.calls) begins.idle in
     let new : base_lines y.0.lines ≡ (if is_new_client b e then first_lines here l.base else []) =
     first ∙ ap (λ n. if n then first_lines here l.base else []) (among_is e B.clients ∙ among_joined e b.current) in
     let texts = base_lines y.0.lines ++ lines_after here l.base.ty l.base.state l.base.version shows.calls in
@@ -75,11 +78,11 @@ returns c h s tree w v p bounds next x is shown =
     let told = length (s.told e) in
     let none : is_among e B.clients ≡ true →
     told ≡ 0 = λ among. ap length (p.beside.between.untold e (unjoined_before h b R untouched e among)) in
-    let in_calls : IsShown told (lines_shown h round.called e) texts =
+    let in_calls : IsShown told (lines_held h round.called e) texts =
     called_shown f w B loads e told (p.beside.between.numbers e) none l.base y.0 l.base_here y.1 round.called shows in
-    let lived : list_any (destroys e) b.current ≡ false → IsShown told (lines_shown h v e) texts
+    let lived : list_any (destroys e) b.current ≡ false → IsShown told (lines_held h v e) texts
     × ((q : PartView) (z : ProxyView) → ((entity_flow e v).slot (base_node h e)).base.part ≡ Some q → q.proxy ≡ Some z →
-    z.last ≡ told + length (lines_shown h v e)) = λ not.
+    z.last ≡ told + length (lines_held h v e)) = λ not.
     let held = on.live e x (live_ended b e ∙ lives_on b e x is shown not) in
     let was = c.the_last_phases_leave_places.ensures.looks g round.reaped reaped.records.reals round.look_events v round.looks e held.cell
     held.real held.here in
@@ -93,12 +96,14 @@ returns c h s tree w v p bounds next x is shown =
       ended_last f w B loads e told (p.beside.between.numbers e) none l.base y.0 l.base_here y.1 round.called shows round.reaped v
           reaped.records.reals round.look_events round.looks was.real.ty left same,
     ) in
-    let in_all : list_any (destroys e) b.current ≡ false → IsShown told (lines_shown h v e) texts = λ not. (lived not).0 in
-    let so = by_death (λ ls. IsShown told ls texts) (lines_shown h round.called e) (lines_shown h v e) (list_any (destroys e) b.current)
-    (λ now. in_calls) in_all in
+    let in_all : list_any (destroys e) b.current ≡ false → IsShown told (lines_held h v e) texts = λ not. (lived not).0 in
+    let so = subst (λ ls. IsShown told ls texts) (sym (told_held h b round.called v e))
+    (by_death (λ ls. IsShown told ls texts) (lines_held h round.called e) (lines_held h v e) (list_any (destroys e) b.current)
+    (λ now. in_calls) in_all) in
     record {
       numbers = so.numbers;
       bases = base_texts_are (lines_told h b round.called v e) ∙ so.bases ∙ rules;
       last = λ not q z at has. (lived not).1 q z at has
-          ∙ ap (λ n. told + length (if n then lines_shown h round.called e else lines_shown h v e)) (sym not);
+          ∙ ap (λ n. told + length (if n then lines_held h round.called e else lines_held h v e)) (sym not)
+          ∙ ap (λ ls. told + length ls) (sym (told_held h b round.called v e));
     }

@@ -10,7 +10,8 @@ use Rattle.seam_law_calls.specs.Prelude.{shown_in, real_at}
 use Rattle.seam_law_rounds.specs.Prelude.{framed, MayBeLoaded}
 use Rattle.seam_law_clients.specs.Prelude.{clients_loaded, clients_shown}
 use Rattle.seam_law_book.specs.Prelude.{as_begun, IsUntouched, frame_of}
-use Rattle.seam_law_transcript.specs.Prelude.{may_play, data_of, standing_of, clients_ended_in, lines_shown}
+use Rattle.seam_law_transcript.specs.Prelude.{may_play, data_of, standing_of, clients_ended_in}
+use Rattle.seam_law_transcript.proofs.LinesHeld.{lines_held, told_held}
 use Rattle.seam_rule_lines.proofs.BookEntries.{live_is_created}
 use Rattle.seam_rule_lines.proofs.InOrderLemmas.{found_entity}
 use Rattle.seam_accept.specs.Batches.{batch_of}
@@ -51,13 +52,13 @@ returns-clause-replicas c h s tree w v p bounds next e k q at seen =
     (p.beside.between.untold e (unjoined_before h b R untouched e (sym (among_is e B.clients) ∙ is)))) in
     -- of one that lives, and was shown these lines in all
     let told : (x : Create) → live_as b x.entity ≡ Some x → list_any (joins x.entity) (entries b) ≡ true →
-    told_in r x.entity ≡ lines_shown h v x.entity = λ x lives joined.
+    told_in r x.entity ≡ lines_held h v x.entity = λ x lives joined.
     let e = x.entity in
     let made = live_is_created b e x lives in
     let not_before = (neither (list_any (destroys e) b.past) (list_any (destroys e) b.current)
     (sym (any_split b e (destroys e)) ∙ alive b e x lives)).0 in
     c.client_lines_are_gathered.ensures.told h s tree w v p bounds x made (is_shown_by b e x made joined not_before)
-    ∙ ap (λ n. if n then lines_shown h round.called e else lines_shown h v e) (undestroyed b e x lives) in
+    ∙ told_held h b round.called v e ∙ ap (λ n. if n then lines_held h round.called e else lines_held h v e) (undestroyed b e x lives) in
     let l = on.reals e k q at in
     let lives = sym (live_ended b e) ∙ l.1 in
     let held = on.live e l.0 l.1 in
@@ -67,11 +68,11 @@ returns-clause-replicas c h s tree w v p bounds next e k q at seen =
     ] in
     let joined = sym (client_of b e l.0 lives) ∙ sym held.client ∙ ap (λ (z : RealView). is_some z.witness) real ∙ seen in
     let number = found_entity (creates_of (entries b)) e l.0 (live_is_created b e l.0 lives) in
-    let its : told_in r e ≡ lines_shown h v e =
-    subst (λ d. told_in r d ≡ lines_shown h v d) number
+    let its : told_in r e ≡ lines_held h v e =
+    subst (λ d. told_in r d ≡ lines_held h v d) number
     (told l.0 (ap (live_as b) number ∙ lives) (ap (λ d. list_any (joins d) (entries b)) number ∙ joined)) in
-    ap (λ z. after_all_shown z (letters_of shown_in (lines_shown h v e))) (begun e)
-    ∙ sym (after_more (new_client h.settings) (s.told e) (lines_shown h v e))
+    ap (λ z. after_all_shown z (letters_of shown_in (lines_held h v e))) (begun e)
+    ∙ sym (after_more (new_client h.settings) (s.told e) (lines_held h v e))
     ∙ ap (λ ls. after_lines (new_client h.settings) (s.told e ++ ls)) (sym its)
 
 pub returns-clause-records : goal.returns-clause-records

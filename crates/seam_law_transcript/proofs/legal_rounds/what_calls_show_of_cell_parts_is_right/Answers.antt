@@ -1,5 +1,5 @@
 use Rattle.std.proofs.Common.{◌≡◌, ℕ, ◌≤◌, true, eqb, List, ◌++◌, length, Option, None, Some, refl, sym, ap, ◌∙◌, subst, arith}
-use Rattle.std.specs.Prelude.{is_some}
+use Rattle.std.specs.Prelude.{is_some, slice_get}
 use Rattle.std.specs.List.{AllByRecursion, list_any}
 use Rattle.seam_law_flow.proofs.TokenLemmas.{sole_here}
 use Rattle.seam_node_steps.specs.Prelude.{Event, other_of, ghost_of, projected, type_of, Property, State, Call, Create, GhostCopy}
@@ -10,7 +10,7 @@ use Rattle.seam_law_calls.specs.Prelude.{entity_flow, real_in, real_of, HasOne, 
 use Rattle.seam_law_rounds.specs.Prelude.{framed}
 use Rattle.seam_law_clients.specs.Prelude.{clients_loaded, WasOther, true_between}
 use Rattle.seam_law_all.specs.Prelude.{shown_to, may_begin}
-use Rattle.seam_law_book.specs.Prelude.{as_begun, IsPresent, IsUntouched, frame_of, IsDoneOn, done_by_real, done_in}
+use Rattle.seam_law_book.specs.Prelude.{as_begun, IsPresent, IsUntouched, frame_of, IsDoneOn, done_by_real, done_in, real_here}
 use Rattle.seam_law_transcript.specs.Prelude.{may_play, standing_of}
 use Rattle.seam_defs.specs.declared.flags.Group.TheVariants as group
 use Rattle.seam_defs.specs.declared.flags.Part.TheVariants as part
@@ -25,6 +25,7 @@ use Rattle.seam_law_clients.proofs.Loading.{among_is}
 use Rattle.seam_law_clients.specs.RoundTruths.{WasOwn}
 use Rattle.seam_law_book.proofs.Accounts.{done_after}
 use Rattle.seam_law_book.proofs.Executed.{one_in}
+use Rattle.seam_law_book.proofs.Found.{real_is}
 use Rattle.seam_law_book.proofs.Parts.{both_seen}
 use Rattle.seam_law_transcript.proofs.Who.{is_there, was_joined, unjoined_before, client_by, there_created, there_alive}
 use Rattle.seam_law_transcript.proofs.Replicas.{begun_by}
@@ -79,9 +80,9 @@ returns c h s tree w v p bounds next x is shown =
     let low = place.fits.home in
     let most = called.records.reals.frame.tree.cells_to in (
       later.0,
-      one_in (λ j. done_by_real (real_at e round.called j)) end.node 0 cell_count (omega arith)
-          (omega (arith, low, most)) (λ j n. ap done_by_real (place.others j n))
-          ∙ ap done_by_real end.here ∙ later.1,
+      one_in (λ j. done_by_real (real_here e (slice_get round.called.nodes j))) end.node 0 cell_count (omega arith)
+          (omega (arith, low, most)) (λ j n. ap done_by_real (real_is e round.called j ∙ place.others j n))
+          ∙ ap done_by_real (real_is e round.called end.node ∙ end.here) ∙ later.1,
     ) in
     let deeds : (e home : ℕ) (r : RealView) → real_at e start home ≡ Some r → (d : Create) → IsPresent b e d →
     AllByRecursion (IsDoneOn part.Cell (type_of h.defs d.ty)) (done_in h round.called part.Cell e) = λ e home r here d present.

@@ -8,7 +8,8 @@ use Rattle.seam_law_rounds.specs.Prelude.{framed}
 use Rattle.seam_law_clients.specs.Prelude.{clients_loaded, clients_shown}
 use Rattle.seam_law_all.specs.Prelude.{shown_to}
 use Rattle.seam_law_book.specs.Prelude.{as_begun, IsUntouched, frame_of, done_in}
-use Rattle.seam_law_transcript.specs.Prelude.{may_play, standing_of, lines_shown}
+use Rattle.seam_law_transcript.specs.Prelude.{may_play, standing_of}
+use Rattle.seam_law_transcript.proofs.LinesHeld.{lines_held, told_held}
 use Rattle.seam_defs.specs.declared.flags.Part.TheVariants as part
 use Rattle.seam_accept.specs.Batches.{batch_of}
 use Rattle.seam_law_clients.proofs.InTurn.{rightly_append}
@@ -56,11 +57,11 @@ returns c h s tree w v p bounds next x is shown =
     (p.beside.between.untold e (unjoined_before h b R untouched e (sym (among_is e B.clients) ∙ joins)))) in
     -- one that dies was shown what it was in the calls
     let in_calls : list_any (destroys e) b.current ≡ true →
-    ShowsRightly truth e (replica_of h s e) (shown_by_lines (lines_shown h round.called e)) = λ dies.
-    subst (ShowsRightly truth e (replica_of h s e)) (sym (shown_is (lines_shown h round.called e))) so_far in
+    ShowsRightly truth e (replica_of h s e) (shown_by_lines (lines_held h round.called e)) = λ dies.
+    subst (ShowsRightly truth e (replica_of h s e)) (sym (shown_is (lines_held h round.called e))) so_far in
     -- one that lives was shown a look at the table after that
     let in_all : list_any (destroys e) b.current ≡ false →
-    ShowsRightly truth e (replica_of h s e) (shown_by_lines (lines_shown h v e)) = λ not.
+    ShowsRightly truth e (replica_of h s e) (shown_by_lines (lines_held h v e)) = λ not.
     let held = on.live e x (live_ended b e ∙ lives_on b e x is shown not) in
     let was = c.the_last_phases_leave_places.ensures.looks g round.reaped reaped.records.reals round.look_events v round.looks e held.cell
     held.real held.here in
@@ -97,9 +98,9 @@ returns c h s tree w v p bounds next x is shown =
     p.ended p.live p.live_listed e shown held.cell held.real held.here in
     let all = rightly_append truth e (clients_loaded f B clients e) (shown_to g e round.called) (one_look (mid e) e rows)
     (subst (λ r. ShowsRightly truth e r (shown_to g e round.called)) (sym begun) so_far) look in
-    subst (ShowsRightly truth e (replica_of h s e)) (sym (shown_is (lines_shown h v e) ∙ one))
+    subst (ShowsRightly truth e (replica_of h s e)) (sym (shown_is (lines_held h v e) ∙ one))
     (subst (λ r. ShowsRightly truth e r (shown_to g e round.called ++ one_look (mid e) e rows)) begun all) in
     subst (λ ls. ShowsRightly truth e (replica_of h s e) (shown_by_lines ls))
-    (sym (c.client_lines_are_gathered.ensures.told h s tree w v p bounds x is shown))
-    (by_death (λ ls. ShowsRightly truth e (replica_of h s e) (shown_by_lines ls)) (lines_shown h round.called e) (lines_shown h v e)
+    (sym (c.client_lines_are_gathered.ensures.told h s tree w v p bounds x is shown ∙ told_held h b round.called v e))
+    (by_death (λ ls. ShowsRightly truth e (replica_of h s e) (shown_by_lines ls)) (lines_held h round.called e) (lines_held h v e)
     (list_any (destroys e) b.current) in_calls in_all)

@@ -11,7 +11,8 @@ use Rattle.seam_law_calls.specs.Prelude.{shown_in}
 use Rattle.seam_law_rounds.specs.Prelude.{framed, MayBeLoaded}
 use Rattle.seam_law_clients.specs.Prelude.{clients_loaded, clients_shown}
 use Rattle.seam_law_book.specs.Prelude.{as_begun, IsUntouched, frame_of, base_node}
-use Rattle.seam_law_transcript.specs.Prelude.{may_play, data_of, standing_of, lines_shown}
+use Rattle.seam_law_transcript.specs.Prelude.{may_play, data_of, standing_of}
+use Rattle.seam_law_transcript.proofs.LinesHeld.{lines_held, told_held}
 use Rattle.seam_call.specs.declared.shown.ClientText.TheVariants as text
 use Rattle.seam_rule_lines.proofs.InOrderLemmas.{found_entity}
 use Rattle.seam_accept.specs.Batches.{batch_of}
@@ -74,7 +75,7 @@ returns c h s tree w v p bounds next tickless d seen =
     let table = c.the_table_of_a_world_is_that_of_the_rules.ensures.rows h (with_round_ended b) (tree_of b) v t.orders on now last.reals
     p.live listed in
     let none = c.without_a_tick_calls_show_no_cell_parts.ensures h s tree w v p tickless x is shown in
-    let told = c.client_lines_are_gathered.ensures.told h s tree w v p bounds x is shown in
+    let told = c.client_lines_are_gathered.ensures.told h s tree w v p bounds x is shown ∙ told_held h b round.called v e in
     let look = one_look (replica_of h s e) e rows in
     -- of one that dies in the round
     let dead : list_any (destroys e) b.current ≡ true → look ≡ [] = λ dies.
@@ -88,13 +89,13 @@ returns c h s tree w v p bounds next tickless d seen =
           ∙ ap (λ o. look_by (replica_of h s e) o (rows_but e (world.rows_of v))) (row_found v e ∙ row_nowhere g v last.reals e n)
     ] in gone (search_real e v) in
     let in_calls : list_any (destroys e) b.current ≡ true →
-    map (λ l. l.text) (lines_shown h round.called e) ≡ filter is_base (map (λ l. l.text) (lines_shown h round.called e))
+    map (λ l. l.text) (lines_held h round.called e) ≡ filter is_base (map (λ l. l.text) (lines_held h round.called e))
     ++ map text.Shown look =
     λ dies.
     subst (λ ls. map (λ l. l.text) ls ≡ filter is_base (map (λ l. l.text) ls) ++ map text.Shown look)
-    (append-nil (lines_shown h round.called e))
-    (one_look_after (lines_shown h round.called e) [] look none refl
-    (ap (letters_of shown_in) (append-nil (lines_shown h round.called e)) ∙ none ∙ sym (dead dies))) in
+    (append-nil (lines_held h round.called e))
+    (one_look_after (lines_held h round.called e) [] look none refl
+    (ap (letters_of shown_in) (append-nil (lines_held h round.called e)) ∙ none ∙ sym (dead dies))) in
     -- of one that lives
     let new : is_among e B.clients ≡ true → length (s.told e) ≡ 0 =
     λ among. ap length (p.beside.between.untold e (unjoined_before h b R untouched e among)) in
@@ -104,7 +105,7 @@ returns c h s tree w v p bounds next tickless d seen =
     ap (after_lines (new_client h.settings))
     (p.beside.between.untold e (unjoined_before h b R untouched e (sym (among_is e B.clients) ∙ joins)))) in
     let in_all : list_any (destroys e) b.current ≡ false →
-    map (λ l. l.text) (lines_shown h v e) ≡ filter is_base (map (λ l. l.text) (lines_shown h v e)) ++ map text.Shown look = λ not.
+    map (λ l. l.text) (lines_held h v e) ≡ filter is_base (map (λ l. l.text) (lines_held h v e)) ++ map text.Shown look = λ not.
     let shows = c.the_base_part_is_shown_at_each_change.ensures.round f w B loads e l.cell l.real l.here round.called round.call_events
     round.calls l.base y.0 l.base_here y.1 in
     let held = on.live e x (live_ended b e ∙ lives_on b e x is shown not) in
@@ -119,13 +120,13 @@ returns c h s tree w v p bounds next tickless d seen =
     round.reaped v reaped.records.reals round.look_events round.looks was.real.ty left same in
     let one = c.the_table_of_a_world_is_that_of_the_rules.ensures.one_each h b tree clients w play s.orders p.beside.between.before v round
     p.ended p.live p.live_listed e shown held.cell held.real held.here in
-    let looked : letters_of shown_in (lines_shown h v e) ≡ look =
+    let looked : letters_of shown_in (lines_held h v e) ≡ look =
     one ∙ ap (λ l. l ++ one_look (mid e) e rows) none
     ∙ ap (λ z. one_look z e rows) (ap (after_all_shown (clients_loaded f B clients e)) none ∙ begun) in
     subst (λ ls. map (λ l. l.text) ls ≡ filter is_base (map (λ l. l.text) ls) ++ map text.Shown look) (sym later.1)
-    (one_look_after (lines_shown h round.called e) later.0 look none later.2 (ap (letters_of shown_in) (sym later.1) ∙ looked)) in
+    (one_look_after (lines_held h round.called e) later.0 look none later.2 (ap (letters_of shown_in) (sym later.1) ∙ looked)) in
     subst (λ ls. map (λ l. l.text) ls ≡ filter is_base (map (λ l. l.text) ls) ++ map text.Shown look) (sym told)
     (by_death (λ ls. map (λ l. l.text) ls ≡ filter is_base (map (λ l. l.text) ls) ++ map text.Shown look)
-    (lines_shown h round.called e) (lines_shown h v e) (list_any (destroys e) b.current) in_calls in_all) in
+    (lines_held h round.called e) (lines_held h v e) (list_any (destroys e) b.current) in_calls in_all) in
     subst (λ e. texts_to r e ≡ base_texts r e ++ map text.Shown (one_look (replica_of h s e) e rows)) number
     (of_created made.0 (ap (created_as s.book) number ∙ made.1) (subst (λ e. IsTrue (is_shown s.book e)) (sym number) seen))

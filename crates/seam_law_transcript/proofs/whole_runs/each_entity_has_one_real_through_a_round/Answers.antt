@@ -11,7 +11,7 @@ use Rattle.seam_law_transcript.specs.Prelude.{may_play, dying, EndCalls}
 use Rattle.seam_accept.specs.Batches.{batch_of, destroyed}
 use Rattle.seam_law_book.proofs.Adding.{all_turn}
 use Rattle.seam_law_book.proofs.Present.{live_is_present, undestroyed, undestroyed_apart}
-use Rattle.seam_law_transcript.specs.OneReal.{KeepsNoReal}
+use Rattle.seam_law_transcript.specs.OneReal.{KeepsReals}
 use Rattle.seam_law_transcript.proofs.whole_runs.each_entity_has_one_real_through_a_round.Goals as goal
 
 pub returns : goal.returns
@@ -52,7 +52,7 @@ returns c h s tree w g end =
           let u = at.settled in
           let reaped = c.reaps_obey_the_laws.ensures.records framed_ (then u) u (called u at.calls) (dying h s) (may u at.calls)
           at.events v at.reaps.leads at.reaps.quiet in
-          all_turn (λ e. holders v e ≡ 0) (KeepsNoReal (look_loaded v))
+          all_turn (λ e. holders v e ≡ 0) (KeepsReals (look_loaded v) 0)
           (λ e none es x run. (c.looks_obey_the_laws.ensures.laws framed_ (then u) v reaped es x run).no_other e none) (dying h s)
           (c.reaps_obey_the_laws.ensures.gone framed_ (then u) u (called u at.calls) (dying h s) (may u at.calls) at.events v
           at.reaps.leads at.reaps.quiet).reals;

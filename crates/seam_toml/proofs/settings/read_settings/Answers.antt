@@ -1,13 +1,13 @@
 use Rattle.std.proofs.Common.{◌≡◌, ℕ, Option, None, MatchOption, sym, ◌∙◌}
-use Rattle.toml.specs.Data.{Members}
+use Rattle.toml.specs.Data.{Members, get_member}
 use Rattle.seam_defs.specs.declared.settings.Settings.{Settings}
 use Rattle.seam_toml.specs.declared.settings.Setting.{Setting}
 use Rattle.seam_toml.specs.declared.settings.Setting.TheVariants as setting
-use Rattle.seam_toml.specs.Settings.{setting_in, Sets, HasBadSetting}
+use Rattle.seam_toml.specs.Settings.{key_of, number_or_standard, Sets, HasBadSetting}
 use Rattle.seam_toml.proofs.settings.read_settings.Goals as goal
 
 none_is_set : (result : Option Settings) (ms : Members) (one : Setting) (n : Option ℕ) →
-    result ≡ None → n ≡ setting_in ms one → n ≡ None → MatchOption result (HasBadSetting ms) (Sets ms)
+    result ≡ None → n ≡ number_or_standard one (get_member (key_of one) ms) → n ≡ None → MatchOption result (HasBadSetting ms) (Sets ms)
 none_is_set result ms one n none is bad = rw none (one, sym is ∙ bad)
 
 pub returns-in_err-number_in-clause-sets : goal.returns-in_err-number_in-clause-sets
