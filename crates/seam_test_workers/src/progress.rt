@@ -5,7 +5,7 @@
 // are fewer than the turns of one worker, each worker ended with a visit of all nodes at which it found nothing; the last of them to make a
 // step did so too, and after it there was nothing left. Then the steps of a node that did not happen before workers were called are no more
 // than the tries at it.
-use crate::runs::{GOOD, Run, play};
+use crate::runs::{Run, play};
 use seam_watch::{Journal, JournalLog};
 use seam_workers::Gate;
 use seam_world::Status;
@@ -36,6 +36,21 @@ const HEADER: &str =
 const SIXTEEN: &str =
     "cut 0 x 9000\ncut 0 x 8500\ncut 0 x 8000\ncut 0 x 7500\ncut 0 x 7000\ncut 0 x 6500\ncut 0 x 6000\n\
     cut 0 x 5500\ncut 0 x 5000\ncut 0 x 4500\ncut 0 x 4000\ncut 0 x 3500\ncut 0 x 3000\ncut 0 x 2500\ncut 0 x 2000\n";
+
+// An avatar in each of sixteen cells.
+const AVATARS: &str =
+    "create 1 Avatar 1750 5000\ncreate 2 Avatar 2250 5000\ncreate 3 Avatar 2750 5000\ncreate 4 Avatar 3250 5000\n\
+    create 5 Avatar 3750 5000\ncreate 6 Avatar 4250 5000\ncreate 7 Avatar 4750 5000\ncreate 8 Avatar 5250 5000\n\
+    create 9 Avatar 5750 5000\ncreate 10 Avatar 6250 5000\ncreate 11 Avatar 6750 5000\ncreate 12 Avatar 7250 5000\n\
+    create 13 Avatar 7750 5000\ncreate 14 Avatar 8250 5000\ncreate 15 Avatar 8750 5000\ncreate 16 Avatar 9250 5000\n";
+
+// A call of each base node to each of them.
+const CALLS_OF_ALL: &str =
+    "call b1 1 hit 1\ncall b2 1 heal 1\ncall b1 2 hit 1\ncall b2 2 heal 1\ncall b1 3 hit 1\ncall b2 3 heal 1\ncall b1 4 hit 1\n\
+    call b2 4 heal 1\ncall b1 5 hit 1\ncall b2 5 heal 1\ncall b1 6 hit 1\ncall b2 6 heal 1\ncall b1 7 hit 1\ncall b2 7 heal 1\n\
+    call b1 8 hit 1\ncall b2 8 heal 1\ncall b1 9 hit 1\ncall b2 9 heal 1\ncall b1 10 hit 1\ncall b2 10 heal 1\ncall b1 11 hit 1\n\
+    call b2 11 heal 1\ncall b1 12 hit 1\ncall b2 12 heal 1\ncall b1 13 hit 1\ncall b2 13 heal 1\ncall b1 14 hit 1\n\
+    call b2 14 heal 1\ncall b1 15 hit 1\ncall b2 15 heal 1\ncall b1 16 hit 1\ncall b2 16 heal 1\n";
 
 // How often workers tried each node.
 #[derive(Drop)]
@@ -76,19 +91,13 @@ impl Gate for Tries {
     }
 }
 
-// An avatar in each of sixteen cells, and a round in which both base nodes call all of them in turn.
+// A round in which both base nodes call all avatars in turn.
 fn script(alloc: Global) -> Result<String, AllocError> {
     let mut script = String::from_str(alloc, HEADER)?;
     script.push_str(SIXTEEN)?;
-    let mut calls = String::new(alloc);
-    for avatar in 1..=u32::from(CELLS) {
-        let x = 1_250 + 500 * avatar;
-        script.push_str(&format!(in alloc; "create {avatar} Avatar {x} 5000\n")?)?;
-        let both = format!(in alloc; "call b1 {avatar} hit 1\ncall b2 {avatar} heal 1\n")?;
-        calls.push_str(&both)?;
-    }
+    script.push_str(AVATARS)?;
     for _ in 0..CALLS {
-        script.push_str(&calls)?;
+        script.push_str(CALLS_OF_ALL)?;
     }
     Ok(script)
 }
@@ -115,7 +124,8 @@ struct Row {
     theirs: bool,
 }
 
-static BY_WORKERS: [Row; 2] = [
+// In the first two workers leave nothing, and in the others what they leave is for the caller.
+static ROWS: [Row; 4] = [
     Row {
         words: &["--workers=2", "--turns=1000000"],
         tries: 999_999,
@@ -126,9 +136,6 @@ static BY_WORKERS: [Row; 2] = [
         tries: 999_999,
         theirs: true,
     },
-];
-
-static BY_THE_CALLER: [Row; 2] = [
     Row {
         words: &["--workers=2", "--turns=1"],
         tries: 2,
@@ -173,38 +180,32 @@ fn tried<R: Threads + Wait + Sync + RandomSource>(
     let run = Run {
         words: row.words,
         script,
-        streams: GOOD,
     };
-    let (status, _) = play(rt, alloc, &run, &tries, &mut log)?;
+    let status = play(rt, alloc, &run, &tries, &mut log)?;
     Ok((status, is_as_said(&log, &tries, row)))
 }
 
 // How many rows are kept to before the first one that is not.
-fn wrong_in<R: Threads + Wait + Sync + RandomSource>(
+fn kept_rows<R: Threads + Wait + Sync + RandomSource>(
     rt: &R,
     alloc: Global,
-    rows: &[Row],
-) -> Result<Option<usize>, AllocError> {
+) -> Result<usize, AllocError> {
     let script = script(alloc)?;
     let mut kept = 0usize;
-    for row in rows {
+    for row in &ROWS {
         let (status, well) = tried(rt, alloc, &script, row)?;
         if status != Status::Done || !well {
-            return Ok(Some(kept));
+            return Ok(kept);
         }
         kept = kept.saturating_add(1);
     }
-    Ok(None)
+    Ok(kept)
 }
 
 #[test]
-fn workers_step_all_nodes_until_nothing_is_left(rt: HostRuntime) -> Result<(), Fail> {
-    assert_eq!(rt; wrong_in(&rt, rt.alloc(), &BY_WORKERS)?, None);
-    Ok(())
-}
-
-#[test]
-fn what_workers_leave_is_for_the_caller(rt: HostRuntime) -> Result<(), Fail> {
-    assert_eq!(rt; wrong_in(&rt, rt.alloc(), &BY_THE_CALLER)?, None);
+fn workers_step_all_nodes_and_what_they_leave_is_for_the_caller(
+    rt: HostRuntime,
+) -> Result<(), Fail> {
+    assert_eq!(rt; kept_rows(&rt, rt.alloc())?, ROWS.len());
     Ok(())
 }
