@@ -1,6 +1,6 @@
 use Rattle.std.proofs.Common.{inl, inr, refl}
 use Rattle.seam_world_ends.proofs.PrintLemmas.{all_pending, pending_written, failed_in_pending}
-use Rattle.seam_world_run.proofs.storm.write_text.Goals as goal
+use Rattle.seam_world_ends.proofs.printing.write_text.Goals as goal
 
 pub returns-in-Ok : goal.returns-in-Ok
 returns-in-Ok g c =

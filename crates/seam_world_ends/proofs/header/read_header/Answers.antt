@@ -1,9 +1,9 @@
 use Rattle.std.proofs.Common.{◌+◌, [], ◌∷◌, ◌++◌, Option, Ok, sym, ap, ◌∙◌}
 use Rattle.std.proofs.Common.{subst, arith}
 use Rattle.seam_toml.specs.declared.header.Header.{Header}
-use Rattle.seam_world_run.specs.Histories.{HasHeader, HeaderLineRead}
-use Rattle.seam_world_run.proofs.HeaderRuns.{header_unread, counted_line}
-use Rattle.seam_world_run.proofs.run.read_header.Goals as goal
+use Rattle.seam_world_ends.specs.Headers.{HasHeader, HeaderLineRead}
+use Rattle.seam_world_ends.proofs.HeaderRuns.{header_unread, counted_line}
+use Rattle.seam_world_ends.proofs.header.read_header.Goals as goal
 
 pub returns-in-Err-clause-header : goal.returns-in-Err-clause-header
 returns-in-Err-clause-header g c = λ began reading limit.

@@ -1,8 +1,8 @@
 use Rattle.std.proofs.Common.{◌≡◌, ◌≤◌, List, [], length}
 use Rattle.seam_rule_rounds.specs.Prelude.{SourceState, Line, Reading, budget}
 use Rattle.seam_world_ends.specs.Ends.{most_bytes}
-use Rattle.seam_world_run.specs.Histories.{InHeader}
-use Rattle.seam_world_run.proofs.run.read_header.Given as goal
+use Rattle.seam_world_ends.specs.Headers.{InHeader}
+use Rattle.seam_world_ends.proofs.header.read_header.Given as goal
 
 abbrev pub invariant-loop-count : goal.invariant-loop-count
 invariant-loop-count g l = record {

@@ -1,9 +1,9 @@
 use Rattle.std.proofs.Common.{◌+◌, ◌++◌, ◌∷◌, [], ℕ, List, length, ◌∙◌, subst, refl}
 use Rattle.std.specs.Prelude.{MatchOption}
 use Rattle.seam_rule_rounds.specs.Prelude.{Content, AreHeaderLines, BeginWithHeader, RefusesHeader}
-use Rattle.seam_world_run.proofs.HeaderRuns.{header_line_read, header_line_refused, long_header, header_without_end, header_read_fault}
-use Rattle.seam_world_run.proofs.HeaderRuns.{header_limit}
-use Rattle.seam_world_run.proofs.run.read_header_line.Goals as goal
+use Rattle.seam_world_ends.proofs.HeaderRuns.{header_line_read, header_line_refused, long_header, header_without_end, header_read_fault}
+use Rattle.seam_world_ends.proofs.HeaderRuns.{header_limit}
+use Rattle.seam_world_ends.proofs.header.read_header_line.Goals as goal
 
 pub returns-in-Ok-clause-header : goal.returns-in-Ok-clause-header
 returns-in-Ok-clause-header g c = λ began read was.
