@@ -3,15 +3,18 @@ ghost use Rattle.std.specs.Prelude.{◌≡◌, ◌<◌, ◌≤◌, ◌+◌, [], 
 ghost use Rattle.std.specs.Prelude.{IfNone, IfOk, OnOk, OnErr};
 ghost use Rattle.seam_rule_rounds.specs.Prelude.{SourceState, SinkState, Line, Content, Long, Reading, budget, Header as Headers, Standing};
 ghost use Rattle.seam_rule_rounds.specs.Prelude.{Told, after_all};
+ghost use Rattle.seam_law_transcript.specs.Prelude.{most_lines};
 ghost use Rattle.seam_world_rounds.specs.Following.{LineRead, InputEnded};
 ghost use Rattle.seam_world_rounds.specs.Script.{ScriptRefines, Refines, Gives};
 ghost use Rattle.seam_world_rounds.specs.declared.round.Output.{Output as OutputOf};
 ghost use Rattle.seam_world_ends.specs.Ends.{most_bytes, the_space};
+ghost use Rattle.seam_world_ends.specs.Headers.{HasHeader};
 ghost use Rattle.seam_world_run.specs.Histories.{Going, Stopped, StoppedFirst};
 ghost use Rattle.seam_world_ends.specs.Printing.{Printed, Prints};
 ghost use Rattle.std.specs.Option.{option_to_list};
 
 use seam_io::{Failed, Lines, Next, Sink, Source};
+use seam_rule_lines::Header;
 use seam_rule_rounds::Totals;
 use seam_table::HashKey;
 use seam_watch::{Journal, Watch};
@@ -68,7 +71,7 @@ fn begin<S: Source>(alloc: Global, key: HashKey, input: &mut S) -> Result<Runner
         Ok(lines) => lines,
         Err(_) => return Err(Status::NoMemory),
     };
-    let (header, count) = read_header(alloc, key, &mut lines, input)?;
+    let (header, count) = header_of(alloc, key, &mut lines, input)?;
     let script = match Script::new(alloc, header, count) {
         Ok(script) => script,
         Err(_) => return Err(Status::NoMemory),
@@ -80,6 +83,25 @@ fn begin<S: Source>(alloc: Global, key: HashKey, input: &mut S) -> Result<Runner
         text: Vec::new(alloc),
         pending,
     })
+}
+
+// Reads the header. A status that ends the run there ends it whatever it gives of its rounds.
+fn header_of<S: Source>(
+    alloc: Global,
+    key: HashKey,
+    lines: &mut Lines,
+    input: &mut S,
+) -> Result<(Header, u64), Status>
+    ensures header { (began : SourceState) → Reading began (S.state input.old) lines.old [] [] →
+        lines.old.limit ≡ most_bytes → MatchResult result (λ h. HasHeader began (S.state input.new)
+        lines.new h.0 h.1) (λ s. StoppedFirst s began (S.state input.new)) }
+    ensures few { IfOk result (λ h. h.1 ≤ most_lines) }
+    ensures later { (S.state input.old).faults ≤ (S.state input.new).faults }
+{
+    match read_header(alloc, key, lines, input) {
+        Ok(header) => Ok(header),
+        Err(status) => Err(status),
+    }
 }
 
 // A run after its header.
