@@ -1,6 +1,6 @@
 // The header of a run, line by line.
-ghost use Rattle.std.specs.Prelude.{◌≡◌, ◌<◌, ◌≤◌, [], List, Option, MatchResult, IfNone, IfOk};
-ghost use Rattle.seam_rule_rounds.specs.Prelude.{SourceState, Line, Reading, budget, Header as Headers};
+ghost use Rattle.std.specs.Prelude.{◌≡◌, ◌<◌, ◌≤◌, [], List, MatchResult, IfNone, IfOk};
+ghost use Rattle.seam_rule_rounds.specs.Prelude.{SourceState, Line, Reading, budget};
 ghost use Rattle.seam_law_transcript.specs.Prelude.{most_lines};
 ghost use Rattle.seam_world_ends.specs.Status.{refusal_of};
 ghost use Rattle.seam_world_ends.specs.Ends.{most_bytes};

@@ -1,5 +1,5 @@
 -- A run that ended in its header, or before it.
-use Rattle.std.proofs.Common.{◌≡◌, ◌≤◌, inl, inr, ℕ, List, [], length, refl, arith}
+use Rattle.std.proofs.Common.{◌≡◌, ◌≤◌, inl, ℕ, List, [], length, arith}
 use Rattle.std.proofs.KnownBytes.{Appends-nil}
 use Rattle.std.specs.Io.KnownBytes.{Consumes}
 use Rattle.seam_rule_rounds.specs.Prelude.{SourceState, Reader, Header}
