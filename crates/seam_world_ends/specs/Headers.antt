@@ -1,7 +1,8 @@
 -- How a run reads its header, and how it may end there.
 use Rattle.std.specs.Prelude.{◌≡◌, ℕ, ◌+◌, ◌≤◌, List, [], ◌∷◌, ◌++◌, length, Option, None, Some, Result, Ok, Err}
 use Rattle.std.specs.Io.KnownBytes.{Consumes}
-use Rattle.seam_rule_rounds.specs.Prelude.{SourceState, Line, Reader, Reading, Header, AreHeaderLines, BeginWithHeader, AwaitHeader, Journal}
+use Rattle.seam_rule_rounds.specs.Prelude.{SourceState, Line, Reader, Reading, Header, AreHeaderLines, BeginWithHeader, AwaitHeader}
+use Rattle.seam_rule_rounds.specs.Prelude.{Journal}
 use Rattle.seam_world_ends.specs.Status.{IsHeaderEnd}
 use Rattle.seam_world_ends.specs.Ends.{Tells, most_bytes}
 use Rattle.seam_world_ends.specs.declared.status.Status.{Status}
