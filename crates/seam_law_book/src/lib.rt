@@ -7,7 +7,8 @@
 //! goes with a world, that what its lines bring may be given to that world, and that both go together again after the round. Each law is a
 //! clause of a function that does nothing.
 //!
-//! Of `specs/`, `Books` and `Bringing` are for `batches`; `Going`, `LookUps`, `Playing`, `ExecutedRound` and `Standings` for `book_and_world`.
+//! Of `specs/`, `Books` and `Bringing` are for `batches`; `Going`, `LookUps`, `Playing`, `ExecutedRound` and `Standings` for
+//! `book_and_world`.
 //! `specs/Prelude` re-exports what crates above cite of this one and of those below it, so that one import names it.
 //!
 //! The heads of the two modules say which modules of `proofs/` are for callers.

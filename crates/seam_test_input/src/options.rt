@@ -1,4 +1,4 @@
-use seam_args::{ArgsError, Options, read_words, refusal_text, usage_text};
+use seam_args::{ArgsError, Options, read_words, refusal_text};
 use std::alloc::Global;
 use std::env::Args;
 use std::io;
@@ -118,22 +118,4 @@ fn a_refusal_names_the_word(rt: HostRuntime) -> Result<(), Fail> {
         assert!(rt; text.contains(*part));
     }
     Ok(())
-}
-
-#[test]
-fn usage_tells_input_options_statuses_and_formats(rt: HostRuntime) {
-    let parts = [
-        "from standard input: a header that a line %% ends, and then one command a line.",
-        "\n  --workers N   how many workers run the cells and base nodes, 1 to 16 (4 if not given)\n",
-        "\n  --turns N     how many turns each worker has in a phase of a round, 1 to 1000000 (1000 if not given)\n",
-        "\n  --trace       adds the journal of events to each round (no journal if not given)\n",
-        "\n  --storm N     runs a generated input of N lines in place of standard input, 1 to 1000000 (none if not given)\n",
-        "\n  -h, --help    writes this text to standard output, and does nothing else\n",
-        "\n  --version     writes the name, the version and the kit, and does nothing else\n",
-        "\nstatus: 0 done, 1 usage, 2 bad header, 3 read fault, 4 write fault, 5 limit, 6 no memory\n",
-        "\nformats: docs/FORMATS.md\n",
-    ];
-    for part in parts.iter() {
-        assert!(rt; usage_text().contains(*part));
-    }
 }

@@ -1,3 +1,4 @@
 pub mod Prefixes
 pub mod PrintLemmas
 pub mod Completing
+pub mod HeaderRuns

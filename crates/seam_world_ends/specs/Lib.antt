@@ -1,3 +1,4 @@
 pub mod Status
 pub mod Ends
 pub mod Printing
+pub mod Headers

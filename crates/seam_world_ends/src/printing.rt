@@ -7,7 +7,7 @@ ghost use Rattle.seam_world_ends.specs.Printing.{Printed, FailedWithin, StopsBy,
 
 use crate::Status;
 use crate::pending::Pending;
-use seam_io::{Failed, Lines, Sink};
+use seam_io::{Failed, Lines, Sink, write_whole};
 
 /// Writes what is pending where the next line may have to be waited for: the answers to a person's lines are seen first.
 pub fn write_before_wait<K: Sink>(
@@ -60,5 +60,15 @@ pub fn stop<K: Sink>(status: Status, pending: &mut Pending, out: &mut K) -> Stat
     match pending.write(out) {
         Ok(()) => status,
         Err(Failed) => Status::WriteFault,
+    }
+}
+
+/// Writes a text, as much of it as the sink accepts.
+pub fn write_text<K: Sink>(text: &[u8], out: &mut K) -> Status
+    ensures { StopsBy Status.Done (K.state out.old) (K.state out.new) text.now result }
+{
+    match write_whole(out, text) {
+        Ok(()) => Status::Done,
+        Err(_) => Status::WriteFault,
     }
 }

@@ -1,4 +1,4 @@
-ghost use Rattle.std.specs.Prelude.{◌≡◌, ◌≢◌, ◌↔◌, []};
+ghost use Rattle.std.specs.Prelude.{◌≡◌, ◌≢◌, ◌↔◌, [], MatchBool};
 ghost use Rattle.seam_world_ends.specs.Status.{code_of};
 
 /// How a run ended.
@@ -79,5 +79,15 @@ fn header_message(cause: u8) -> &'static str
         9 =>
             "the header has more than 65,536 bytes, or a line of more than 4,096; see docs/FORMATS.md",
         _ => "the input has no line \"%%\" that ends its header; see docs/FORMATS.md",
+    }
+}
+
+/// Whether the run ended well.
+pub fn is_done(status: Status) -> bool
+    ensures { MatchBool result (status ≡ Status.Done) (status ≢ Status.Done) }
+{
+    match status {
+        Status::Done => true,
+        _ => false,
     }
 }

@@ -6,10 +6,8 @@
 //! (facts of results) are for callers.
 #![tactic(auto)]
 
-mod count;
 mod round;
 mod script;
 
-pub use count::next_count;
 pub use round::{Output, Playing};
 pub use script::Script;

@@ -10,7 +10,6 @@ ghost use Rattle.seam_world_rounds.specs.Following.{RoundEnds, LineFollowed, Lin
 ghost use Rattle.seam_world_rounds.specs.Script.{IsReady, ScriptRefines, Refines, Gives, HasAccepted};
 ghost use Rattle.seam_world_rounds.specs.Output.{AddsSums, refusal_output};
 
-use crate::count::next_count;
 use crate::round::{Output, Playing, play};
 use seam_accept::{Accepted, Book, Refusal};
 use seam_core::World;
@@ -21,7 +20,8 @@ use seam_rule_rounds::{Sums, Totals};
 use seam_tree::Tree;
 use seam_watch::Journal;
 use seam_workers::Gate;
-use seam_world_text::Residents;
+use seam_world_ends::next_count;
+use seam_world_residents::Residents;
 use std::alloc::{AllocError, Global};
 use std::sync::Wait;
 use std::thread::Threads;

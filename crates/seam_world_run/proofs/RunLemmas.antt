@@ -25,7 +25,8 @@ use Rattle.seam_world_rounds.specs.Script.{ScriptRefines, Refines, PlaysOn}
 use Rattle.seam_world_ends.specs.Status.{IsRunEnd}
 use Rattle.seam_watch.proofs.Told.{told_nothing, told_more}
 use Rattle.seam_world_ends.specs.Ends.{AreAll, IsSoFar, Tells, most_bytes, the_space}
-use Rattle.seam_world_run.specs.Histories.{HasHeader, Going, OpenAs, EndedAs, Stopped}
+use Rattle.seam_world_ends.specs.Headers.{HasHeader}
+use Rattle.seam_world_run.specs.Histories.{Going, OpenAs, EndedAs, Stopped}
 use Rattle.seam_world_ends.specs.Printing.{Printed, FailedWithin, StopsBy, Prints}
 use Rattle.seam_world_rounds.specs.declared.script.Script.{Script}
 use Rattle.seam_world_ends.specs.declared.status.Status.{Status}

@@ -1,8 +1,8 @@
 -- What has happened since a run began: the functions of this crate speak of it.
-use Rattle.std.specs.Prelude.{◌≡◌, ℕ, ◌+◌, ◌≤◌, List, [], ◌∷◌, ◌++◌, length, ◌⊎◌, Option, None, Some, Result, Ok, Err}
+use Rattle.std.specs.Prelude.{◌≡◌, ℕ, ◌+◌, ◌≤◌, List, [], length, ◌⊎◌}
 use Rattle.std.specs.Io.KnownBytes.{Consumes, Appends}
 use Rattle.seam_node_steps.specs.Prelude.{opened}
-use Rattle.seam_rule_rounds.specs.Prelude.{Rose, SourceState, SinkState, Line, Reader, Reading, Header, AreHeaderLines, BeginWithHeader}
+use Rattle.seam_rule_rounds.specs.Prelude.{Rose, SourceState, SinkState, Line, Reader, Reading, Header, BeginWithHeader}
 use Rattle.seam_rule_rounds.specs.Prelude.{AwaitHeader, Run, Standing, after_header, Piece, journals_of, Step, PrintLines, PrintAll, Told}
 use Rattle.seam_rule_rounds.specs.Prelude.{after_all, Journal, totals_of}
 use Rattle.seam_rule_rounds.specs.declared.totals.Totals.{Totals}
@@ -16,22 +16,6 @@ use Rattle.seam_world_ends.specs.Printing.{Printed}
 use Rattle.seam_world_rounds.specs.declared.script.Script.{Script}
 use Rattle.seam_world_ends.specs.declared.status.Status.{Status}
 use Rattle.seam_world_ends.specs.declared.status.Status.TheVariants as status
-
--- The header goes on: since the source was at `began`, the reader gave these lines, which come before a header's end and make this
--- text, and no other.
-pub record InHeader (began now : SourceState) (reader : Reader) (text : List ℕ) (read : List Line) : Type 0 where
-  pub given : List ℕ
-  pub are : AreHeaderLines read text
-  pub reading : Reading began now reader given read
-  pub limit : reader.limit ≡ most_bytes
-
--- A header of so many lines was accepted: since the source was at `began`, the reader gave its lines and no other.
-pub record HasHeader (began now : SourceState) (reader : Reader) (h : Header) (count : ℕ) : Type 0 where
-  pub given : List ℕ
-  pub read : List Line
-  pub begins : BeginWithHeader read h count []
-  pub reading : Reading began now reader given read
-  pub limit : reader.limit ≡ most_bytes
 
 -- The run goes on: since the source was at `began`, the sink at `sink` and the watch at `told`, the reader gave a header and the lines
 -- `rest`, whose text was printed and is written but for its end `pending`, the watch was told the steps of their rounds, and the script
@@ -87,9 +71,3 @@ pub record Stopped (output : Output) (totals : Totals) (ended : Status) (began n
 abbrev pub StoppedFirst : Status → SourceState → SourceState → Type 0
 StoppedFirst s began now =
     (output : Output) (totals : Totals) (sink : SinkState) (told : Told) → Stopped output totals s began now sink sink told told
-
--- What came of the next line of a header, after these: it goes on, or the line ended it, or the run stopped.
-abbrev pub HeaderLineRead : SourceState → SourceState → Reader → List ℕ → List Line → Result (Option Header) Status → Type 0
-HeaderLineRead began now reader text read (Ok None) = (line : Line) × InHeader began now reader text (read ++ line ∷ [])
-HeaderLineRead began now reader text read (Ok (Some h)) = HasHeader began now reader h (length read + 1)
-HeaderLineRead began now reader text read (Err s) = StoppedFirst s began now

@@ -9,4 +9,4 @@ mod run;
 mod storm;
 
 pub use run::run_body;
-pub use storm::{run_storm, write_text};
+pub use storm::run_storm;

@@ -4,25 +4,25 @@ ghost use Rattle.std.specs.Prelude.{IfNone, IfOk, OnOk, OnErr};
 ghost use Rattle.seam_rule_rounds.specs.Prelude.{SourceState, SinkState, Line, Content, Long, Reading, budget, Header as Headers, Standing};
 ghost use Rattle.seam_rule_rounds.specs.Prelude.{Told, after_all};
 ghost use Rattle.seam_law_transcript.specs.Prelude.{most_lines};
-ghost use Rattle.seam_world_ends.specs.Status.{refusal_of};
 ghost use Rattle.seam_world_rounds.specs.Following.{LineRead, InputEnded};
 ghost use Rattle.seam_world_rounds.specs.Script.{ScriptRefines, Refines, Gives};
 ghost use Rattle.seam_world_rounds.specs.declared.round.Output.{Output as OutputOf};
 ghost use Rattle.seam_world_ends.specs.Ends.{most_bytes, the_space};
-ghost use Rattle.seam_world_run.specs.Histories.{HasHeader, InHeader, HeaderLineRead, Going, Stopped, StoppedFirst};
+ghost use Rattle.seam_world_ends.specs.Headers.{HasHeader};
+ghost use Rattle.seam_world_run.specs.Histories.{Going, Stopped, StoppedFirst};
 ghost use Rattle.seam_world_ends.specs.Printing.{Printed, Prints};
 ghost use Rattle.std.specs.Option.{option_to_list};
 
-use seam_accept::HeaderLines;
 use seam_io::{Failed, Lines, Next, Sink, Source};
 use seam_rule_lines::Header;
 use seam_rule_rounds::Totals;
 use seam_table::HashKey;
-use seam_toml::HeaderError;
 use seam_watch::{Journal, Watch};
 use seam_workers::Gate;
-use seam_world_ends::{Pending, Status, print, print_and_write, stop, write_before_wait};
-use seam_world_rounds::{Output, Playing, Script, next_count};
+use seam_world_ends::{
+    Pending, Status, print, print_and_write, read_header, stop, write_before_wait,
+};
+use seam_world_rounds::{Output, Playing, Script};
 use std::alloc::{AllocError, Global};
 use std::sync::Wait;
 use std::thread::Threads;
@@ -32,11 +32,6 @@ const LIMIT: u64 = 1 << 40;
 
 // The number of the one space.
 const SPACE: u8 = 0;
-
-// The causes of a refused header that no text tells: it is too long, or its end is missing.
-const TOO_LONG: u8 = 9;
-
-const NO_END: u8 = 10;
 
 /// The whole run but for the fault line, and what is summed up of it.
 pub fn run_body<S: Source, K: Sink, G: Gate + Sync, W: Watch, R: Threads + Wait + Sync>(
@@ -76,7 +71,7 @@ fn begin<S: Source>(alloc: Global, key: HashKey, input: &mut S) -> Result<Runner
         Ok(lines) => lines,
         Err(_) => return Err(Status::NoMemory),
     };
-    let (header, count) = read_header(alloc, key, &mut lines, input)?;
+    let (header, count) = header_of(alloc, key, &mut lines, input)?;
     let script = match Script::new(alloc, header, count) {
         Ok(script) => script,
         Err(_) => return Err(Status::NoMemory),
@@ -90,17 +85,8 @@ fn begin<S: Source>(alloc: Global, key: HashKey, input: &mut S) -> Result<Runner
     })
 }
 
-// The header, with this key of the hash by which entities are found.
-fn keyed(header: Header, key: HashKey) -> Header
-    ensures { result ≡ header }
-{
-    let mut keyed = header;
-    keyed.defs.set_hash_key(key);
-    keyed
-}
-
-// Reads the header line by line. Answers what it sets, with the key, and of how many lines it is; or the status where the run ends there.
-fn read_header<S: Source>(
+// Reads the header. A status that ends the run there ends it whatever it gives of its rounds.
+fn header_of<S: Source>(
     alloc: Global,
     key: HashKey,
     lines: &mut Lines,
@@ -112,52 +98,9 @@ fn read_header<S: Source>(
     ensures few { IfOk result (λ h. h.1 ≤ most_lines) }
     ensures later { (S.state input.old).faults ≤ (S.state input.new).faults }
 {
-    let mut header = HeaderLines::new(alloc);
-    let mut count = 0;
-    loop {
-        count = match next_count(count) {
-            Ok(count) => count,
-            Err(_) => return Err(Status::NoMemory),
-        };
-        match read_header_line(&mut header, lines, input) {
-            Ok(None) => {}
-            Ok(Some(read)) => return Ok((keyed(read, key), count)),
-            Err(status) => return Err(status),
-        }
-    }
-}
-
-// Reads the next line of the header: what it sets, where the line ends it.
-fn read_header_line<S: Source>(
-    header: &mut HeaderLines,
-    lines: &mut Lines,
-    input: &mut S,
-) -> Result<Option<Header>, Status>
-    ensures header { (began : SourceState) (read : List Line) →
-        InHeader began (S.state input.old) lines.old header.old read →
-        HeaderLineRead began (S.state input.new) lines.new header.new read result }
-    ensures later { (S.state input.old).faults ≤ (S.state input.new).faults }
-    ensures falls { IfOk result (λ h. IfNone h (budget lines.new < budget lines.old)) }
-{
-    match lines.next(input) {
-        Next::Line => match header.read_line(lines.line()) {
-            Ok(read) => Ok(read),
-            Err(error) => Err(refusal(error)),
-        },
-        Next::Long => Err(Status::BadHeader(TOO_LONG)),
-        Next::End => Err(Status::BadHeader(NO_END)),
-        Next::ReadFault => Err(Status::ReadFault),
-        Next::Limit => Err(Status::Limit),
-    }
-}
-
-// The status of a run whose header is refused.
-fn refusal(error: HeaderError) -> Status
-    ensures { result ≡ refusal_of error }
-{
-    match error.number() {
-        Some(number) => Status::BadHeader(number),
-        None => Status::NoMemory,
+    match read_header(alloc, key, lines, input) {
+        Ok(header) => Ok(header),
+        Err(status) => Err(status),
     }
 }
 

@@ -1,5 +1,5 @@
 // A generated input, of which nothing but the summary is written.
-ghost use Rattle.std.specs.Prelude.{◌≡◌, ◌≢◌, ◌⊎◌, MatchBool};
+ghost use Rattle.std.specs.Prelude.{◌≡◌, ◌⊎◌};
 ghost use Rattle.seam_args.specs.Words.{IsUpTo};
 ghost use Rattle.seam_args.specs.declared.TheConstants.{LONGEST_STORM};
 ghost use Rattle.seam_rule_rounds.specs.Summary.{totals_text};
@@ -7,14 +7,14 @@ ghost use Rattle.seam_world_run.specs.Storm.{StormStopped};
 ghost use Rattle.seam_world_ends.specs.Printing.{StopsBy};
 
 use crate::run::run_body;
-use seam_io::{Sink, write_whole};
+use seam_io::Sink;
 use seam_quiet::Workers;
 use seam_rule_rounds::Totals;
 use seam_storm::StormSource;
 use seam_table::HashKey;
 use seam_watch::Watch;
 use seam_workers::Gate;
-use seam_world_ends::Status;
+use seam_world_ends::{Status, is_done, write_text};
 use seam_world_rounds::{Output, Playing};
 use std::alloc::Global;
 use std::sync::Wait;
@@ -50,15 +50,6 @@ pub fn run_storm<K: Sink, G: Gate + Sync, W: Watch, R: Threads + Wait + Sync>(
     write_summary(alloc, lines, &totals, out)
 }
 
-fn is_done(status: Status) -> bool
-    ensures { MatchBool result (status ≡ Status.Done) (status ≢ Status.Done) }
-{
-    match status {
-        Status::Done => true,
-        _ => false,
-    }
-}
-
 // Writes the summary of so many lines.
 fn write_summary<K: Sink>(alloc: Global, lines: u32, totals: &Totals, out: &mut K) -> Status
     ensures { ((result ≡ Status.NoMemory) × (K.state out.new ≡ K.state out.old)) ⊎
@@ -69,15 +60,5 @@ fn write_summary<K: Sink>(alloc: Global, lines: u32, totals: &Totals, out: &mut 
     match totals.write(lines, &mut text) {
         Ok(()) => write_text(&text, out),
         Err(_) => Status::NoMemory,
-    }
-}
-
-/// Writes a text, as much of it as the sink accepts.
-pub fn write_text<K: Sink>(text: &[u8], out: &mut K) -> Status
-    ensures { StopsBy Status.Done (K.state out.old) (K.state out.new) text.now result }
-{
-    match write_whole(out, text) {
-        Ok(()) => Status::Done,
-        Err(_) => Status::WriteFault,
     }
 }

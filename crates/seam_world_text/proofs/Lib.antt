@@ -1,7 +1,3 @@
-mod Numbers
-mod Listing
-mod Keeping
-mod Entries
 mod Gathering
 mod Routes
 mod Told

@@ -1,4 +1,3 @@
-pub mod Residents
 pub mod Finding
 pub mod RoundParts
 pub mod Told

@@ -1,0 +1,4 @@
+mod Numbers
+pub mod Listing
+pub mod Keeping
+pub mod Entries
