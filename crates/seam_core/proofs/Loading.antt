@@ -20,7 +20,7 @@ use Rattle.seam_law_rounds.proofs.Framing.{node_begun, node_goes, frame_turns}
 use Rattle.seam_law_rounds.proofs.Giving.{reaps_framed, look_framed}
 use Rattle.seam_core.specs.Nodes.{here_in}
 use Rattle.seam_core.specs.Loads.{MayLoad, IsNumbered, HasBases, HasSize}
-use Rattle.seam_core.specs.Begun.{begun, HasSpace, MayBegin}
+use Rattle.seam_core.specs.Begun.{begun, HasSpace, NodeMayBegin}
 use Rattle.seam_core.specs.Worlds.{IsWorld}
 
 -- ---- lists
@@ -211,7 +211,7 @@ module _ (w : World) (is : IsWorld w) where
         let goes = node_begun f b tree k n.0 (is.nodes.sound.states k n.0 n.1) (is.nodes.nodes k n.0 n.1) in
         subst (IsNumbered k) n.2 (ap (λ h. h.me) (here_is (framed f b) k (begun b n.0) goes.1))
 
-    pub may_begin : EachNode (MayBegin b) w.nodes
+    pub may_begin : EachNode (NodeMayBegin b) w.nodes
     may_begin k s at = record {
       numbered = are_numbered k s at;
       space = size_by b.tree.size k s (is.nodes.nodes k s at) (may k s at).space;

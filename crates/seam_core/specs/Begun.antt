@@ -14,7 +14,7 @@ HasSpace size (Cell c) = (c.tree.size ≡ size) × (c.here.settings.size ≡ siz
 HasSpace size (Base b) = Unit {0}
 
 -- what is asked of node k
-pub record MayBegin (b : Batch) (k : ℕ) (s : NodeView) : Type 0 where
+pub record NodeMayBegin (b : Batch) (k : ℕ) (s : NodeView) : Type 0 where
   pub numbered : IsNumbered k s
   pub space : HasSpace b.tree.size s
   pub can : CanBegin b s

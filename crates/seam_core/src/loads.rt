@@ -11,7 +11,7 @@ ghost use Rattle.seam_base.specs.Nodes.{has_client};
 ghost use Rattle.seam_base.specs.Marks.{passes};
 ghost use Rattle.seam_node_steps.specs.Loads.{with_order};
 ghost use Rattle.seam_core.specs.Loads.{IsNumbered, HasBases};
-ghost use Rattle.seam_core.specs.Begun.{begun, HasSpace, MayBegin};
+ghost use Rattle.seam_core.specs.Begun.{begun, HasSpace, NodeMayBegin};
 
 use crate::node::{Kind, Node};
 use seam_base::Base;
@@ -124,7 +124,7 @@ impl Node {
 
     // Begins a round with all that the batch brings but its orders.
     fn begin(&mut self, alloc: Global, me: u8, batch: &Batch) -> Result<(), AllocError>
-        requires { MayBegin batch.now me self.old }
+        requires { NodeMayBegin batch.now me self.old }
         ensures { OnOk result (self.new ≡ begun batch.now self.old) }
     {
         self.begin_base(batch.tree.cells());
@@ -158,7 +158,8 @@ fn give_in(base: &mut Base, order: Order) -> Result<(), AllocError>
 // Node k begins a round.
 fn begin_at(net: &mut Net<Node>, alloc: Global, k: u8, batch: &Batch) -> Result<(), AllocError>
     requires there { k < length net.old.nodes }
-    requires may { (s : NodeView) → slice_get net.old.nodes k ≡ Some s → MayBegin batch.now k s }
+    requires may { (s : NodeView) → slice_get net.old.nodes k ≡ Some s →
+        NodeMayBegin batch.now k s }
     ensures { (s : NodeView) → slice_get net.old.nodes k ≡ Some s →
         OnOk result (net.new ≡ with_node net.old k (begun batch.now s)) }
 {
@@ -170,7 +171,7 @@ fn begin_at(net: &mut Net<Node>, alloc: Global, k: u8, batch: &Batch) -> Result<
 
 /// Each node begins a round with all that the batch brings but its orders.
 pub(crate) fn begin_all(net: &mut Net<Node>, alloc: Global, batch: &Batch) -> Result<(), AllocError>
-    requires { EachNode (MayBegin batch.now) net.old.nodes }
+    requires { EachNode (NodeMayBegin batch.now) net.old.nodes }
     ensures { OnOk result (net.new ≡ with_nodes net.old (begun batch.now)) }
 {
     for k in 0..net.node_count() {

@@ -5,8 +5,8 @@ use Rattle.seam_node_steps.specs.Prelude.{slot_of, holders, loaded, World, Cell}
 use Rattle.seam_law_flow.specs.Prelude.{letters_of, TokenPlace}
 use Rattle.seam_law_calls.specs.Prelude.{Frame, entity_flow, IsOne, OneFrom, AllLead, from_sender, CellCallsInTurn, home_of, HasBaseCalls}
 use Rattle.seam_law_calls.specs.Prelude.{shown_at, FindsClient, NothingIsStray, real_at}
-use Rattle.seam_law_rounds.specs.Prelude.{calls_of, framed, next_from, base_calls_of, next_to, IsServed, IsKnownAt}
-use Rattle.seam_law_ghosts.specs.Prelude.{HasNoStrayTask, IsRightPlace, IsTrue, place_of, present, AreTold, AreSettled}
+use Rattle.seam_law_rounds.specs.Prelude.{calls_of, framed, next_from, base_calls_of, next_to, IsServed, NewestRouteIsRight}
+use Rattle.seam_law_ghosts.specs.Prelude.{HasNoStrayTask, IsRightPlace, IsTrue, place_of, present, NewestAreWanted, AreSettled}
 use Rattle.seam_law_clients.specs.Prelude.{true_between, clients_loaded}
 use Rattle.seam_call.specs.declared.shown.Update.{Update as UpdateData}
 use Rattle.seam_rule_clients.specs.Clients.{ClientReplica}
@@ -41,10 +41,10 @@ pub record GoesRightly (f : Frame) (clients : ℕ → ClientReplica) (w : World)
   -- each copy of it, in a book or on its way, is what others might see of a state that it had
   pub ghosts : IsTrue (framed f b) e r.ty r (λ n. present f r) v
   -- the newest that a cell has or is told is what the real wants
-  pub told : (p : TokenPlace) (q : RealView) → IsOne e v p q → AreTold (framed f b) e v p q
+  pub told : (p : TokenPlace) (q : RealView) → IsOne e v p q → NewestAreWanted (framed f b) e v p q
   -- the newest route of each base node leads to the real
   pub routes : (p : TokenPlace) (q : RealView) → IsOne e v p q → (k : ℕ) → cell_count ≤ k → k < cell_count + f.settings.bases →
-      IsKnownAt p q (entity_flow e v) k
+      NewestRouteIsRight p q (entity_flow e v) k
   -- nothing about it is stray at a base node
   pub bases : NothingIsStray (framed f b) e v
   -- its client is shown what its witness tells, in order, each update once

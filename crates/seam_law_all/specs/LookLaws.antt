@@ -4,7 +4,7 @@ use Rattle.seam_node_steps.specs.Prelude.{Shown, GhostCopy, RealView, WitnessVie
 use Rattle.seam_law_flow.specs.Prelude.{In}
 use Rattle.seam_law_calls.specs.Prelude.{Frame, entity_flow, home_of, shown_at, real_at, real_in, NothingIsStray}
 use Rattle.seam_law_rounds.specs.Prelude.{HasNoCalls, IsServed, HasNoCallsToBase}
-use Rattle.seam_law_ghosts.specs.Prelude.{AreTold, WasThere, copy_at}
+use Rattle.seam_law_ghosts.specs.Prelude.{NewestAreWanted, HadSameReal, copy_at}
 use Rattle.seam_law_clients.specs.Prelude.{rows_of}
 use Rattle.seam_rule_clients.specs.Clients.{ClientReplica, after_all_shown}
 use Rattle.seam_rule_clients.specs.Looks.{one_look}
@@ -20,7 +20,7 @@ pub record ObeysLawsOfLooks (f : Frame) (clients : ℕ → ClientReplica) (u v :
   pub one_real : (e : ℕ) → holders u e ≡ 1 → holders v e ≡ 1
   pub no_other : (e : ℕ) → holders u e ≡ 0 → holders v e ≡ 0
   -- reals execute nothing: each that is there was in the same cell, and is the same but for its witness
-  pub reals : (e k : ℕ) (q : RealView) → real_in ((entity_flow e v).slot k) ≡ Some q → WasThere e k q u
+  pub reals : (e k : ℕ) (q : RealView) → real_in ((entity_flow e v).slot k) ≡ Some q → HadSameReal e k q u
   -- no call waits, neither for its cell part nor for its base part
   pub no_calls : (e : ℕ) → holders u e ≡ 1 → HasNoCalls e v
   pub no_base_calls : (e : ℕ) → holders u e ≡ 1 → HasNoCallsToBase e v
@@ -28,7 +28,7 @@ pub record ObeysLawsOfLooks (f : Frame) (clients : ℕ → ClientReplica) (u v :
   pub copies : (e : ℕ) → holders u e ≡ 1 → (k : ℕ) (c : GhostCopy) → copy_at e v k ≡ Some c → copy_at e u k ≡ Some c
   -- each cell is told what the real wants
   pub told : (e home : ℕ) (r q : RealView) → real_at e u home ≡ Some r →
-      real_at e v home ≡ Some q → AreTold f e v (In home) q
+      real_at e v home ≡ Some q → NewestAreWanted f e v (In home) q
   -- each client is shown what its witness tells, in order, each update once
   pub served : (e k : ℕ) (r : RealView) → real_at e u k ≡ Some r → IsServed f e r.ty v
   -- and that is a first part of exactly one look at the flat table

@@ -6,7 +6,7 @@ use Rattle.seam_node_steps.specs.Prelude.{Division, Create, Batch, RealView, Par
 use Rattle.seam_rule_rounds.specs.Prelude.{Header, Book, entries, created_as, live_as, has_client, joins, ClientReplica}
 use Rattle.seam_law_calls.specs.Prelude.{entity_flow}
 use Rattle.seam_law_all.specs.Prelude.{KeepsRecords, MayBeGiven}
-use Rattle.seam_law_book.specs.Prelude.{as_begun, IsPresent, Brings, IsUntouched, frame_of, base_node, GoesWith, HasRoomForCalls}
+use Rattle.seam_law_book.specs.Prelude.{as_begun, IsPresent, HasFitRound, IsUntouched, frame_of, base_node, GoesWith, HasRoomForCalls}
 use Rattle.seam_accept.specs.Batches.{batch_of}
 use Rattle.seam_law_book.proofs.Present.{any_split, any_begun}
 use Rattle.seam_law_book.proofs.Fitting.{new_number}
@@ -24,7 +24,7 @@ client_begun b e c lives = ap (λ o. is_some o && list_any (joins e) (entries (a
 
 module _ (h : Header) (some : 1 ≤ h.settings.bases) (b : Book) (t : Division) (clients : ℕ → ClientReplica) (w : World)
     (keeps : KeepsRecords (frame_of h t) clients w) (may : MayBeGiven (frame_of h t) w (batch_of h b)) (goes : GoesWith h (as_begun b) t w)
-    (R : Brings h b) (untouched : (e : ℕ) → created_as (as_begun b) e ≡ None → IsUntouched (as_begun b) e) (few : HasRoomForCalls b)
+    (R : HasFitRound h b) (untouched : (e : ℕ) → created_as (as_begun b) e ≡ None → IsUntouched (as_begun b) e) (few : HasRoomForCalls b)
     (present : (e : ℕ) (c : Create) → IsPresent b e c → holders (loaded w (batch_of h b)) e ≡ 1) (e : ℕ) (p : PartView)
     (here : ((entity_flow e (loaded w (batch_of h b))).slot (base_node h e)).base.part ≡ Some p) where
   abbrev B : Batch

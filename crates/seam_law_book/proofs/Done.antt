@@ -10,8 +10,8 @@ use Rattle.seam_rule_rounds.specs.Prelude.{Header, Book, calls_of, created_as, a
 use Rattle.seam_law_flow.specs.Prelude.{letters_of}
 use Rattle.seam_law_calls.specs.Prelude.{mine, entity_flow, real_of, from_sender, RunsTo, real_at, real_in}
 use Rattle.seam_law_all.specs.Prelude.{ObeysLaws, EndsRightly, KeepsRecords, KeepsRecordsWithin, MayBeGiven, may_begin}
-use Rattle.seam_law_book.specs.Prelude.{as_begun, IsPresent, IsFitCall, calls_from, Brings, IsUntouched, frame_of, base_node, GoesWith}
-use Rattle.seam_law_book.specs.Prelude.{HasRoomForCalls, done_by_real, done_by_part, done_in, with_done, IsDoneOn, real_here}
+use Rattle.seam_law_book.specs.Prelude.{as_begun, IsPresent, IsFitCall, calls_from, HasFitRound, IsUntouched, frame_of, base_node}
+use Rattle.seam_law_book.specs.Prelude.{GoesWith, HasRoomForCalls, done_by_real, done_by_part, done_in, with_done, IsDoneOn, real_here}
 use Rattle.seam_machine.proofs.Quiet.{quiet_links}
 use Rattle.seam_defs.specs.declared.flags.Part.TheVariants as part
 use Rattle.seam_rule_lines.proofs.BookEntries.{differ}
@@ -47,7 +47,7 @@ no_calls_to p e n (c ∷ cs) all =
 
 module _ (h : Header) (some : 1 ≤ h.settings.bases) (b : Book) (t : Division) (clients : ℕ → ClientReplica) (w : World)
     (keeps : KeepsRecords (frame_of h t) clients w) (may : MayBeGiven (frame_of h t) w (batch_of h b))
-    (goes : GoesWith h (as_begun b) t w) (R : Brings h b)
+    (goes : GoesWith h (as_begun b) t w) (R : HasFitRound h b)
     (untouched : (e : ℕ) → created_as (as_begun b) e ≡ None → IsUntouched (as_begun b) e) (few : HasRoomForCalls b)
     (present : (e : ℕ) (c : Create) → IsPresent b e c → holders (loaded w (batch_of h b)) e ≡ 1)
     (v : World) (es : List Event) (run : RunsTo (loaded w (batch_of h b)) es v)

@@ -14,7 +14,8 @@ use Rattle.seam_law_calls.specs.Prelude.{IsInFrame, order_about, entity_flow, re
 use Rattle.seam_law_rounds.specs.Prelude.{IsNew, next_from, HasSettledPart, next_to}
 use Rattle.seam_law_ghosts.specs.Prelude.{GoesThroughRound}
 use Rattle.seam_law_all.specs.Prelude.{KeepsRecords, MayBeGiven, may_begin}
-use Rattle.seam_law_book.specs.Prelude.{as_begun, made_among, IsPresent, calls_from, last_number, Brings, IsUntouched, frame_of, base_node}
+use Rattle.seam_law_book.specs.Prelude.{as_begun, made_among, IsPresent, calls_from, last_number, HasFitRound, IsUntouched, frame_of}
+use Rattle.seam_law_book.specs.Prelude.{base_node}
 use Rattle.seam_law_book.specs.Prelude.{IsHeld, Lives, GoesWith, HasRoomForCalls}
 use Rattle.seam_defs.specs.declared.flags.Part.TheVariants as part
 use Rattle.seam_rule_lines.specs.declared.verdict.Entry.TheVariants as entry
@@ -89,7 +90,7 @@ module _ (b : Book) (e : ℕ) where
 
 module _ (h : Header) (some : 1 ≤ h.settings.bases) (b : Book) (t : Division) (clients : ℕ → ClientReplica) (w : World)
     (keeps : KeepsRecords (frame_of h t) clients w) (may : MayBeGiven (frame_of h t) w (batch_of h b)) (goes : GoesWith h (as_begun b) t w)
-    (R : Brings h b) (untouched : (e : ℕ) → created_as (as_begun b) e ≡ None → IsUntouched (as_begun b) e) (few : HasRoomForCalls b)
+    (R : HasFitRound h b) (untouched : (e : ℕ) → created_as (as_begun b) e ≡ None → IsUntouched (as_begun b) e) (few : HasRoomForCalls b)
     (present : (e : ℕ) (c : Create) → IsPresent b e c → holders (loaded w (batch_of h b)) e ≡ 1) (v : World)
     (round : GoesThroughRound w (batch_of h b) v) (dies : round.gone ≡ (batch_of h b).destroys)
     (laws : Obeyed (frame_of h t) clients w (batch_of h b) v round) (ends : IsQuiet node_has_work v) where

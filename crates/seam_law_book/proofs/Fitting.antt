@@ -13,7 +13,7 @@ use Rattle.seam_node_steps.specs.Prelude.{same_part, Create, order_or, RealView,
 use Rattle.seam_rule_rounds.specs.Prelude.{Header, Book, creates_of, created_as, live_as, has_client}
 use Rattle.seam_law_calls.specs.Prelude.{entity_flow, real_at}
 use Rattle.seam_law_rounds.specs.Prelude.{next_from, IsBetweenRounds, MayBeMade, next_to}
-use Rattle.seam_law_book.specs.Prelude.{as_begun, made_among, IsPresent, IsInside, IsNewEntity, StaysInside, last_number, Brings}
+use Rattle.seam_law_book.specs.Prelude.{as_begun, made_among, IsPresent, IsInside, IsNewEntity, StaysInside, last_number, HasFitRound}
 use Rattle.seam_law_book.specs.Prelude.{IsUntouched, frame_of, base_node, IsHeld, GoesWith}
 use Rattle.seam_defs.specs.declared.flags.Part.TheVariants as part
 use Rattle.seam_defs.specs.declared.states.Deed.TheVariants as deed
@@ -78,7 +78,7 @@ made_is e cs x c i is =
 
 module _ (h : Header) (b : Book) (t : Division) (w : World) (between : IsBetweenRounds (frame_of h t) w)
     (goes : GoesWith h (as_begun b) t w)
-    (R : Brings h b) (untouched : (e : ℕ) → created_as (as_begun b) e ≡ None → IsUntouched (as_begun b) e) where
+    (R : HasFitRound h b) (untouched : (e : ℕ) → created_as (as_begun b) e ≡ None → IsUntouched (as_begun b) e) where
   pub may_be_made : (x : Create) → IsNewEntity h b x → MayBeMade (frame_of h t) w x
   may_be_made x n = record { new = goes.known x.entity n.new; type = n.type; inside = inside_test h x.pos n.inside }
 

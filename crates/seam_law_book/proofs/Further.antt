@@ -7,7 +7,7 @@ use Rattle.seam_node_steps.specs.Prelude.{Division, Event, RealView, WitnessView
 use Rattle.seam_rule_rounds.specs.Prelude.{Header, Book, entries, created_as, joins, was_dead, is_shown, with_round_ended}
 use Rattle.seam_law_calls.specs.Prelude.{Frame, RunsTo, real_at}
 use Rattle.seam_law_rounds.specs.Prelude.{IsBetweenRounds, HasPartsBetweenRounds}
-use Rattle.seam_law_ghosts.specs.Prelude.{WasThere}
+use Rattle.seam_law_ghosts.specs.Prelude.{HadSameReal}
 use Rattle.seam_law_book.specs.Prelude.{frame_of, GoesWith}
 use Rattle.seam_law_calls.proofs.Holds.{both}
 use Rattle.seam_law_book.proofs.Ended.{client_of, live_ended}
@@ -35,7 +35,7 @@ module _ (h : Header) (b : Book) (tree : Division) (v : World) (goes : GoesWith 
 -- and it had one before the look
 module _ (g : Frame) (u : World) (before : IsBetweenRounds g u) (parts : HasPartsBetweenRounds g u) (v : World) (es : List Event)
     (run : RunsTo (look_loaded u) es v) (then : HasPartsBetweenRounds g v) (e k : ℕ) (q : RealView)
-    (at : real_at e v k ≡ Some q) (was : WasThere e k q u) where
+    (at : real_at e v k ≡ Some q) (was : HadSameReal e k q u) where
   had_witness : is_some q.witness ≡ true → is_some was.real.witness ≡ true
   had_witness is =
       let left = parts.parts e k was.real was.here in

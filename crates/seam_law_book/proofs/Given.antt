@@ -13,7 +13,8 @@ use Rattle.seam_law_calls.specs.Prelude.{mine, order_about, entity_flow, reaped_
 use Rattle.seam_law_rounds.specs.Prelude.{next_from, IsBetweenRounds, MayBeMade, HasNoWitness, IsFitOrder, IsForReal, IsFitting, next_to}
 use Rattle.seam_law_rounds.specs.Prelude.{IsFitBaseOrder, IsForPart}
 use Rattle.seam_law_all.specs.Prelude.{MayBeGiven}
-use Rattle.seam_law_book.specs.Prelude.{as_begun, made_among, IsPresent, GetsClient, IsThere, IsNewEntity, IsFitCall, Brings, IsUntouched}
+use Rattle.seam_law_book.specs.Prelude.{as_begun, made_among, IsPresent, GetsClient, HasEntity, IsNewEntity, IsFitCall, HasFitRound}
+use Rattle.seam_law_book.specs.Prelude.{IsUntouched}
 use Rattle.seam_law_book.specs.Prelude.{frame_of, base_node, GoesWith, HasRoomForCalls, HasRoomForRound}
 use Rattle.seam_defs.specs.declared.flags.Part.TheVariants as part
 use Rattle.seam_call.specs.declared.order.Order.TheVariants as order
@@ -59,7 +60,7 @@ abbrev creating : Batch → Batch
 creating b = record b { clients = []; orders = []; destroys = [] }
 
 module _ (h : Header) (some : 1 ≤ h.settings.bases) (b : Book) (t : Division) (w : World)
-    (between : IsBetweenRounds (frame_of h t) w) (goes : GoesWith h (as_begun b) t w) (R : Brings h b)
+    (between : IsBetweenRounds (frame_of h t) w) (goes : GoesWith h (as_begun b) t w) (R : HasFitRound h b)
     (untouched : (e : ℕ) → created_as (as_begun b) e ≡ None → IsUntouched (as_begun b) e) (few : HasRoomForCalls b)
     (room : HasRoomForRound h w) where
   abbrev B : Batch
@@ -209,7 +210,7 @@ module _ (h : Header) (some : 1 ≤ h.settings.bases) (b : Book) (t : Division) 
     clients = all_turn (GetsClient b) (λ e. holders (loaded w B) e ≡ 1) (λ e g. present_one e g.made g.present) B.clients R.clients;
     unseen = all_turn (GetsClient b) (HasNoWitness w) (λ e g. unseen_by h b t w between goes R untouched e g.alone) B.clients R.clients;
     one_each = R.one_each;
-    destroys = all_turn (IsThere b) (λ e. holders (loaded w B) e ≡ 1) (λ e g. present_one e g.0 g.1) B.destroys R.destroys;
+    destroys = all_turn (HasEntity b) (λ e. holders (loaded w B) e ≡ 1) (λ e g. present_one e g.0 g.1) B.destroys R.destroys;
     ends_once = R.ends_once;
     spares = spares;
     known = each_order h IsAboutReal (IsFitCall h b) known_call no_known b.current R.calls;

@@ -12,7 +12,8 @@ use Rattle.seam_rule_rounds.specs.Prelude.{Header, Book, entries, calls_of, Entr
 use Rattle.seam_law_flow.specs.Prelude.{letters_of, more_letter, number_from}
 use Rattle.seam_law_calls.specs.Prelude.{kept_if, orders_of, from_sender, numbered_from, cell_order_from, base_call_of}
 use Rattle.seam_law_rounds.specs.Prelude.{order_in, cell_call_from, AreNumbered, base_calls_of, AreBaseNumbered}
-use Rattle.seam_law_book.specs.Prelude.{as_begun, IsKnownSender, IsFitCall, calls_from, last_number, AreNumberedFrom, Brings, frame_of}
+use Rattle.seam_law_book.specs.Prelude.{as_begun, IsSenderOf, IsFitCall, calls_from, last_number, AreNumberedFrom, HasFitRound}
+use Rattle.seam_law_book.specs.Prelude.{frame_of}
 use Rattle.seam_law_book.specs.Prelude.{HasRoomForCalls}
 use Rattle.seam_defs.specs.declared.flags.Part.TheVariants as part
 use Rattle.seam_call.specs.declared.sender.Sender.TheVariants as sender
@@ -24,7 +25,7 @@ use Rattle.seam_law_book.proofs.Orders.{all_picked, picked_at}
 
 -- ---- the node of a sender
 
-node_bounds : (h : Header) → 1 ≤ h.settings.bases → (s : Sender) → IsKnownSender h s →
+node_bounds : (h : Header) → 1 ≤ h.settings.bases → (s : Sender) → IsSenderOf h s →
     (cell_count ≤ node_of h s) × (node_of h s < cell_count + h.settings.bases)
 node_bounds h some (sender.Base n) k =
     let from = k.node.from_one in
@@ -34,7 +35,7 @@ node_bounds h some (sender.Client e) k =
     let low : e % h.settings.bases < h.settings.bases = mod-lt e {m = h.settings.bases} (omega (arith, some)) in
     (omega arith, omega (arith, low))
 
-same_node : (h : Header) (s u : Sender) → IsKnownSender h s → IsKnownSender h u → rank_of s ≡ rank_of u → node_of h s ≡ node_of h u
+same_node : (h : Header) (s u : Sender) → IsSenderOf h s → IsSenderOf h u → rank_of s ≡ rank_of u → node_of h s ≡ node_of h u
 same_node h (sender.Base m) (sender.Base n) k l same = ap (λ x. node_of h (sender.Base x)) same
 same_node h (sender.Client d) (sender.Client e) k l same =
     let is : d ≡ e = omega (arith, same) in
@@ -50,9 +51,9 @@ pub record HasOneNode (h : Header) (s : ℕ) (cs : List CallData) : Type 0 where
   pub all : AllByRecursion (λ c. rank_of c.sender ≡ s → node_of h c.sender ≡ node) cs
 
 abbrev IsKnown : Header → CallData → Type 0
-IsKnown h c = IsKnownSender h c.sender
+IsKnown h c = IsSenderOf h c.sender
 
-all_like : (h : Header) (s : ℕ) (u : Sender) → IsKnownSender h u → rank_of u ≡ s → (cs : List CallData) → AllByRecursion (IsKnown h) cs →
+all_like : (h : Header) (s : ℕ) (u : Sender) → IsSenderOf h u → rank_of u ≡ s → (cs : List CallData) → AllByRecursion (IsKnown h) cs →
     AllByRecursion (λ c. rank_of c.sender ≡ s → node_of h c.sender ≡ node_of h u) cs
 all_like h s u k is [] known = tt
 all_like h s u k is (c ∷ cs) known =
@@ -118,7 +119,7 @@ known_of : (h : Header) (b : Book) (cs : List CallData) → AllByRecursion (IsFi
 known_of h b [] all = tt
 known_of h b (c ∷ cs) all = (all.0.sender, known_of h b cs all.1)
 
-module _ (h : Header) (some : 1 ≤ h.settings.bases) (b : Book) (R : Brings h b) (few : HasRoomForCalls b) where
+module _ (h : Header) (some : 1 ≤ h.settings.bases) (b : Book) (R : HasFitRound h b) (few : HasRoomForCalls b) where
   module _ (p : Part) (e s : ℕ) where
     abbrev chosen : List CallData
     chosen = calls_from p e s (calls_of b.current)

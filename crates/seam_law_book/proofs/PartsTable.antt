@@ -8,7 +8,7 @@ use Rattle.seam_node_steps.specs.Prelude.{PartView, holders, loaded, World}
 use Rattle.seam_rule_rounds.specs.Prelude.{Header, Book, entries, calls_of, created_as, accepted, flat, Orders, IsFull, ClientReplica}
 use Rattle.seam_law_calls.specs.Prelude.{here_at, entity_flow}
 use Rattle.seam_law_all.specs.Prelude.{KeepsRecords, MayBeGiven}
-use Rattle.seam_law_book.specs.Prelude.{as_begun, IsPresent, Brings, IsUntouched, frame_of, base_node, GoesWith, HasRoomForCalls}
+use Rattle.seam_law_book.specs.Prelude.{as_begun, IsPresent, HasFitRound, IsUntouched, frame_of, base_node, GoesWith, HasRoomForCalls}
 use Rattle.seam_law_book.specs.Prelude.{IsPartInTable, ArePartsInTable, BeginsPart}
 use Rattle.seam_defs.specs.declared.flags.Part.TheVariants as part
 use Rattle.seam_defs.specs.declared.states.Deed.TheVariants as deed
@@ -35,7 +35,7 @@ module _ (t : TypeDef) where
 
 module _ (h : Header) (some : 1 ≤ h.settings.bases) (b : Book) (t : Division) (clients : ℕ → ClientReplica) (w : World)
     (keeps : KeepsRecords (frame_of h t) clients w) (may : MayBeGiven (frame_of h t) w (batch_of h b)) (goes : GoesWith h (as_begun b) t w)
-    (R : Brings h b) (untouched : (e : ℕ) → created_as (as_begun b) e ≡ None → IsUntouched (as_begun b) e) (few : HasRoomForCalls b)
+    (R : HasFitRound h b) (untouched : (e : ℕ) → created_as (as_begun b) e ≡ None → IsUntouched (as_begun b) e) (few : HasRoomForCalls b)
     (present : (e : ℕ) (c : Create) → IsPresent b e c → holders (loaded w (batch_of h b)) e ≡ 1)
     (senders : AllByRecursion IsFromSender (calls_of (entries (as_begun b)))) (orders : Orders)
     (full : (p : Part) (e : ℕ) → IsFull (accepted (as_begun b) p e) (orders p e)) (rows : ArePartsInTable h (as_begun b) orders w) (e : ℕ)

@@ -12,7 +12,7 @@ use Rattle.seam_rule_rounds.specs.Prelude.{position_at, positions_past}
 use Rattle.seam_law_calls.specs.Prelude.{real_at}
 use Rattle.seam_law_ghosts.specs.Prelude.{positions_after, path_of, place_of, first_place, made_real, IsRightPlace}
 use Rattle.seam_law_all.specs.Prelude.{KeepsRecords, MayBeGiven}
-use Rattle.seam_law_book.specs.Prelude.{as_begun, made_among, IsPresent, Brings, IsUntouched, frame_of, GoesWith, HasRoomForCalls}
+use Rattle.seam_law_book.specs.Prelude.{as_begun, made_among, IsPresent, HasFitRound, IsUntouched, frame_of, GoesWith, HasRoomForCalls}
 use Rattle.seam_law_book.specs.Prelude.{AreInTable, AreInPlace}
 use Rattle.seam_defs.specs.declared.flags.Part.TheVariants as part
 use Rattle.seam_rule_lines.specs.declared.verdict.Entry.TheVariants as entry
@@ -110,7 +110,7 @@ module _ (h : Header) (s t : Standing) (c : Create) (k : ℕ) (q : RealView)
 
 module _ (h : Header) (some : 1 ≤ h.settings.bases) (s : Standing) (tree : Division) (clients : ℕ → ClientReplica) (w : World)
     (keeps : KeepsRecords (frame_of h tree) clients w) (may : MayBeGiven (frame_of h tree) w (batch_of h s.book))
-    (goes : GoesWith h (as_begun s.book) tree w) (R : Brings h s.book)
+    (goes : GoesWith h (as_begun s.book) tree w) (R : HasFitRound h s.book)
     (untouched : (e : ℕ) → created_as (as_begun s.book) e ≡ None → IsUntouched (as_begun s.book) e) (few : HasRoomForCalls s.book)
     (present : (e : ℕ) (c : Create) → IsPresent s.book e c → holders (loaded w (batch_of h s.book)) e ≡ 1)
     (senders : AllByRecursion IsFromSender (calls_of (entries (as_begun s.book))))

@@ -9,7 +9,7 @@ use Rattle.seam_law_flow.specs.Prelude.{letters_of, TokenPlace, In, On, Desk, de
 use Rattle.seam_law_calls.specs.Prelude.{Frame, entity_flow, real_in, real_of, IsOne, desk_for, as_sender, real_desk, home_of}
 use Rattle.seam_law_calls.specs.Prelude.{as_base_sender, part_desk, real_at}
 use Rattle.seam_law_rounds.specs.Prelude.{framed, calls_of, next_from, next_to, base_calls_of, HasSettledPart}
-use Rattle.seam_law_ghosts.specs.Prelude.{WasThere, GoesThroughRound}
+use Rattle.seam_law_ghosts.specs.Prelude.{HadSameReal, GoesThroughRound}
 use Rattle.seam_law_all.specs.Prelude.{ObeysLaws, EndsRightly, ObeysLawsOfLooks, ObeysLawsOfReaps, AreGone, KeepsRecords}
 use Rattle.seam_law_all.specs.Prelude.{KeepsRecordsWithin, MayBeGiven, may_begin}
 use Rattle.seam_law_flow.proofs.TokenLemmas.{sole_here}
@@ -65,10 +65,10 @@ module _ (f : Frame) (clients : ℕ → ClientReplica) (w : World) (b : Batch) (
   -- ---- its real
 
   module _ (e k : ℕ) (q : RealView) (at : real_at e v k ≡ Some q) where
-    pub was_reaped : WasThere e k q round.reaped
+    pub was_reaped : HadSameReal e k q round.reaped
     was_reaped = looks_leave g round.reaped laws.reaped.records.reals round.look_events v round.looks e k q at
 
-    pub was_called : WasThere e k was_reaped.real round.called
+    pub was_called : HadSameReal e k was_reaped.real round.called
     was_called =
         reaps_leave g round.called laws.called.records.reals round.gone round.may round.reap_events round.reaped round.reaps e k
         was_reaped.real was_reaped.here

@@ -7,7 +7,7 @@ use Rattle.seam_node_steps.specs.Prelude.{IsWhole, Area, Division, cells_of, are
 use Rattle.seam_node_steps.specs.Prelude.{TypeDef, Deed, Sender, Call, Create}
 use Rattle.seam_rule_rounds.specs.Prelude.{Line, Content, Long, Header, Book, created_as, live_as, accepted, has_client, tree_of, Adds}
 use Rattle.seam_rule_rounds.specs.Prelude.{HoldsAgainst, Holds, Spells, Entry, Cause}
-use Rattle.seam_law_book.specs.Prelude.{IsAccepted, IsInside, StaysInside, IsKnownSender}
+use Rattle.seam_law_book.specs.Prelude.{IsAccepted, IsInside, StaysInside, IsSenderOf}
 use Rattle.seam_value.specs.NumberWords.{SpellsPositive}
 use Rattle.seam_tree.specs.Boundary.{RunsThrough, place_along}
 use Rattle.seam_tree.specs.Division.{HasBoundary, NoneEmpty}
@@ -34,7 +34,7 @@ pub record IsProperCreate (h : Header) (b : Book) (c : Create) : Type 0 where
   pub inside : IsInside h c.pos
 
 pub record IsProperCall (h : Header) (b : Book) (c : Call) : Type 0 where
-  pub sender : IsKnownSender h c.sender
+  pub sender : IsSenderOf h c.sender
   pub made : Create
   pub lives : live_as b c.entity ≡ Some made
   pub deed : FitsDeed (type_of h.defs made.ty) c.deed
@@ -79,7 +79,7 @@ false_of false not = refl
 below_of : (m n : ℕ) → ¬ (n ≤ m) → m < n
 below_of m n not = elim (cases_lt m n) [ inl lt ↦ lt | inr ge ↦ absurd (not ge) ]
 
-known_sender : (h : Header) (b : Book) (s : Sender) → IsThere h b s → IsKnownSender h s
+known_sender : (h : Header) (b : Book) (s : Sender) → IsThere h b s → IsSenderOf h s
 known_sender h b (sender.Base n) there = there
 known_sender h b (sender.Client e) there = tt
 

@@ -6,8 +6,8 @@ use Rattle.std.specs.List.{AllByRecursion, IsDistinct, filter_map}
 use Rattle.std.proofs.lemmas.Bool.{eqb-true}
 use Rattle.seam_node_steps.specs.Prelude.{cells_of, AreLegal, Part, is_for, same_part, rank_of, Call, Create}
 use Rattle.seam_rule_rounds.specs.Prelude.{Header, Book, entries, created, called, creates_of, calls_of, with_entry, tree_of, Entry}
-use Rattle.seam_law_book.specs.Prelude.{IsOfLines, empty, accepts, ends, balances, as_begun, entity_of, GetsClient, IsThere, IsNewEntity}
-use Rattle.seam_law_book.specs.Prelude.{IsFitCall, calls_from, last_number, AreNumberedFrom, Brings}
+use Rattle.seam_law_book.specs.Prelude.{IsOfLines, empty, accepts, ends, balances, as_begun, entity_of, GetsClient, HasEntity, IsNewEntity}
+use Rattle.seam_law_book.specs.Prelude.{IsFitCall, calls_from, last_number, AreNumberedFrom, HasFitRound}
 use Rattle.seam_rule_lines.specs.declared.verdict.Entry.TheVariants as entry
 use Rattle.seam_accept.specs.Batches.{joined, destroyed}
 use Rattle.seam_accept.proofs.Books.{tree_with, same_part_is, both}
@@ -18,7 +18,7 @@ use Rattle.seam_law_book.proofs.Present.{unjoined_apart, undestroyed_apart}
 use Rattle.seam_law_book.proofs.Untouched.{IsOrderly, orderly, known_is_sender, accepted_by_place, map_more}
 
 -- a new round brings nothing
-pub brings_none : (h : Header) (b : Book) → b.current ≡ [] → IsOrderly h b → Brings h b
+pub brings_none : (h : Header) (b : Book) → b.current ≡ [] → IsOrderly h b → HasFitRound h b
 unfolding IsDistinct
 brings_none h b none k =
     let same : tree_of b ≡ b.tree = ap (λ xs. tree_of (record b { current = xs })) none in
@@ -30,14 +30,14 @@ brings_none h b none k =
       once = subst (λ xs. IsDistinct eqb (map entity_of (creates_of xs))) (sym none) tt;
       clients = subst (λ xs. AllByRecursion (GetsClient b) (filter_map joined xs)) (sym none) tt;
       one_each = subst (λ xs. IsDistinct eqb (filter_map joined xs)) (sym none) tt;
-      destroys = subst (λ xs. AllByRecursion (IsThere b) (filter_map destroyed xs)) (sym none) tt;
+      destroys = subst (λ xs. AllByRecursion (HasEntity b) (filter_map destroyed xs)) (sym none) tt;
       ends_once = subst (λ xs. IsDistinct eqb (filter_map destroyed xs)) (sym none) tt;
       calls = subst (λ xs. AllByRecursion (IsFitCall h b) (calls_of xs)) (sym none) tt;
       numbered = λ p e s.
           subst (λ xs. AreNumberedFrom (last_number (as_begun b) p e s + 1) (calls_from p e s (calls_of xs))) (sym none) tt;
     }
 
-module _ (h : Header) (b : Book) (k : IsOrderly h b) (was : Brings h b) (x : Entry) where
+module _ (h : Header) (b : Book) (k : IsOrderly h b) (was : HasFitRound h b) (x : Entry) where
   abbrev next : Book
   next = with_entry b x
 
@@ -45,7 +45,7 @@ module _ (h : Header) (b : Book) (k : IsOrderly h b) (was : Brings h b) (x : Ent
   gets_still : (e : ℕ) → GetsClient b e → GetsClient next e
   gets_still e g = record { made = g.made; present = present_more b e x g.made g.present; alone = g.alone }
 
-  there_still : (e : ℕ) → IsThere b e → IsThere next e
+  there_still : (e : ℕ) → HasEntity b e → HasEntity next e
   there_still e t = (t.0, present_more b e x t.0 t.1)
 
   fits_still : (c : Call) → IsFitCall h b c → IsFitCall h next c
@@ -74,12 +74,12 @@ module _ (h : Header) (b : Book) (k : IsOrderly h b) (was : Brings h b) (x : Ent
       (all_join (GetsClient next) (filter_map joined b.current) (filter_map joined (x ∷ []))
       (all_turn (GetsClient b) (GetsClient next) gets_still (filter_map joined b.current) was.clients) new)
 
-  more_destroys : AllByRecursion (IsThere next) (filter_map destroyed (x ∷ [])) →
-      AllByRecursion (IsThere next) (filter_map destroyed next.current)
+  more_destroys : AllByRecursion (HasEntity next) (filter_map destroyed (x ∷ [])) →
+      AllByRecursion (HasEntity next) (filter_map destroyed next.current)
   more_destroys new =
-      subst (AllByRecursion (IsThere next)) (sym (brought_more destroyed b x))
-      (all_join (IsThere next) (filter_map destroyed b.current) (filter_map destroyed (x ∷ []))
-      (all_turn (IsThere b) (IsThere next) there_still (filter_map destroyed b.current) was.destroys) new)
+      subst (AllByRecursion (HasEntity next)) (sym (brought_more destroyed b x))
+      (all_join (HasEntity next) (filter_map destroyed b.current) (filter_map destroyed (x ∷ []))
+      (all_turn (HasEntity b) (HasEntity next) there_still (filter_map destroyed b.current) was.destroys) new)
 
   more_calls : AllByRecursion (IsFitCall h next) (calls_of (x ∷ [])) → AllByRecursion (IsFitCall h next) (calls_of next.current)
   more_calls new =
@@ -102,7 +102,7 @@ module _ (h : Header) (b : Book) (k : IsOrderly h b) (was : Brings h b) (x : Ent
     once : IsDistinct eqb (map entity_of (creates_of next.current))
     clients : AllByRecursion (GetsClient next) (filter_map joined (x ∷ []))
     one_each : IsDistinct eqb (filter_map joined next.current)
-    destroys : AllByRecursion (IsThere next) (filter_map destroyed (x ∷ []))
+    destroys : AllByRecursion (HasEntity next) (filter_map destroyed (x ∷ []))
     ends_once : IsDistinct eqb (filter_map destroyed next.current)
     calls : AllByRecursion (IsFitCall h next) (calls_of (x ∷ []))
     numbered : (p : Part) (e s : ℕ) →
@@ -126,7 +126,7 @@ module _ (h : Header) (b : Book) (k : IsOrderly h b) (was : Brings h b) (x : Ent
 
 -- ---- each kind of entry
 
-module _ (h : Header) (b : Book) (k : IsOrderly h b) (was : Brings h b) where
+module _ (h : Header) (b : Book) (k : IsOrderly h b) (was : HasFitRound h b) where
   -- an entry that brings nothing to an entity
   quiet_more : (x : Entry) → creates_of (x ∷ []) ≡ [] → filter_map joined (x ∷ []) ≡ [] → filter_map destroyed (x ∷ []) ≡ [] →
       calls_of (x ∷ []) ≡ [] → More h b k was x
@@ -135,7 +135,7 @@ module _ (h : Header) (b : Book) (k : IsOrderly h b) (was : Brings h b) where
     once = same_once h b k was x made;
     clients = subst (AllByRecursion (GetsClient (with_entry b x))) (sym joins) tt;
     one_each = same_joined h b k was x joins;
-    destroys = subst (AllByRecursion (IsThere (with_entry b x))) (sym dies) tt;
+    destroys = subst (AllByRecursion (HasEntity (with_entry b x))) (sym dies) tt;
     ends_once = same_destroyed h b k was x dies;
     calls = subst (AllByRecursion (IsFitCall h (with_entry b x))) (sym calls) tt;
     numbered = λ p e s. same_numbers h b k was x p e s (ap (calls_from p e s) calls);
@@ -275,7 +275,7 @@ module _ (h : Header) (b : Book) (k : IsOrderly h b) (was : Brings h b) where
       omega (arith, e, more)
   grows m p = grows_same m (tree_with b m)
 
-  brings_more : (x : Entry) → IsProper h b x → IsOrderly h (with_entry b x) → Brings h (with_entry b x)
+  brings_more : (x : Entry) → IsProper h b x → IsOrderly h (with_entry b x) → HasFitRound h (with_entry b x)
   brings_more x p after =
       let m = more_of x p in
       record {
@@ -292,7 +292,7 @@ module _ (h : Header) (b : Book) (k : IsOrderly h b) (was : Brings h b) where
         numbered = m.numbered;
       }
 
-pub brings : (h : Header) (b : Book) → AreLegal h.settings → IsOfLines h b → Brings h b
+pub brings : (h : Header) (b : Book) → AreLegal h.settings → IsOfLines h b → HasFitRound h b
 brings h b legal empty = brings_none h b refl (orderly h b legal empty)
 brings h b legal (accepts was x of_lines line) =
     brings_more h was (orderly h was legal of_lines) (brings h was legal of_lines) x (accepted_is_proper h was x line)

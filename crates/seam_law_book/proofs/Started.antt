@@ -5,7 +5,7 @@ use Rattle.seam_rule_rounds.specs.Prelude.{Header, Book, created_as, ClientRepli
 use Rattle.seam_law_flow.specs.Prelude.{letters_of}
 use Rattle.seam_law_calls.specs.Prelude.{entity_flow, real_of, real_at}
 use Rattle.seam_law_all.specs.Prelude.{KeepsRecords, MayBeGiven, may_begin}
-use Rattle.seam_law_book.specs.Prelude.{as_begun, made_among, IsPresent, Brings, IsUntouched, frame_of, GoesWith, HasRoomForCalls}
+use Rattle.seam_law_book.specs.Prelude.{as_begun, made_among, IsPresent, HasFitRound, IsUntouched, frame_of, GoesWith, HasRoomForCalls}
 use Rattle.seam_accept.specs.Batches.{batch_of}
 use Rattle.seam_law_calls.proofs.Counting.{none_counts}
 use Rattle.seam_law_rounds.proofs.Loaded.{no_mail}
@@ -15,7 +15,7 @@ use Rattle.seam_law_book.proofs.Fitting.{found_by}
 
 module _ (h : Header) (some : 1 ≤ h.settings.bases) (b : Book) (t : Division) (clients : ℕ → ClientReplica) (w : World)
     (keeps : KeepsRecords (frame_of h t) clients w) (may : MayBeGiven (frame_of h t) w (batch_of h b)) (goes : GoesWith h (as_begun b) t w)
-    (R : Brings h b) (untouched : (e : ℕ) → created_as (as_begun b) e ≡ None → IsUntouched (as_begun b) e) (few : HasRoomForCalls b)
+    (R : HasFitRound h b) (untouched : (e : ℕ) → created_as (as_begun b) e ≡ None → IsUntouched (as_begun b) e) (few : HasRoomForCalls b)
     (present : (e : ℕ) (c : Create) → IsPresent b e c → holders (loaded w (batch_of h b)) e ≡ 1) where
   abbrev pub B : Batch
   B = batch_of h b

@@ -12,7 +12,7 @@ use Rattle.seam_rule_rounds.specs.Prelude.{IsFull, ClientReplica}
 use Rattle.seam_law_calls.specs.Prelude.{entity_flow, real_in, real_of, OneFrom, Account, account_of, after_calls, real_at}
 use Rattle.seam_law_ghosts.specs.Prelude.{made_real, BeginsAt}
 use Rattle.seam_law_all.specs.Prelude.{ObeysLaws, KeepsRecords, MayBeGiven, may_begin}
-use Rattle.seam_law_book.specs.Prelude.{as_begun, IsPresent, calls_from, Brings, IsUntouched, frame_of, GoesWith, HasRoomForCalls}
+use Rattle.seam_law_book.specs.Prelude.{as_begun, IsPresent, calls_from, HasFitRound, IsUntouched, frame_of, GoesWith, HasRoomForCalls}
 use Rattle.seam_law_book.specs.Prelude.{IsInTable, AreInTable, BeginsReal, IsDoneOn}
 use Rattle.seam_defs.specs.declared.flags.Part.TheVariants as part
 use Rattle.seam_call.specs.declared.sender.Sender.TheVariants as sender
@@ -54,7 +54,7 @@ module _ (p : Part) (e : ℕ) (cs : List CallData) (senders : AllByRecursion IsF
 
 module _ (h : Header) (some : 1 ≤ h.settings.bases) (b : Book) (t : Division) (clients : ℕ → ClientReplica) (w : World)
     (keeps : KeepsRecords (frame_of h t) clients w) (may : MayBeGiven (frame_of h t) w (batch_of h b))
-    (goes : GoesWith h (as_begun b) t w) (R : Brings h b)
+    (goes : GoesWith h (as_begun b) t w) (R : HasFitRound h b)
     (untouched : (e : ℕ) → created_as (as_begun b) e ≡ None → IsUntouched (as_begun b) e) (few : HasRoomForCalls b)
     (present : (e : ℕ) (c : Create) → IsPresent b e c → holders (loaded w (batch_of h b)) e ≡ 1)
     (senders : AllByRecursion IsFromSender (calls_of (entries (as_begun b)))) (orders : Orders)

@@ -7,7 +7,7 @@ use Rattle.seam_node_steps.specs.Prelude.{Division, IsTree, AreLegal, Part, is_f
 use Rattle.seam_node_steps.specs.Prelude.{Sender, Call, Create}
 use Rattle.seam_rule_rounds.specs.Prelude.{Header, Book, one_cell, entries, creates_of, calls_of, created_as, live_as, joins, destroys}
 use Rattle.seam_rule_rounds.specs.Prelude.{with_entry, tree_of, Entry}
-use Rattle.seam_law_book.specs.Prelude.{IsOfLines, empty, accepts, ends, balances, as_begun, entity_of, made_among, IsKnownSender}
+use Rattle.seam_law_book.specs.Prelude.{IsOfLines, empty, accepts, ends, balances, as_begun, entity_of, made_among, IsSenderOf}
 use Rattle.seam_law_book.specs.Prelude.{calls_from, IsUntouched}
 use Rattle.seam_call.specs.declared.sender.Sender.TheVariants as sender
 use Rattle.seam_rule_lines.specs.declared.verdict.Entry.TheVariants as entry
@@ -56,7 +56,7 @@ pub record IsOrderly (h : Header) (b : Book) : Type 0 where
   pub tree : IsTree (tree_of b)
   pub space : (tree_of b).size ≡ h.settings.size
 
-pub known_is_sender : (h : Header) (s : Sender) → IsKnownSender h s → IsSender s
+pub known_is_sender : (h : Header) (s : Sender) → IsSenderOf h s → IsSender s
 known_is_sender h (sender.Base n) k = k.node
 known_is_sender h (sender.Client e) k = tt
 

@@ -31,8 +31,8 @@ pub record GetsClient (b : Book) (e : ℕ) : Type 0 where
   pub present : IsPresent b e made
   pub alone : has_client (as_begun b) e ≡ false
 
-abbrev pub IsThere : Book → ℕ → Type 0
-IsThere b e = (made : Create) × IsPresent b e made
+abbrev pub HasEntity : Book → ℕ → Type 0
+HasEntity b e = (made : Create) × IsPresent b e made
 
 -- a position of the space
 pub record IsInside (h : Header) (p : Pos) : Type 0 where
@@ -54,13 +54,13 @@ StaysInside h (deed.Move p) = IsInside h p
 StaysInside h (deed.Method m args) = Unit {0}
 
 -- the sender is a base node of the world, or a client
-abbrev pub IsKnownSender : Header → Sender → Type 0
-IsKnownSender h (sender.Base n) = IsBaseNodeOf h.settings.bases n
-IsKnownSender h (sender.Client e) = Unit {0}
+abbrev pub IsSenderOf : Header → Sender → Type 0
+IsSenderOf h (sender.Base n) = IsBaseNodeOf h.settings.bases n
+IsSenderOf h (sender.Client e) = Unit {0}
 
 -- a call that the round brings: its entity is there, and its type can do the deed, on that part and inside the space
 pub record IsFitCall (h : Header) (b : Book) (c : Call) : Type 0 where
-  pub sender : IsKnownSender h c.sender
+  pub sender : IsSenderOf h c.sender
   pub made : Create
   pub present : IsPresent b c.entity made
   pub deed : FitsDeed (type_of h.defs made.ty) c.deed
@@ -82,8 +82,8 @@ AreNumberedFrom n (c ∷ cs) = (c.number ≡ n) × AreNumberedFrom (n + 1) cs
 
 -- ---- the open round
 
--- What the open round of a book brings.
-pub record Brings (h : Header) (b : Book) : Type 0 where
+-- The open round of the book fits its world: the tree, what it creates, attaches and destroys, and its calls.
+pub record HasFitRound (h : Header) (b : Book) : Type 0 where
   -- its tree is one of the space, and has each cell of the tree with which the round began
   pub tree : IsTree (tree_of b)
   pub space : (tree_of b).size ≡ h.settings.size
@@ -95,7 +95,7 @@ pub record Brings (h : Header) (b : Book) : Type 0 where
   pub clients : AllByRecursion (GetsClient b) (filter_map joined b.current)
   pub one_each : IsDistinct eqb (filter_map joined b.current)
   -- each that is destroyed is there, and dies once
-  pub destroys : AllByRecursion (IsThere b) (filter_map destroyed b.current)
+  pub destroys : AllByRecursion (HasEntity b) (filter_map destroyed b.current)
   pub ends_once : IsDistinct eqb (filter_map destroyed b.current)
   -- each call fits, and each sender's calls to a part have the numbers after the last one that it had
   pub calls : AllByRecursion (IsFitCall h b) (calls_of b.current)

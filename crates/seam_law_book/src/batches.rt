@@ -12,12 +12,13 @@
 ghost use Rattle.std.specs.Prelude.{◌≡◌, ℕ, None};
 ghost use Rattle.seam_node_steps.specs.Prelude.{AreLegal};
 ghost use Rattle.seam_rule_rounds.specs.Prelude.{Header, Book, created_as};
-ghost use Rattle.seam_law_book.specs.Prelude.{IsOfLines, as_begun, Brings, IsUntouched};
+ghost use Rattle.seam_law_book.specs.Prelude.{IsOfLines, as_begun, HasFitRound, IsUntouched};
 
 /// Lines made the book as its open round began too. What the round brings fits that, after a header with legal settings.
 pub fn lines_bring_what_fits()
     ensures begun { (h : Header) (b : Book) → IsOfLines h b → IsOfLines h (as_begun b) }
-    ensures brings { (h : Header) (b : Book) → AreLegal h.settings → IsOfLines h b → Brings h b }
+    ensures brings { (h : Header) (b : Book) → AreLegal h.settings → IsOfLines h b →
+        HasFitRound h b }
 {}
 
 /// Nothing was accepted for a number that was not created.

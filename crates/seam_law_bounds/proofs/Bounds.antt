@@ -9,7 +9,7 @@ use Rattle.seam_node_steps.specs.Prelude.{total, Batch, cell_count, has_witness,
 use Rattle.seam_law_calls.specs.Prelude.{Frame}
 use Rattle.seam_law_rounds.specs.Prelude.{MayBeLoaded}
 use Rattle.seam_law_ghosts.specs.Prelude.{AreCopiesBetweenRounds, GoesThroughRound}
-use Rattle.seam_law_bounds.specs.Prelude.{is_among, LooksAmong, SeesWhatIsThere, entities, reals_at, witnesses_at, all_witnesses}
+use Rattle.seam_law_bounds.specs.Prelude.{is_among, LooksAmong, EachSeenIsHeld, entities, reals_at, witnesses_at, all_witnesses}
 use Rattle.seam_law_bounds.specs.Prelude.{events_of_looks}
 use Rattle.seam_law_bounds.proofs.There.{numbers_many, reals_of, reals_many, passing_has, us, ws, among_then}
 
@@ -72,7 +72,7 @@ more_looks n m w le =
 -- ---- in a round
 
 module _ (f : Frame) (w : World) (b : Batch) (may : MayBeLoaded f w b) (copies : AreCopiesBetweenRounds f w)
-    (sees : SeesWhatIsThere w) (v : World) (round : GoesThroughRound w b v) where
+    (sees : EachSeenIsHeld w) (v : World) (round : GoesThroughRound w b v) where
   -- the entities of the loaded world, and its witnesses
   abbrev pub names : List ℕ
   names = us f w b may copies sees

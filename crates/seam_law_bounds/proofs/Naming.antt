@@ -5,10 +5,10 @@ use Rattle.seam_law_flow.specs.Prelude.{slot_at}
 use Rattle.seam_law_calls.specs.Prelude.{Frame, has_of, has_none, real_in}
 use Rattle.seam_law_rounds.specs.Prelude.{MayBeLoaded}
 use Rattle.seam_law_ghosts.specs.Prelude.{AreCopiesBetweenRounds}
-use Rattle.seam_law_bounds.specs.Prelude.{LooksAmong, SeesWhatIsThere, AreAmong}
+use Rattle.seam_law_bounds.specs.Prelude.{LooksAmong, EachSeenIsHeld, AreAmong}
 use Rattle.seam_law_bounds.proofs.There.{among_named}
 
-pub among_these : (f : Frame) (w : World) (b : Batch) → MayBeLoaded f w b → AreCopiesBetweenRounds f w → SeesWhatIsThere (loaded w b) →
+pub among_these : (f : Frame) (w : World) (b : Batch) → MayBeLoaded f w b → AreCopiesBetweenRounds f w → EachSeenIsHeld (loaded w b) →
     (us : List ℕ) → AreAmong us (loaded w b) → LooksAmong us (λ k. us) (loaded w b)
 among_these f w b may copies sees us named =
     among_named f w b may copies us us (λ e p. named e p.0 p.1 p.2) sees

@@ -7,7 +7,7 @@ use Rattle.seam_node_steps.specs.Prelude.{opened}
 use Rattle.seam_law_flow.specs.Prelude.{slot_at}
 use Rattle.seam_law_calls.specs.Prelude.{Has, has_of, has_none, real_in, IsFrame}
 use Rattle.seam_law_rounds.specs.Prelude.{first_frame}
-use Rattle.seam_law_bounds.specs.Prelude.{LooksAmong, SeesWhatIsThere, HoldsNothing}
+use Rattle.seam_law_bounds.specs.Prelude.{LooksAmong, EachSeenIsHeld, HoldsNothing}
 use Rattle.seam_law_rounds.proofs.Opened.{opened_is_new, opened_has_none}
 
 module _ (defs : List TypeDef) (settings : Settings) (frame : IsFrame (first_frame defs settings)) (bases : 1 ≤ settings.bases) where
@@ -36,5 +36,5 @@ module _ (defs : List TypeDef) (settings : Settings) (frame : IsFrame (first_fra
     witnesses = λ k c at e r x there has. absurd (no_real k c at e r there);
   }
 
-  pub opened_sees : SeesWhatIsThere w
+  pub opened_sees : EachSeenIsHeld w
   opened_sees e k r at = absurd (let z = sym (opened_has_none defs settings frame bases e k) ∙ at in cc)

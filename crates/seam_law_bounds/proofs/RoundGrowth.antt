@@ -8,7 +8,7 @@ use Rattle.seam_node_steps.specs.Prelude.{Batch, RealView, WitnessView, CellView
 use Rattle.seam_law_flow.specs.Prelude.{slot_at, letters_of}
 use Rattle.seam_law_calls.specs.Prelude.{Frame, has_of, has_none, real_in, real_of, sent_of, sent_by, HasToldAtMost, real_at}
 use Rattle.seam_law_rounds.specs.Prelude.{framed, numbers_of, MayBeLoaded}
-use Rattle.seam_law_ghosts.specs.Prelude.{AreCopiesBetweenRounds, GoesThroughRound, WasThere}
+use Rattle.seam_law_ghosts.specs.Prelude.{AreCopiesBetweenRounds, GoesThroughRound, HadSameReal}
 use Rattle.seam_law_clients.specs.Prelude.{having_looked, looked_by}
 use Rattle.seam_law_bounds.specs.Prelude.{LooksAmong, LooksFit, Always, AreAtMost}
 use Rattle.seam_law_calls.proofs.Easing.{burden_leads}
@@ -63,7 +63,7 @@ module _ (f : Frame) (w : World) (b : Batch) (may : MayBeLoaded f w b) where
         absurd (let z = sym (gone.slots k) ∙ at in cc)
 
     -- a real of the end, as the calls left it
-    before_looks : ((e k : ℕ) (q : RealView) → real_at e v k ≡ Some q → WasThere e k q round.reaped) → (e k : ℕ) (q : RealView) →
+    before_looks : ((e k : ℕ) (q : RealView) → real_at e v k ≡ Some q → HadSameReal e k q round.reaped) → (e k : ℕ) (q : RealView) →
         real_at e v k ≡ Some q → (r : RealView) × (real_at e round.reaped k ≡ Some r) × (real_at e round.called k ≡ Some r) ×
         (numbers_of q ≡ numbers_of r)
     before_looks leave e k q at =
@@ -75,7 +75,7 @@ module _ (f : Frame) (w : World) (b : Batch) (may : MayBeLoaded f w b) where
           ap numbers_of was.same,
         )
 
-    pub numbers_most : ((e k : ℕ) (q : RealView) → real_at e v k ≡ Some q → WasThere e k q round.reaped) → (n : ℕ) →
+    pub numbers_most : ((e k : ℕ) (q : RealView) → real_at e v k ≡ Some q → HadSameReal e k q round.reaped) → (n : ℕ) →
         AreAtMost numbers_of n w → AreAtMost numbers_of (n + (3 * length b.orders + 2)) v
     numbers_most leave n low e k q at =
         let was = before_looks leave e k q at in
@@ -118,7 +118,7 @@ module _ (f : Frame) (w : World) (b : Batch) (may : MayBeLoaded f w b) where
             let was = ap sent_of has in
             omega (arith, now, was, few_lines)
 
-        pub told_end : (leave : (e k : ℕ) (q : RealView) → real_at e v k ≡ Some q → WasThere e k q round.reaped)
+        pub told_end : (leave : (e k : ℕ) (q : RealView) → real_at e v k ≡ Some q → HadSameReal e k q round.reaped)
             (looked : (e k : ℕ) (r : RealView) → real_at e round.reaped k ≡ Some r → (cell : CellView) →
             slice_get round.reaped.nodes k ≡ Some (Cell cell) → real_at e v k ≡ Some (having_looked cell e r))
             (k : ℕ) (q : RealView) → real_at e v k ≡ Some q → sent_by q ≤ n + lines * (16 * length b.orders + 1)

@@ -8,9 +8,9 @@ use Rattle.seam_node_steps.specs.Prelude.{holders, seen_as, CellView, known_to, 
 use Rattle.seam_law_flow.specs.Prelude.{letters_of}
 use Rattle.seam_law_calls.specs.Prelude.{Frame, mine, RunsTo, real_at}
 use Rattle.seam_law_rounds.specs.Prelude.{IsBetweenRounds, HasPartsBetweenRounds}
-use Rattle.seam_law_ghosts.specs.Prelude.{WasThere, AreCopiesBetweenRounds}
+use Rattle.seam_law_ghosts.specs.Prelude.{HadSameReal, AreCopiesBetweenRounds}
 use Rattle.seam_law_clients.specs.Prelude.{witness_looked, looked_by, having_looked, HaveRoomToLook}
-use Rattle.seam_law_bounds.specs.Prelude.{SeesWhatIsThere}
+use Rattle.seam_law_bounds.specs.Prelude.{EachSeenIsHeld}
 use Rattle.seam_machine.proofs.Quiet.{quiet_links}
 use Rattle.seam_defs.specs.declared.flags.Group.TheVariants as group
 use Rattle.seam_view.specs.Replica.{seen_of}
@@ -63,7 +63,7 @@ module _ (f : Frame) (u : World) (between : IsBetweenRounds f u) (parts : HasPar
   same_real_is h = cc
 
   module _ (e k : ℕ) (q : RealView) (at : real_at e v k ≡ Some q) (x : WitnessView) (has : q.witness ≡ Some x) where
-    there : WasThere e k q u
+    there : HadSameReal e k q u
     there = looks_leave f u between vs v run e k q at
 
     cell : (c : CellView) × (slice_get u.nodes k ≡ Some (Cell c))
@@ -89,5 +89,5 @@ module _ (f : Frame) (u : World) (between : IsBetweenRounds f u) (parts : HasPar
     sees : AllByRecursion (λ p. holders v p.0 ≡ 1) x.view.entries
     sees = sees_by there.real.witness refl
 
-  pub looks_see : SeesWhatIsThere v
+  pub looks_see : EachSeenIsHeld v
   looks_see e k q at x has = sees e k q at x has

@@ -19,7 +19,7 @@ use Rattle.seam_law_flow.specs.Prelude.{slot_at, letters_of}
 use Rattle.seam_law_calls.specs.Prelude.{Frame, has_of, has_none, real_in, real_of, RunsTo, real_at}
 use Rattle.seam_law_rounds.specs.Prelude.{framed, made, node_loaded, MayBeLoaded}
 use Rattle.seam_law_ghosts.specs.Prelude.{AreCopiesBetweenRounds}
-use Rattle.seam_law_bounds.specs.Prelude.{is_among, AllAmong, LooksAmong, SeesWhatIsThere, HoldsNothing, entities, reals_at, all_witnesses}
+use Rattle.seam_law_bounds.specs.Prelude.{is_among, AllAmong, LooksAmong, EachSeenIsHeld, HoldsNothing, entities, reals_at, all_witnesses}
 use Rattle.seam_law_bounds.specs.Prelude.{witnesses_at, cell_orders, base_orders, tick_orders, events_of_round}
 use Rattle.seam_machine.proofs.Quiet.{quiet_links}
 use Rattle.seam_node_steps.proofs.Slots.{get-set_at}
@@ -207,7 +207,7 @@ module _ (f : Frame) (w : World) (b : Batch) (may : MayBeLoaded f w b) (copies :
   all_named [] h = tt
   all_named (p ∷ ps) h = (named p.0 (home_loaded f w b may.begin p.0 h.0), all_named ps h.1)
 
-  pub among_named : SeesWhatIsThere (loaded w b) →
+  pub among_named : EachSeenIsHeld (loaded w b) →
       ((k : ℕ) (c : CellView) → slice_get (loaded w b).nodes k ≡ Some (Cell c) → (e : ℕ) (r : RealView) (x : WitnessView) →
       table.get c.reals e ≡ Some r → r.witness ≡ Some x → is_among ws e ≡ true) → LooksAmong us (λ k. ws) (loaded w b)
   among_named sees witnesses = record {
@@ -224,7 +224,7 @@ module _ (f : Frame) (w : World) (b : Batch) (may : MayBeLoaded f w b) (copies :
 -- ---- a loaded world
 
 module _ (f : Frame) (w : World) (b : Batch) (may : MayBeLoaded f w b) (copies : AreCopiesBetweenRounds f w)
-    (sees : SeesWhatIsThere w) where
+    (sees : EachSeenIsHeld w) where
   abbrev start : World
   start = loaded w b
 
@@ -253,7 +253,7 @@ module _ (f : Frame) (w : World) (b : Batch) (may : MayBeLoaded f w b) (copies :
   nothing_seen : (h : Here) (r : RealView) → SeesThere (with_witness h r)
   nothing_seen h r y has = subst SeesIn has tt
 
-  sees_start : SeesWhatIsThere start
+  sees_start : EachSeenIsHeld start
   sees_start e k r here x has =
       all_weaker (λ p. holders w p.0 ≡ 1) (λ p. holders start p.0 ≡ 1) x.view.entries
       (λ p h. holds_kept f w b may.begin p.0 h)
@@ -314,7 +314,7 @@ somewhere_in e (s ∷ ss) h = by (is_among (reals_of s) e) refl (somewhere_in e 
         (suc x.0, x.1, x.2)
 
 module _ (f : Frame) (w : World) (b : Batch) (may : MayBeLoaded f w b) (copies : AreCopiesBetweenRounds f w)
-    (sees : SeesWhatIsThere w) (v : World) (es : List Event) (run : RunsTo (loaded w b) es v) where
+    (sees : EachSeenIsHeld w) (v : World) (es : List Event) (run : RunsTo (loaded w b) es v) where
   pub among_then : LooksAmong (us f w b may copies sees) (λ k. ws f w b may copies sees) v
   among_then =
       always_among (us f w b may copies sees) (ws f w b may copies sees) (framed f b) (loaded w b) (in_frame f w b may.begin)
@@ -328,7 +328,7 @@ module _ (f : Frame) (w : World) (b : Batch) (may : MayBeLoaded f w b) (copies :
       let x = somewhere_in p.0 (loaded w b).nodes h.0 in
       (one_after f w b may.begin p.0 x.0 x.1 x.2 v es run, held_then ps h.1)
 
-  pub sees_then : SeesWhatIsThere v
+  pub sees_then : EachSeenIsHeld v
   sees_then e k r here x has =
       let cell = in_cell v e k r here in
       held_then x.view.entries (among_then.views k cell.0 cell.1 e r x cell.2 has).1

@@ -28,8 +28,8 @@ Always P w = (v : World) (es : List Event) → RunsTo w es v → P v
 -- ---- what a world has to look at
 
 -- each entity that a witness has in view has a holder
-abbrev pub SeesWhatIsThere : World → Type 0
-SeesWhatIsThere w =
+abbrev pub EachSeenIsHeld : World → Type 0
+EachSeenIsHeld w =
     (e k : ℕ) (r : RealView) → real_at e w k ≡ Some r → (x : WitnessView) → r.witness ≡ Some x →
     AllByRecursion (λ p. holders w p.0 ≡ 1) x.view.entries
 

@@ -1,6 +1,6 @@
 -- What the crates above cite of this one and of those below it, gathered, so that one import names it.
 pub use Rattle.seam_law_bounds.specs.Events.{AllCan, BaseCan, NodeCan, all_passes, cell_passes, is_left, is_pass, node_passes, passes_by}
-pub use Rattle.seam_law_bounds.specs.Looking.{AllAmong, Always, ClientsKeepRoom, LooksAmong, LooksFit, SeesWhatIsThere, is_among}
+pub use Rattle.seam_law_bounds.specs.Looking.{AllAmong, Always, ClientsKeepRoom, EachSeenIsHeld, LooksAmong, LooksFit, is_among}
 pub use Rattle.seam_law_bounds.specs.Most.{AreAmong, AreAtMost}
 pub use Rattle.seam_law_bounds.specs.Passes.{brings_call, hand_overs, hands_over, is_numbered, passes, passes_on, was_left}
 pub use Rattle.seam_law_bounds.specs.Phases.{HoldsNothing, all_witnesses, base_orders, cell_orders, entities, events_of_looks}

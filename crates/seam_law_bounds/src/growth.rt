@@ -12,7 +12,7 @@ ghost use Rattle.seam_node_steps.specs.Prelude.{IsQuiet, Batch, loaded, World, n
 ghost use Rattle.seam_law_calls.specs.Prelude.{Frame, sent_by};
 ghost use Rattle.seam_law_rounds.specs.Prelude.{numbers_of, MayBeLoaded};
 ghost use Rattle.seam_law_ghosts.specs.Prelude.{AreCopiesBetweenRounds, GoesThroughRound};
-ghost use Rattle.seam_law_bounds.specs.Prelude.{SeesWhatIsThere, HoldsNothing, AreAtMost, AreAmong};
+ghost use Rattle.seam_law_bounds.specs.Prelude.{EachSeenIsHeld, HoldsNothing, AreAtMost, AreAmong};
 
 /// Where the numbers of each real are at most n, they are at most that many more after a round (`reals`). Where each witness told at most n
 /// updates, it told at most that many more after a round (`told`) of a world that has reals of the entities of a list alone.
@@ -21,7 +21,7 @@ pub fn a_round_raises_numbers_little()
         AreCopiesBetweenRounds f w → (v : World) → GoesThroughRound w b v → (n : ℕ) →
         AreAtMost numbers_of n w → AreAtMost numbers_of (n + (3 * length b.orders + 2)) v }
     ensures told { (f : Frame) (w : World) (b : Batch) → MayBeLoaded f w b →
-        AreCopiesBetweenRounds f w → HoldsNothing w → SeesWhatIsThere w → (us : List ℕ) →
+        AreCopiesBetweenRounds f w → HoldsNothing w → EachSeenIsHeld w → (us : List ℕ) →
         AreAmong us (loaded w b) → (v : World) → GoesThroughRound w b v → IsQuiet node_has_work v →
         (n : ℕ) → AreAtMost sent_by n w → AreAtMost sent_by
         (n + (1 + length us) * (16 * length b.orders + 1)) v }

@@ -19,7 +19,7 @@ ghost use Rattle.seam_law_rounds.specs.Prelude.{IsBetweenRounds, first_frame, Ar
 ghost use Rattle.seam_law_rounds.specs.Prelude.{HasSmallNumbers};
 ghost use Rattle.seam_law_ghosts.specs.Prelude.{AreCopiesBetweenRounds};
 ghost use Rattle.seam_law_bounds.specs.Prelude.{Sizes, world_weight, is_pass, NodeCan, AllCan, all_passes, LooksFit, ClientsKeepRoom};
-ghost use Rattle.seam_law_bounds.specs.Prelude.{Always, SeesWhatIsThere, LooksAmong, HoldsNothing, entities, all_witnesses, cell_orders};
+ghost use Rattle.seam_law_bounds.specs.Prelude.{Always, EachSeenIsHeld, LooksAmong, HoldsNothing, entities, all_witnesses, cell_orders};
 ghost use Rattle.seam_law_bounds.specs.Prelude.{base_orders, tick_orders, events_of_round, events_of_looks};
 ghost use Rattle.seam_net_runs.specs.Weights.{Lowers};
 
@@ -42,7 +42,7 @@ pub fn a_run_is_no_longer_than_its_start_weighs()
 /// entities of a list that is no longer than there are entities, and no witnesses but those of `ws` (`among`).
 pub fn a_round_ends()
     ensures records { (f : Frame) (w : World) (b : Batch) → MayBeLoaded f w b → HoldsNothing w →
-        AreCopiesBetweenRounds f w → SeesWhatIsThere w → (v : World) (es : List Event) →
+        AreCopiesBetweenRounds f w → EachSeenIsHeld w → (v : World) (es : List Event) →
         RunsTo (loaded w b) es v → length es ≤ events_of_round f.settings.bases (cell_orders b)
         (base_orders b) (tick_orders b) (entities (loaded w b)) (all_witnesses (loaded w b)) }
     ensures among { (f : Frame) (w : World) (b : Batch) → MayBeLoaded f w b → HoldsNothing w →
@@ -89,10 +89,10 @@ pub fn nothing_held_goes_from_record_to_record()
 pub fn views_name_what_is_there()
     ensures opened { (defs : List TypeDef) (settings : Settings) →
         IsFrame (first_frame defs settings) → 1 ≤ settings.bases →
-        SeesWhatIsThere (opened defs settings) }
+        EachSeenIsHeld (opened defs settings) }
     ensures calls { (f : Frame) (w : World) (b : Batch) → MayBeLoaded f w b →
-        AreCopiesBetweenRounds f w → SeesWhatIsThere w → (v : World) (es : List Event) →
-        RunsTo (loaded w b) es v → SeesWhatIsThere v }
+        AreCopiesBetweenRounds f w → EachSeenIsHeld w → (v : World) (es : List Event) →
+        RunsTo (loaded w b) es v → EachSeenIsHeld v }
 {}
 
 /// Where the witnesses of such a world look, those of `ws k` in cell k, and it has the record of base parts and clients, with small

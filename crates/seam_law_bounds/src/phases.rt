@@ -14,7 +14,7 @@ ghost use Rattle.seam_law_rounds.specs.Prelude.{IsBetweenRounds, framed, first_f
 ghost use Rattle.seam_law_ghosts.specs.Prelude.{AreCopiesBetweenRounds, GoesThroughRound};
 ghost use Rattle.seam_law_clients.specs.Prelude.{clients_loaded, clients_shown};
 ghost use Rattle.seam_law_all.specs.Prelude.{KeepsRecords, MayBeGiven};
-ghost use Rattle.seam_law_bounds.specs.Prelude.{IsBounded, SeesWhatIsThere, HoldsNothing, entities, all_witnesses, cell_orders};
+ghost use Rattle.seam_law_bounds.specs.Prelude.{IsBounded, EachSeenIsHeld, HoldsNothing, entities, all_witnesses, cell_orders};
 ghost use Rattle.seam_law_bounds.specs.Prelude.{base_orders, tick_orders, events_of_round, events_of_looks};
 ghost use Rattle.seam_rule_clients.specs.Clients.{ClientReplica};
 
@@ -23,16 +23,16 @@ ghost use Rattle.seam_rule_clients.specs.Clients.{ClientReplica};
 pub fn a_round_keeps_what_bounds_it()
     ensures opened { (defs : List TypeDef) (settings : Settings) →
         IsFrame (first_frame defs settings) → 1 ≤ settings.bases →
-        HoldsNothing (opened defs settings) × SeesWhatIsThere (opened defs settings) }
+        HoldsNothing (opened defs settings) × EachSeenIsHeld (opened defs settings) }
     ensures looks { (f : Frame) (u : World) → IsBetweenRounds f u → HasPartsBetweenRounds f u →
         HasSmallNumbers f u → AreCopiesBetweenRounds f u → (vs : List Event) (v : World) →
-        RunsTo (look_loaded u) vs v → IsQuiet node_has_work v → SeesWhatIsThere v }
+        RunsTo (look_loaded u) vs v → IsQuiet node_has_work v → EachSeenIsHeld v }
     ensures nothing { (f : Frame) (w : World) (b : Batch) → MayBeLoaded f w b →
         AreCopiesBetweenRounds f w → HoldsNothing w → (v : World) → GoesThroughRound w b v →
         IsQuiet node_has_work v → HoldsNothing v }
     ensures views { (f : Frame) (w : World) (b : Batch) → MayBeLoaded f w b →
         AreCopiesBetweenRounds f w → (v : World) → GoesThroughRound w b v →
-        IsQuiet node_has_work v → SeesWhatIsThere v }
+        IsQuiet node_has_work v → EachSeenIsHeld v }
 {
     seam_defs::laws::others_see_the_ghost();
     crate::nothing_held_goes_from_record_to_record();
@@ -45,7 +45,7 @@ pub fn a_round_keeps_what_bounds_it()
 /// among them, and by the witnesses that are left.
 pub fn each_phase_of_a_round_ends()
     ensures calls { (f : Frame) (w : World) (b : Batch) → MayBeLoaded f w b →
-        AreCopiesBetweenRounds f w → HoldsNothing w → SeesWhatIsThere w →
+        AreCopiesBetweenRounds f w → HoldsNothing w → EachSeenIsHeld w →
         (v : World) (es : List Event) → RunsTo (loaded w b) es v →
         length es ≤ events_of_round f.settings.bases (cell_orders b) (base_orders b) (tick_orders b)
         (entities (loaded w b)) (all_witnesses (loaded w b)) }
@@ -53,7 +53,7 @@ pub fn each_phase_of_a_round_ends()
         AreCopiesBetweenRounds f w → HoldsNothing w → (v : World) →
         (round : GoesThroughRound w b v) → length round.reap_events ≤ 18 * length round.gone }
     ensures looks { (f : Frame) (w : World) (b : Batch) → MayBeLoaded f w b →
-        AreCopiesBetweenRounds f w → HoldsNothing w → SeesWhatIsThere w → (v : World) →
+        AreCopiesBetweenRounds f w → HoldsNothing w → EachSeenIsHeld w → (v : World) →
         (round : GoesThroughRound w b v) → length round.look_events
         ≤ events_of_looks (entities (loaded w b)) (all_witnesses round.reaped) }
 {

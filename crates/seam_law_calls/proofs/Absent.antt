@@ -4,7 +4,7 @@ use Rattle.std.specs.List.{AllByRecursion}
 use Rattle.seam_node_steps.specs.Prelude.{happens, Occurs, Event, Ghost, beat_in, copy_in, ghost_after, GhostCopy, RealView, Msg, Hand}
 use Rattle.seam_node_steps.specs.Prelude.{GhostSet, World, node_steps}
 use Rattle.seam_law_calls.specs.Prelude.{Frame, here_at, IsInFrame, Has, AtCell, CellMoves, BaseMoves, Moves, at_a_cell, at_a_base, real_in}
-use Rattle.seam_law_calls.specs.Prelude.{IsBlank, BringsNone, IsAbsent, HasFewEntities, RunsTo}
+use Rattle.seam_law_calls.specs.Prelude.{IsBlank, CarriesNoEntity, IsAbsent, HasFewEntities, RunsTo}
 use Rattle.seam_law_calls.specs.CellMoves as move
 use Rattle.seam_law_calls.proofs.Keeping.{all_happen, run_keeps, units}
 use Rattle.seam_law_calls.proofs.BaseDeeds.{base_keeps}
@@ -19,12 +19,12 @@ no_copy g beat none = by (nat_lt (beat_in g) beat)
     by false = none
 
 module _ (f : Frame) (e k : ℕ) (s : Has) (i : Option Msg) (t : Has) (sent : List (ℕ × Msg)) (here : IsBlank s)
-    (come : (m : Msg) → i ≡ Some m → BringsNone m) where
+    (come : (m : Msg) → i ≡ Some m → CarriesNoEntity m) where
   abbrev Stays : Type 0
-  Stays = IsBlank t × AllByRecursion (λ p. BringsNone p.1) sent
+  Stays = IsBlank t × AllByRecursion (λ p. CarriesNoEntity p.1) sent
 
-  with_sent : IsBlank t → (l : List (ℕ × Msg)) → sent ≡ l → AllByRecursion (λ p. BringsNone p.1) l → Stays
-  with_sent blank l is all = (blank, subst (AllByRecursion (λ p. BringsNone p.1)) (sym is) all)
+  with_sent : IsBlank t → (l : List (ℕ × Msg)) → sent ≡ l → AllByRecursion (λ p. CarriesNoEntity p.1) l → Stays
+  with_sent blank l is all = (blank, subst (AllByRecursion (λ p. CarriesNoEntity p.1)) (sym is) all)
 
   same : t.cell ≡ s.cell → IsBlank t
   same is = record {
@@ -68,7 +68,7 @@ module _ (f : Frame) (e k : ℕ) (s : Has) (i : Option Msg) (t : Has) (sent : Li
   base_blank : (cells : ℕ) → t.cell ≡ s.cell → BaseMoves (here_at f k) cells e s.base i t.base sent → Stays
   base_blank cells cell m = (
     same cell,
-    (base_keeps (λ o. Unit {0}) (λ j x. BringsNone x) m
+    (base_keeps (λ o. Unit {0}) (λ j x. CarriesNoEntity x) m
         (record { calls = λ c r at is. tt; base_calls = λ c is. tt; ticks = λ is j lt. tt; reaps = λ r at is. tt })
         (units s.base.orders)).1,
   )
@@ -80,7 +80,7 @@ module _ (f : Frame) (e k : ℕ) (s : Has) (i : Option Msg) (t : Has) (sent : Li
 module _ (f : Frame) (e : ℕ) where
   pub absent_happens : (w : World) (v : Event) → Occurs w v → IsInFrame f w → IsAbsent e w → IsAbsent e (happens node_steps w v)
   absent_happens w v o frame h =
-      let all = all_happen f e (λ k s. IsBlank s) (λ a k m. BringsNone m)
+      let all = all_happen f e (λ k s. IsBlank s) (λ a k m. CarriesNoEntity m)
       (λ k s i t sent here come m. stays_blank f e k s i t sent here (λ x is. (come x is).1) m) w v o frame
       (record { slots = h.cells; letters = h.letters }) in
       record { cells = all.slots; letters = all.letters }

@@ -5,7 +5,7 @@ use Rattle.seam_node_steps.specs.Prelude.{cells_of, happens, Occurs, Event, Real
 use Rattle.seam_law_flow.specs.Prelude.{letter_in, slot_at, IsSilent}
 use Rattle.seam_law_calls.specs.Prelude.{Frame, here_at, IsInFrame, Has, AtCell, mine, concerning, has_of, has_none, Moves, at_a_cell}
 use Rattle.seam_law_calls.specs.Prelude.{at_a_base, real_in, update_in, WitnessMoves, EachReal, node_looks, mine_looks, looks_left}
-use Rattle.seam_law_calls.specs.Prelude.{IsToldNothing, RunsTo}
+use Rattle.seam_law_calls.specs.Prelude.{NoUpdateComes, RunsTo}
 use Rattle.seam_net_runs.proofs.Weighing.{weight_bounds}
 use Rattle.seam_law_flow.proofs.Following.{all_append, letters_kept}
 use Rattle.seam_law_calls.proofs.Classify.{node_moves}
@@ -37,11 +37,11 @@ module _ (f : Frame) (e k : ℕ) (s : Has) (i : Option Msg) (t : Has) (sent : Li
 -- ---- an event
 
 module _ (f : Frame) (e : ℕ) (w : World) (v : Event) (o : Occurs w v) (q : IsInFrame f w) (never : NeverLooks (has_of e o.node).cell)
-    (none : IsToldNothing e w) where
+    (none : NoUpdateComes e w) where
   abbrev Silent : Has → Option Msg → Has → List (ℕ × Msg) → Type 0
   Silent s i t sent = IsSilent update_in sent
 
-  silent_happens : IsToldNothing e (happens node_steps w v)
+  silent_happens : NoUpdateComes e (happens node_steps w v)
   silent_happens =
       let g = event_fact f e w v o q Silent
       (moves_silent f e v.node (has_of e o.node) (letter_in (mine e) o.input) (has_of e (node_steps o.node o.input).state)
@@ -54,10 +54,10 @@ module _ (f : Frame) (e : ℕ) (w : World) (v : Event) (o : Occurs w v) (q : IsI
 -- ---- no look is left
 
 module _ (f : Frame) (most : cells_of f.tree ≤ cell_count) (e : ℕ) where
-  pub tells_none : (w v : World) (es : List Event) → IsInFrame f w → looks_left e w ≡ 0 → IsToldNothing e w →
-      RunsTo w es v → IsToldNothing e v
+  pub tells_none : (w v : World) (es : List Event) → IsInFrame f w → looks_left e w ≡ 0 → NoUpdateComes e w →
+      RunsTo w es v → NoUpdateComes e v
   tells_none w v es frame left none run =
-      (run_keeps f (λ x. (looks_left e x ≡ 0) × IsToldNothing e x) (λ x a o q h.
+      (run_keeps f (λ x. (looks_left e x ≡ 0) × NoUpdateComes e x) (λ x a o q h.
       let less = looks_left_happens f most e x a o q in
       let left = h.0 in
       let bound = weight_bounds (node_looks e) (mine_looks e) x a o in
@@ -67,10 +67,10 @@ module _ (f : Frame) (most : cells_of f.tree ≤ cell_count) (e : ℕ) where
 -- ---- there is no witness
 
 module _ (f : Frame) (e : ℕ) where
-  pub unseen_told_none : (w v : World) (es : List Event) → IsInFrame f w → EachReal e (IsSeen f e false) w → IsToldNothing e w →
-      RunsTo w es v → IsToldNothing e v
+  pub unseen_told_none : (w v : World) (es : List Event) → IsInFrame f w → EachReal e (IsSeen f e false) w → NoUpdateComes e w →
+      RunsTo w es v → NoUpdateComes e v
   unseen_told_none w v es frame each none run =
-      (run_keeps f (λ x. EachReal e (IsSeen f e false) x × IsToldNothing e x) (λ x a o q h. (
+      (run_keeps f (λ x. EachReal e (IsSeen f e false) x × NoUpdateComes e x) (λ x a o q h. (
         each_happens (IsSeen f e false) (λ r q same is. ap is_some same ∙ is) f e x a o q
             (λ k n r q y z shown at wit wit' sum is. ap is_some wit' ∙ (sym (ap is_some wit) ∙ is)) h.0,
         silent_happens f e x a o q

@@ -28,7 +28,8 @@ pub use Rattle.seam_law_calls.specs.Sights.{has_none, has_of, kept_if, mine, no_
 pub use Rattle.seam_law_calls.specs.Sights.{orders_of, times}
 pub use Rattle.seam_law_calls.specs.Strays.{HasRoutes, IsBaseNumber, IsForNode, LinesHaveRoom, NoneIsStray, NothingIsStray, client}
 pub use Rattle.seam_law_calls.specs.Strays.{is_for_cells, no_client}
-pub use Rattle.seam_law_calls.specs.Telling.{BringsNone, HasFewEntities, IsAbsent, IsBlank, IsFewView, IsToldNothing, SeesFew, looks_left}
+pub use Rattle.seam_law_calls.specs.Telling.{CarriesNoEntity, HasFewEntities, IsAbsent, IsBlank, IsFewView, NoUpdateComes, SeesFew}
+pub use Rattle.seam_law_calls.specs.Telling.{looks_left}
 pub use Rattle.seam_law_calls.specs.Telling.{mine_looks, most_entities, most_shown, node_looks, order_looks}
 pub use Rattle.seam_law_calls.specs.Ways.{AllLead, NamesVisited, follow, has_hand, is_call, is_hand, is_visited}
 pub use Rattle.seam_law_calls.specs.WitnessMoves.{WitnessMoves, sent_by, sent_of}

@@ -22,16 +22,16 @@ pub record IsBlank (h : Has) : Type 0 where
   pub real : real_in h ≡ None
   pub copy : copy_in h.cell.slot.ghost ≡ None
 
--- a message that brings neither
-abbrev pub BringsNone : Msg → Type 0
-BringsNone (Hand r) = ⊥
-BringsNone (GhostSet e n c) = ⊥
-BringsNone _ = Unit {0}
+-- a message that carries neither the real nor a copy
+abbrev pub CarriesNoEntity : Msg → Type 0
+CarriesNoEntity (Hand r) = ⊥
+CarriesNoEntity (GhostSet e n c) = ⊥
+CarriesNoEntity _ = Unit {0}
 
 -- the entity is nowhere, and nothing brings it
 pub record IsAbsent (e : ℕ) (w : World) : Type 0 where
   pub cells : (k : ℕ) → IsBlank ((entity_flow e w).slot k)
-  pub letters : (a k : ℕ) → AllByRecursion BringsNone ((entity_flow e w).mail a k)
+  pub letters : (a k : ℕ) → AllByRecursion CarriesNoEntity ((entity_flow e w).mail a k)
 
 -- each entity that is anywhere has such a number
 abbrev pub HasFewEntities : World → Type 0
@@ -77,5 +77,5 @@ most_shown = 1 + 3 * most_entities
 -- ---- nothing is told
 
 -- no update is on its way to the entity's client
-abbrev pub IsToldNothing : ℕ → World → Type 0
-IsToldNothing e w = (a k : ℕ) → AllByRecursion (λ m. update_in m ≡ None) ((entity_flow e w).mail a k)
+abbrev pub NoUpdateComes : ℕ → World → Type 0
+NoUpdateComes e w = (a k : ℕ) → AllByRecursion (λ m. update_in m ≡ None) ((entity_flow e w).mail a k)

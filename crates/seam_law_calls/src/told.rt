@@ -10,7 +10,7 @@
 ghost use Rattle.std.specs.Prelude.{◌≡◌, ℕ, ◌+◌, ◌*◌, List};
 ghost use Rattle.seam_node_steps.specs.Prelude.{Event, World};
 ghost use Rattle.seam_law_calls.specs.Prelude.{Frame, IsInFrame, IsFrame, EachReal, HasToldAtMost, HasFewEntities, SeesFew, looks_left};
-ghost use Rattle.seam_law_calls.specs.Prelude.{most_shown, IsToldNothing, RunsTo};
+ghost use Rattle.seam_law_calls.specs.Prelude.{most_shown, NoUpdateComes, RunsTo};
 
 /// In a world whose entities have numbers below the bound, an entity's witness tells at most *most_shown* updates for each look that is
 /// left of the ticks ordered, on their way, or come.
@@ -23,7 +23,7 @@ pub fn a_witness_tells_few()
 /// Where no look is left, as where entities are reaped, the client is told nothing more.
 pub fn nothing_is_told_without_looks()
     ensures { (f : Frame) (e : ℕ) (w v : World) (es : List Event) → IsFrame f → IsInFrame f w →
-        looks_left e w ≡ 0 → IsToldNothing e w → RunsTo w es v → IsToldNothing e v }
+        looks_left e w ≡ 0 → NoUpdateComes e w → RunsTo w es v → NoUpdateComes e v }
 {}
 
 /// No other entity comes into such a world, and each view stays one of such entities.

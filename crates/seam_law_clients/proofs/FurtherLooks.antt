@@ -13,7 +13,7 @@ use Rattle.seam_node_steps.specs.Prelude.{IsQuiet, Event, Shown, Own, RealView, 
 use Rattle.seam_node_steps.specs.Prelude.{look_loaded, World, node_has_work}
 use Rattle.seam_law_calls.specs.Prelude.{Frame, here_at, RunsTo, real_at}
 use Rattle.seam_law_rounds.specs.Prelude.{IsBetweenRounds}
-use Rattle.seam_law_ghosts.specs.Prelude.{WasThere}
+use Rattle.seam_law_ghosts.specs.Prelude.{HadSameReal}
 use Rattle.seam_law_clients.specs.Prelude.{row_of_real, rows_at, row_in, rows_of, looked_by, having_looked, HaveRoomToLook}
 use Rattle.seam_view.specs.declared.Seen.{Seen}
 use Rattle.seam_view.specs.declared.Look.{Look}
@@ -106,7 +106,7 @@ same_row f x cell r (Some v) = refl
 
 module _ (f : Frame) (u : World) (between : IsBetweenRounds f u) (room : HaveRoomToLook u) (vs : List Event) (v : World)
     (run : RunsTo (look_loaded u) vs v) (quiet : IsQuiet node_has_work v)
-    (was : (e k : ℕ) (q : RealView) → real_at e v k ≡ Some q → WasThere e k q u) where
+    (was : (e k : ℕ) (q : RealView) → real_at e v k ≡ Some q → HadSameReal e k q u) where
   again : IsBetweenRounds f v
   again = look_ends_between f u between vs v run quiet
 

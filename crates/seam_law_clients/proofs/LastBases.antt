@@ -9,7 +9,7 @@ use Rattle.seam_node_steps.specs.Prelude.{GhostSet, GhostDrop, Tick, Reap, Updat
 use Rattle.seam_node_steps.specs.Prelude.{PartView, ProxyView, holders, World, node_steps, node_has_work, reaps_loaded, look_loaded}
 use Rattle.seam_law_flow.specs.Prelude.{letters_of, more_letter, held_in, packed, bears, of_number}
 use Rattle.seam_law_calls.specs.Prelude.{Frame, here_at, entity_flow, real_in, strays_at, is_stuck, numbered_from, base_mail, part_desk}
-use Rattle.seam_law_calls.specs.Prelude.{sent_of, home_of, update_in, IsToldNothing, NothingIsStray}
+use Rattle.seam_law_calls.specs.Prelude.{sent_of, home_of, update_in, NoUpdateComes, NothingIsStray}
 use Rattle.seam_law_rounds.specs.Prelude.{IsSettled, IsBetweenRounds, AreReapable, AreFor, HasSettledPart, HasPartsBetweenRounds}
 use Rattle.seam_law_rounds.specs.Prelude.{HasSmallNumbers, HasNoCallsToBase}
 use Rattle.seam_call.specs.declared.order.Order.TheVariants as order
@@ -145,7 +145,7 @@ module _ (f : Frame) (u : World) (between : IsBetweenRounds f u) (parts : HasPar
       untold : (a k : ℕ) (m : UpdateData) (ms : List Msg) → (entity_flow e v).mail a k ≡ Update m ∷ ms →
           stray_update m ((entity_flow e v).slot k).base.part ≡ false
       untold a k m ms at =
-          let none : IsToldNothing e v = reaps_tell_none f u between parts es may vs v run e in
+          let none : NoUpdateComes e v = reaps_tell_none f u between parts es may vs v run e in
           let all : AllByRecursion (λ x. update_in x ≡ None) (Update m ∷ ms) =
           subst (AllByRecursion (λ x. update_in x ≡ None)) at (none a k) in
           absurd (let z = all.0 in cc)

@@ -7,7 +7,7 @@ use Rattle.seam_node_steps.specs.Prelude.{Base, order_if, ordered_at, look_loade
 use Rattle.seam_law_flow.specs.Prelude.{slot_at}
 use Rattle.seam_law_calls.specs.Prelude.{Frame, IsInFrame, has_of, has_none, entity_flow, real_in, RunsTo, real_at}
 use Rattle.seam_law_rounds.specs.Prelude.{IsBetweenRounds}
-use Rattle.seam_law_ghosts.specs.Prelude.{WasThere}
+use Rattle.seam_law_ghosts.specs.Prelude.{HadSameReal}
 use Rattle.seam_law_clients.specs.Prelude.{rows_of, FitsWitness, ClientsFit, witness_looked, looked_by, having_looked, HaveRoomToLook}
 use Rattle.seam_call.specs.declared.order.Order.TheVariants as order
 use Rattle.seam_law_rounds.proofs.Giving.{look_framed}
@@ -50,7 +50,7 @@ module _ (f : Frame) (u : World) (x : ℕ) where
 
 module _ (f : Frame) (u : World) (between : IsBetweenRounds f u) (room : HaveRoomToLook u) (vs : List Event) (v : World)
     (run : RunsTo (look_loaded u) vs v) (quiet : IsQuiet node_has_work v)
-    (was : (e k : ℕ) (q : RealView) → real_at e v k ≡ Some q → WasThere e k q u) (clients : ℕ → ClientReplica)
+    (was : (e k : ℕ) (q : RealView) → real_at e v k ≡ Some q → HadSameReal e k q u) (clients : ℕ → ClientReplica)
     (fit : ClientsFit f clients u) where
   -- what each client shows after its look
   abbrev pub shows : ℕ → ClientReplica

@@ -9,7 +9,7 @@ use Rattle.seam_law_flow.specs.Prelude.{slot_at, letters_of}
 use Rattle.seam_law_calls.specs.Prelude.{Frame, IsInFrame, mine, has_of, has_none, entity_flow, real_of, sent_by, tick_in, EachReal}
 use Rattle.seam_law_calls.specs.Prelude.{HasToldAtMost, HasNoLooks, RunsTo, real_at}
 use Rattle.seam_law_rounds.specs.Prelude.{IsBetweenRounds, each, AreReapable}
-use Rattle.seam_law_ghosts.specs.Prelude.{WasThere}
+use Rattle.seam_law_ghosts.specs.Prelude.{HadSameReal}
 use Rattle.seam_law_clients.specs.Prelude.{FitsWitness, ClientsFit}
 use Rattle.seam_machine.proofs.Occurring.{occurs}
 use Rattle.seam_machine.proofs.Quiet.{quiet_links, quiet_tasks}
@@ -120,7 +120,7 @@ module _ (f : Frame) (u : World) (between : IsBetweenRounds f u) (es : List ℕ)
   -- a real that is left is what it was
   pub stays : (e k : ℕ) (q : RealView) → real_at e v k ≡ Some q → real_at e u k ≡ Some q
   stays e k q at =
-      let there : WasThere e k q u = reaps_leave f u between es may vs v run e k q at in
+      let there : HadSameReal e k q u = reaps_leave f u between es may vs v run e k q at in
       let witness = (same_witness e k there.real there.here).cells k q at in
       let same : q ≡ there.real = there.same ∙ ap (λ x. let now : RealView = record there.real { witness = x } in now) witness in
       there.here ∙ ap Some (sym same)

@@ -6,7 +6,7 @@ use Rattle.seam_node_steps.specs.Prelude.{IsQuiet, Batch, RealView, WitnessView,
 use Rattle.seam_law_flow.specs.Prelude.{letters_of}
 use Rattle.seam_law_calls.specs.Prelude.{Frame, entity_flow, home_of, proxy_of, shown_in, lines_in, shown_at, real_at}
 use Rattle.seam_law_rounds.specs.Prelude.{IsBetweenRounds, framed, MayBeLoaded, HasPartsBetweenRounds, HasSmallNumbers}
-use Rattle.seam_law_ghosts.specs.Prelude.{AreCopiesBetweenRounds, GoesThroughRound, WasThere, ArePlaced}
+use Rattle.seam_law_ghosts.specs.Prelude.{AreCopiesBetweenRounds, GoesThroughRound, HadSameReal, ArePlaced}
 use Rattle.seam_law_clients.specs.Prelude.{rows_of, FitsWitness, ClientsFit, looked_by, having_looked, HaveRoomToLook, clients_shown}
 use Rattle.seam_law_rounds.proofs.CallsEnd.{calls_end_between}
 use Rattle.seam_law_rounds.proofs.Reaping.{reaps_end_between}
@@ -104,7 +104,7 @@ module _ (f : Frame) (w : World) (b : Batch) (may : MayBeLoaded f w b) (copies :
         r.witness ≡ Some x → shown_at ((entity_flow e v).slot (home_of g e))
         ≡ shown_at ((entity_flow e round.reaped).slot (home_of g e)) ++ one_look (once_called e) e (rows_of round.reaped)) where
       module _ (e k : ℕ) (q : RealView) (at : real_at e v k ≡ Some q) (x : WitnessView) (has : q.witness ≡ Some x) where
-        there : WasThere e k q round.reaped
+        there : HadSameReal e k q round.reaped
         there = looks_leave g round.reaped reaped_between round.look_events v round.looks e k q at
 
         some_is : {y z : RealView} → Some y ≡ Some z → y ≡ z

@@ -9,7 +9,8 @@ use Rattle.seam_node_steps.specs.Prelude.{Event, State, Property, ghost_of, othe
 use Rattle.seam_node_steps.specs.Prelude.{RealView, cell_count, other_of_real, other_of_copy, CellView, known_to, is_another, holders}
 use Rattle.seam_node_steps.specs.Prelude.{loaded, NodeView, World, Cell, Base}
 use Rattle.seam_law_flow.specs.Prelude.{slot_at, letters_of}
-use Rattle.seam_law_calls.specs.Prelude.{Frame, here_at, IsInFrame, has_of, has_none, entity_flow, real_in, real_of, IsAbsent, BringsNone}
+use Rattle.seam_law_calls.specs.Prelude.{Frame, here_at, IsInFrame, has_of, has_none, entity_flow, real_in, real_of, IsAbsent}
+use Rattle.seam_law_calls.specs.Prelude.{CarriesNoEntity}
 use Rattle.seam_law_calls.specs.Prelude.{RunsTo, real_at}
 use Rattle.seam_law_rounds.specs.Prelude.{framed, MayBegin}
 use Rattle.seam_law_ghosts.specs.Prelude.{book_entry, IsTrueCopy, IsTrue, present, copy_at, AreCopiesBetweenRounds}
@@ -37,8 +38,8 @@ module _ (f : Frame) (x : ℕ) where
       let low = (frame.nodes k (Cell c) at).low in
       absurd (omega (arith, low, high))
 
-  all_bring_none : (a k : ℕ) (w : World) → (entity_flow x w).mail a k ≡ [] → AllByRecursion BringsNone ((entity_flow x w).mail a k)
-  all_bring_none a k w is = subst (AllByRecursion BringsNone) (sym is) tt
+  all_bring_none : (a k : ℕ) (w : World) → (entity_flow x w).mail a k ≡ [] → AllByRecursion CarriesNoEntity ((entity_flow x w).mail a k)
+  all_bring_none a k w is = subst (AllByRecursion CarriesNoEntity) (sym is) tt
 
 -- ---- a round
 

@@ -17,7 +17,7 @@ ghost use Rattle.seam_node_steps.specs.Prelude.{Update, PartView, ProxyView, emp
 ghost use Rattle.seam_node_steps.specs.Prelude.{loaded, reaps_loaded, look_loaded, LeadsTo, holders, node_steps};
 ghost use Rattle.seam_law_flow.specs.Prelude.{letters_of};
 ghost use Rattle.seam_law_calls.specs.Prelude.{Frame, here_at, IsInFrame, entity_flow, IsFrame, IsSpared, events_of, from_sender};
-ghost use Rattle.seam_law_calls.specs.Prelude.{home_of, FindsClient, HasNoPart, IsToldNothing, RunsTo, real_at, real_in, NothingIsStray};
+ghost use Rattle.seam_law_calls.specs.Prelude.{home_of, FindsClient, HasNoPart, NoUpdateComes, RunsTo, real_at, real_in, NothingIsStray};
 ghost use Rattle.seam_law_rounds.specs.Prelude.{IsBetweenRounds, framed, first_frame, AreReapable, base_calls_of, HasPartsBetweenRounds};
 ghost use Rattle.seam_law_rounds.specs.Prelude.{HasNoCallsToBase, HasSmallNumbers, MayBeLoaded, opening};
 ghost use Rattle.seam_law_ghosts.specs.Prelude.{AreCopiesBetweenRounds, ArePlaced, GoesThroughRound};
@@ -146,7 +146,7 @@ pub fn an_update_without_a_client_never_comes()
         FindsClient (framed f b) e k ((entity_flow e v).slot k).base u }
     ensures reaps { (f : Frame) (u : World) → IsBetweenRounds f u → HasPartsBetweenRounds f u →
         (es : List ℕ) → AreReapable u es → (vs : List Event) (v : World) →
-        RunsTo (reaps_loaded u es) vs v → (e : ℕ) → IsToldNothing e v }
+        RunsTo (reaps_loaded u es) vs v → (e : ℕ) → NoUpdateComes e v }
     ensures looks { (f : Frame) (u : World) → IsBetweenRounds f u → HasPartsBetweenRounds f u →
         HasSmallNumbers f u → (vs : List Event) (v : World) → RunsTo (look_loaded u) vs v →
         (e a k : ℕ) (m : UpdateData) (ms : List Msg) → (entity_flow e v).mail a k ≡ Update m ∷ ms →

@@ -6,7 +6,7 @@ use Rattle.seam_node_steps.specs.Prelude.{with_nodes, reap_ordered_at, ordered_a
 use Rattle.seam_law_flow.specs.Prelude.{In}
 use Rattle.seam_law_calls.specs.Prelude.{Frame, entity_flow, real_in, IsFrame, RunsTo, real_at}
 use Rattle.seam_law_rounds.specs.Prelude.{IsBetweenRounds, each, first_frame, AreReapable}
-use Rattle.seam_law_ghosts.specs.Prelude.{book_entry, copy_at, AreTold, IsForgotten, AreCopiesBetweenRounds}
+use Rattle.seam_law_ghosts.specs.Prelude.{book_entry, copy_at, NewestAreWanted, IsForgotten, AreCopiesBetweenRounds}
 use Rattle.seam_law_rounds.proofs.Giving.{reaps_cell, look_cell, reals_stay}
 use Rattle.seam_law_rounds.proofs.Reaping as reaping
 use Rattle.seam_law_rounds.proofs.Looking as looking
@@ -47,7 +47,7 @@ module _ (f : Frame) (u : World) (between : IsBetweenRounds f u) (copies : AreCo
       ∙ quiet_mail f u between.nodes between.quiet e x y
 
   -- while the real is there, each cell is told what it wants
-  pub reaps_told : (e home : ℕ) (r q : RealView) → real_at e u home ≡ Some r → real_at e v home ≡ Some q → AreTold f e v (In home) q
+  pub reaps_told : (e home : ℕ) (r q : RealView) → real_at e u home ≡ Some r → real_at e v home ≡ Some q → NewestAreWanted f e v (In home) q
   reaps_told e home r q there at =
       phase_told f u between copies (reaps_loaded u es) (frame_reaps f u between es may) (λ e. reaping.is_told e es)
       (reaping.small f u between es may) (reaping.calm f u between es may) (unknown_reaps f u between es may) books stay idle v vs run
@@ -97,7 +97,7 @@ module _ (f : Frame) (u : World) (between : IsBetweenRounds f u) (copies : AreCo
   look_stay : (e k : ℕ) → real_at e (look_loaded u) k ≡ real_at e u k
   look_stay e k = reals_stay e (ordered_at looking.tick) (look_cell e looking.tick) u k
 
-  pub looks_told : (e home : ℕ) (r q : RealView) → real_at e u home ≡ Some r → real_at e v home ≡ Some q → AreTold f e v (In home) q
+  pub looks_told : (e home : ℕ) (r q : RealView) → real_at e u home ≡ Some r → real_at e v home ≡ Some q → NewestAreWanted f e v (In home) q
   looks_told e home r q there at =
       phase_told f u between copies (look_loaded u) (frame_look f u between) (λ e. false) (λ e home r here. looking.small f u between r)
       (looking.calm f u between) (unknown_look f u between) look_books look_stay look_idle v vs run e home r there q at

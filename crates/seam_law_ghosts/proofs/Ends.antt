@@ -7,7 +7,7 @@ use Rattle.seam_law_flow.specs.Prelude.{letters_of, In}
 use Rattle.seam_law_calls.specs.Prelude.{Frame, mine, times, has_of, entity_flow, real_in, real_of, HasOne, RunsTo, real_at}
 use Rattle.seam_law_rounds.specs.Prelude.{IsBetweenRounds, framed, AreReapable, MayBegin}
 use Rattle.seam_law_ghosts.specs.Prelude.{distances_of, place_of, first_place, path_of, made_real, home_of, IsDue, IsPlaced, IsRightPlace}
-use Rattle.seam_law_ghosts.specs.Prelude.{BeginsAt, WasThere, ArePlaced}
+use Rattle.seam_law_ghosts.specs.Prelude.{BeginsAt, HadSameReal, ArePlaced}
 use Rattle.seam_haunt.specs.Places.{settled}
 use Rattle.seam_haunt.proofs.Settling.{after_settled}
 use Rattle.seam_machine.proofs.Quiet.{quiet_links, quiet_tasks}
@@ -154,7 +154,7 @@ module _ (f : Frame) (u : World) (between : IsBetweenRounds f u) where
 
   -- a real of a calm entity was there
   calm_was : (e home : ℕ) (r : RealView) → real_at e u home ≡ Some r → (told : Bool) (v : World) →
-      IsCalm f e home r u told v → (k : ℕ) (q : RealView) → real_at e v k ≡ Some q → WasThere e k q u
+      IsCalm f e home r u told v → (k : ℕ) (q : RealView) → real_at e v k ≡ Some q → HadSameReal e k q u
   calm_was e home r here told v calm k q at =
       let is = (calm.nodes k).real q at in
       record {
@@ -163,11 +163,11 @@ module _ (f : Frame) (u : World) (between : IsBetweenRounds f u) where
         same = sym is.1.1 ∙ ap (λ x. let now : RealView = record r { witness = x } in now) (ap (λ (y : RealView). y.witness) is.1.1);
       }
 
-  nowhere_then : (v : World) (e k : ℕ) (q : RealView) → real_at e v k ≡ Some q → holders v e ≡ 0 → WasThere e k q u
+  nowhere_then : (v : World) (e k : ℕ) (q : RealView) → real_at e v k ≡ Some q → holders v e ≡ 0 → HadSameReal e k q u
   nowhere_then v e k q at none = absurd (let z = sym ((counted_none v e none).slots k) ∙ at in cc)
 
   module _ (es : List ℕ) (may : AreReapable u es) (vs : List Event) (v : World) (run : RunsTo (reaps_loaded u es) vs v) where
-    reaps_by : (e k : ℕ) (q : RealView) → real_at e v k ≡ Some q → Somewhere e u ⊎ Nowhere e u → WasThere e k q u
+    reaps_by : (e k : ℕ) (q : RealView) → real_at e v k ≡ Some q → Somewhere e u ⊎ Nowhere e u → HadSameReal e k q u
     reaps_by e k q at (inl p) =
         calm_was e p.0 p.1 p.2 (reaping.is_told e es) v
         (calm_leads f between.frame u between e p.0 p.1 p.2 (reaping.is_told e es)
@@ -175,22 +175,22 @@ module _ (f : Frame) (u : World) (between : IsBetweenRounds f u) where
         k q at
     reaps_by e k q at (inr n) = nowhere_then v e k q at (reaping.none_come f u between es may vs v run e (nobody_there e n))
 
-    pub reaps_leave : (e k : ℕ) (q : RealView) → real_at e v k ≡ Some q → WasThere e k q u
+    pub reaps_leave : (e k : ℕ) (q : RealView) → real_at e v k ≡ Some q → HadSameReal e k q u
     reaps_leave e k q at = reaps_by e k q at (search_real e u)
 
   module _ (vs : List Event) (v : World) (run : RunsTo (look_loaded u) vs v) where
-    looks_by : (e k : ℕ) (q : RealView) → real_at e v k ≡ Some q → Somewhere e u ⊎ Nowhere e u → WasThere e k q u
+    looks_by : (e k : ℕ) (q : RealView) → real_at e v k ≡ Some q → Somewhere e u ⊎ Nowhere e u → HadSameReal e k q u
     looks_by e k q at (inl p) =
         calm_was e p.0 p.1 p.2 false v
         (calm_leads f between.frame u between e p.0 p.1 p.2 false (looking.small f u between p.1) (look_loaded u) v vs
         (looking.calm f u between e p.0 p.1 p.2) run) k q at
     looks_by e k q at (inr n) = nowhere_then v e k q at (looking.look_makes_none f u between vs v run e (nobody_there e n))
 
-    pub looks_leave : (e k : ℕ) (q : RealView) → real_at e v k ≡ Some q → WasThere e k q u
+    pub looks_leave : (e k : ℕ) (q : RealView) → real_at e v k ≡ Some q → HadSameReal e k q u
     looks_leave e k q at = looks_by e k q at (search_real e u)
 
 -- a world whose reals were all there keeps the record of places
-pub stays_placed : (f : Frame) (u v : World) → ((e k : ℕ) (q : RealView) → real_at e v k ≡ Some q → WasThere e k q u) →
+pub stays_placed : (f : Frame) (u v : World) → ((e k : ℕ) (q : RealView) → real_at e v k ≡ Some q → HadSameReal e k q u) →
     ArePlaced f u → ArePlaced f v
 stays_placed f u v was placed = record {
   space = placed.space;
@@ -201,6 +201,6 @@ stays_placed f u v was placed = record {
 }
 
 -- and a place that was right stays so
-pub stays_right : (f : Frame) (b : Batch) (was : Place) (r : RealView) (e k : ℕ) (q : RealView) (u : World) (there : WasThere e k q u) →
+pub stays_right : (f : Frame) (b : Batch) (was : Place) (r : RealView) (e k : ℕ) (q : RealView) (u : World) (there : HadSameReal e k q u) →
     IsRightPlace f b.tree was r k there.real → IsRightPlace f b.tree was r k q
 stays_right f b was r e k q u there is = subst (IsRightPlace f b.tree was r k) (sym there.same) is

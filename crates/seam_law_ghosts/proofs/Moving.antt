@@ -14,7 +14,7 @@ use Rattle.seam_law_flow.specs.Prelude.{lands, leaves}
 use Rattle.seam_law_calls.specs.Prelude.{Frame, here_at, Has, entity_flow, account_of, real_in, real_of, IsOne}
 use Rattle.seam_law_ghosts.specs.Prelude.{Entry, brings, book_entry, IsPlacedAlike, Executes, nothing as still_as, executes, haunts_staying}
 use Rattle.seam_law_ghosts.specs.Prelude.{haunts_going, told_staying, told_going, staying, going, left_entry, IsMissed, GhostMoves, present}
-use Rattle.seam_law_ghosts.specs.Prelude.{wanted, AreTold, IsForgotten}
+use Rattle.seam_law_ghosts.specs.Prelude.{wanted, NewestAreWanted, IsForgotten}
 use Rattle.seam_machine.proofs.SendLemmas.{items_to-append}
 use Rattle.seam_law_flow.proofs.NewestLemmas.{newest_stays, newest_rises, not_above_rises, taken_comes}
 use Rattle.seam_law_flow.proofs.SendLists.{sees_none, sees_after_silent, sees_one_here, sees_one_there, one_here, one_there}
@@ -25,7 +25,7 @@ use Rattle.seam_law_calls.proofs.Sparing.{items_all}
 use Rattle.seam_law_ghosts.specs.GhostMoves as ghost
 use Rattle.seam_law_ghosts.proofs.Making.{executes_beat, NoEntry, none_carried, all_unseen, none_brought, none_here}
 use Rattle.seam_law_ghosts.proofs.Present.{same_shown_of, unseen_same}
-use Rattle.seam_law_ghosts.specs.Copies.{IsTold, IsAway}
+use Rattle.seam_law_ghosts.specs.Copies.{NewestIsWanted, IsAway}
 use Rattle.seam_law_ghosts.proofs.NewestTelling.{no_haunt_at_home, Gets, nothing, entry, none_there, gets, beat_rises, beat_up, drops_to}
 
 -- an entry that is not newer does not change the book
@@ -110,8 +110,8 @@ module _ (f : Frame) (e : ℕ) (w v : World) {Moves : ℕ → Has → Option Msg
 
   -- ---- one cell, of a real r that is q after the step
 
-  module _ (r q : RealView) (up : r.beat ≤ q.beat) (k : ℕ) (told : IsTold f e w r k) where
-    same_told : wanted f r k ≡ wanted f q k → Takes k → AllBring brings NoEntry (g.out k) → IsTold f e v q k
+  module _ (r q : RealView) (up : r.beat ≤ q.beat) (k : ℕ) (told : NewestIsWanted f e w r k) where
+    same_told : wanted f r k ≡ wanted f q k → Takes k → AllBring brings NoEntry (g.out k) → NewestIsWanted f e v q k
     same_told same takes none = record {
       beat = told.beat;
       low = let at = told.low in omega (arith, at, up);
@@ -123,7 +123,7 @@ module _ (f : Frame) (e : ℕ) (w v : World) {Moves : ℕ → Has → Option Msg
 
     new_told : r.beat < q.beat → (g.k ≡ k → NotAbove q.beat (wanted f q k) (book_entry (after.slot k))) →
         AllBring brings (NotAbove q.beat (wanted f q k)) (g.out k) →
-        (book_entry (after.slot k) ≡ (q.beat, wanted f q k)) ⊎ HasEntry brings (q.beat, wanted f q k) (g.out k) → IsTold f e v q k
+        (book_entry (after.slot k) ≡ (q.beat, wanted f q k)) ⊎ HasEntry brings (q.beat, wanted f q k) (g.out k) → NewestIsWanted f e v q k
     new_told more own out there = record {
       beat = q.beat;
       low = omega arith;
@@ -133,7 +133,8 @@ module _ (f : Frame) (e : ℕ) (w v : World) {Moves : ℕ → Has → Option Msg
     }
 
     -- one message tells it the new entry, and nothing else is sent
-    sent_told : (g.k ≡ k → ⊥) → r.beat < q.beat → (m : Msg) → g.out k ≡ m ∷ [] → brings m ≡ Some (q.beat, wanted f q k) → IsTold f e v q k
+    sent_told : (g.k ≡ k → ⊥) → r.beat < q.beat → (m : Msg) → g.out k ≡ m ∷ [] → brings m ≡ Some (q.beat, wanted f q k) →
+        NewestIsWanted f e v q k
     sent_told apart more m out is =
         new_told more (λ at. absurd (apart at))
         (subst (AllBring brings (NotAbove q.beat (wanted f q k))) (sym out)
@@ -142,7 +143,7 @@ module _ (f : Frame) (e : ℕ) (w v : World) {Moves : ℕ → Has → Option Msg
 
     gets_told : (g.k ≡ k → ⊥) → (beat : ℕ) (was changed : Bool) (ms : List Msg) → g.out k ≡ ms → was ≡ set.contains r.haunts k →
         (changed ≡ false → present f r ≡ present f q) → ((m : Msg) → ms ≡ m ∷ [] → (beat ≡ q.beat) × (r.beat < q.beat)) →
-        Gets beat (present f q) was (set.contains q.haunts k) changed ms → IsTold f e v q k
+        Gets beat (present f q) was (set.contains q.haunts k) changed ms → NewestIsWanted f e v q k
     gets_told apart beat was changed ms out is unseen rise (nothing none same kept) =
         same_told (wanted_by (set.contains r.haunts k) (set.contains q.haunts k) (present f r) (present f q) (same ∙ is)
         (λ h. unseen (kept h)))
@@ -155,13 +156,13 @@ module _ (f : Frame) (e : ℕ) (w v : World) {Moves : ℕ → Has → Option Msg
 
   -- the real is there, and each cell is told; or the entity is reaped, and each cell is told that
   pub data After : Type 0 where
-    here : (p : TokenPlace) (q : RealView) → IsOne e v p q → AreTold f e v p q → After
+    here : (p : TokenPlace) (q : RealView) → IsOne e v p q → NewestAreWanted f e v p q → After
     gone : i ≡ Some (Reap e) → real_in t ≡ None → IsForgotten e v → After
 
   abbrev Any : RealView → RealView → Type 0
   Any r q = Unit {0}
 
-  module _ (p : TokenPlace) (r : RealView) (one : IsOne e w p r) (told : AreTold f e w p r) (fresh : IsFresh)
+  module _ (p : TokenPlace) (r : RealView) (one : IsOne e w p r) (told : NewestAreWanted f e w p r) (fresh : IsFresh)
       (hushed : (n : ℕ) (c : GhostCopy) (q : RealView) → i ≡ Some (GhostSet e n c) → real_in s ≡ Some q → n ≤ (book_entry s).0) where
     unmoved : carried_in real_of i ≡ None → real_in t ≡ real_in s → IsSilent brings sent →
         (g.k < cell_count → book_entry t ≡ greater_entry (book_entry s) (entry_in brings i)) → After
@@ -205,7 +206,7 @@ module _ (f : Frame) (e : ℕ) (w v : World) {Moves : ℕ → Has → Option Msg
 
     -- ---- the real settles
 
-    under : (k : ℕ) → IsTold f e w r k → (n : ℕ) → r.beat < n → (c : Option GhostCopy) → NotAbove n c (book_entry (before.slot k))
+    under : (k : ℕ) → NewestIsWanted f e w r k → (n : ℕ) → r.beat < n → (c : Option GhostCopy) → NotAbove n c (book_entry (before.slot k))
     under k told n more c = let low = told.low in not_above_rises told.beat n (wanted f r k) c (book_entry (before.slot k)) (omega
         (arith, low, more)) told.newest.here
 
@@ -237,7 +238,7 @@ module _ (f : Frame) (e : ℕ) (w v : World) {Moves : ℕ → Has → Option Msg
           let more = beat_rises k ms m q.beat got in
           (sym more, omega (arith, same, more))
 
-      own_told : (k : ℕ) → k < cell_count → k ≡ g.k → IsTold f e v next k
+      own_told : (k : ℕ) → k < cell_count → k ≡ g.k → NewestIsWanted f e v next k
       own_told k low is =
           let was : set.contains r.haunts k ≡ false = ap (set.contains r.haunts) is ∙ away_here at in
           let now : set.contains next.haunts k ≡ false = ap (set.contains next.haunts) is ∙ own in
@@ -296,19 +297,19 @@ module _ (f : Frame) (e : ℕ) (w v : World) {Moves : ℕ → Has → Option Msg
       out : (k : ℕ) → g.out k ≡ items_to k news ++ items_to k ((j, Hand handed) ∷ [])
       out k = items k ∙ (ap (items_to k) z ∙ items_to-append k news ((j, Hand handed) ∷ []))
 
-      left_told : (k : ℕ) → k < cell_count → k ≡ g.k → IsTold f e v handed k
+      left_told : (k : ℕ) → k < cell_count → k ≡ g.k → NewestIsWanted f e v handed k
       left_told k low is =
           let none_out : g.out k ≡ [] = out k ∙ (ap (λ l. l ++ items_to k ((j, Hand handed) ∷ [])) (ap (λ x. items_to x news) is
           ∙ none_here f g.k q j (haunts_going f g.k j q) changed) ∙ one_there j k (Hand handed) (λ x. apart (sym x ∙ is))) in
           let now : book_entry (after.slot k) ≡ (handed.beat, wanted f handed k) =
           subst (λ x. book_entry (after.slot x) ≡ (handed.beat, wanted f handed x)) (sym is)
           (book ∙ taken_comes handed.beat (wanted f handed g.k) (book_entry s)
-          (under g.k (subst (IsTold f e w r) is (told.cells k low)) handed.beat more (wanted f handed g.k))) in
+          (under g.k (subst (NewestIsWanted f e w r) is (told.cells k low)) handed.beat more (wanted f handed g.k))) in
           new_told r handed (omega (arith, more)) k (told.cells k low) more
           (λ x. subst (NotAbove handed.beat (wanted f handed k)) (sym now) (inr (refl, refl)))
           (subst (AllBring brings (NotAbove handed.beat (wanted f handed k))) (sym none_out) tt) (inl now)
 
-      goal_told : (k : ℕ) → k < cell_count → k ≡ j → (k ≡ g.k → ⊥) → IsTold f e v handed k
+      goal_told : (k : ℕ) → k < cell_count → k ≡ j → (k ≡ g.k → ⊥) → NewestIsWanted f e v handed k
       goal_told k low is other =
           let one_out : g.out k ≡ Hand handed ∷ [] = out k ∙ (ap (λ x. items_to x news ++ items_to x ((j, Hand handed) ∷ [])) is
           ∙ (ap (λ l. l ++ items_to j ((j, Hand handed) ∷ [])) (none_there (here_at f g.k) q j (haunts_going f g.k j q) changed
@@ -345,14 +346,14 @@ module _ (f : Frame) (e : ℕ) (w v : World) {Moves : ℕ → Has → Option Msg
     none_last k = set.contains-empty nat_cmp k
 
     reaped_one : (k : ℕ) → k < cell_count → p ≡ In g.k → book_entry t ≡ greater_entry (book_entry s) (Some (r.beat + 1, None)) →
-        sent ≡ drops r → (b : Bool) → set.contains r.haunts k ≡ b → (k ≡ g.k) ⊎ (k ≡ g.k → ⊥) → IsTold f e v last k
+        sent ≡ drops r → (b : Bool) → set.contains r.haunts k ≡ b → (k ≡ g.k) ⊎ (k ≡ g.k → ⊥) → NewestIsWanted f e v last k
     reaped_one k low at book z true is (inl own) = absurd (let z = sym is ∙ (ap (set.contains r.haunts) own ∙ away_here at) in cc)
     reaped_one k low at book z false is (inl own) =
         let none : wanted f last k ≡ None = ap (λ b. copy_if b (present f last)) (none_last k) in
         let now : book_entry (after.slot k) ≡ (r.beat + 1, wanted f last k) =
         subst (λ x. book_entry (after.slot x) ≡ (r.beat + 1, wanted f last k)) (sym own)
         (book ∙ (taken_comes (r.beat + 1) None (book_entry s)
-        (under g.k (subst (IsTold f e w r) own (told.cells k low)) (r.beat + 1) (omega arith) None)
+        (under g.k (subst (NewestIsWanted f e w r) own (told.cells k low)) (r.beat + 1) (omega arith) None)
         ∙ ap (λ c. let x : Entry = (r.beat + 1, c) in x) (sym none))) in
         new_told r last (omega arith) k (told.cells k low) (omega arith)
         (λ x. subst (NotAbove last.beat (wanted f last k)) (sym now) (inr (refl, refl)))

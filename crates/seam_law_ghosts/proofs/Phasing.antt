@@ -6,7 +6,7 @@ use Rattle.seam_law_flow.specs.Prelude.{Goes, comes, TokenPlace, In, On}
 use Rattle.seam_law_calls.specs.Prelude.{Frame, here_at, IsInFrame, Has, entity_flow, MovesTo, RealFits, real_in, real_of, IsOne, IsFrame}
 use Rattle.seam_law_calls.specs.Prelude.{RunsTo, real_at}
 use Rattle.seam_law_rounds.specs.Prelude.{IsSettled, IsBetweenRounds}
-use Rattle.seam_law_ghosts.specs.Prelude.{Entry, brings, book_entry, GhostMoves, wanted, copy_at, AreTold, IsForgotten, AreSettled}
+use Rattle.seam_law_ghosts.specs.Prelude.{Entry, brings, book_entry, GhostMoves, wanted, copy_at, NewestAreWanted, IsForgotten, AreSettled}
 use Rattle.seam_law_ghosts.specs.Prelude.{AreCopiesBetweenRounds}
 use Rattle.seam_machine.proofs.Occurring.{occurs}
 use Rattle.seam_net_runs.proofs.Runs.{leads_keeps}
@@ -40,7 +40,7 @@ module _ (f : Frame) (frame : IsFrame f) (u : World) (between : IsBetweenRounds 
   pub record Alive (w : World) : Type 0 where
     pub real : RealView
     pub at : real_at e w home ≡ Some real
-    pub told : AreTold f e w (In home) real
+    pub told : NewestAreWanted f e w (In home) real
 
   -- the real is gone, and each cell is told that
   pub record Forgot (w : World) : Type 0 where
@@ -116,7 +116,7 @@ module _ (f : Frame) (frame : IsFrame f) (u : World) (between : IsBetweenRounds 
     state_by : After f e w next g g.moves.sent g.moves.items → Alive next ⊎ Forgot next
     state_by (here p q one told) =
         let is = home_by (real_at e next home) refl p q one in
-        inl (record { real = q; at = is.1; told = subst (λ x. AreTold f e next x q) is.0 told })
+        inl (record { real = q; at = is.1; told = subst (λ x. NewestAreWanted f e next x q) is.0 told })
     state_by (gone is none forgotten) =
         let same : g.k ≡ home = comes_calm (Reap e) is in
         inr (record { gone = ap (λ k. real_at e next k) (sym same) ∙ none; forgotten = forgotten })
@@ -179,12 +179,12 @@ module _ (f : Frame) (u : World) (between : IsBetweenRounds f u) (copies : AreCo
     abbrev IsGone : Type 0
     IsGone = Forgot f between.frame u between e home r there (told e) (small e home r there) v
 
-    told_by : (q : RealView) → real_at e v home ≡ Some q → IsAlive ⊎ IsGone → AreTold f e v (In home) q
-    told_by q at (inl a) = let same : a.real ≡ q = let z = sym a.at ∙ at in cc in subst (AreTold f e v (In home)) same a.told
+    told_by : (q : RealView) → real_at e v home ≡ Some q → IsAlive ⊎ IsGone → NewestAreWanted f e v (In home) q
+    told_by q at (inl a) = let same : a.real ≡ q = let z = sym a.at ∙ at in cc in subst (NewestAreWanted f e v (In home)) same a.told
     told_by q at (inr x) = absurd (let z = sym x.gone ∙ at in cc)
 
     -- while the real is there, each cell is told what it wants
-    pub phase_told : (q : RealView) → real_at e v home ≡ Some q → AreTold f e v (In home) q
+    pub phase_told : (q : RealView) → real_at e v home ≡ Some q → NewestAreWanted f e v (In home) q
     phase_told q at = told_by q at leaving_then.state
 
     forgotten_by : real_at e v home ≡ None → IsAlive ⊎ IsGone → IsForgotten e v

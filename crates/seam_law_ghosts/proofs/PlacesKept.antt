@@ -4,7 +4,7 @@ use Rattle.std.specs.List.{AllByRecursion}
 use Rattle.seam_node_steps.specs.Prelude.{Settings, TypeDef, Place, Create, Batch, RealView, World, opened}
 use Rattle.seam_law_calls.specs.Prelude.{Frame, IsFrame, real_at}
 use Rattle.seam_law_rounds.specs.Prelude.{IsBetweenRounds, framed, first_frame, MayBegin}
-use Rattle.seam_law_ghosts.specs.Prelude.{place_of, first_place, made_real, IsRightPlace, GoesThroughRound, WasThere, ArePlaced}
+use Rattle.seam_law_ghosts.specs.Prelude.{place_of, first_place, made_real, IsRightPlace, GoesThroughRound, HadSameReal, ArePlaced}
 use Rattle.seam_law_rounds.proofs.CallsEnd.{calls_end_between}
 use Rattle.seam_law_rounds.proofs.Reaping.{reaps_end_between}
 use Rattle.seam_law_rounds.proofs.Opened.{opened_has_none}
@@ -22,10 +22,10 @@ module _ (f : Frame) (w : World) (b : Batch) (begin : MayBegin f w b) (v : World
 
   -- where a real was after the calls
   module _ (e k : ℕ) (q : RealView) (at : real_at e v k ≡ Some q) where
-    looked : WasThere e k q round.reaped
+    looked : HadSameReal e k q round.reaped
     looked = looks_leave g round.reaped reaped round.look_events v round.looks e k q at
 
-    was : WasThere e k looked.real round.called
+    was : HadSameReal e k looked.real round.called
     was = reaps_leave g round.called called round.gone round.may round.reap_events round.reaped round.reaps e k looked.real looked.here
 
     right_then : (place : Place) (r : RealView) → IsRightPlace f b.tree place r k was.real → IsRightPlace f b.tree place r k q

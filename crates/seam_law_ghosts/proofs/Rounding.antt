@@ -5,7 +5,7 @@ use Rattle.seam_node_steps.specs.Prelude.{holders, World, node_steps, node_has_w
 use Rattle.seam_law_flow.specs.Prelude.{comes, letters_of, TokenPlace, In}
 use Rattle.seam_law_calls.specs.Prelude.{Frame, entity_flow, real_in, real_of, IsOne, HasOne, RunsTo, real_at}
 use Rattle.seam_law_rounds.specs.Prelude.{IsSettled, framed, MayBegin}
-use Rattle.seam_law_ghosts.specs.Prelude.{Entry, brings, IsTrue, IsHushed, present, copy_at, AreTold, IsForgotten, AreSettled}
+use Rattle.seam_law_ghosts.specs.Prelude.{Entry, brings, IsTrue, IsHushed, present, copy_at, NewestAreWanted, IsForgotten, AreSettled}
 use Rattle.seam_law_ghosts.specs.Prelude.{AreCopiesBetweenRounds}
 use Rattle.seam_machine.proofs.Occurring.{occurs}
 use Rattle.seam_net_runs.proofs.Runs.{leads_keeps}
@@ -113,7 +113,7 @@ module _ (f : Frame) (w : World) (b : Batch) (begin : MayBegin f w b)
         informed_from g (frame_loaded f w b begin) e r.ty settled.type start one (spared_loaded f w b begin e home r here)
         start_low (no_mail f w b begin e) home at_home copied v es run
 
-    told_then : (p : TokenPlace) (q : RealView) → IsOne e v p q → AreTold g e v p q
+    told_then : (p : TokenPlace) (q : RealView) → IsOne e v p q → NewestAreWanted g e v p q
     told_then =
         told_of g (frame_loaded f w b begin) e r.ty settled.type start one (spared_loaded f w b begin e home r here)
         start_low (no_mail f w b begin e) home at_home copied v es run
@@ -132,7 +132,7 @@ module _ (f : Frame) (w : World) (b : Batch) (begin : MayBegin f w b)
     pub true_then : IsTrue g e r.ty r (λ n. present g r) v
     true_then = subst (λ x. IsTrue g e r.ty x (λ n. present g x) v) (sym real_is) informed.quelled.is
 
-  pub told_each : (e : ℕ) → holders start e ≡ 1 → (p : TokenPlace) (q : RealView) → IsOne e v p q → AreTold g e v p q
+  pub told_each : (e : ℕ) → holders start e ≡ 1 → (p : TokenPlace) (q : RealView) → IsOne e v p q → NewestAreWanted g e v p q
   told_each e one = let h = home_loaded f w b begin e one in told_then e h.0 h.1 h.2
 
   pub hushed_each : (e : ℕ) → holders start e ≡ 1 → (k : ℕ) (q : RealView) → real_at e v k ≡ Some q → IsHushed e v (In k)

@@ -6,7 +6,8 @@ use Rattle.seam_node_steps.specs.Prelude.{is_small, fits_copy, is_stray, World, 
 use Rattle.seam_law_flow.specs.Prelude.{Goes, comes, letter_in, AllBring, TokenPlace, In}
 use Rattle.seam_law_calls.specs.Prelude.{Frame, here_at, Has, mine, entity_flow, MovesTo, real_in, real_of, IsOne, IsSpared, IsFrame}
 use Rattle.seam_law_calls.specs.Prelude.{HasOne, real_burden, RunsTo, real_at}
-use Rattle.seam_law_ghosts.specs.Prelude.{Entry, brings, book_entry, IsTable, IsTrue, IsHushed, present, copy_at, AreTold, AreSettled}
+use Rattle.seam_law_ghosts.specs.Prelude.{Entry, brings, book_entry, IsTable, IsTrue, IsHushed, present, copy_at, NewestAreWanted}
+use Rattle.seam_law_ghosts.specs.Prelude.{AreSettled}
 use Rattle.seam_machine.proofs.Occurring.{occurs}
 use Rattle.seam_net_runs.proofs.Runs.{leads_keeps}
 use Rattle.seam_law_flow.proofs.TokenLemmas.{sole_here}
@@ -37,12 +38,13 @@ module _ (f : Frame) (frame : IsFrame f) (e ty : ℕ) (known : ty < length f.def
   pub record IsInformed (w : World) : Type 0 where
     pub quelled : IsQuelled f frame e ty known start first w
     pub fair : IsFair f frame e ty known start low w
-    pub told : AreTold f e w quelled.is.one.has.place quelled.is.one.has.real
+    pub told : NewestAreWanted f e w quelled.is.one.has.place quelled.is.one.has.real
 
-  placed : (w : World) (p q : TokenPlace) (r x : RealView) → IsOne e w p r → IsOne e w q x → AreTold f e w p r → AreTold f e w q x
+  placed : (w : World) (p q : TokenPlace) (r x : RealView) → IsOne e w p r → IsOne e w q x → NewestAreWanted f e w p r →
+      NewestAreWanted f e w q x
   placed w p q r x one two told =
       let same = same_one e w p q r x one two in
-      subst (AreTold f e w q) same.1 (subst (λ y. AreTold f e w y r) same.0 told)
+      subst (NewestAreWanted f e w q) same.1 (subst (λ y. NewestAreWanted f e w y r) same.0 told)
 
   -- ---- an event
 
@@ -82,7 +84,7 @@ module _ (f : Frame) (frame : IsFrame f) (e ty : ℕ) (known : ty < length f.def
         (ghost_moves f e ty g.k ((entity_flow e w).slot g.k) (comes g.input) ((entity_flow e next).slot g.k) g.moves.0.sent
         (room f frame e ty known w v o has calm) (has.fits.reals g.k) g.moves.0.moves)
 
-    told_by : After f e w next g g.moves.0.sent g.moves.0.items → AreTold f e next more.is.one.has.place more.is.one.has.real
+    told_by : After f e w next g g.moves.0.sent g.moves.0.items → NewestAreWanted f e next more.is.one.has.place more.is.one.has.real
     told_by (here p q is told) = placed next p more.is.one.has.place q more.is.one.has.real is more.is.one.has.one told
     told_by (gone is real none) = absurd (g.moves.1.1 is)
 
@@ -144,7 +146,7 @@ module _ (f : Frame) (frame : IsFrame f) (e ty : ℕ) (known : ty < length f.def
   informed_from v es run = informed_leads f frame e ty known h.real low table w v es informed_start run
 
   -- wherever the real is then
-  pub told_of : (v : World) (es : List Event) → RunsTo w es v → (p : TokenPlace) (q : RealView) → IsOne e v p q → AreTold f e v p q
+  pub told_of : (v : World) (es : List Event) → RunsTo w es v → (p : TokenPlace) (q : RealView) → IsOne e v p q → NewestAreWanted f e v p q
   told_of v es run p q is =
       let x = informed_from v es run in
       placed f frame e ty known h.real low table v x.quelled.is.one.has.place p x.quelled.is.one.has.real q x.quelled.is.one.has.one is

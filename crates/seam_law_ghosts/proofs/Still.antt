@@ -8,7 +8,8 @@ use Rattle.seam_node_steps.specs.Prelude.{IsQuiet, holders}
 use Rattle.seam_law_flow.specs.Prelude.{IsHead, comes, slot_at, letters_of, NotAbove, OfEntry, AllBring, Newest, TokenPlace, In, On}
 use Rattle.seam_law_calls.specs.Prelude.{Frame, IsInFrame, mine, has_of, has_none, entity_flow, real_in, real_of, IsOne}
 use Rattle.seam_law_rounds.specs.Prelude.{IsBetweenRounds}
-use Rattle.seam_law_ghosts.specs.Prelude.{Entry, brings, book_entry, IsOfTable, IsTable, present, wanted, copy_at, AreTold, IsForgotten}
+use Rattle.seam_law_ghosts.specs.Prelude.{Entry, brings, book_entry, IsOfTable, IsTable, present, wanted, copy_at, NewestAreWanted}
+use Rattle.seam_law_ghosts.specs.Prelude.{IsForgotten}
 use Rattle.seam_law_ghosts.specs.Prelude.{AreSettled}
 use Rattle.seam_law_flow.proofs.NewestLemmas.{newest_rests}
 use Rattle.seam_law_flow.proofs.TokenLemmas.{sole_here}
@@ -96,7 +97,7 @@ module _ (f : Frame) (e : ℕ) (w : World) (still : (x y : ℕ) → (entity_flow
   none_still forgotten k low = let n = forgotten k low in ap (λ p. p.1) (entry_still k n.0 None n.1)
 
   module _ (home : ℕ) (r : RealView) where
-    pub told_still : AreSettled f e home r w → AreTold f e w (In home) r
+    pub told_still : AreSettled f e home r w → NewestAreWanted f e w (In home) r
     told_still h = record {
       away = h.away;
       cells = λ k low. record {
@@ -106,7 +107,7 @@ module _ (f : Frame) (e : ℕ) (w : World) (still : (x y : ℕ) → (entity_flow
       };
     }
 
-    pub settled_still : AreTold f e w (In home) r → AreSettled f e home r w
+    pub settled_still : NewestAreWanted f e w (In home) r → AreSettled f e home r w
     settled_still h = record {
       away = h.away;
       copies = λ k low. let c = h.cells k low in ap (λ p. p.1) (entry_still k c.beat (wanted f r k) c.newest);

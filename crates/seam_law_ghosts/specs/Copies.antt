@@ -28,7 +28,7 @@ copy_at e w k = (book_entry ((entity_flow e w).slot k)).1
 -- its beat is at most the real's. What does not hold of it: that it is in the book or comes from the real's cell, since it may come from a
 -- cell where the real was; that a cell which is no haunt has no copy, or a drop on its way from the real's cell; that no ghost message
 -- comes where the real is; that the book of the real's cell has its beat.
-pub record IsTold (f : Frame) (e : ℕ) (w : World) (r : RealView) (k : ℕ) : Type 0 where
+pub record NewestIsWanted (f : Frame) (e : ℕ) (w : World) (r : RealView) (k : ℕ) : Type 0 where
   pub beat : ℕ
   pub low : beat ≤ r.beat
   pub newest : Newest book_entry brings (entity_flow e w) k beat (wanted f r k)
@@ -39,9 +39,9 @@ IsAway (In k) r = set.contains r.haunts k ≡ false
 IsAway (On a k) r = set.contains r.haunts k ≡ false
 
 -- each cell is told what the real wants
-pub record AreTold (f : Frame) (e : ℕ) (w : World) (p : TokenPlace) (r : RealView) : Type 0 where
+pub record NewestAreWanted (f : Frame) (e : ℕ) (w : World) (p : TokenPlace) (r : RealView) : Type 0 where
   pub away : IsAway p r
-  pub cells : (k : ℕ) → k < cell_count → IsTold f e w r k
+  pub cells : (k : ℕ) → k < cell_count → NewestIsWanted f e w r k
 
 -- the newest entry of each cell is none
 abbrev pub IsForgotten : ℕ → World → Type 0

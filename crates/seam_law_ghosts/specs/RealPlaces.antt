@@ -80,7 +80,7 @@ abbrev pub IsRightPlace : Frame → Division → Place → RealView → ℕ → 
 IsRightPlace f t was r k q = IsPlaceAfter (distances_of f.settings) t was r.state.pos (path_of f r q.done) (place_of k q)
 
 -- the real q of cell k was there in world u, and is the same but for its witness
-pub record WasThere (e k : ℕ) (q : RealView) (u : World) : Type 0 where
+pub record HadSameReal (e k : ℕ) (q : RealView) (u : World) : Type 0 where
   pub real : RealView
   pub here : real_at e u k ≡ Some real
   pub same : q ≡ record real { witness = q.witness }

@@ -14,8 +14,8 @@ ghost use Rattle.seam_node_steps.specs.Prelude.{Batch, GhostCopy, RealView, cell
 ghost use Rattle.seam_node_steps.specs.Prelude.{loaded, reaps_loaded, look_loaded, empty_world};
 ghost use Rattle.seam_law_flow.specs.Prelude.{TokenPlace, In};
 ghost use Rattle.seam_law_calls.specs.Prelude.{Frame, entity_flow, events_of, IsOne, IsSpared, IsFrame, HasOne, RunsTo, real_at};
-ghost use Rattle.seam_law_rounds.specs.Prelude.{IsBetweenRounds, IsFitting, framed, first_frame, AreReapable, IsKnownAt, MayBegin};
-ghost use Rattle.seam_law_ghosts.specs.Prelude.{IsTrue, IsHushed, ArePlaced, present, copy_at, AreTold, IsForgotten, AreSettled};
+ghost use Rattle.seam_law_rounds.specs.Prelude.{IsBetweenRounds, IsFitting, framed, first_frame, AreReapable, NewestRouteIsRight, MayBegin};
+ghost use Rattle.seam_law_ghosts.specs.Prelude.{IsTrue, IsHushed, ArePlaced, present, copy_at, NewestAreWanted, IsForgotten, AreSettled};
 ghost use Rattle.seam_law_ghosts.specs.Prelude.{AreCopiesBetweenRounds};
 ghost use Rattle.seam_node_steps.specs.Rows as row;
 ghost use Rattle.seam_node_steps.specs.LateGhost as late;
@@ -28,18 +28,18 @@ pub fn each_cell_is_told_what_the_real_wants()
         ty < length f.defs → (h : HasOne f e ty w) → IsSpared e w → h.real.public ≤ h.real.version →
         ((x y : ℕ) → (entity_flow e w).mail x y ≡ []) → (home : ℕ) →
         real_at e w home ≡ Some h.real → AreSettled f e home h.real w → RunsTo w es v →
-        (p : TokenPlace) (q : RealView) → IsOne e v p q → AreTold f e v p q }
+        (p : TokenPlace) (q : RealView) → IsOne e v p q → NewestAreWanted f e v p q }
     ensures round { (f : Frame) (w : World) (b : Batch) → MayBegin f w b →
         AreCopiesBetweenRounds f w → (v : World) (es : List Event) → RunsTo (loaded w b) es v →
         (e : ℕ) → holders (loaded w b) e ≡ 1 → (p : TokenPlace) (q : RealView) → IsOne e v p q →
-        AreTold (framed f b) e v p q }
+        NewestAreWanted (framed f b) e v p q }
     ensures others { (f : Frame) (w : World) (b : Batch) → MayBegin f w b →
         AreCopiesBetweenRounds f w → (v : World) (es : List Event) → RunsTo (loaded w b) es v →
         (e : ℕ) → holders (loaded w b) e ≡ 0 → IsForgotten e v }
     ensures looks { (f : Frame) (u : World) → IsBetweenRounds f u → AreCopiesBetweenRounds f u →
         (vs : List Event) (v : World) → RunsTo (look_loaded u) vs v →
         (e home : ℕ) (r q : RealView) → real_at e u home ≡ Some r → real_at e v home ≡ Some q →
-        AreTold f e v (In home) q }
+        NewestAreWanted f e v (In home) q }
 {}
 
 /// In a round each copy, in a book or on its way, is what others may see of the state that its real had at the copy's version: at the load
@@ -67,7 +67,7 @@ pub fn the_newest_route_leads_to_the_real()
     ensures { (f : Frame) (w : World) (b : Batch) → MayBegin f w b → (v : World) (es : List Event) →
         RunsTo (loaded w b) es v → (e : ℕ) → holders (loaded w b) e ≡ 1 →
         (p : TokenPlace) (q : RealView) → IsOne e v p q → (j : ℕ) → cell_count ≤ j →
-        j < cell_count + f.settings.bases → IsKnownAt p q (entity_flow e v) j }
+        j < cell_count + f.settings.bases → NewestRouteIsRight p q (entity_flow e v) j }
 {}
 
 /// Where a round's calls leave the world quiet, each haunt of a real has the present copy and no other cell has one, its own cell among
@@ -112,7 +112,7 @@ pub fn no_cell_keeps_a_copy_of_the_reaped()
     ensures told { (f : Frame) (u : World) → IsBetweenRounds f u → AreCopiesBetweenRounds f u →
         (es : List ℕ) → AreReapable u es → (vs : List Event) (v : World) →
         RunsTo (reaps_loaded u es) vs v → (e home : ℕ) (r q : RealView) →
-        real_at e u home ≡ Some r → real_at e v home ≡ Some q → AreTold f e v (In home) q }
+        real_at e u home ≡ Some r → real_at e v home ≡ Some q → NewestAreWanted f e v (In home) q }
     ensures forgotten { (f : Frame) (u : World) → IsBetweenRounds f u → AreCopiesBetweenRounds f u →
         (es : List ℕ) → AreReapable u es → (vs : List Event) (v : World) →
         RunsTo (reaps_loaded u es) vs v → (e home : ℕ) (r : RealView) → real_at e u home ≡ Some r →

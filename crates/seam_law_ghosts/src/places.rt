@@ -16,7 +16,7 @@ ghost use Rattle.seam_node_steps.specs.Prelude.{reaps_loaded, look_loaded};
 ghost use Rattle.seam_law_flow.specs.Prelude.{In};
 ghost use Rattle.seam_law_calls.specs.Prelude.{Frame, IsOne, IsSpared, AllFits, IsFrame, RunsTo, real_at};
 ghost use Rattle.seam_law_rounds.specs.Prelude.{IsBetweenRounds, framed, first_frame, AreReapable, MayBegin};
-ghost use Rattle.seam_law_ghosts.specs.Prelude.{place_of, first_place, made_real, BeginsAt, IsDue, IsPlaced, IsRightPlace, WasThere};
+ghost use Rattle.seam_law_ghosts.specs.Prelude.{place_of, first_place, made_real, BeginsAt, IsDue, IsPlaced, IsRightPlace, HadSameReal};
 ghost use Rattle.seam_law_ghosts.specs.Prelude.{GoesThroughRound, ArePlaced};
 
 /// Where a batch is loaded, each real that was there is in the same cell with the same haunts, and each that is created is in its leaf; and
@@ -66,10 +66,10 @@ pub fn places_are_right()
 pub fn the_last_phases_leave_places()
     ensures reaps { (f : Frame) (u : World) → IsBetweenRounds f u → (es : List ℕ) →
         AreReapable u es → (vs : List Event) (v : World) → RunsTo (reaps_loaded u es) vs v →
-        (e k : ℕ) (q : RealView) → real_at e v k ≡ Some q → WasThere e k q u }
+        (e k : ℕ) (q : RealView) → real_at e v k ≡ Some q → HadSameReal e k q u }
     ensures looks { (f : Frame) (u : World) → IsBetweenRounds f u → (vs : List Event) (v : World) →
         RunsTo (look_loaded u) vs v → (e k : ℕ) (q : RealView) →
-        real_at e v k ≡ Some q → WasThere e k q u }
+        real_at e v k ≡ Some q → HadSameReal e k q u }
 {}
 
 /// So the places of those that are left are right after the whole round too.

@@ -11,7 +11,7 @@ use Rattle.seam_law_flow.specs.Prelude.{Flow, letters_of, NotAbove, AllBring, To
 use Rattle.seam_law_flow.specs.Prelude.{AreInTurn}
 use Rattle.seam_law_calls.specs.Prelude.{Frame, Has, mine, entity_flow, RealFits, real_in, real_of, IsOne, OneFrom, desk_for, real_desk}
 use Rattle.seam_law_calls.specs.Prelude.{as_sender, RunsTo, real_at}
-use Rattle.seam_law_rounds.specs.Prelude.{calls_of, next_from, IsSettled, IsBetweenRounds, framed, as_entry, route_entry, brings_route}
+use Rattle.seam_law_rounds.specs.Prelude.{calls_of, next_from, IsSettled, IsBetweenRounds, framed, as_entry, route_entry, sent_route}
 use Rattle.seam_law_rounds.specs.Prelude.{MayBegin}
 use Rattle.seam_machine.proofs.Quiet.{quiet_links}
 use Rattle.seam_law_flow.proofs.TokenLemmas.{sole_here}
@@ -58,7 +58,7 @@ module _ (f : Frame) (w : World) (b : Batch) (begin : MayBegin f w b) where
       there = λ k high low. ap is_some (settled.routes k high low);
       known = λ k high low. record {
         here = subst (NotAbove r.generation home) (sym (entry_is k high low)) (inr (refl, refl));
-        away = λ x. subst (AllBring brings_route (NotAbove r.generation home)) (sym (no_mail f w b begin e x k)) tt;
+        away = λ x. subst (AllBring sent_route (NotAbove r.generation home)) (sym (no_mail f w b begin e x k)) tt;
         is_there = inl (entry_is k high low);
       };
     }

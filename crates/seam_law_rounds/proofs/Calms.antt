@@ -12,7 +12,7 @@ use Rattle.seam_node_steps.specs.Prelude.{reap_ordered_at, reaps_loaded, look_lo
 use Rattle.seam_law_flow.specs.Prelude.{letters_of}
 use Rattle.seam_law_calls.specs.Prelude.{Frame, here_at, IsAt, IsInFrame, mine, times, order_concerns, orders_of, has_of, entity_flow}
 use Rattle.seam_law_calls.specs.Prelude.{real_of, sent_by, base_burden, home_of, FindsClient, is_tick_order, HasToldAtMost, most_entities}
-use Rattle.seam_law_calls.specs.Prelude.{IsBlank, SeesFew, HasFewEntities, looks_left, most_shown, update_in, IsToldNothing, RunsTo}
+use Rattle.seam_law_calls.specs.Prelude.{IsBlank, SeesFew, HasFewEntities, looks_left, most_shown, update_in, NoUpdateComes, RunsTo}
 use Rattle.seam_law_calls.specs.Prelude.{real_at, real_in}
 use Rattle.seam_law_rounds.specs.Prelude.{numbers_of, IsBetweenRounds, each, AreReapable, HasSettledPart, HasPartsBetweenRounds, AreFor}
 use Rattle.seam_law_rounds.specs.Prelude.{lines_of, HasSmallNumbers, IsServed, bare, served}
@@ -222,7 +222,7 @@ module _ (f : Frame) (u : World) (between : IsBetweenRounds f u) (parts : HasPar
 -- no one is told anything
 module _ (f : Frame) (u : World) (between : IsBetweenRounds f u) (parts : HasPartsBetweenRounds f u) (es : List ℕ)
     (may : AreReapable u es) (vs : List Event) (v : World) (run : RunsTo (reaps_loaded u es) vs v) (e : ℕ) where
-  pub reaps_tell_none : IsToldNothing e v
+  pub reaps_tell_none : NoUpdateComes e v
   reaps_tell_none =
       let turn : NodeView → NodeView = each reap_ordered_at es in
       let left =

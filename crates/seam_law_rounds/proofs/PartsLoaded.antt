@@ -14,7 +14,7 @@ use Rattle.seam_law_flow.specs.Prelude.{slot_at}
 use Rattle.seam_law_calls.specs.Prelude.{Frame, here_at, Has, has_of, has_none, entity_flow, real_in, HasNoProxy, home_of, HasNoClient}
 use Rattle.seam_law_calls.specs.Prelude.{real_at}
 use Rattle.seam_law_rounds.specs.Prelude.{MayBeMade, framed, node_loaded, next_to, HasSettledPart, HasPartsBetweenRounds, FitsParts}
-use Rattle.seam_law_rounds.specs.Prelude.{IsAlone, MayBegin}
+use Rattle.seam_law_rounds.specs.Prelude.{StaysWithoutClient, MayBegin}
 use Rattle.seam_law_rounds.proofs.Framing.{in_frame}
 use Rattle.seam_law_rounds.proofs.Staying.{Kept}
 use Rattle.seam_law_rounds.proofs.Making.{AreOthers, Creation, nowhere, once, creation_of, middle, until, node_made, node_after}
@@ -214,7 +214,7 @@ module _ (f : Frame) (w : World) (b : Batch) (begin : MayBegin f w b) (parts : H
 
 -- ---- an entity without a client
 
-pub alone_loaded : (w : World) (b : Batch) (e : ℕ) → IsAlone e w b → HasNoClient e (loaded w b)
+pub alone_loaded : (w : World) (b : Batch) (e : ℕ) → StaysWithoutClient e w b → HasNoClient e (loaded w b)
 alone_loaded w b e alone k =
     subst (λ s. HasNoProxy s.base.part) (sym (slot_is w b e k)) (bare_by (slice_get w.nodes k) (alone.none k))
   where

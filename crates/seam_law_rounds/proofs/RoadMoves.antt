@@ -10,7 +10,7 @@ use Rattle.seam_node_steps.specs.Prelude.{RouteView, stray_current}
 use Rattle.seam_law_flow.specs.Prelude.{IsSilent, entry_in, greater_entry}
 use Rattle.seam_law_calls.specs.Prelude.{Frame, here_at, Has, AtCell, AtBase, Does, Acts, surveys, calls, readies, CellMoves, BaseMoves}
 use Rattle.seam_law_calls.specs.Prelude.{strays_at, Moves, at_a_cell, at_a_base, real_in}
-use Rattle.seam_law_rounds.specs.Prelude.{as_entry, route_entry, brings_route}
+use Rattle.seam_law_rounds.specs.Prelude.{as_entry, route_entry, sent_route}
 use Rattle.seam_law_calls.specs.CellMoves as move
 use Rattle.seam_law_calls.specs.BaseMoves as base_move
 use Rattle.seam_law_calls.proofs.Plain.{SeesNoGhost, ghosts_silent, numbered_silent}
@@ -155,9 +155,9 @@ module _ (f : Frame) (e k : ℕ) (s : Has) (i : Option Msg) (t : Has) (sent : Li
     (routed : is_some s.base.route ≡ true) (good : (m : Msg) → i ≡ Some m → IsGoodRoute m) where
   pub record Reroutes : Type 0 where
     pub there : is_some t.base.route ≡ true
-    pub takes : route_entry t ≡ greater_entry (route_entry s) (entry_in brings_route i)
+    pub takes : route_entry t ≡ greater_entry (route_entry s) (entry_in sent_route i)
 
-  kept : (b : AtBase) → t.base ≡ b → b.route ≡ s.base.route → entry_in brings_route i ≡ None → Reroutes
+  kept : (b : AtBase) → t.base ≡ b → b.route ≡ s.base.route → entry_in sent_route i ≡ None → Reroutes
   kept b a same none =
       let is = ap (λ (x : AtBase). x.route) a ∙ same in
       record {
@@ -165,11 +165,11 @@ module _ (f : Frame) (e k : ℕ) (s : Has) (i : Option Msg) (t : Has) (sent : Li
         takes = ap as_entry is ∙ sym (ap (greater_entry (route_entry s)) none);
       }
 
-  by_none : i ≡ None → entry_in brings_route i ≡ None
-  by_none n = ap (entry_in brings_route) n
+  by_none : i ≡ None → entry_in sent_route i ≡ None
+  by_none n = ap (entry_in sent_route) n
 
-  by_other : (m : Msg) → i ≡ Some m → brings_route m ≡ None → entry_in brings_route i ≡ None
-  by_other m n h = ap (entry_in brings_route) n ∙ h
+  by_other : (m : Msg) → i ≡ Some m → sent_route m ≡ None → entry_in sent_route i ≡ None
+  by_other m n h = ap (entry_in sent_route) n ∙ h
 
   newer_by : (r new : RouteView) (b : Bool) → as_entry (Some (cond b new r)) ≡ cond b (new.generation, new.cell) (r.generation, r.cell)
   newer_by r new true = refl
@@ -202,8 +202,8 @@ module _ (f : Frame) (e k : ℕ) (s : Has) (i : Option Msg) (t : Has) (sent : Li
         takes =
             ap as_entry now
             ∙ (newer_by r new (nat_lt r.generation new.generation)
-            ∙ sym (ap (λ o. greater_entry (as_entry o) (entry_in brings_route i)) has ∙ ap (greater_entry (r.generation, r.cell)) (ap
-            (entry_in brings_route) n)));
+            ∙ sym (ap (λ o. greater_entry (as_entry o) (entry_in sent_route i)) has ∙ ap (greater_entry (r.generation, r.cell)) (ap
+            (entry_in sent_route) n)));
       }
   base_reroutes cells (base_move.offers c p n own has may a z) = kept _ a refl (by_other _ n refl)
   base_reroutes cells (base_move.updates u n own b a z) = kept _ a refl (by_other _ n refl)

@@ -10,7 +10,7 @@ use Rattle.seam_law_flow.specs.Prelude.{Flow, Goes, comes, letters_of, NotAbove,
 use Rattle.seam_law_flow.specs.Prelude.{IsSilent, carried_in, TokenPlace, In, On, SendsNone, SendsOne, Handles, still, turns, lands, leaves}
 use Rattle.seam_law_calls.specs.Prelude.{Frame, here_at, Has as Had, entity_flow, real_burden, real_in, real_of, IsOne, IsSpared, IsFrame}
 use Rattle.seam_law_calls.specs.Prelude.{HasOne, MovesTo, RunsTo, real_at}
-use Rattle.seam_law_rounds.specs.Prelude.{as_entry, route_entry, brings_route, IsKnownAt}
+use Rattle.seam_law_rounds.specs.Prelude.{as_entry, route_entry, sent_route, NewestRouteIsRight}
 use Rattle.seam_law_flow.proofs.Following.{all_append, letters_kept, came}
 use Rattle.seam_law_flow.proofs.NewestLemmas.{newest_stays, newest_rises, newest_rests}
 use Rattle.seam_law_flow.proofs.SendLists.{sees_none, sees_after_silent, sees_one_here, sees_one_there}
@@ -29,7 +29,7 @@ no_carried _ n = refl
 
 record Neither (m : Msg) : Type 0 where
   real : real_of m ≡ None
-  route : brings_route m ≡ None
+  route : sent_route m ≡ None
   good : IsGoodRoute m
 
 neither : (m : Msg) → road_of m ≡ None → Neither m
@@ -41,7 +41,7 @@ no_reals : (ps : List (ℕ × Msg)) → IsSilent road_of ps → IsSilent real_of
 no_reals [] h = tt
 no_reals (p ∷ ps) h = ((neither p.1 h.0).real, no_reals ps h.1)
 
-no_routes : (ps : List (ℕ × Msg)) → IsSilent road_of ps → AllByRecursion (λ p. brings_route p.1 ≡ None) ps
+no_routes : (ps : List (ℕ × Msg)) → IsSilent road_of ps → AllByRecursion (λ p. sent_route p.1 ≡ None) ps
 no_routes [] h = tt
 no_routes (p ∷ ps) h = ((neither p.1 h.0).route, no_routes ps h.1)
 
@@ -49,7 +49,7 @@ all_good : (ps : List (ℕ × Msg)) → IsSilent road_of ps → AllByRecursion (
 all_good [] h = tt
 all_good (p ∷ ps) h = ((neither p.1 h.0).good, all_good ps h.1)
 
-bring_none : (Q : ℕ × ℕ → Type 0) (ms : List Msg) → AllByRecursion (λ m. brings_route m ≡ None) ms → AllBring brings_route Q ms
+bring_none : (Q : ℕ × ℕ → Type 0) (ms : List Msg) → AllByRecursion (λ m. sent_route m ≡ None) ms → AllBring sent_route Q ms
 bring_none Q [] h = tt
 bring_none Q (m ∷ ms) h = (subst (OfEntry Q) (sym h.0) tt, bring_none Q ms h.1)
 
@@ -82,14 +82,14 @@ module _ (f : Frame) (e : ℕ) where
     pub one : IsOne e w place real
     pub good : (a k : ℕ) → AllByRecursion IsGoodRoute ((entity_flow e w).mail a k)
     pub there : (b : ℕ) → cell_count ≤ b → b < cell_count + f.settings.bases → is_some ((entity_flow e w).slot b).base.route ≡ true
-    pub known : (b : ℕ) → cell_count ≤ b → b < cell_count + f.settings.bases → IsKnownAt place real (entity_flow e w) b
+    pub known : (b : ℕ) → cell_count ≤ b → b < cell_count + f.settings.bases → NewestRouteIsRight place real (entity_flow e w) b
 
   abbrev Any : RealView → RealView → Type 0
   Any r q = Unit {0}
 
-  same_known : (p : TokenPlace) (r q : RealView) (w : Flow Had Msg) (b : ℕ) → q.generation ≡ r.generation → IsKnownAt p r w b →
-      IsKnownAt p q w b
-  same_known (In k) r q w b is h = subst (λ n. Newest route_entry brings_route w b n k) (sym is) h
+  same_known : (p : TokenPlace) (r q : RealView) (w : Flow Had Msg) (b : ℕ) → q.generation ≡ r.generation → NewestRouteIsRight p r w b →
+      NewestRouteIsRight p q w b
+  same_known (In k) r q w b is h = subst (λ n. Newest route_entry sent_route w b n k) (sym is) h
   same_known (On a k) r q w b is h = (h.0, h.1, (let lt = h.2 in omega (arith, lt, is)), h.3)
 
   told_good : (k : ℕ) (r : RealView) → real_burden r < limit → k < cell_count → (js : List ℕ) →
@@ -129,9 +129,9 @@ module _ (f : Frame) (e : ℕ) where
           reroutes f e g.k (before.slot g.k) (comes g.input) (after.slot g.k) sent high (h.there g.k high low) letter_good g.moves.0.moves
 
     module _ (b : ℕ) (high : cell_count ≤ b) (low : b < cell_count + f.settings.bases) where
-      takes : g.k ≡ b → route_entry (after.slot b) ≡ greater_entry (route_entry (before.slot b)) (entry_in brings_route (comes g.input))
+      takes : g.k ≡ b → route_entry (after.slot b) ≡ greater_entry (route_entry (before.slot b)) (entry_in sent_route (comes g.input))
       takes is =
-          subst (λ x. route_entry (after.slot x) ≡ greater_entry (route_entry (before.slot x)) (entry_in brings_route (comes g.input))) is
+          subst (λ x. route_entry (after.slot x) ≡ greater_entry (route_entry (before.slot x)) (entry_in sent_route (comes g.input))) is
           (turned (omega (arith, is, high)) (omega (arith, is, low))).takes
 
       there_then : is_some (after.slot b).base.route ≡ true
@@ -140,19 +140,19 @@ module _ (f : Frame) (e : ℕ) where
         | inr n ↦ ap (λ s. is_some s.base.route) (g.others b n) ∙ h.there b high low
       ]
 
-      no_out : (ps : List (ℕ × Msg)) → AllByRecursion (λ p. brings_route p.1 ≡ None) ps → sent ≡ ps → (key c : ℕ) →
-          AllBring brings_route (NotAbove key c) (g.out b)
+      no_out : (ps : List (ℕ × Msg)) → AllByRecursion (λ p. sent_route p.1 ≡ None) ps → sent ≡ ps → (key c : ℕ) →
+          AllBring sent_route (NotAbove key c) (g.out b)
       no_out ps none is key c =
           bring_none (NotAbove key c) (g.out b)
-          (subst (AllByRecursion (λ m. brings_route m ≡ None)) (sym (g.moves.0.items b ∙ ap (items_to b) is)) (items_all
-          (λ m. brings_route m ≡ None) b ps none))
+          (subst (AllByRecursion (λ m. sent_route m ≡ None)) (sym (g.moves.0.items b ∙ ap (items_to b) is)) (items_all
+          (λ m. sent_route m ≡ None) b ps none))
 
-      stays_new : (key c : ℕ) → Newest route_entry brings_route before b key c → (ps : List (ℕ × Msg)) →
-          AllByRecursion (λ p. brings_route p.1 ≡ None) ps → sent ≡ ps → Newest route_entry brings_route after b key c
-      stays_new key c n ps none is = newest_stays brings_route route_entry g b key c n takes (no_out ps none is key c)
+      stays_new : (key c : ℕ) → Newest route_entry sent_route before b key c → (ps : List (ℕ × Msg)) →
+          AllByRecursion (λ p. sent_route p.1 ≡ None) ps → sent ≡ ps → Newest route_entry sent_route after b key c
+      stays_new key c n ps none is = newest_stays sent_route route_entry g b key c n takes (no_out ps none is key c)
 
-      known_stays : (p : TokenPlace) (r : RealView) → IsKnownAt p r before b → AllByRecursion (λ p. brings_route p.1 ≡ None) sent →
-          IsKnownAt p r after b
+      known_stays : (p : TokenPlace) (r : RealView) → NewestRouteIsRight p r before b → AllByRecursion (λ p. sent_route p.1 ≡ None) sent →
+          NewestRouteIsRight p r after b
       known_stays (In k) r n none = stays_new r.generation k n sent none refl
       known_stays (On a k) r n none = (n.0, n.1, n.2, stays_new n.0 n.1 n.3 sent none refl)
 
@@ -207,8 +207,8 @@ module _ (f : Frame) (e : ℕ) where
     plain_by (Some r) None was is gen none silent = cc
 
     -- the real comes
-    key_by : (p : TokenPlace) (a b : ℕ) → p ≡ On a g.k → IsKnownAt p h.real before b →
-        (key : ℕ) × (c : ℕ) × (key < h.real.generation) × Newest route_entry brings_route before b key c
+    key_by : (p : TokenPlace) (a b : ℕ) → p ≡ On a g.k → NewestRouteIsRight p h.real before b →
+        (key : ℕ) × (c : ℕ) × (key < h.real.generation) × Newest route_entry sent_route before b key c
     key_by (On x y) a b is n = n
     key_by (In x) a b is n = cc
 
@@ -234,20 +234,20 @@ module _ (f : Frame) (e : ℕ) where
                 let out : g.out b ≡ Current r.entity g.k r.generation ∷ [] =
                 g.moves.0.items b ∙ (ap (items_to b) z ∙ told_here
                 (Current r.entity g.k r.generation) cell_count f.settings.bases b high below) in
-                newest_rises brings_route route_entry g b n.0 r.generation n.1 g.k n.3
+                newest_rises sent_route route_entry g b n.0 r.generation n.1 g.k n.3
                 (let lt = n.2 in let gen = ap generation_of from.2 in omega (arith, lt, gen))
                 (λ same. absurd (omega (arith, same, low, high)))
-                (subst (AllBring brings_route (NotAbove r.generation g.k)) (sym out) (inr (refl, refl), tt))
-                (inr (subst (Has brings_route (r.generation, g.k)) (sym out) (inl refl)));
+                (subst (AllBring sent_route (NotAbove r.generation g.k)) (sym out) (inr (refl, refl), tt))
+                (inr (subst (Has sent_route (r.generation, g.k)) (sym out) (inl refl)));
           },
           ap generation_of from.2,
           refl,
         )
 
     -- the real goes
-    at_by : (p : TokenPlace) (b : ℕ) → p ≡ In g.k → IsKnownAt p h.real before b →
-        Newest route_entry brings_route before b h.real.generation g.k
-    at_by (In x) b is n = let same : x ≡ g.k = let z = is in cc in subst (Newest route_entry brings_route before b h.real.generation) same n
+    at_by : (p : TokenPlace) (b : ℕ) → p ≡ In g.k → NewestRouteIsRight p h.real before b →
+        Newest route_entry sent_route before b h.real.generation g.k
+    at_by (In x) b is n = let same : x ≡ g.k = let z = is in cc in subst (Newest route_entry sent_route before b h.real.generation) same n
     at_by (On x y) b is n = cc
 
     departs_by : (r q : RealView) (j : ℕ) (first : List (ℕ × Msg)) → ((x : RealView) → comes g.input ≡ Some (Hand x) → ⊥) →
@@ -277,7 +277,7 @@ module _ (f : Frame) (e : ℕ) where
               g.k,
               rise,
               stays_new b high low h.real.generation g.k (at_by h.place b at.0 (h.known b high low)) (first ++ (j, Hand q) ∷ [])
-                  (all_append (λ p. brings_route p.1 ≡ None) first ((j, Hand q) ∷ []) (no_routes first silent) (refl, tt)) z,
+                  (all_append (λ p. sent_route p.1 ≡ None) first ((j, Hand q) ∷ []) (no_routes first silent) (refl, tt)) z,
             );
           },
           gen ∙ ap (λ x. generation_of x + 1) at.1,
@@ -326,11 +326,11 @@ module _ (f : Frame) (e : ℕ) where
 
   module _ (w : World) (h : IsRouted w) (still : (a k : ℕ) → (entity_flow e w).mail a k ≡ []) (k : ℕ) (r : RealView)
       (here : real_at e w k ≡ Some r) (b : ℕ) (high : cell_count ≤ b) (low : b < cell_count + f.settings.bases) where
-    at_home : (p : TokenPlace) → p ≡ In k → IsKnownAt p h.real (entity_flow e w) b →
-        Newest route_entry brings_route (entity_flow e w) b h.real.generation k
+    at_home : (p : TokenPlace) → p ≡ In k → NewestRouteIsRight p h.real (entity_flow e w) b →
+        Newest route_entry sent_route (entity_flow e w) b h.real.generation k
     at_home (In x) is n =
         let same : x ≡ k = let z = is in cc in
-        subst (Newest route_entry brings_route (entity_flow e w) b h.real.generation) same n
+        subst (Newest route_entry sent_route (entity_flow e w) b h.real.generation) same n
     at_home (On x y) is n = cc
 
     pub quiet_route : ((entity_flow e w).slot b).base.route ≡ Some (record { cell = k; generation = r.generation })
@@ -338,5 +338,5 @@ module _ (f : Frame) (e : ℕ) where
         let at = sole_here real_in real_of (entity_flow e w) h.place h.real r k h.one here in
         let n = at_home h.place at.0 (h.known b high low) in
         route_by ((entity_flow e w).slot b).base.route r.generation k (h.there b high low)
-        (newest_rests brings_route route_entry (entity_flow e w) b h.real.generation k n (λ x. still x b)
+        (newest_rests sent_route route_entry (entity_flow e w) b h.real.generation k n (λ x. still x b)
         ∙ ap (λ m. let p : ℕ × ℕ = (m, k) in p) (sym (ap generation_of at.1)))

@@ -11,7 +11,8 @@ use Rattle.seam_node_steps.specs.Prelude.{real_if, part_if, with_route, created_
 use Rattle.seam_node_steps.specs.Prelude.{loaded, with_nodes, Division, leaf_at, cells_of}
 use Rattle.seam_law_flow.specs.Prelude.{slot_at, letters_of}
 use Rattle.seam_law_calls.specs.Prelude.{Frame, here_at, mine, times, order_concerns, orders_of, has_of, has_none, real_in, sent_by}
-use Rattle.seam_law_calls.specs.Prelude.{EachReal, HasToldAtMost, most_entities, IsBlank, BringsNone, IsAbsent, HasFewEntities, SeesFew}
+use Rattle.seam_law_calls.specs.Prelude.{EachReal, HasToldAtMost, most_entities, IsBlank, CarriesNoEntity, IsAbsent, HasFewEntities}
+use Rattle.seam_law_calls.specs.Prelude.{SeesFew}
 use Rattle.seam_law_calls.specs.Prelude.{order_looks, node_looks, mine_looks, looks_left, most_shown, RunsTo}
 use Rattle.seam_law_rounds.specs.Prelude.{IsBetweenRounds, each, made, node_loaded, HasPartsBetweenRounds, FitsParts, MayBegin}
 use Rattle.seam_machine.proofs.Quiet.{quiet_links, quiet_tasks}
@@ -201,7 +202,7 @@ module _ (f : Frame) (w : World) (b : Batch) (begin : MayBegin f w b) (had : Has
     absent_loaded : IsAbsent e (loaded w b)
     absent_loaded = record {
       cells = λ k. subst IsBlank (sym (slot_is w b e k)) (blank_by k (slice_get w.nodes k) refl);
-      letters = λ a k. subst (AllByRecursion BringsNone) (sym (no_mail f w b begin e a k)) tt;
+      letters = λ a k. subst (AllByRecursion CarriesNoEntity) (sym (no_mail f w b begin e a k)) tt;
     }
 
   pub few_loaded : HasFewEntities (loaded w b)
@@ -258,7 +259,7 @@ module _ (f : Frame) (u : World) (between : IsBetweenRounds f u) (had : HasParts
         subst IsBlank (sym (ap (slot_at (has_of e) has_none) (slice_get-map turn u.nodes k)))
         (blank_turned e le k (slice_get u.nodes k) refl);
     letters = λ a k.
-        subst (AllByRecursion BringsNone)
+        subst (AllByRecursion CarriesNoEntity)
         (sym (ap (letters_of (mine e)) (quiet_links node_has_work u between.nodes.sound.square between.quiet a k))) tt;
   }
 

@@ -2,7 +2,7 @@
 use Rattle.std.proofs.Common.{◌≡◌, ℕ, List, [], ◌∷◌, None, sym, subst, arith}
 use Rattle.std.specs.List.{AllByRecursion}
 use Rattle.seam_node_steps.specs.Prelude.{Event, Msg, Update, World}
-use Rattle.seam_law_calls.specs.Prelude.{Frame, IsInFrame, entity_flow, IsSpared, update_in, FindsClient, IsToldNothing, RunsTo}
+use Rattle.seam_law_calls.specs.Prelude.{Frame, IsInFrame, entity_flow, IsSpared, update_in, FindsClient, NoUpdateComes, RunsTo}
 use Rattle.seam_law_rounds.specs.Prelude.{IsServed, bare, served}
 use Rattle.seam_call.specs.declared.shown.Update.{Update as UpdateData}
 use Rattle.seam_law_calls.proofs.ClientLeads.{client_leads}
@@ -13,7 +13,7 @@ use Rattle.seam_law_rounds.proofs.Serving.{HasNumbers}
 
 module _ (f : Frame) (e ty : ℕ) (w v : World) (es : List Event) (run : RunsTo w es v) (frame : IsInFrame f w)
     (spared : IsSpared e w) (n : ℕ) (numbers : HasNumbers e n w v) (still : (a k : ℕ) → (entity_flow e w).mail a k ≡ []) where
-  nothing : IsToldNothing e w
+  nothing : NoUpdateComes e w
   nothing a k = subst (AllByRecursion (λ m. update_in m ≡ None)) (sym (still a k)) tt
 
   module _ (a k : ℕ) (u : UpdateData) (ms : List Msg) (at : (entity_flow e v).mail a k ≡ Update u ∷ ms) where

@@ -13,14 +13,14 @@ as_entry (Some r) = (r.generation, r.cell)
 abbrev pub route_entry : Has → ℕ × ℕ
 route_entry h = as_entry h.base.route
 
--- those that a message brings
-abbrev pub brings_route : Msg → Option (ℕ × ℕ)
-brings_route (Current e j g) = Some (g, j)
-brings_route _ = None
+-- the one that a message carries
+abbrev pub sent_route : Msg → Option (ℕ × ℕ)
+sent_route (Current e j g) = Some (g, j)
+sent_route _ = None
 
 -- Of the route that base node b has and those on their way there, the newest has the generation of the real and the cell where it is;
 -- while the real is on its way, each is of a smaller generation than the real that is handed over.
-abbrev pub IsKnownAt : TokenPlace → RealView → Flow Has Msg → ℕ → Type 0
-IsKnownAt (In k) r w b = Newest route_entry brings_route w b r.generation k
-IsKnownAt (On a k) r w b =
-    (generation : ℕ) × (cell : ℕ) × (generation < r.generation) × Newest route_entry brings_route w b generation cell
+abbrev pub NewestRouteIsRight : TokenPlace → RealView → Flow Has Msg → ℕ → Type 0
+NewestRouteIsRight (In k) r w b = Newest route_entry sent_route w b r.generation k
+NewestRouteIsRight (On a k) r w b =
+    (generation : ℕ) × (cell : ℕ) × (generation < r.generation) × Newest route_entry sent_route w b generation cell

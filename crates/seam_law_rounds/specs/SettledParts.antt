@@ -107,7 +107,7 @@ pub record FitsParts (f : Frame) (w : World) (b : Batch) : Type 0 where
 -- ---- entities without a client
 
 -- the entity has no client, and the batch attaches none
-pub record IsAlone (e : ℕ) (w : World) (b : Batch) : Type 0 where
+pub record StaysWithoutClient (e : ℕ) (w : World) (b : Batch) : Type 0 where
   pub none : HasNoClient e w
   pub attached : AllByRecursion (λ x. x ≡ e → ⊥) b.clients
 

@@ -24,10 +24,10 @@ ghost use Rattle.seam_node_steps.specs.Prelude.{empty_world, lines_of_client, Wo
 ghost use Rattle.seam_node_steps.specs.Prelude.{reaps_loaded, look_loaded};
 ghost use Rattle.seam_law_flow.specs.Prelude.{letters_of};
 ghost use Rattle.seam_law_calls.specs.Prelude.{Frame, entity_flow, events_of, IsFrame, from_sender, home_of, HasBaseCalls};
-ghost use Rattle.seam_law_calls.specs.Prelude.{HasNoClient, shown_at, HasClient, FindsClient, IsToldNothing, HasRoutes, NothingIsStray};
+ghost use Rattle.seam_law_calls.specs.Prelude.{HasNoClient, shown_at, HasClient, FindsClient, NoUpdateComes, HasRoutes, NothingIsStray};
 ghost use Rattle.seam_law_calls.specs.Prelude.{RunsTo, real_at};
 ghost use Rattle.seam_law_rounds.specs.Prelude.{framed, IsBetweenRounds, first_frame, AreReapable, next_to, base_calls_of, HasSettledPart};
-ghost use Rattle.seam_law_rounds.specs.Prelude.{HasPartsBetweenRounds, MayBeLoaded, IsAlone, HasSmallNumbers, IsServed, opening};
+ghost use Rattle.seam_law_rounds.specs.Prelude.{HasPartsBetweenRounds, MayBeLoaded, StaysWithoutClient, HasSmallNumbers, IsServed, opening};
 ghost use Rattle.seam_call.specs.declared.shown.Update.{Update as UpdateData};
 ghost use Rattle.seam_node_steps.specs.ViewRounds as view;
 
@@ -45,7 +45,8 @@ pub fn a_base_part_of_a_loaded_world_is_ready()
     ensures routes { (f : Frame) (w : World) (b : Batch) → MayBeLoaded f w b →
         (e k : ℕ) (r : RealView) → real_at e (loaded w b) k ≡ Some r →
         HasRoutes (framed f b) e (loaded w b) }
-    ensures alone { (w : World) (b : Batch) (e : ℕ) → IsAlone e w b → HasNoClient e (loaded w b) }
+    ensures alone { (w : World) (b : Batch) (e : ℕ) → StaysWithoutClient e w b →
+        HasNoClient e (loaded w b) }
 {}
 
 /// So each call of the batch to a base part waits once, until it is executed, over every list of events, whether there is a client or not;
@@ -102,7 +103,7 @@ pub fn an_update_finds_its_client()
         FindsClient f e j ((entity_flow e v).slot j).base m }
     ensures reaps { (f : Frame) (u : World) → IsBetweenRounds f u → HasPartsBetweenRounds f u →
         (es : List ℕ) → AreReapable u es → (vs : List Event) (v : World) →
-        RunsTo (reaps_loaded u es) vs v → (e : ℕ) → IsToldNothing e v }
+        RunsTo (reaps_loaded u es) vs v → (e : ℕ) → NoUpdateComes e v }
 {}
 
 /// The record of base parts and clients holds of a world as it is opened, and again where a round's calls leave the world quiet, then

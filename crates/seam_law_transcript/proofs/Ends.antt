@@ -6,7 +6,7 @@ use Rattle.seam_rule_rounds.specs.Prelude.{Header, Standing, entries}
 use Rattle.seam_law_calls.specs.Prelude.{sent_by}
 use Rattle.seam_law_rounds.specs.Prelude.{numbers_of}
 use Rattle.seam_law_bounds.specs.Prelude.{AreAtMost}
-use Rattle.seam_law_transcript.specs.Prelude.{most_told}
+use Rattle.seam_law_transcript.specs.Prelude.{most_lines_of_look}
 use Rattle.seam_accept.specs.Batches.{batch_of, ordered}
 use Rattle.seam_law_calls.proofs.Below.{mapped_few}
 
@@ -35,13 +35,13 @@ module _ (h : Header) (s : Standing) where
       let all = both in
       omega (arith, its, few, all)
 
-  pub told_after : (v : World) (lines : ℕ) → lines ≤ most_told →
-      AreAtMost sent_by (most_told * (16 * length s.book.past + s.rounds) + lines * (16 * orders + 1)) v →
-      AreAtMost sent_by (most_told * (16 * length (entries s.book) + (s.rounds + 1))) v
+  pub told_after : (v : World) (lines : ℕ) → lines ≤ most_lines_of_look →
+      AreAtMost sent_by (most_lines_of_look * (16 * length s.book.past + s.rounds) + lines * (16 * orders + 1)) v →
+      AreAtMost sent_by (most_lines_of_look * (16 * length (entries s.book) + (s.rounds + 1))) v
   told_after v lines le low e k r at =
       let its = low e k r at in
       let few = few_orders in
       let all = both in
       let few_looks : 16 * orders + 1 ≤ 16 * length s.book.current + 1 = omega (arith, few) in
-      let more = product lines most_told (16 * orders + 1) (16 * length s.book.current + 1) le few_looks in
+      let more = product lines most_lines_of_look (16 * orders + 1) (16 * length s.book.current + 1) le few_looks in
       omega (arith, its, more, all)

@@ -12,9 +12,9 @@ use Rattle.seam_machine.specs.Nets.{link}
 use Rattle.seam_law_calls.specs.Prelude.{entity_flow, kept_if, mine, real_of, from_sender, is_from, desk_for, cell_mail, real_desk}
 use Rattle.seam_law_calls.specs.Prelude.{as_sender, as_base_sender, part_desk, real_at}
 use Rattle.seam_law_rounds.specs.Prelude.{next_from, next_to, base_calls_of}
-use Rattle.seam_law_ghosts.specs.Prelude.{WasThere}
+use Rattle.seam_law_ghosts.specs.Prelude.{HadSameReal}
 use Rattle.seam_law_all.specs.CallLaws.{GoesRightly}
-use Rattle.seam_law_book.specs.Prelude.{as_begun, IsFitCall, calls_from, Brings, frame_of, base_node, HasRoomForCalls}
+use Rattle.seam_law_book.specs.Prelude.{as_begun, IsFitCall, calls_from, HasFitRound, frame_of, base_node, HasRoomForCalls}
 use Rattle.seam_law_transcript.specs.Turns.{AreFirstCalls, HasFirstCalls}
 use Rattle.seam_defs.specs.declared.flags.Part.TheVariants as part
 use Rattle.seam_entity.specs.declared.message.Msg.TheVariants.{Call}
@@ -109,7 +109,7 @@ for_all Q (m ∷ ms) all = ((λ n. (all n).0), for_all Q ms (λ n. (all n).1))
 
 -- the entity e of the world u, to which a list of events led from the loaded world
 module _ (h : Header) (s : Standing) (tree : Division) (clients : ℕ → ClientReplica) (w u : World) (some : 1 ≤ h.settings.bases)
-    (R : Brings h s.book) (few : HasRoomForCalls s.book) (full : (p : Part) (e : ℕ) →
+    (R : HasFitRound h s.book) (few : HasRoomForCalls s.book) (full : (p : Part) (e : ℕ) →
     IsFull (accepted (as_begun s.book) p e) (s.orders p e))
     (e : ℕ) (r : RealView) (goes : GoesRightly (frame_of h tree) clients w (batch_of h s.book) e r u) where
   abbrev B : Batch
@@ -187,7 +187,7 @@ none_handed told home r k _ calm = refl
 
 -- and each part is what it was before, but for its witness or its client
 pub still_first : (s : Standing) (e : ℕ) (u v : World) → HasFirstCalls s e u →
-    ((k : ℕ) (q : RealView) → real_at e v k ≡ Some q → WasThere e k q u) → (told : Bool) (home : ℕ) (r : RealView) →
+    ((k : ℕ) (q : RealView) → real_at e v k ≡ Some q → HadSameReal e k q u) → (told : Bool) (home : ℕ) (r : RealView) →
     ((a k : ℕ) → AllByRecursion (IsCalmTo told home r k) ((entity_flow e v).mail a k)) →
     ((k : ℕ) (q : PartView) → ((entity_flow e v).slot k).base.part ≡ Some q →
     (p : PartView) × (((entity_flow e u).slot k).base.part ≡ Some p) × (q.done ≡ p.done)) → HasFirstCalls s e v

@@ -7,7 +7,7 @@ use Rattle.std.proofs.lemmas.Bool.{eqb-true}
 use Rattle.std.proofs.lemmas.Option.{none-some}
 use Rattle.seam_node_steps.specs.Prelude.{Create, ProxyView}
 use Rattle.seam_rule_rounds.specs.Prelude.{Header, Book, entries, creates_of, created_as, live_as, destroys, joins, was_dead, is_shown}
-use Rattle.seam_law_book.specs.Prelude.{as_begun, IsPresent, GetsClient, IsNewEntity, IsUntouched, Brings, made_among}
+use Rattle.seam_law_book.specs.Prelude.{as_begun, IsPresent, GetsClient, IsNewEntity, IsUntouched, HasFitRound, made_among}
 use Rattle.seam_accept.specs.Batches.{joined}
 use Rattle.seam_law_book.proofs.Present.{any_split, any_begun, created_split, created_begun, unjoined, alive}
 use Rattle.seam_rule_lines.proofs.BookEntries.{live_is_created}
@@ -66,7 +66,7 @@ made_has : (P : Create → Type 0) (e : ℕ) (d : Create) (cs : List Create) →
 made_has P e d [] all is = absurd (none-some d is)
 made_has P e d (x ∷ cs) all is = made_by P e x d cs (x.entity == e) refl all.0 (made_has P e d cs all.1) is
 
-module _ (h : Header) (b : Book) (R : Brings h b)
+module _ (h : Header) (b : Book) (R : HasFitRound h b)
     (untouched : (e : ℕ) → created_as (as_begun b) e ≡ None → IsUntouched (as_begun b) e) where
   alone_by : (e : ℕ) (g : GetsClient b e) → IsPresent b e g.made → list_any (joins e) b.past ≡ false
   alone_by e g (inl lives) = (unjoined (as_begun b) e g.made lives g.alone).0
@@ -94,7 +94,7 @@ was_created b e shown =
     created_by (created_as b e) (both (is_some (created_as b e)) (list_any (joins e) (entries b)) first).0
 
 -- one that is there in the round was created so, and was not dead before
-module _ (h : Header) (b : Book) (R : Brings h b)
+module _ (h : Header) (b : Book) (R : HasFitRound h b)
     (untouched : (e : ℕ) → created_as (as_begun b) e ≡ None → IsUntouched (as_begun b) e) (e : ℕ) (c : Create) where
   new_one : made_among (creates_of b.current) e ≡ Some c → created_as (as_begun b) e ≡ None
   new_one now =

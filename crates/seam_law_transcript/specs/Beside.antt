@@ -23,14 +23,14 @@ pub record GoesBetween (h : Header) (s : Standing) (tree : Division) (w : World)
   pub untold : (e : ℕ) → list_any (joins e) s.book.past ≡ false → s.told e ≡ []
 
 -- It goes with it, and the book has all lines of the open round, which may be played.
-pub record StandsBeside (h : Header) (s : Standing) (tree : Division) (w : World) : Type 0 where
+pub record HasPlayableRound (h : Header) (s : Standing) (tree : Division) (w : World) : Type 0 where
   pub between : GoesBetween h s tree w
   pub legal : AreLegal h.settings
   pub of_lines : IsOfLines h s.book
   pub few : HasRoomForCalls s.book
   pub room : HasRoomForRound h w
 
-abbrev pub may_play : (h : Header) (s : Standing) (tree : Division) (w : World) → StandsBeside h s tree w →
+abbrev pub may_play : (h : Header) (s : Standing) (tree : Division) (w : World) → HasPlayableRound h s tree w →
     MayPlay h s.book tree (replica_of h s) w
 may_play h s tree w b = record {
   legal = b.legal;

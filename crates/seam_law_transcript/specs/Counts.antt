@@ -12,13 +12,13 @@ pub record IsCounted (s : Standing) : Type 0 where
   pub rounds : s.rounds + open_lines s.book ≤ s.lines
 
 -- the most that a witness tells in one look: its own state, and a line for each entity
-abbrev pub most_told : ℕ
-most_told = 1 + MOST_ENTITIES
+abbrev pub most_lines_of_look : ℕ
+most_lines_of_look = 1 + MOST_ENTITIES
 
 -- The numbers of a world that only rise are bounded by how many entries the rounds before had, and how many rounds ended.
 pub record HasFewNumbers (s : Standing) (w : World) : Type 0 where
   pub reals : AreAtMost numbers_of (3 * length s.book.past + 2 * s.rounds) w
-  pub told : AreAtMost sent_by (most_told * (16 * length s.book.past + s.rounds)) w
+  pub told : AreAtMost sent_by (most_lines_of_look * (16 * length s.book.past + s.rounds)) w
 
 -- an input has at most so many lines
 abbrev pub most_lines : ℕ

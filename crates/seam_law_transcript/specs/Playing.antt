@@ -12,12 +12,12 @@ use Rattle.seam_law_clients.specs.Prelude.{clients_loaded, clients_shown}
 use Rattle.seam_law_book.specs.Prelude.{frame_of, base_node, HasEnded}
 use Rattle.seam_defs.specs.declared.flags.Part.TheVariants as part
 use Rattle.seam_accept.specs.Batches.{batch_of}
-use Rattle.seam_law_transcript.specs.Beside.{StandsBeside}
+use Rattle.seam_law_transcript.specs.Beside.{HasPlayableRound}
 use Rattle.seam_law_transcript.specs.Reading.{round_read, standing_read}
 
 -- The round of the standing's open lines was played from the world w, whose nodes had the tree `tree`, to v; and its entities are listed.
 pub record IsPlayed (h : Header) (s : Standing) (tree : Division) (w v : World) : Type 0 where
-  pub beside : StandsBeside h s tree w
+  pub beside : HasPlayableRound h s tree w
   pub round : GoesThroughRound w (batch_of h s.book) v
   pub ended : HasEnded h s.book w v round
   pub made : List Create

@@ -1,7 +1,7 @@
 -- What the crates above cite of this one and of those below it, gathered, so that one import names it.
-pub use Rattle.seam_law_transcript.specs.Beside.{GoesBetween, StandsBeside, may_play}
+pub use Rattle.seam_law_transcript.specs.Beside.{GoesBetween, HasPlayableRound, may_play}
 pub use Rattle.seam_law_transcript.specs.BrokenOff.{HasNextLine, MayBreakOff, as_it_is, one_accepted, one_read}
-pub use Rattle.seam_law_transcript.specs.Counts.{HasFewNumbers, MayEnd, most_lines, most_told}
+pub use Rattle.seam_law_transcript.specs.Counts.{HasFewNumbers, MayEnd, most_lines, most_lines_of_look}
 pub use Rattle.seam_law_transcript.specs.Course.{GoesOn}
 pub use Rattle.seam_law_transcript.specs.OneReal.{HasOneReal}
 pub use Rattle.seam_law_transcript.specs.Phases.{EndCalls, EndReaps, Ends, dying}

@@ -13,7 +13,7 @@
 // (`specs/Truly`), and after each they show all that is within their radius, as it is now (`specs/Radius`).
 //
 // With `given`, and the fields `between.keeps` and `bounded`, there is all that `seam_quiet::run_round` asks; the round that it runs, and
-// that this has ended, are fields of what it answers (*StandsFor*), and so they are where a caller runs the phases one by one.
+// that this has ended, are fields of what it answers (*IsJournalOf*), and so they are where a caller runs the phases one by one.
 
 ghost use Rattle.std.specs.Prelude.{◌≡◌, ℕ, ◌+◌, ◌≤◌, IsTrue, IsFalse, List, map, None, Some};
 ghost use Rattle.seam_node_steps.specs.Prelude.{Division, IsTree, AreLegal, AreDefs, Create, opened, World};
@@ -24,7 +24,7 @@ ghost use Rattle.seam_law_ghosts.specs.Prelude.{GoesThroughRound};
 ghost use Rattle.seam_law_all.specs.Prelude.{MayBeGiven};
 ghost use Rattle.seam_law_bounds.specs.Prelude.{IsBounded};
 ghost use Rattle.seam_law_book.specs.Prelude.{IsAccepted, frame_of, HasEnded};
-ghost use Rattle.seam_law_transcript.specs.Prelude.{StandsBeside, round_read, standing_read, HasFewNumbers, MayEnd, most_lines, GoesOn};
+ghost use Rattle.seam_law_transcript.specs.Prelude.{HasPlayableRound, round_read, standing_read, HasFewNumbers, MayEnd, most_lines, GoesOn};
 ghost use Rattle.seam_law_transcript.specs.Prelude.{HasOneReal, ExecutesInTurn, MayBreakOff, ClientsSeeAll};
 ghost use Rattle.seam_accept.specs.Batches.{batch_of};
 
@@ -51,7 +51,7 @@ pub fn a_round_may_be_run()
     ensures synced { (h : Header) (s : Standing) (tree : Division) (w : World) → GoesOn h s tree w →
         open_lines s.book ≤ MOST_LINES → s.lines + 1 ≤ most_lines → MayEnd (with_line s) }
     ensures stands { (h : Header) (s : Standing) (tree : Division) (w : World) → GoesOn h s tree w →
-        MayEnd s → StandsBeside h s tree w }
+        MayEnd s → HasPlayableRound h s tree w }
     ensures given { (h : Header) (s : Standing) (tree : Division) (w : World) → GoesOn h s tree w →
         MayEnd s → MayBeGiven (frame_of h tree) w (batch_of h s.book) }
 {

@@ -18,7 +18,7 @@ pub record MayRun (f : Frame) (clients : ℕ → ClientReplica) (w : World) (b :
 
 -- The journal stands for the round from w, with the batch b, to v: its events, each enabled at its place, make the three phases, each of
 -- which ends quiet; and the batch's destroys are reaped, and no others.
-pub record StandsFor (w : World) (b : Batch) (j : Journal) (v : World) : Type 0 where
+pub record IsJournalOf (w : World) (b : Batch) (j : Journal) (v : World) : Type 0 where
   pub round : GoesThroughRound w b v
   pub quiet : IsQuiet node_has_work v
   pub gone : round.gone ≡ b.destroys

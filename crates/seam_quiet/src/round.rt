@@ -12,7 +12,7 @@ ghost use Rattle.seam_net_runs.specs.Finishing.{EndsWithin};
 ghost use Rattle.seam_rule_clients.specs.Clients.{ClientReplica};
 ghost use Rattle.seam_core.specs.Worlds.{Leads};
 ghost use Rattle.seam_core.specs.Loads.{MayLoad};
-ghost use Rattle.seam_quiet.specs.RoundRuns.{MayRun, StandsFor, BeginsPhase, IsWithinTable};
+ghost use Rattle.seam_quiet.specs.RoundRuns.{MayRun, IsJournalOf, BeginsPhase, IsWithinTable};
 ghost use Rattle.seam_quiet.specs.CallPhase.{Beginning, HasCalled};
 
 use crate::workers::Workers;
@@ -188,7 +188,8 @@ fn end_phases<G: Gate + Sync, R: Threads + Wait + Sync>(
     requires reapable { AreReapable called.world from.0.batch.destroys }
     requires ends { (u : AnyWorld) → BeginsPhase from.0.world from.0.batch u →
         EndsWithin node_has_work node_steps u (from.1 u) }
-    ensures stands { IfOk result (λ r. (s : StandsFor from.0.world from.0.batch r.journal r.world) ×
+    ensures stands { IfOk result (λ r.
+        (s : IsJournalOf from.0.world from.0.batch r.journal r.world) ×
         (s.round.called ≡ called.world)) }
     ensures destroys { IfOk result (λ r. r.destroys ≡ from.0.batch.destroys) }
 {
@@ -224,7 +225,7 @@ pub fn run_ends<G: Gate + Sync, R: Threads + Wait + Sync>(
     requires may { (f : Frame) × (clients : ℕ → ClientReplica) ×
         MayRun f clients from.world from.batch }
     requires called { HasCalled from.world from.batch called }
-    ensures run { IfOk result (λ r. (s : StandsFor from.world from.batch r.journal r.world) ×
+    ensures run { IfOk result (λ r. (s : IsJournalOf from.world from.batch r.journal r.world) ×
         (s.round.called ≡ called.world) × IsWithinTable from.world from.batch r.journal
         s.round.reaped) }
     ensures destroys { IfOk result (λ r. r.destroys ≡ from.batch.destroys) }
@@ -254,7 +255,7 @@ fn run_both<G: Gate + Sync, R: Threads + Wait + Sync>(
     requires batch { batch ≡ from.batch }
     requires may { (f : Frame) × (clients : ℕ → ClientReplica) ×
         MayRun f clients from.world from.batch }
-    ensures run { IfOk result (λ r. (s : StandsFor from.world from.batch r.1 r.0) ×
+    ensures run { IfOk result (λ r. (s : IsJournalOf from.world from.batch r.1 r.0) ×
         IsWithinTable from.world from.batch r.1 s.round.reaped) }
     ensures records { IfOk result (λ r. (f : Frame) (clients : ℕ → ClientReplica) →
         MayRun f clients from.world from.batch → KeepsRecords (framed f from.batch)
@@ -277,7 +278,7 @@ pub fn run_round<G: Gate + Sync, R: Threads + Wait + Sync>(
     workers: &Workers<G>,
 ) -> Result<(World, Journal), AllocError>
     requires may { (f : Frame) × (clients : ℕ → ClientReplica) × MayRun f clients world batch }
-    ensures run { IfOk result (λ r. (s : StandsFor world batch r.1 r.0) ×
+    ensures run { IfOk result (λ r. (s : IsJournalOf world batch r.1 r.0) ×
         IsWithinTable world batch r.1 s.round.reaped) }
     ensures records { IfOk result (λ r. (f : Frame) (clients : ℕ → ClientReplica) →
         MayRun f clients world batch → KeepsRecords (framed f batch)

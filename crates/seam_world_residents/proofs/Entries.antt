@@ -5,7 +5,7 @@ use Rattle.std.specs.List.{AllByRecursion, list_any, filter_map}
 use Rattle.std.proofs.lemmas.Option.{none-some}
 use Rattle.seam_node_steps.specs.Prelude.{Create}
 use Rattle.seam_rule_rounds.specs.Prelude.{Header, Book, creates_of, created_as, destroys, joins, Entry}
-use Rattle.seam_law_book.specs.Prelude.{as_begun, IsNewEntity, IsUntouched, Brings}
+use Rattle.seam_law_book.specs.Prelude.{as_begun, IsNewEntity, IsUntouched, HasFitRound}
 use Rattle.seam_rule_lines.specs.declared.verdict.Entry.TheVariants as entry
 use Rattle.seam_rule_lines.proofs.InOrderLemmas.{found_entity}
 use Rattle.seam_accept.specs.Batches.{joined, destroyed}
@@ -45,7 +45,7 @@ module _ (P : Create → Type 0) where
   found_has e c [] all is = absurd (none-some c is)
   found_has e c (x ∷ cs) all is = found_by e x c cs (x.entity == e) all.0 (found_has e c cs all.1) is
 
-module _ (h : Header) (b : Book) (R : Brings h b)
+module _ (h : Header) (b : Book) (R : HasFitRound h b)
     (untouched : (e : ℕ) → created_as (as_begun b) e ≡ None → IsUntouched (as_begun b) e) where
   pub makes_new : MakesNew b
   makes_new e c is =

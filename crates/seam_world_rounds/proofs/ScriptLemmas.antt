@@ -6,7 +6,7 @@ use Rattle.seam_rule_rounds.specs.Prelude.{Line, Header, open_lines, one_cell, w
 use Rattle.seam_rule_rounds.specs.Prelude.{Standing, after_header, with_line, with_book, replica_of}
 use Rattle.seam_law_all.specs.Prelude.{MayBeGiven}
 use Rattle.seam_law_book.specs.Prelude.{IsAccepted, as_begun, frame_of}
-use Rattle.seam_law_transcript.specs.Prelude.{StandsBeside, MayEnd, most_lines, GoesOn}
+use Rattle.seam_law_transcript.specs.Prelude.{HasPlayableRound, MayEnd, most_lines, GoesOn}
 use Rattle.seam_rule_lines.specs.declared.verdict.Verdict.TheVariants as verdict
 use Rattle.seam_accept.specs.Refines.{Refines as HoldsBook, LineAccepted}
 use Rattle.seam_accept.specs.declared.answers.Accepted.{Accepted}
@@ -221,5 +221,5 @@ module _ (h : Header) (t : Standing) (s : Script) (ready : IsReady h t s) (world
   played_in o left residents before text has =
       subst (λ w. HasPlayed o h t ready.has.tree w left residents before text) (sym same) has
 
-  pub beside_in : StandsBeside h t ready.has.tree ready.has.world → StandsBeside h t ready.has.tree world
-  beside_in stands = subst (StandsBeside h t ready.has.tree) same stands
+  pub beside_in : HasPlayableRound h t ready.has.tree ready.has.world → HasPlayableRound h t ready.has.tree world
+  beside_in stands = subst (HasPlayableRound h t ready.has.tree) same stands

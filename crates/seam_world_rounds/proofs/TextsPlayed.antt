@@ -4,21 +4,21 @@ use Rattle.std.specs.Prelude.{codes}
 use Rattle.seam_node_steps.specs.Prelude.{Create, Batch, Division, World, TypeDef}
 use Rattle.seam_rule_rounds.specs.Prelude.{Journal, Header, created_as, live_as, Lists, number_text, Standing, RoundData, traced_text}
 use Rattle.seam_rule_rounds.specs.Prelude.{journal_text, played_text}
-use Rattle.seam_law_transcript.specs.Prelude.{StandsBeside, IsPlayed}
+use Rattle.seam_law_transcript.specs.Prelude.{HasPlayableRound, IsPlayed}
 use Rattle.seam_accept.specs.Batches.{batch_of}
-use Rattle.seam_quiet.specs.RoundRuns.{StandsFor, IsWithinTable}
+use Rattle.seam_quiet.specs.RoundRuns.{IsJournalOf, IsWithinTable}
 use Rattle.seam_world_rounds.specs.PlayedRound.{HasSteps}
 use Rattle.seam_world_rounds.specs.PlayedRound.{start_text}
 
 -- the phases of the round of the batch that a standing's open lines bring make a played round, whose calls ended in the world u, and whose
 -- steps the journal has
-pub played_so : (h : Header) (s : Standing) (tree : Division) (w v u : World) (given : Batch) (j : Journal) → StandsBeside h s tree w →
-    given ≡ batch_of h s.book → (x : StandsFor w given j v) × (x.round.called ≡ u) × IsWithinTable w given j x.round.reaped →
+pub played_so : (h : Header) (s : Standing) (tree : Division) (w v u : World) (given : Batch) (j : Journal) → HasPlayableRound h s tree w →
+    given ≡ batch_of h s.book → (x : IsJournalOf w given j v) × (x.round.called ≡ u) × IsWithinTable w given j x.round.reaped →
     (made live : List Create) →
     Lists (created_as s.book) made → Lists (live_as s.book) live →
     (p : IsPlayed h s tree w v) × (p.round.called ≡ u) × HasSteps p.round j × IsWithinTable w (batch_of h s.book) j p.round.reaped
 played_so h s tree w v u given j beside is stood made live made_listed live_listed =
-    let x = subst (λ b. (x : StandsFor w b j v) × (x.round.called ≡ u) × IsWithinTable w b j x.round.reaped) is stood in (
+    let x = subst (λ b. (x : IsJournalOf w b j v) × (x.round.called ≡ u) × IsWithinTable w b j x.round.reaped) is stood in (
       record {
         beside = beside;
         round = x.0.round;

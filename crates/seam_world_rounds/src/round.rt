@@ -3,7 +3,7 @@ ghost use Rattle.std.specs.Prelude.{◌≡◌, ◌+◌, ◌++◌, ℕ, Option, O
 ghost use Rattle.seam_node_steps.specs.Prelude.{Division, World as AnyWorld};
 ghost use Rattle.seam_rule_rounds.specs.Prelude.{ClientReplica, Header as Headers, Standing, played_text, sums_of};
 ghost use Rattle.seam_law_calls.specs.Prelude.{Frame};
-ghost use Rattle.seam_law_transcript.specs.Prelude.{StandsBeside, IsPlayed, data_of};
+ghost use Rattle.seam_law_transcript.specs.Prelude.{HasPlayableRound, IsPlayed, data_of};
 ghost use Rattle.seam_accept.specs.Batches.{batch_of};
 ghost use Rattle.seam_world_residents.specs.Residents.{ArePresent};
 ghost use Rattle.seam_world_text.specs.Printing.{IsOpenRound};
@@ -233,7 +233,7 @@ pub fn play<G: Gate + Sync, R: Threads + Wait + Sync>(
     requires may { (f : Frame) × (clients : ℕ → ClientReplica) ×
         MayRun f clients from.world from.batch }
     ensures { IfOk result (λ r. (h : Headers) (s : Standing) (tree : Division) →
-        StandsBeside h s tree from.world → from.batch ≡ batch_of h s.book → header.now ≡ h →
+        HasPlayableRound h s tree from.world → from.batch ≡ batch_of h s.book → header.now ≡ h →
         number ≡ s.rounds + 1 → ArePresent s.book residents.old →
         HasPlayed playing.now.output h s tree from.world r residents.new out.old.items
         out.new.items) }

@@ -6,7 +6,7 @@ use Rattle.std.proofs.lemmas.Bool.{eqb-true}
 use Rattle.std.proofs.lemmas.List.Elements.{filter-append, filter_map-append}
 use Rattle.seam_node_steps.specs.Prelude.{Part, is_from, same_part, same_sender, Call, Create, Sender}
 use Rattle.seam_rule_rounds.specs.Prelude.{Header, Book, called, calls_of, destroys, accepted, was_dead, of_sender, IsFull}
-use Rattle.seam_law_book.specs.Prelude.{as_begun, IsPresent, IsFitCall, Brings}
+use Rattle.seam_law_book.specs.Prelude.{as_begun, IsPresent, IsFitCall, HasFitRound}
 use Rattle.seam_rule_lines.proofs.OneSender.{same_sender_of_itself}
 use Rattle.seam_law_book.proofs.Present.{alive}
 use Rattle.seam_world_residents.proofs.Keeping.{MakesNew}
@@ -19,7 +19,7 @@ no_call (c ∷ order) none =
     let own = ap (λ b. cond b (c ∷ of_sender c.sender order) (of_sender c.sender order)) (same_sender_of_itself c.sender) in
     absurd (let z = sym own ∙ none c.sender in cc)
 
-module _ (h : Header) (b : Book) (R : Brings h b) (fresh : MakesNew b) (e : ℕ) (dead : was_dead b e ≡ true) where
+module _ (h : Header) (b : Book) (R : HasFitRound h b) (fresh : MakesNew b) (e : ℕ) (dead : was_dead b e ≡ true) where
   not_there : (c : Create) → IsPresent b e c → ⊥
   not_there c (inl lives) =
       let z = sym (ap (list_any (destroys e)) (append-nil b.past)) ∙ alive (as_begun b) e c lives in

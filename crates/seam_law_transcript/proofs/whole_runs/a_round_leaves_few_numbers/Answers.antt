@@ -5,7 +5,7 @@ use Rattle.seam_law_calls.specs.Prelude.{sent_by}
 use Rattle.seam_law_rounds.specs.Prelude.{numbers_of, MayBeLoaded}
 use Rattle.seam_law_bounds.specs.Prelude.{AreAtMost, AreAmong}
 use Rattle.seam_law_book.specs.Prelude.{frame_of}
-use Rattle.seam_law_transcript.specs.Prelude.{may_play, most_told}
+use Rattle.seam_law_transcript.specs.Prelude.{may_play, most_lines_of_look}
 use Rattle.seam_accept.specs.Batches.{batch_of}
 use Rattle.seam_law_transcript.proofs.Created.{few_created}
 use Rattle.seam_law_transcript.proofs.Present.{names, names_many, is_named}
@@ -34,11 +34,11 @@ returns-clause-few c h s tree w g end v round ended t past rounds =
     let low = c.a_round_raises_numbers_little.ensures.reals f w b loads keeps.copies v round (3 * length s.book.past + 2 * s.rounds)
     g.few.reals in
     let told = c.a_round_raises_numbers_little.ensures.told f w b loads keeps.copies g.bounded.nothing g.bounded.sees (names s.book) named v
-    round ended.quiet (most_told * (16 * length s.book.past + s.rounds)) g.few.told in
+    round ended.quiet (most_lines_of_look * (16 * length s.book.past + s.rounds)) g.few.told in
     record {
       reals = subst (λ xs. AreAtMost numbers_of (3 * length xs + 2 * t.rounds) v) (sym past)
           (subst (λ n. AreAtMost numbers_of (3 * length (entries s.book) + 2 * n) v) (sym rounds) (reals_after h s v low));
-      told = subst (λ xs. AreAtMost sent_by (most_told * (16 * length xs + t.rounds)) v) (sym past)
-          (subst (λ n. AreAtMost sent_by (most_told * (16 * length (entries s.book) + n)) v) (sym rounds)
+      told = subst (λ xs. AreAtMost sent_by (most_lines_of_look * (16 * length xs + t.rounds)) v) (sym past)
+          (subst (λ n. AreAtMost sent_by (most_lines_of_look * (16 * length (entries s.book) + n)) v) (sym rounds)
           (told_after h s v (1 + length (names s.book)) (omega (arith, many, most)) told));
     }
