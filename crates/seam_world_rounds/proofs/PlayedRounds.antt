@@ -13,8 +13,8 @@ use Rattle.seam_law_transcript.specs.Prelude.{IsPlayed, data_of, standing_of, Go
 use Rattle.seam_accept.specs.Refines.{Refines as HoldsBook}
 use Rattle.seam_accept.specs.Batches.{batch_of}
 use Rattle.seam_quiet.specs.RoundRuns.{IsWithinTable}
-use Rattle.seam_world_residents.specs.Residents.{AreResidents}
-use Rattle.seam_world_residents.specs.declared.residents.Resident.{Resident}
+use Rattle.seam_world_text.specs.Residents.{AreResidents}
+use Rattle.seam_world_text.specs.declared.residents.Resident.{Resident}
 use Rattle.seam_world_rounds.specs.Transcripts.{Plays}
 use Rattle.seam_world_rounds.specs.PlayedRound.{IsBalancedBy, HasPlayed, HasSteps}
 use Rattle.seam_world_rounds.specs.Output.{AddsSums, Counts, round_output, sums_if}

@@ -13,8 +13,8 @@ use Rattle.seam_accept.specs.declared.answers.Accepted.{Accepted}
 use Rattle.seam_accept.specs.declared.answers.Accepted.TheVariants as answer
 use Rattle.seam_accept.specs.Batches.{batch_of}
 use Rattle.seam_quiet.specs.RoundRuns.{MayRun}
-use Rattle.seam_world_residents.specs.Residents.{AreResidents}
-use Rattle.seam_world_residents.specs.declared.residents.Resident.{Resident}
+use Rattle.seam_world_text.specs.Residents.{AreResidents}
+use Rattle.seam_world_text.specs.declared.residents.Resident.{Resident}
 use Rattle.seam_world_rounds.specs.PlayedRound.{HasPlayed}
 use Rattle.seam_world_rounds.specs.declared.round.Played.{Played}
 use Rattle.seam_world_rounds.specs.Output.{refusal_output}

@@ -7,9 +7,9 @@ use Rattle.seam_law_ghosts.specs.Prelude.{GoesThroughRound}
 use Rattle.seam_law_transcript.specs.Prelude.{IsPlayed, data_of}
 use Rattle.seam_accept.specs.Batches.{batch_of}
 use Rattle.seam_quiet.specs.RoundRuns.{IsWithinTable}
-use Rattle.seam_world_residents.specs.Residents.{AreResidents}
+use Rattle.seam_world_text.specs.Residents.{AreResidents}
 use Rattle.seam_world_text.specs.RoundParts.{calls_text}
-use Rattle.seam_world_residents.specs.declared.residents.Resident.{Resident}
+use Rattle.seam_world_text.specs.declared.residents.Resident.{Resident}
 use Rattle.seam_world_rounds.specs.Output.{round_output, sums_if}
 use Rattle.seam_world_rounds.specs.declared.round.Output.{Output}
 use Rattle.seam_world_rounds.specs.declared.round.Output.TheVariants as output

@@ -6,7 +6,7 @@ use Rattle.seam_law_book.specs.Prelude.{as_begun}
 use Rattle.seam_law_transcript.specs.Prelude.{MayEnd, most_lines, GoesOn}
 use Rattle.seam_accept.specs.Refines.{Refines as HoldsBook, LineAccepted}
 use Rattle.seam_accept.specs.declared.answers.Accepted.{Accepted}
-use Rattle.seam_world_residents.specs.Residents.{AreResidents}
+use Rattle.seam_world_text.specs.Residents.{AreResidents}
 use Rattle.seam_world_rounds.specs.Transcripts.{PlayRounds}
 use Rattle.seam_world_rounds.specs.Output.{Counts}
 use Rattle.seam_world_rounds.specs.declared.round.Output.{Output}

@@ -5,7 +5,7 @@ ghost use Rattle.seam_rule_rounds.specs.Prelude.{ClientReplica, Header as Header
 ghost use Rattle.seam_law_calls.specs.Prelude.{Frame};
 ghost use Rattle.seam_law_transcript.specs.Prelude.{HasPlayableRound, IsPlayed, data_of};
 ghost use Rattle.seam_accept.specs.Batches.{batch_of};
-ghost use Rattle.seam_world_residents.specs.Residents.{ArePresent};
+ghost use Rattle.seam_world_text.specs.Residents.{ArePresent};
 ghost use Rattle.seam_world_text.specs.Printing.{IsOpenRound};
 ghost use Rattle.seam_world_text.specs.Farewells.{AreFarewells};
 ghost use Rattle.seam_world_text.specs.RoundParts.{calls_text};
@@ -25,10 +25,9 @@ use seam_table::HashKey;
 use seam_tree::Tree;
 use seam_watch::Journal;
 use seam_workers::Gate;
-use seam_world_residents::Residents;
 use seam_world_text::{
-    Farewells, PrintedRound, count_did, count_shown, positions, sum_hp, write_calls, write_ends,
-    write_farewells,
+    Farewells, PrintedRound, Residents, count_did, count_shown, positions, sum_hp, write_calls,
+    write_ends, write_farewells,
 };
 use std::alloc::{AllocError, Global};
 use std::sync::Wait;

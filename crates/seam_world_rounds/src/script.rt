@@ -21,7 +21,7 @@ use seam_tree::Tree;
 use seam_watch::Journal;
 use seam_workers::Gate;
 use seam_world_ends::next_count;
-use seam_world_residents::Residents;
+use seam_world_text::Residents;
 use std::alloc::{AllocError, Global};
 use std::sync::Wait;
 use std::thread::Threads;

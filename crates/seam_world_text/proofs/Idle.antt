@@ -9,7 +9,7 @@ use Rattle.seam_rule_rounds.specs.Prelude.{Header, Book, called, calls_of, destr
 use Rattle.seam_law_book.specs.Prelude.{as_begun, IsPresent, IsFitCall, HasFitRound}
 use Rattle.seam_rule_lines.proofs.OneSender.{same_sender_of_itself}
 use Rattle.seam_law_book.proofs.Present.{alive}
-use Rattle.seam_world_residents.proofs.Keeping.{MakesNew}
+use Rattle.seam_world_text.proofs.Keeping.{MakesNew}
 use Rattle.seam_world_text.proofs.Gathering.{nothing_more}
 
 -- an order of which no sender has a call

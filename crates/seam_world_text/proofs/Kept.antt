@@ -13,13 +13,13 @@ use Rattle.std.proofs.lemmas.List.Folds.{list_any-append}
 use Rattle.seam_node_steps.specs.Prelude.{TypeDef, Create, Map, World}
 use Rattle.seam_rule_rounds.specs.Prelude.{Book, destroys, is_shown}
 use Rattle.seam_accept.specs.Batches.{destroyed}
-use Rattle.seam_world_residents.specs.Residents.{ArePresent, IsByNumber, is_among, present_as}
+use Rattle.seam_world_text.specs.Residents.{ArePresent, IsByNumber, is_among, present_as}
 use Rattle.seam_world_text.specs.Farewells.{AreFarewells, AreOf, farewell_of, kept_of}
 use Rattle.seam_world_text.specs.declared.farewells.Farewell.{Farewell}
-use Rattle.seam_world_residents.specs.declared.residents.Resident.{Resident}
-use Rattle.seam_world_residents.proofs.Listing.{resident_of, from_list}
-use Rattle.seam_world_residents.proofs.Keeping.{present_named}
-use Rattle.seam_world_residents.proofs.Entries.{destroyed_among}
+use Rattle.seam_world_text.specs.declared.residents.Resident.{Resident}
+use Rattle.seam_world_text.proofs.Listing.{resident_of, from_list}
+use Rattle.seam_world_text.proofs.Keeping.{present_named}
+use Rattle.seam_world_text.proofs.Entries.{destroyed_among}
 
 same_test : (d e : ℕ) → eq_by_cmp nat_cmp d e ≡ (e == d)
 same_test d e = grind (arith, nat_tests)

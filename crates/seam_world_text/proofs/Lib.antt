@@ -1,3 +1,7 @@
+mod Numbers
+mod Listing
+mod Keeping
+mod Entries
 mod Gathering
 mod Routes
 mod Told

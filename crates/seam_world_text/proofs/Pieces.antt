@@ -15,7 +15,7 @@ use Rattle.seam_world_text.specs.Finding.{positions_found}
 use Rattle.seam_world_text.specs.RoundParts.{calls_text, ends_text, done_of_type, done_of, home_of, base_of, ghosts_of, shown_of}
 use Rattle.seam_world_text.specs.declared.farewells.Farewell.{Farewell}
 use Rattle.seam_world_text.specs.Sums.{did_count, and_hp, and_hp_found}
-use Rattle.seam_world_residents.specs.declared.residents.Resident.{Resident}
+use Rattle.seam_world_text.specs.declared.residents.Resident.{Resident}
 use Rattle.seam_world_text.proofs.Gathering.{same_of_each, same_number_of_each, gathered_twice, map_gathered, folded_gathered}
 
 module _ (m : BTreeMap ℕ Resident) (rs : List Resident) (is : values m ≡ rs) where

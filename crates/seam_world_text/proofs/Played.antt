@@ -18,16 +18,16 @@ use Rattle.seam_judge_expected.proofs.ListedLemmas.{lists_living}
 use Rattle.seam_law_rounds.proofs.Shape.{Nowhere}
 use Rattle.seam_law_book.proofs.Present.{undestroyed}
 use Rattle.seam_law_book.proofs.Ended.{live_ended}
-use Rattle.seam_world_residents.specs.Residents.{ArePresent, present_as}
+use Rattle.seam_world_text.specs.Residents.{ArePresent, present_as}
 use Rattle.seam_world_text.specs.Farewells.{AreFarewells, kept_of}
 use Rattle.seam_world_text.specs.Finding.{node_for, done_found, part_found}
 use Rattle.seam_world_text.specs.Finding.{lines_found}
 use Rattle.seam_world_text.specs.RoundParts.{done_of_type, lines_text, shown_so_far, kept_text, shown_of}
 use Rattle.seam_world_text.specs.Sums.{kept_count, shown_count}
 use Rattle.seam_world_text.specs.declared.farewells.Farewell.{Farewell}
-use Rattle.seam_world_residents.specs.declared.residents.Resident.{Resident}
+use Rattle.seam_world_text.specs.declared.residents.Resident.{Resident}
 use Rattle.seam_world_text.proofs.Gathering.{same_of_each, same_number_of_each, kept_give_all, kept_or_none, kept_once, gathered_twice}
-use Rattle.seam_world_residents.proofs.Listing.{mapped}
+use Rattle.seam_world_text.proofs.Listing.{mapped}
 use Rattle.seam_world_text.proofs.Routes.{done_is_found, lines_are_found}
 
 abbrev made_of : Resident → Create

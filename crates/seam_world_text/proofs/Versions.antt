@@ -13,11 +13,11 @@ use Rattle.seam_call.specs.declared.shown.ClientText.TheVariants as text
 use Rattle.seam_report.specs.Spelled.{Versions, IsOf, ShowsOf}
 use Rattle.seam_world_text.specs.Farewells.{AreFarewells, kept_of}
 use Rattle.seam_world_text.specs.Finding.{lines_found}
-use Rattle.seam_world_residents.specs.Residents.{ArePresent, present_as}
+use Rattle.seam_world_text.specs.Residents.{ArePresent, present_as}
 use Rattle.seam_world_text.specs.Told.{ShowOf, unless_kept, told_by}
 use Rattle.seam_world_text.specs.declared.farewells.Farewell.{Farewell}
-use Rattle.seam_world_residents.specs.declared.residents.Resident.{Resident}
-use Rattle.seam_world_residents.proofs.Listing.{mapped}
+use Rattle.seam_world_text.specs.declared.residents.Resident.{Resident}
+use Rattle.seam_world_text.proofs.Listing.{mapped}
 
 module _ (h : Header) (s t : Standing) where
   -- an entity at a version, as the calls leave it that it executed up to the standing after the round

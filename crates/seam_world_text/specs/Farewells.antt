@@ -6,11 +6,11 @@ use Rattle.std.specs.Ordering.{nat_cmp}
 use Rattle.std.specs.BTreeMap.{BTreeMap, get}
 use Rattle.seam_node_steps.specs.Prelude.{TypeDef, Create, Map, World}
 use Rattle.seam_rule_rounds.specs.Prelude.{Book, destroys, is_shown}
-use Rattle.seam_world_residents.specs.Residents.{present_as, is_among}
+use Rattle.seam_world_text.specs.Residents.{present_as, is_among}
 use Rattle.seam_world_text.specs.Finding.{lines_found}
 use Rattle.seam_world_text.specs.RoundParts.{shown_so_far}
 use Rattle.seam_world_text.specs.declared.farewells.Farewell.{Farewell}
-use Rattle.seam_world_residents.specs.declared.residents.Resident.{Resident}
+use Rattle.seam_world_text.specs.declared.residents.Resident.{Resident}
 
 -- what is kept of the client of an entity that was made so: the text of the lines that it was shown so far, and how many they are
 abbrev pub kept_of : List TypeDef → World → Create → Farewell

@@ -1,3 +1,4 @@
+pub mod Residents
 pub mod Finding
 pub mod RoundParts
 pub mod Told

@@ -1,7 +1,7 @@
 -- The round that is printed.
 use Rattle.std.specs.Prelude.{◌≡◌, ◌+◌}
 use Rattle.seam_rule_rounds.specs.Prelude.{Header, Standing}
-use Rattle.seam_world_residents.specs.Residents.{ArePresent}
+use Rattle.seam_world_text.specs.Residents.{ArePresent}
 use Rattle.seam_world_text.specs.declared.round.PrintedRound.{PrintedRound}
 
 -- It is the open round of the standing: the next one, after the header's definitions, with the entities that are there in it.

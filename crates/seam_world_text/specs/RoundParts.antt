@@ -8,7 +8,7 @@ use Rattle.seam_rule_rounds.specs.Prelude.{bounds_text}
 use Rattle.seam_law_transcript.specs.Prelude.{client_lines}
 use Rattle.seam_world_text.specs.Finding.{done_found, homes_found, bases_found, ghosts_found, lines_found}
 use Rattle.seam_world_text.specs.declared.farewells.Farewell.{Farewell}
-use Rattle.seam_world_residents.specs.declared.residents.Resident.{Resident}
+use Rattle.seam_world_text.specs.declared.residents.Resident.{Resident}
 
 -- ---- a round
 

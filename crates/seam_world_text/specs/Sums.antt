@@ -6,7 +6,7 @@ use Rattle.seam_node_steps.specs.Prelude.{Map, World}
 use Rattle.seam_rule_rounds.specs.Prelude.{HomeLine, hp_of}
 use Rattle.seam_world_text.specs.Finding.{done_found, homes_found, lines_found}
 use Rattle.seam_world_text.specs.declared.farewells.Farewell.{Farewell}
-use Rattle.seam_world_residents.specs.declared.residents.Resident.{Resident}
+use Rattle.seam_world_text.specs.declared.residents.Resident.{Resident}
 
 -- the calls that its cell part executed
 abbrev pub did_count : World → Resident → ℕ

@@ -6,7 +6,7 @@ use Rattle.seam_node_steps.specs.Prelude.{Line, Map, World}
 use Rattle.seam_report.specs.Spelled.{Versions, ShowsOf}
 use Rattle.seam_world_text.specs.Finding.{lines_found}
 use Rattle.seam_world_text.specs.declared.farewells.Farewell.{Farewell}
-use Rattle.seam_world_residents.specs.declared.residents.Resident.{Resident}
+use Rattle.seam_world_text.specs.declared.residents.Resident.{Resident}
 
 -- all that these lines show of other entities is there
 abbrev pub ShowOf : Versions → List Line → Type 0

@@ -12,12 +12,12 @@ ghost use Rattle.seam_world_text.specs.RoundParts.{calls_text, done_of, done_of_
 
 use crate::finding::{home, near_after, part};
 use crate::laws::what_is_found_is_printed;
+use crate::residents::Resident;
 use crate::round::PrintedRound;
 use seam_call::Call;
 use seam_core::World;
 use seam_defs::Defs;
 use seam_report::{DoneLine, push_done};
-use seam_world_residents::Resident;
 use std::alloc::AllocError;
 use std::collections::BTreeMap;
 

@@ -6,7 +6,7 @@ ghost use Rattle.std.specs.FinSet as set;
 ghost use Rattle.seam_node_steps.specs.Prelude.{Division, RealView, World as AnyWorld, cell_numbers};
 ghost use Rattle.seam_rule_rounds.specs.Prelude.{Header, Standing, ghost_text, bounds_text};
 ghost use Rattle.seam_law_transcript.specs.Prelude.{IsPlayed, data_of};
-ghost use Rattle.seam_world_residents.specs.Residents.{ArePresent};
+ghost use Rattle.seam_world_text.specs.Residents.{ArePresent};
 ghost use Rattle.seam_world_text.specs.Finding.{RoutesLeadHome, ghost_line, haunt_line, lines_found, positions_found};
 ghost use Rattle.seam_world_text.specs.Farewells.{AreFarewells};
 ghost use Rattle.seam_world_text.specs.Printing.{IsOpenRound};
@@ -17,6 +17,7 @@ ghost use Rattle.seam_world_text.specs.Told.{ShowOf, told_by};
 use crate::farewells::Farewells;
 use crate::finding::{home, near_after, part};
 use crate::laws::what_is_found_is_printed;
+use crate::residents::{Resident, Residents};
 use crate::round::PrintedRound;
 use seam_call::{Create, Line};
 use seam_core::World;
@@ -28,7 +29,6 @@ use seam_report::{
     push_number_line,
 };
 use seam_tree::{CellSet, MOST_CELLS, Tree};
-use seam_world_residents::{Resident, Residents};
 use std::alloc::{AllocError, Global};
 use std::collections::BTreeMap;
 

@@ -1,12 +1,14 @@
-//! What is written of residents is what a round prints.
+//! What is written of residents is what a round prints; and who lives stays as lines come.
 
 ghost use Rattle.std.specs.Prelude.{◌≡◌, ◌++◌, ℕ, List, map, length, codes, Option};
 ghost use Rattle.std.specs.List.{All, flat_map, sum_by};
 ghost use Rattle.seam_node_steps.specs.Prelude.{Division, TypeDef, Map, World};
-ghost use Rattle.seam_rule_rounds.specs.Prelude.{Header, Standing, RoundData, number_text, client_text, traced_text};
+ghost use Rattle.seam_rule_rounds.specs.Prelude.{Header, Book, with_entry, with_round_ended, with_tree, number_text, Entry, RoundData};
+ghost use Rattle.seam_rule_rounds.specs.Prelude.{Standing, client_text, traced_text};
+ghost use Rattle.seam_law_book.specs.Prelude.{as_begun};
 ghost use Rattle.seam_law_transcript.specs.Prelude.{IsPlayed, data_of};
 ghost use Rattle.seam_defs.specs.declared.flags.Part.TheVariants as part;
-ghost use Rattle.seam_world_residents.specs.Residents.{ArePresent};
+ghost use Rattle.seam_world_text.specs.Residents.{AreResidents, ArePresent};
 ghost use Rattle.seam_world_text.specs.Worlds.{AreAtRest};
 ghost use Rattle.seam_world_text.specs.Finding.{done_found, homes_found, bases_found, ghosts_found, RoutesLeadHome};
 ghost use Rattle.seam_world_text.specs.Farewells.{AreFarewells};
@@ -15,13 +17,25 @@ ghost use Rattle.seam_report.specs.Spelled.{Versions};
 ghost use Rattle.seam_world_text.specs.Told.{ShowOf, told_by};
 ghost use Rattle.seam_world_text.specs.RoundParts.{calls_text, ends_text, done_of_type, shown_of};
 ghost use Rattle.seam_world_text.specs.declared.farewells.Farewell.{Farewell as AnyFarewell};
-ghost use Rattle.seam_world_residents.specs.declared.residents.Resident.{Resident as AnyResident};
+ghost use Rattle.seam_world_text.specs.declared.residents.Resident.{Resident as AnyResident};
 
 /// The text of a round is its number line, its steps where they are traced, then what `write_calls` appends, and then what `write_ends`
 /// appends.
 pub fn a_rounds_text_has_two_parts()
     ensures { (defs : List TypeDef) (r : RoundData) (steps : List ℕ) → traced_text steps defs r
         ≡ number_text (codes "round ") r.number ++ steps ++ calls_text defs r ++ ends_text defs r }
+{}
+
+/// Who lived as the open round began stays so when a line is accepted (`entry`); and who lives where a round has ended lives as the next
+/// one begins, with the tree of that round (`next`) or with another one (`balanced`).
+pub fn residents_stay_as_lines_come()
+    ensures entry { (b : Book) (x : Entry) (rs : List AnyResident) → AreResidents (as_begun b) rs →
+        AreResidents (as_begun (with_entry b x)) rs }
+    ensures next { (b : Book) (rs : List AnyResident) → AreResidents (with_round_ended b) rs →
+        AreResidents (as_begun (with_round_ended b)) rs }
+    ensures balanced { (b : Book) (t : Division) (rs : List AnyResident) →
+        AreResidents (with_round_ended b) rs → AreResidents
+        (as_begun (with_tree (with_round_ended b) t)) rs }
 {}
 
 // The two worlds off which a played round is read are at rest.

@@ -1,7 +1,7 @@
 //! The round that is printed.
 
+use crate::residents::Residents;
 use seam_defs::Defs;
-use seam_world_residents::Residents;
 
 /// A round that is printed: its number, from 1 on, the definitions, and the entities that are there in it.
 #[derive(Clone, Copy)]

@@ -9,7 +9,7 @@ ghost use Rattle.seam_defs.specs.Builtin.{avatar_properties};
 ghost use Rattle.seam_defs.specs.Deeds.{number_of, place_of, value_at};
 ghost use Rattle.seam_defs.specs.declared.flags.Group.TheVariants as group;
 ghost use Rattle.seam_rule_rounds.specs.Summary.{hp};
-ghost use Rattle.seam_world_residents.specs.Residents.{ArePresent};
+ghost use Rattle.seam_world_text.specs.Residents.{ArePresent};
 ghost use Rattle.seam_world_text.specs.Finding.{RoutesLeadHome};
 ghost use Rattle.seam_world_text.specs.Farewells.{AreFarewells};
 ghost use Rattle.seam_world_text.specs.Sums.{did_count, shown_count, and_hp_found};
@@ -17,11 +17,11 @@ ghost use Rattle.seam_world_text.specs.Sums.{did_count, shown_count, and_hp_foun
 use crate::farewells::{Farewells, count_lines};
 use crate::finding::{home, near_after};
 use crate::laws::what_is_found_is_printed;
+use crate::residents::{Resident, Residents};
 use seam_core::World;
 use seam_defs::Props;
 use seam_rule_rounds::plus;
 use seam_value::Value;
-use seam_world_residents::{Resident, Residents};
 use std::alloc::AllocError;
 use std::collections::BTreeMap;
 

@@ -4,7 +4,7 @@ use Rattle.std.proofs.lemmas.List.Elements.{All-head, All-tail}
 use Rattle.seam_report.specs.Spelled.{SpellingsView, GoesBy}
 use Rattle.seam_world_text.specs.RoundParts.{shown_of}
 use Rattle.seam_world_text.specs.Told.{ShowOf, told_by}
-use Rattle.seam_world_residents.specs.declared.residents.Resident.{Resident}
+use Rattle.seam_world_text.specs.declared.residents.Resident.{Resident}
 use Rattle.seam_world_text.proofs.ends.push_clients.Goals as goal
 
 pub loop-resident-init : goal.loop-resident-init

@@ -4,8 +4,8 @@ use Rattle.std.proofs.lemmas.List.{take_all}
 use Rattle.seam_table.specs.Tables.{TableView}
 use Rattle.seam_world_text.specs.declared.farewells.Farewell.{Farewell}
 use Rattle.seam_world_text.specs.Farewells.{AreOf}
-use Rattle.seam_world_residents.specs.Residents.{ArePresent}
-use Rattle.seam_world_residents.specs.declared.residents.Resident.{Resident}
+use Rattle.seam_world_text.specs.Residents.{ArePresent}
+use Rattle.seam_world_text.specs.declared.residents.Resident.{Resident}
 use Rattle.seam_world_text.proofs.Kept.{none_kept, one_more_kept, none_more_kept, are_farewells}
 use Rattle.seam_world_text.proofs.farewells.write_farewells.Goals.{in-Some+in_ok-keep, in_default}
 use Rattle.seam_world_text.proofs.farewells.write_farewells.Goals as goal

@@ -5,7 +5,7 @@ use Rattle.seam_law_clients.specs.Prelude.{clients_loaded, clients_shown}
 use Rattle.seam_law_book.specs.Prelude.{as_begun, IsUntouched, frame_of, done_in}
 use Rattle.seam_law_transcript.specs.Prelude.{may_play}
 use Rattle.seam_accept.specs.Batches.{batch_of}
-use Rattle.seam_world_residents.proofs.Entries.{makes_new}
+use Rattle.seam_world_text.proofs.Entries.{makes_new}
 use Rattle.seam_world_text.proofs.Idle.{idle}
 use Rattle.seam_world_text.proofs.laws.a_round_is_read_at_rest.Goals as goal
 

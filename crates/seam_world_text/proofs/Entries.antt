@@ -9,8 +9,8 @@ use Rattle.seam_law_book.specs.Prelude.{as_begun, IsNewEntity, IsUntouched, HasF
 use Rattle.seam_rule_lines.specs.declared.verdict.Entry.TheVariants as entry
 use Rattle.seam_rule_lines.proofs.InOrderLemmas.{found_entity}
 use Rattle.seam_accept.specs.Batches.{joined, destroyed}
-use Rattle.seam_world_residents.specs.Residents.{is_among}
-use Rattle.seam_world_residents.proofs.Keeping.{find_in, MakesNew}
+use Rattle.seam_world_text.specs.Residents.{is_among}
+use Rattle.seam_world_text.proofs.Keeping.{find_in, MakesNew}
 
 pub joined_among : (e : ℕ) (xs : List Entry) → is_among e (filter_map joined xs) ≡ list_any (joins e) xs
 joined_among e [] = refl

@@ -6,8 +6,8 @@ use Rattle.std.specs.Ordering.{nat_cmp}
 use Rattle.std.specs.BTreeMap.{BTreeMap, get}
 use Rattle.std.proofs.lemmas.List.Folds.{find-append}
 use Rattle.seam_call.specs.declared.create.Create.{Create}
-use Rattle.seam_world_residents.specs.Residents.{newcomer, Adds}
-use Rattle.seam_world_residents.specs.declared.residents.Resident.{Resident}
+use Rattle.seam_world_text.specs.Residents.{newcomer, Adds}
+use Rattle.seam_world_text.specs.declared.residents.Resident.{Resident}
 
 abbrev Map : Type 0
 Map = BTreeMap ℕ Resident

@@ -2,12 +2,12 @@ use Rattle.std.proofs.Common.{ℕ, List, sym, subst}
 use Rattle.std.specs.List.{filter_map}
 use Rattle.seam_rule_lines.specs.Book.{live_as, has_client, is_shown, with_round_ended}
 use Rattle.seam_accept.specs.Batches.{destroyed}
-use Rattle.seam_world_residents.specs.Residents.{ArePresent, present_as, Removes}
-use Rattle.seam_world_residents.specs.declared.residents.Resident.{Resident}
-use Rattle.seam_world_residents.proofs.Listing.{from_list, to_list}
-use Rattle.seam_world_residents.proofs.Keeping.{live_named, present_named, left}
-use Rattle.seam_world_residents.proofs.Entries.{destroyed_among}
-use Rattle.seam_world_residents.proofs.residents.Residents.end.Goals as goal
+use Rattle.seam_world_text.specs.Residents.{ArePresent, present_as, Removes}
+use Rattle.seam_world_text.specs.declared.residents.Resident.{Resident}
+use Rattle.seam_world_text.proofs.Listing.{from_list, to_list}
+use Rattle.seam_world_text.proofs.Keeping.{live_named, present_named, left}
+use Rattle.seam_world_text.proofs.Entries.{destroyed_among}
+use Rattle.seam_world_text.proofs.residents.Residents.end.Goals as goal
 
 pub returns : goal.returns
 returns c h b is was =

@@ -11,9 +11,9 @@ use Rattle.seam_rule_rounds.specs.Prelude.{Book, entries, created, creates_of, c
 use Rattle.seam_rule_rounds.specs.Prelude.{was_dead, with_round_ended, Entry}
 use Rattle.seam_rule_lines.proofs.BookEntries.{live_is_created}
 use Rattle.seam_rule_lines.proofs.InOrderLemmas.{found_entity}
-use Rattle.seam_world_residents.specs.Residents.{present_as, is_among, newcomer, joined_if, Adds, Joins, Removes}
-use Rattle.seam_world_residents.specs.declared.residents.Resident.{Resident}
-use Rattle.seam_world_residents.proofs.Listing.{resident_of, AreNamed, Has}
+use Rattle.seam_world_text.specs.Residents.{present_as, is_among, newcomer, joined_if, Adds, Joins, Removes}
+use Rattle.seam_world_text.specs.declared.residents.Resident.{Resident}
+use Rattle.seam_world_text.proofs.Listing.{resident_of, AreNamed, Has}
 
 -- ---- the numbers of a book's entities
 

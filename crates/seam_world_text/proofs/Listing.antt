@@ -14,8 +14,8 @@ use Rattle.std.proofs.lemmas.Map.Lookups.{exact_unsigned}
 use Rattle.std.proofs.lemmas.Map.Views.{btree_map_get_iff}
 use Rattle.seam_call.specs.declared.create.Create.{Create}
 use Rattle.seam_rule_lines.proofs.Lists.{contains_first, contains_later, contains_cases}
-use Rattle.seam_world_residents.specs.Residents.{ListsResidents, IsByNumber}
-use Rattle.seam_world_residents.specs.declared.residents.Resident.{Resident}
+use Rattle.seam_world_text.specs.Residents.{ListsResidents, IsByNumber}
+use Rattle.seam_world_text.specs.declared.residents.Resident.{Resident}
 
 -- ---- elements of a list that was mapped
 

@@ -4,12 +4,12 @@ use Rattle.seam_node_steps.specs.Prelude.{Create, Batch}
 use Rattle.seam_rule_rounds.specs.Prelude.{created_as, live_as, has_client, is_shown}
 use Rattle.seam_law_book.specs.Prelude.{as_begun, IsUntouched}
 use Rattle.seam_accept.specs.Batches.{joined}
-use Rattle.seam_world_residents.specs.Residents.{AreResidents, present_as, Adds, Joins}
-use Rattle.seam_world_residents.specs.declared.residents.Resident.{Resident}
-use Rattle.seam_world_residents.proofs.Listing.{from_list, to_list}
-use Rattle.seam_world_residents.proofs.Keeping.{live_named, present_named, present}
-use Rattle.seam_world_residents.proofs.Entries.{joined_among, makes_new}
-use Rattle.seam_world_residents.proofs.residents.Residents.begin.Goals as goal
+use Rattle.seam_world_text.specs.Residents.{AreResidents, present_as, Adds, Joins}
+use Rattle.seam_world_text.specs.declared.residents.Resident.{Resident}
+use Rattle.seam_world_text.proofs.Listing.{from_list, to_list}
+use Rattle.seam_world_text.proofs.Keeping.{live_named, present_named, present}
+use Rattle.seam_world_text.proofs.Entries.{joined_among, makes_new}
+use Rattle.seam_world_text.proofs.residents.Residents.begin.Goals as goal
 
 pub returns : goal.returns
 returns c h b legal lines is was =

@@ -6,7 +6,7 @@ use Rattle.std.specs.Ordering.{nat_cmp}
 use Rattle.std.specs.BTreeMap.{BTreeMap, get, IsOrdered}
 use Rattle.seam_node_steps.specs.Prelude.{Create}
 use Rattle.seam_rule_rounds.specs.Prelude.{Book, created_as, live_as, has_client, is_shown, was_dead, Lists}
-use Rattle.seam_world_residents.specs.declared.residents.Resident.{Resident}
+use Rattle.seam_world_text.specs.declared.residents.Resident.{Resident}
 
 -- ---- by the book
 

@@ -6,7 +6,7 @@ ghost use Rattle.seam_node_steps.specs.Prelude.{Division, AreLegal};
 ghost use Rattle.seam_rule_rounds.specs.Prelude.{Header, Book, empty_book, with_round_ended, with_tree};
 ghost use Rattle.seam_law_book.specs.Prelude.{IsOfLines, as_begun};
 ghost use Rattle.seam_accept.specs.Batches.{batch_of};
-ghost use Rattle.seam_world_residents.specs.Residents.{AreResidents, ArePresent, IsByNumber, Adds, Joins, Removes};
+ghost use Rattle.seam_world_text.specs.Residents.{AreResidents, ArePresent, IsByNumber, Adds, Joins, Removes};
 
 use seam_call::{Batch, Create};
 use std::alloc::{AllocError, Global};
@@ -31,8 +31,8 @@ pub struct Residents {
 impl Model for Residents {
     ghost use Rattle.std.specs.Prelude.{List};
     ghost use Rattle.std.specs.BTreeMap.{values};
-    ghost use Rattle.seam_world_residents.specs.Residents.{IsByNumber};
-    ghost use Rattle.seam_world_residents.specs.declared.residents.Resident.{Resident};
+    ghost use Rattle.seam_world_text.specs.Residents.{IsByNumber};
+    ghost use Rattle.seam_world_text.specs.declared.residents.Resident.{Resident};
 
     ghost Value = { List Resident };
 
@@ -74,8 +74,8 @@ impl Residents {
         remove_all(&mut self.by_number, destroys);
     }
 
-    /// Each of them, by its number.
-    pub fn by_number(&self) -> &BTreeMap<u32, Resident>
+    // Each of them, by its number.
+    pub(crate) fn by_number(&self) -> &BTreeMap<u32, Resident>
         ensures list { values result.now ≡ self.now }
         ensures named { IsByNumber result.now }
     {

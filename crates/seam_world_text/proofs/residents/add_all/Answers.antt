@@ -1,9 +1,9 @@
 use Rattle.std.proofs.Common.{take, List, sym, subst, add-one}
 use Rattle.std.proofs.Math.Seq.{take-suc}
 use Rattle.seam_call.specs.declared.create.Create.{Create}
-use Rattle.seam_world_residents.specs.Residents.{Adds}
-use Rattle.seam_world_residents.proofs.Numbers.{one_more_added}
-use Rattle.seam_world_residents.proofs.residents.add_all.Goals as goal
+use Rattle.seam_world_text.specs.Residents.{Adds}
+use Rattle.seam_world_text.proofs.Numbers.{one_more_added}
+use Rattle.seam_world_text.proofs.residents.add_all.Goals as goal
 
 pub loop-create-preserved : goal.loop-create-preserved
 loop-create-preserved c =

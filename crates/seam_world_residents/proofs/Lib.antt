@@ -1,4 +1,0 @@
-mod Numbers
-pub mod Listing
-pub mod Keeping
-pub mod Entries
