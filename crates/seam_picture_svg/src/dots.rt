@@ -1,12 +1,12 @@
-// The dots that stand for entities.
-use crate::drawing::{Drawing, Point};
+// The dots that stand for entities, and what is written on them and beside them.
+use crate::drawing::{Piece, Point, push_circle, push_dot, push_straight, push_words};
 use crate::style::{Size, Style};
 use std::alloc::AllocError;
 
 // How far below the middle of a dot its number's base line is.
 const NUMBER: Point = Point { x: 0, y: 4 };
 
-// How far beside and below the middle of a dot a long number or a count begins.
+// How far beside a dot, and below its middle, a long number begins.
 const BESIDE: Point = Point { x: 7, y: 4 };
 
 // The least number that is too long for a dot.
@@ -17,8 +17,7 @@ const LEAST_LONG_NUMBER: u32 = 1000;
 #[derive(Clone, Copy)]
 pub(crate) struct Dots {
     size: Size,
-    /// The radius of a dot.
-    pub(crate) radius: u64,
+    radius: u64,
 }
 
 impl Dots {
@@ -34,11 +33,12 @@ impl Dots {
         Dots { size, radius }
     }
 
-    fn has_numbers(self) -> bool {
+    /// Whether dots have numbers.
+    pub(crate) fn have_numbers(self) -> bool {
         self.size == Size::Large
     }
 
-    // Where a long number or a count begins that is beside a dot.
+    // Where a long number begins that is beside a dot.
     fn beside(self, at: Point) -> Point {
         at.plus(BESIDE).plus(Point {
             x: self.radius,
@@ -46,77 +46,86 @@ impl Dots {
         })
     }
 
-    /// An entity that lives in a cell.
-    pub(crate) fn draw_home(
+    // Where a count begins that is beside a dot, above a long number.
+    fn above(self, at: Point) -> Point {
+        Point {
+            x: at.x.saturating_add(self.radius),
+            y: at.y.saturating_sub(self.radius / 2),
+        }
+    }
+
+    /// The dot of an entity that lives in a cell.
+    pub(crate) fn push_home(
         self,
-        drawing: &mut Drawing,
+        out: &mut Vec<u8>,
         at: Point,
         cell: u8,
         entity: u32,
     ) -> Result<(), AllocError> {
-        drawing.dot(Style::Home(cell, self.size), at, self.radius, entity)?;
-        if !self.has_numbers() {
-            return Ok(());
-        }
+        push_dot(out, Style::Home(cell, self.size), at, self.radius, entity)
+    }
+
+    /// The dot of a ghost of an entity that lives in a cell.
+    pub(crate) fn push_ghost(
+        self,
+        out: &mut Vec<u8>,
+        at: Point,
+        cell: u8,
+        entity: u32,
+    ) -> Result<(), AllocError> {
+        push_dot(out, Style::Ghost(cell, self.size), at, self.radius, entity)
+    }
+
+    /// The number of an entity or a ghost: on its dot in this style, or beside it where it is long.
+    pub(crate) fn push_number(
+        self,
+        out: &mut Vec<u8>,
+        style: Style,
+        at: Point,
+        entity: u32,
+    ) -> Result<(), AllocError> {
+        let words = [Piece::Number(u64::from(entity))];
         if entity < LEAST_LONG_NUMBER {
-            drawing.words(Style::HomeNumber, at.plus(NUMBER), entity)
+            push_words(out, style, at.plus(NUMBER), &words)
         } else {
-            drawing.words(Style::LongNumber, self.beside(at), entity)
+            push_words(out, Style::LongNumber, self.beside(at), &words)
         }
     }
 
     /// How many entities are at a point, if that is worth a sign.
-    pub(crate) fn draw_count(
+    pub(crate) fn push_count(
         self,
-        drawing: &mut Drawing,
+        out: &mut Vec<u8>,
         at: Point,
         count: u32,
     ) -> Result<(), AllocError> {
-        let least = if self.has_numbers() { 2 } else { 5 };
+        let least = if self.have_numbers() { 2 } else { 5 };
         if count < least {
             return Ok(());
         }
-        drawing.words(Style::Count, self.beside(at), format_args!("\u{d7}{count}"))
-    }
-
-    /// A ghost of an entity that lives in a cell.
-    pub(crate) fn draw_ghost(
-        self,
-        drawing: &mut Drawing,
-        at: Point,
-        cell: u8,
-        entity: u32,
-    ) -> Result<(), AllocError> {
-        drawing.dot(Style::Ghost(cell, self.size), at, self.radius, entity)?;
-        if !self.has_numbers() {
-            return Ok(());
-        }
-        if entity < LEAST_LONG_NUMBER {
-            drawing.words(Style::GhostNumber, at.plus(NUMBER), entity)
-        } else {
-            drawing.words(Style::LongNumber, self.beside(at), entity)
-        }
+        let words = [Piece::Text("\u{d7}"), Piece::Number(u64::from(count))];
+        push_words(out, Style::Count, self.above(at), &words)
     }
 
     /// A line from an entity that lives in a cell to a ghost of it, where there are few.
-    pub(crate) fn draw_ghost_line(
+    pub(crate) fn push_ghost_line(
         self,
-        drawing: &mut Drawing,
+        out: &mut Vec<u8>,
         own: Point,
         at: Point,
         cell: u8,
     ) -> Result<(), AllocError> {
-        if self.has_numbers() {
-            drawing.line(Style::GhostLine(cell), own, at)
+        if self.have_numbers() {
+            push_straight(out, Style::GhostLine(cell), own, at)
         } else {
             Ok(())
         }
     }
 
     /// A ghost that a cell has of an entity which is there itself: a ring about it, farther out for each ring before.
-    pub(crate) fn draw_ghost_ring(
+    pub(crate) fn push_ghost_ring(
         self,
-        drawing: &mut Drawing,
+        out: &mut Vec<u8>,
         at: Point,
         cell: u8,
         before: u64,
@@ -125,16 +134,12 @@ impl Dots {
         let radius = self
             .radius
             .saturating_add(step.saturating_mul(before.saturating_add(1)));
-        drawing.circle(Style::Ring(cell, self.size), at, radius)
+        push_circle(out, Style::Ring(cell, self.size), at, radius)
     }
 
     /// What tells an entity that has a client.
-    pub(crate) fn draw_client_ring(
-        self,
-        drawing: &mut Drawing,
-        at: Point,
-    ) -> Result<(), AllocError> {
-        drawing.circle(Style::Client, at, self.radius.saturating_add(3))
+    pub(crate) fn push_client_ring(self, out: &mut Vec<u8>, at: Point) -> Result<(), AllocError> {
+        push_circle(out, Style::Client, at, self.radius.saturating_add(3))
     }
 
     /// Whether dots at two points meet.

@@ -1,64 +1,102 @@
 // The picture of a round of a run.
-use crate::clients::{Clients, View};
+use crate::clients::Clients;
+use crate::dots::Dots;
+use crate::map::Map;
 use crate::scene::Scene;
+use crate::shared::Points;
 use seam_replay::{Fault, Played, Replay};
-use std::alloc::Global;
+use std::alloc::{AllocError, Global};
 
-/// The picture of a round of an input, which is a script and what was printed for it: of the round of this number, or of the last
-/// that was printed.
-pub fn picture_of(alloc: Global, input: &[u8], wanted: Option<usize>) -> Result<String, Fault> {
+/// The picture of a round of an input, which is a script and what was printed for it: the text of an SVG, of the round of this number, or
+/// of the last that was printed.
+pub fn picture_of(alloc: Global, input: &[u8], wanted: Option<usize>) -> Result<Vec<u8>, Fault> {
     let mut replay = Replay::of(alloc, input)?;
-    let mut clients = Clients::new(alloc);
-    let last = match wanted {
-        Some(number) => played_until(&mut replay, &mut clients, number)?,
-        None => last_played(&mut replay, &mut clients)?,
-    };
-    match last {
-        Some(played) => draw(alloc, &replay, &clients, &played),
-        None => Err(Fault::NotInScript(wanted.unwrap_or(1))),
-    }
+    let mut told = Told::new(alloc);
+    told.picture(alloc, &mut replay, wanted)
 }
 
-// The round of a number, if the script has it.
-fn played_until(
-    replay: &mut Replay<'_>,
-    clients: &mut Clients,
-    number: usize,
-) -> Result<Option<Played>, Fault> {
-    let mut last = None;
-    for _ in 0..number {
-        last = replay.next_round()?;
-        match &last {
-            Some(played) => clients.show(&played.round.shown)?,
-            None => return Ok(None),
+// The round that was told last, and what clients have in view after it.
+#[derive(Drop)]
+struct Told {
+    clients: Clients,
+    last: Option<Played>,
+}
+
+impl Told {
+    fn new(alloc: Global) -> Told {
+        Told {
+            clients: Clients::new(alloc),
+            last: None,
         }
     }
-    Ok(last)
-}
 
-// The last round that was printed.
-fn last_played(replay: &mut Replay<'_>, clients: &mut Clients) -> Result<Option<Played>, Fault> {
-    let mut last = None;
-    for _ in 0..usize::MAX {
-        let Some(played) = replay.next_printed()? else {
-            break;
+    fn picture(
+        &mut self,
+        alloc: Global,
+        replay: &mut Replay<'_>,
+        wanted: Option<usize>,
+    ) -> Result<Vec<u8>, Fault> {
+        match wanted {
+            Some(number) => self.hear_until(replay, number)?,
+            None => self.hear_all(replay)?,
+        }
+        let (Some(header), Some(played)) = (replay.header(), &self.last) else {
+            return Err(Fault::NotInScript(wanted.unwrap_or(1)));
         };
-        clients.show(&played.round.shown)?;
-        last = Some(played);
+        Ok(drawn(alloc, played, &self.clients, header.settings.view_radius)?)
     }
-    Ok(last)
+
+    // Hears the rounds up to one, which the script has to have.
+    fn hear_until(&mut self, replay: &mut Replay<'_>, number: usize) -> Result<(), Fault> {
+        for _ in 0..number {
+            if !self.hear(replay.next_round()?)? {
+                return Err(Fault::NotInScript(number));
+            }
+        }
+        Ok(())
+    }
+
+    // Hears all rounds that were printed.
+    fn hear_all(&mut self, replay: &mut Replay<'_>) -> Result<(), Fault> {
+        for _ in 0..usize::MAX {
+            if !self.hear(replay.next_printed()?)? {
+                return Ok(());
+            }
+        }
+        Ok(())
+    }
+
+    // Hears the next round: whether there is one.
+    fn hear(&mut self, next: Option<Played>) -> Result<bool, AllocError> {
+        let Some(played) = next else {
+            return Ok(false);
+        };
+        let shown = self.clients.show(&played.round.shown);
+        self.last = Some(played);
+        match shown {
+            Ok(()) => Ok(true),
+            Err(error) => Err(error),
+        }
+    }
 }
 
-fn draw(
+fn drawn(
     alloc: Global,
-    replay: &Replay<'_>,
-    clients: &Clients,
     played: &Played,
-) -> Result<String, Fault> {
-    let Some(header) = replay.header() else {
-        return Err(Fault::NoHeader);
+    clients: &Clients,
+    view_radius: u32,
+) -> Result<Vec<u8>, AllocError> {
+    let points = Points::of(alloc, Map::of(&played.tree), &played.round.homes)?;
+    let scene = Scene {
+        played,
+        clients,
+        points: &points,
+        view_radius,
+        dots: Dots::of(played.round.homes.len()),
     };
-    let views: Vec<View> = clients.views(alloc, &played.round.homes)?;
-    let scene = Scene::of(played, &views, header.settings.view_radius);
-    Ok(scene.draw(alloc)?)
+    let mut picture = Vec::new(alloc);
+    match scene.push(&mut picture) {
+        Ok(()) => Ok(picture),
+        Err(error) => Err(error),
+    }
 }

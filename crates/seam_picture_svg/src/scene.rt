@@ -1,15 +1,15 @@
-// What a picture shows of a round, from what is below to what is above.
-use crate::clients::View;
+// What a picture shows of a round.
+use crate::clients::{Clients, Sight};
 use crate::dots::Dots;
-use crate::drawing::{Drawing, Point};
-use crate::legend::draw_legend;
+use crate::drawing::{Piece, Point, push_pieces, push_rectangle, push_straight, push_words};
+use crate::legend::push_legend;
 use crate::map::{BOTTOM, Frame, LEFT, Map, RIGHT, TOP};
 use crate::shared::Points;
-use crate::style::Style;
-use seam_geo::{Pos, Rect};
+use crate::style::{STYLE_SHEET, Style};
+use seam_geo::Rect;
 use seam_judge_data::{GhostLine, HomeLine, Round};
 use seam_replay::Played;
-use std::alloc::{AllocError, Global};
+use std::alloc::AllocError;
 
 // The picture has room on both sides of the space, and below it for the legend.
 const SIZE: Point = Point {
@@ -43,13 +43,55 @@ const NAME: Point = Point { x: 10, y: 24 };
 
 const PLACES: Point = Point { x: 10, y: 40 };
 
-/// A round to be drawn: what was printed of it, what clients have in view after it, and how far views reach.
+// What is drawn over all that is drawn before it.
+#[derive(Clone, Copy)]
+enum Layer {
+    Head,
+    Areas,
+    Reaches,
+    Sights,
+    Ghosts,
+    Homes,
+    GhostNumbers,
+    HomeNumbers,
+    Names,
+    Ends,
+    Legend,
+}
+
+// From below to above: numbers stand over all dots.
+const LAYERS: [Layer; 11] = [
+    Layer::Head,
+    Layer::Areas,
+    Layer::Reaches,
+    Layer::Sights,
+    Layer::Ghosts,
+    Layer::Homes,
+    Layer::GhostNumbers,
+    Layer::HomeNumbers,
+    Layer::Names,
+    Layer::Ends,
+    Layer::Legend,
+];
+
+/// A round to be drawn: what was printed of it, what clients have in view after it, where several entities are, and how far views reach.
 #[derive(Clone, Copy)]
 pub(crate) struct Scene<'a> {
-    played: &'a Played,
-    views: &'a [View],
-    view_radius: u32,
-    dots: Dots,
+    pub(crate) played: &'a Played,
+    pub(crate) clients: &'a Clients,
+    pub(crate) points: &'a Points,
+    pub(crate) view_radius: u32,
+    pub(crate) dots: Dots,
+}
+
+// Where a ghost of an entity that lives in a cell is drawn.
+#[derive(Clone, Copy)]
+struct GhostPlace {
+    cell: u8,
+    own: Point,
+    at: Point,
+    // whether the dots of both would meet, so that the ghost is a ring about the entity
+    meets: bool,
 }
 
 // The rings that were drawn about the entity whose ghosts come now.
@@ -62,37 +104,45 @@ struct Rings {
 impl Rings {
     // How many were drawn about this entity, which gets one more.
     fn next(&mut self, entity: u32) -> u64 {
-        if self.entity != entity {
-            *self = Rings { entity, count: 0 };
-        }
-        let before = self.count;
+        let before = if self.entity == entity { self.count } else { 0 };
+        self.entity = entity;
         self.count = before.saturating_add(1);
         before
     }
 }
 
-impl<'a> Scene<'a> {
-    pub(crate) fn of(played: &'a Played, views: &'a [View], view_radius: u32) -> Scene<'a> {
-        Scene {
-            played,
-            views,
-            view_radius,
-            dots: Dots::of(played.round.homes.len()),
+// A line of text beside the space, which a number ends.
+#[derive(Clone, Copy)]
+struct Note {
+    style: Style,
+    at: Point,
+    words: &'static str,
+    number: u64,
+}
+
+impl Scene<'_> {
+    /// Appends the picture, as an SVG.
+    pub(crate) fn push(&self, out: &mut Vec<u8>) -> Result<(), AllocError> {
+        for layer in &LAYERS {
+            self.push_layer(out, *layer)?;
         }
+        out.extend_from_slice(b"</svg>\n")
     }
 
-    /// The picture, as an SVG.
-    pub(crate) fn draw(&self, alloc: Global) -> Result<String, AllocError> {
-        let number = self.round().number;
-        let mut drawing = Drawing::new(alloc, SIZE, format_args!("Round {number}"))?;
-        self.draw_areas(&mut drawing)?;
-        self.draw_views(&mut drawing)?;
-        self.draw_ghosts(&mut drawing)?;
-        self.draw_homes(alloc, &mut drawing)?;
-        self.draw_names(&mut drawing)?;
-        self.draw_ends(&mut drawing)?;
-        draw_legend(&mut drawing)?;
-        drawing.end()
+    fn push_layer(&self, out: &mut Vec<u8>, layer: Layer) -> Result<(), AllocError> {
+        match layer {
+            Layer::Head => self.push_head(out),
+            Layer::Areas => self.push_areas(out),
+            Layer::Reaches => self.push_reaches(out),
+            Layer::Sights => self.push_sights(out),
+            Layer::Ghosts => self.push_ghosts(out),
+            Layer::Homes => self.push_homes(out),
+            Layer::GhostNumbers => self.push_ghost_numbers(out),
+            Layer::HomeNumbers => self.push_home_numbers(out),
+            Layer::Names => self.push_names(out),
+            Layer::Ends => self.push_ends(out),
+            Layer::Legend => push_legend(out),
+        }
     }
 
     fn round(&self) -> &Round {
@@ -103,143 +153,233 @@ impl<'a> Scene<'a> {
         Map::of(&self.played.tree)
     }
 
-    // Where an entity is, if it lives.
-    fn point_of(&self, entity: u32) -> Option<Point> {
-        let home = self.played.home_of(entity)?;
-        Some(self.map().point(home.state.pos))
+    fn point_of(&self, home: &HomeLine) -> Point {
+        self.map().point(home.state.pos)
     }
 
-    fn draw_areas(&self, drawing: &mut Drawing) -> Result<(), AllocError> {
-        drawing.rectangle(Style::Paper, Point { x: 0, y: 0 }, SIZE)?;
+    // The size, the title for those who do not see it, and the style sheet.
+    fn push_head(&self, out: &mut Vec<u8>) -> Result<(), AllocError> {
+        push_pieces(
+            out,
+            &[
+                Piece::Text("<svg xmlns=\"http://www.w3.org/2000/svg\" viewBox=\"0 0 "),
+                Piece::Number(SIZE.x),
+                Piece::Text(" "),
+                Piece::Number(SIZE.y),
+                Piece::Text("\">\n<title>Round "),
+                Piece::Number(self.round().number),
+                Piece::Text("</title>\n<style>\n"),
+                Piece::Text(STYLE_SHEET),
+                Piece::Text("</style>\n"),
+            ],
+        )
+    }
+
+    fn push_areas(&self, out: &mut Vec<u8>) -> Result<(), AllocError> {
+        push_rectangle(out, Style::Paper, Point { x: 0, y: 0 }, SIZE)?;
         for cell in 0..self.played.tree.cells() {
             if let Some(area) = self.played.tree.area(cell) {
-                let Frame { from, to } = self.map().frame(area);
-                drawing.rectangle(Style::Area(cell), from, to)?;
-                drawing.rectangle(Style::Border, from, to)?;
+                self.push_area(out, cell, area)?;
             }
         }
         Ok(())
     }
 
-    fn draw_names(&self, drawing: &mut Drawing) -> Result<(), AllocError> {
+    fn push_area(&self, out: &mut Vec<u8>, cell: u8, area: Rect) -> Result<(), AllocError> {
+        let Frame { from, to } = self.map().frame(area);
+        push_rectangle(out, Style::Area(cell), from, to)?;
+        push_rectangle(out, Style::Border, from, to)
+    }
+
+    fn push_names(&self, out: &mut Vec<u8>) -> Result<(), AllocError> {
         for cell in 0..self.played.tree.cells() {
             if let Some(area) = self.played.tree.area(cell) {
-                self.draw_name(drawing, cell, area)?;
+                self.push_name(out, cell, area)?;
             }
         }
         Ok(())
     }
 
     // A cell's number, and from where to where it goes.
-    fn draw_name(&self, drawing: &mut Drawing, cell: u8, area: Rect) -> Result<(), AllocError> {
+    fn push_name(&self, out: &mut Vec<u8>, cell: u8, area: Rect) -> Result<(), AllocError> {
         let from = self.map().frame(area).from;
-        let name = format_args!("cell {cell}");
-        drawing.words(Style::CellName, from.plus(NAME), name)?;
-        let Pos { x: west, z: south } = area.low();
-        let Pos { x: east, z: north } = area.high();
-        let places = format_args!("x {west} to {east}, z {south} to {north}");
-        drawing.words(Style::CellNote, from.plus(PLACES), places)
+        let (low, high) = (area.low(), area.high());
+        let name = [Piece::Text("cell "), Piece::Number(u64::from(cell))];
+        push_words(out, Style::CellName, from.plus(NAME), &name)?;
+        let places = [
+            Piece::Text("x "),
+            Piece::Number(u64::from(low.x)),
+            Piece::Text(" to "),
+            Piece::Number(u64::from(high.x)),
+            Piece::Text(", z "),
+            Piece::Number(u64::from(low.z)),
+            Piece::Text(" to "),
+            Piece::Number(u64::from(high.z)),
+        ];
+        push_words(out, Style::CellNote, from.plus(PLACES), &places)
     }
 
     // The title, and where the space begins and ends.
-    fn draw_ends(&self, drawing: &mut Drawing) -> Result<(), AllocError> {
-        let number = self.round().number;
-        let size = self.played.tree.size();
-        drawing.words(Style::Title, TITLE, format_args!("Round {number}"))?;
-        drawing.words(Style::Note, Z_NOTE, format_args!("z = {size}"))?;
-        drawing.words(Style::EndNote, X_NOTE, format_args!("x = {size}"))?;
-        drawing.words(Style::Note, LEAST_NOTE, 0)
+    fn push_ends(&self, out: &mut Vec<u8>) -> Result<(), AllocError> {
+        let size = u64::from(self.played.tree.size());
+        let notes = [
+            Note {
+                style: Style::Title,
+                at: TITLE,
+                words: "Round ",
+                number: self.round().number,
+            },
+            Note {
+                style: Style::Note,
+                at: Z_NOTE,
+                words: "z = ",
+                number: size,
+            },
+            Note {
+                style: Style::EndNote,
+                at: X_NOTE,
+                words: "x = ",
+                number: size,
+            },
+            Note {
+                style: Style::Note,
+                at: LEAST_NOTE,
+                words: "",
+                number: 0,
+            },
+        ];
+        for note in &notes {
+            let words = [Piece::Text(note.words), Piece::Number(note.number)];
+            push_words(out, note.style, note.at, &words)?;
+        }
+        Ok(())
     }
 
-    // How far each view reaches, what is in it, and the rings about its entities.
-    fn draw_views(&self, drawing: &mut Drawing) -> Result<(), AllocError> {
-        for view in self.views {
-            if let Some(home) = self.played.home_of(view.entity) {
-                let pos = home.state.pos;
-                let Frame { from, to } = self.map().surroundings(pos, self.view_radius);
-                drawing.rectangle(Style::View, from, to)?;
-                self.draw_others(drawing, self.map().point(pos), &view.others)?;
-                self.dots.draw_client_ring(drawing, self.map().point(pos))?;
+    // How far the views of clients reach, and the rings about their entities.
+    fn push_reaches(&self, out: &mut Vec<u8>) -> Result<(), AllocError> {
+        for home in &self.round().homes {
+            if self.clients.has(home.entity) {
+                self.push_reach(out, home)?;
             }
         }
         Ok(())
     }
 
-    // Lines to the others that are in a view.
-    fn draw_others(
-        &self,
-        drawing: &mut Drawing,
-        own: Point,
-        others: &[u32],
-    ) -> Result<(), AllocError> {
-        for other in others {
-            if let Some(point) = self.point_of(*other) {
-                drawing.line(Style::InView, own, point)?;
-            }
+    fn push_reach(&self, out: &mut Vec<u8>, home: &HomeLine) -> Result<(), AllocError> {
+        let Frame { from, to } = self.map().surroundings(home.state.pos, self.view_radius);
+        push_rectangle(out, Style::View, from, to)?;
+        self.dots.push_client_ring(out, self.point_of(home))
+    }
+
+    // Lines from the entities of clients to what these have in view.
+    fn push_sights(&self, out: &mut Vec<u8>) -> Result<(), AllocError> {
+        for sight in self.clients.sights() {
+            self.push_sight(out, *sight)?;
         }
         Ok(())
     }
 
-    fn draw_ghosts(&self, drawing: &mut Drawing) -> Result<(), AllocError> {
+    fn push_sight(&self, out: &mut Vec<u8>, sight: Sight) -> Result<(), AllocError> {
+        match (
+            self.played.home_of(sight.own),
+            self.played.home_of(sight.other),
+        ) {
+            (Some(own), Some(other)) => push_straight(
+                out,
+                Style::InView,
+                self.point_of(own),
+                self.point_of(other),
+            ),
+            _ => Ok(()),
+        }
+    }
+
+    // Where a ghost is drawn: in the cell that has it, as near to its entity as there is room.
+    fn ghost_place(&self, copy: &GhostLine) -> Option<GhostPlace> {
+        let home = self.played.home_of(copy.entity)?;
+        let area = self.played.tree.area(copy.cell)?;
+        let own = self.point_of(home);
+        let at = self.map().frame(area).nearest(own, self.dots.margin());
+        Some(GhostPlace {
+            cell: home.cell,
+            own,
+            at,
+            meets: self.dots.meet(own, at),
+        })
+    }
+
+    fn push_ghosts(&self, out: &mut Vec<u8>) -> Result<(), AllocError> {
         let mut rings = Rings {
             entity: 0,
             count: 0,
         };
         for copy in &self.round().ghosts {
-            if let Some(home) = self.played.home_of(copy.entity) {
-                self.draw_ghost(drawing, &mut rings, home, copy)?;
+            if let Some(place) = self.ghost_place(copy) {
+                self.push_ghost(out, &mut rings, copy, place)?;
             }
         }
         Ok(())
     }
 
-    // A ghost, in the cell that has it, at the end of a line from its entity. Where the entity itself is there, it is a ring about it.
-    fn draw_ghost(
+    // A ghost at the end of a line from its entity, or a ring about that.
+    fn push_ghost(
         &self,
-        drawing: &mut Drawing,
+        out: &mut Vec<u8>,
         rings: &mut Rings,
-        home: &HomeLine,
         copy: &GhostLine,
+        place: GhostPlace,
     ) -> Result<(), AllocError> {
-        let Some(area) = self.played.tree.area(copy.cell) else {
-            return Ok(());
-        };
-        let own = self.map().point(home.state.pos);
-        let point = self.map().frame(area).nearest(own, self.dots.margin());
-        if self.dots.meet(own, point) {
+        let GhostPlace { cell, own, at, .. } = place;
+        if place.meets {
             let before = rings.next(copy.entity);
-            return self.dots.draw_ghost_ring(drawing, own, copy.cell, before);
+            return self.dots.push_ghost_ring(out, own, copy.cell, before);
         }
-        self.dots.draw_ghost_line(drawing, own, point, home.cell)?;
-        self.dots.draw_ghost(drawing, point, home.cell, copy.entity)
+        self.dots.push_ghost_line(out, own, at, cell)?;
+        self.dots.push_ghost(out, at, cell, copy.entity)
     }
 
-    // The homes, of those at one point the first, and then how many are where.
-    fn draw_homes(&self, alloc: Global, drawing: &mut Drawing) -> Result<(), AllocError> {
-        let points = self.points(alloc)?;
-        for home in &self.round().homes {
-            let point = self.map().point(home.state.pos);
-            if 0 < points.count_for(point, home.entity) {
-                self.dots.draw_home(drawing, point, home.cell, home.entity)?;
-            }
-        }
-        self.draw_counts(drawing, &points)
-    }
-
-    fn points(&self, alloc: Global) -> Result<Points, AllocError> {
-        let mut points = Points::new(alloc);
-        for home in &self.round().homes {
-            points.add(self.map().point(home.state.pos), home.entity)?;
-        }
-        Ok(points)
-    }
-
-    fn draw_counts(&self, drawing: &mut Drawing, points: &Points) -> Result<(), AllocError> {
-        for home in &self.round().homes {
-            let point = self.map().point(home.state.pos);
-            let count = points.count_for(point, home.entity);
-            self.dots.draw_count(drawing, point, count)?;
+    fn push_ghost_numbers(&self, out: &mut Vec<u8>) -> Result<(), AllocError> {
+        for copy in &self.round().ghosts {
+            self.push_ghost_number(out, copy)?;
         }
         Ok(())
+    }
+
+    fn push_ghost_number(&self, out: &mut Vec<u8>, copy: &GhostLine) -> Result<(), AllocError> {
+        match self.ghost_place(copy) {
+            Some(place) if self.dots.have_numbers() && !place.meets => self
+                .dots
+                .push_number(out, Style::GhostNumber, place.at, copy.entity),
+            _ => Ok(()),
+        }
+    }
+
+    // The homes, of those at one point the first.
+    fn push_homes(&self, out: &mut Vec<u8>) -> Result<(), AllocError> {
+        for home in &self.round().homes {
+            let at = self.point_of(home);
+            if 0 < self.points.count_for(at, home.entity) {
+                self.dots.push_home(out, at, home.cell, home.entity)?;
+            }
+        }
+        Ok(())
+    }
+
+    fn push_home_numbers(&self, out: &mut Vec<u8>) -> Result<(), AllocError> {
+        for home in &self.round().homes {
+            self.push_home_number(out, home)?;
+        }
+        Ok(())
+    }
+
+    // The number of a home that is drawn, and how many are at its point.
+    fn push_home_number(&self, out: &mut Vec<u8>, home: &HomeLine) -> Result<(), AllocError> {
+        let at = self.point_of(home);
+        let count = self.points.count_for(at, home.entity);
+        if 0 < count && self.dots.have_numbers() {
+            self.dots
+                .push_number(out, Style::HomeNumber, at, home.entity)?;
+        }
+        self.dots.push_count(out, at, count)
     }
 }

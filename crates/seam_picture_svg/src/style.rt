@@ -1,5 +1,4 @@
-// How the pieces of a picture look.
-use std::fmt;
+// How the shapes of a picture look.
 
 /// How large a dot is, which says how its edge looks.
 #[derive(Clone, Copy, PartialEq, Eq)]
@@ -9,18 +8,7 @@ pub(crate) enum Size {
     Tiny,
 }
 
-// The classes of the style sheet. A large dot needs none.
-impl fmt::Display for Size {
-    fn fmt<W: fmt::Write>(&self, f: &mut fmt::Formatter<W>) -> fmt::Result {
-        match self {
-            Size::Large => Ok(()),
-            Size::Small => write!(f, " small"),
-            Size::Tiny => write!(f, " tiny"),
-        }
-    }
-}
-
-/// What a piece of the picture is, which says how it looks. The number is that of the cell whose color it has.
+/// What a shape is, which says how it looks. The number is that of the cell whose color it has.
 #[derive(Clone, Copy)]
 pub(crate) enum Style {
     Paper,
@@ -44,32 +32,66 @@ pub(crate) enum Style {
     Client,
 }
 
-// The classes of the style sheet.
-impl fmt::Display for Style {
-    fn fmt<W: fmt::Write>(&self, f: &mut fmt::Formatter<W>) -> fmt::Result {
+impl Style {
+    /// Its classes in the style sheet, without those of its color and its size.
+    pub(crate) fn classes(self) -> &'static str {
         match self {
-            Style::Paper => write!(f, "paper"),
-            Style::Title => write!(f, "title"),
-            Style::Note => write!(f, "note"),
-            Style::EndNote => write!(f, "note end"),
-            Style::Area(cell) => write!(f, "area of{cell}"),
-            Style::Border => write!(f, "border"),
-            Style::CellName => write!(f, "halo cell name"),
-            Style::CellNote => write!(f, "halo cell"),
-            Style::View => write!(f, "view"),
-            Style::InView => write!(f, "in-view"),
-            Style::GhostLine(cell) => write!(f, "ghost-line of{cell}"),
-            Style::Ghost(cell, size) => write!(f, "ghost of{cell}{size}"),
-            Style::Ring(cell, size) => write!(f, "ring of{cell}{size}"),
-            Style::GhostNumber => write!(f, "number"),
-            Style::Home(cell, size) => write!(f, "home of{cell}{size}"),
-            Style::HomeNumber => write!(f, "number on-dot"),
-            Style::LongNumber => write!(f, "halo long"),
-            Style::Count => write!(f, "halo bold"),
-            Style::Client => write!(f, "client"),
+            Style::Paper => "paper",
+            Style::Title => "title",
+            Style::Note => "note",
+            Style::EndNote => "note end",
+            Style::Area(_) => "area",
+            Style::Border => "border",
+            Style::CellName => "halo cell name",
+            Style::CellNote => "halo cell",
+            Style::View => "view",
+            Style::InView => "in-view",
+            Style::GhostLine(_) => "ghost-line",
+            Style::Ghost(..) => "ghost",
+            Style::Ring(..) => "ring",
+            Style::GhostNumber => "number halo",
+            Style::Home(..) => "home",
+            Style::HomeNumber => "number on-dot",
+            Style::LongNumber => "halo long",
+            Style::Count => "halo bold",
+            Style::Client => "client",
+        }
+    }
+
+    /// The class of its color, with a space before it, or nothing.
+    pub(crate) fn color(self) -> &'static str {
+        let cell = match self {
+            Style::Area(cell)
+            | Style::GhostLine(cell)
+            | Style::Ghost(cell, _)
+            | Style::Ring(cell, _)
+            | Style::Home(cell, _) => usize::from(cell),
+            _ => COLORS.len(),
+        };
+        match COLORS.get(cell) {
+            Some(color) => *color,
+            None => "",
+        }
+    }
+
+    /// The class of its size, with a space before it, or nothing.
+    pub(crate) fn size(self) -> &'static str {
+        match self {
+            Style::Ghost(_, size) | Style::Ring(_, size) | Style::Home(_, size) => match size {
+                Size::Large => "",
+                Size::Small => " small",
+                Size::Tiny => " tiny",
+            },
+            _ => "",
         }
     }
 }
+
+// The classes of the colors of the cells.
+const COLORS: [&str; 16] = [
+    " of0", " of1", " of2", " of3", " of4", " of5", " of6", " of7", " of8", " of9", " of10",
+    " of11", " of12", " of13", " of14", " of15",
+];
 
 /// The style sheet: how each class looks, and the colors of the sixteen cells, which are quiet where an area has them. Any two of the
 /// colors are at least 18 apart in the space CIELAB, for a reader with all kinds of cones and for one who lacks any one of them.
