@@ -1,12 +1,9 @@
 // The calls that cell parts executed in a round.
-use crate::lines::push_words;
 use indexmap::IndexMap;
-use seam_call::{Call, Sender};
-use seam_defs::{Deed, Defs};
+use seam_call::Call;
+use seam_defs::Deed;
 use seam_geo::Pos;
 use seam_judge_data::DoneLine;
-use seam_report::{DoneLine as DoneText, push_done};
-use seam_value::push_number;
 use std::alloc::{AllocError, Global};
 
 /// How many calls the cell part of an entity executed in a round, and to where it was moved last.
@@ -23,15 +20,19 @@ pub(crate) struct Calls {
 }
 
 impl Calls {
-    /// The calls of these lines.
-    pub(crate) fn of(alloc: Global, lines: &[DoneLine]) -> Result<Calls, AllocError> {
-        let mut calls = Calls {
+    /// No cell part executed anything.
+    pub(crate) fn new(alloc: Global) -> Calls {
+        Calls {
             executed: IndexMap::new(alloc),
-        };
-        for line in lines {
-            calls.add(&line.call)?;
         }
-        Ok(calls)
+    }
+
+    /// Adds the calls of these lines.
+    pub(crate) fn add_all(&mut self, lines: &[DoneLine]) -> Result<(), AllocError> {
+        for line in lines {
+            self.add(&line.call)?;
+        }
+        Ok(())
     }
 
     fn add(&mut self, call: &Call) -> Result<(), AllocError> {
@@ -59,68 +60,4 @@ impl Calls {
             },
         }
     }
-}
-
-/// Appends the calls of cell parts.
-pub(crate) fn push_did(
-    out: &mut Vec<u8>,
-    defs: &Defs,
-    lines: &[DoneLine],
-) -> Result<(), AllocError> {
-    let mut last = 0;
-    for line in lines {
-        match &line.call.deed {
-            Deed::Move(to) => {
-                push_move(out, &line.call, line.call.entity.wrapping_sub(last), *to)?;
-                last = line.call.entity;
-            }
-            Deed::Method(..) => push_call(out, b"did ", defs, line)?,
-        }
-    }
-    Ok(())
-}
-
-/// Appends the calls of base parts.
-pub(crate) fn push_dob(
-    out: &mut Vec<u8>,
-    defs: &Defs,
-    lines: &[DoneLine],
-) -> Result<(), AllocError> {
-    for line in lines {
-        push_call(out, b"dob ", defs, line)?;
-    }
-    Ok(())
-}
-
-fn push_call(
-    out: &mut Vec<u8>,
-    word: &[u8],
-    defs: &Defs,
-    line: &DoneLine,
-) -> Result<(), AllocError> {
-    let text = DoneText {
-        ty: line.ty,
-        call: &line.call,
-    };
-    push_done(out, word, defs, &text)
-}
-
-// A move of the entity whose number is so much more than that of the last one that was moved, modulo 2^32.
-fn push_move(out: &mut Vec<u8>, call: &Call, more: u32, to: Pos) -> Result<(), AllocError> {
-    out.push(b'm')?;
-    if more != 1 {
-        push_words(out, b"", &[u64::from(more)])?;
-    }
-    match call.sender {
-        Sender::Base(node) => {
-            out.extend_from_slice(b" b")?;
-            push_number(out, u64::from(node.number()))?;
-        }
-        Sender::Client(entity) => {
-            out.extend_from_slice(b" c")?;
-            push_number(out, u64::from(entity))?;
-        }
-    }
-    push_words(out, b"", &[u64::from(to.x), u64::from(to.z)])?;
-    out.extend_from_slice(b"\n")
 }

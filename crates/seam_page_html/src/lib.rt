@@ -19,11 +19,12 @@
 #![tactic(auto)]
 
 mod calls;
+mod change;
 mod ghosts;
-mod homes;
 mod lines;
 mod page;
 mod page_data;
 mod script;
+mod told;
 
 pub use page::page_of;

@@ -54,14 +54,11 @@ pre { font: 12px monospace; max-height: 150px; overflow: auto; margin: 2px 0; pa
 <script type='text/plain' id='data'>
 ";
 
-/// What comes between the data and the script.
-pub(crate) const TAIL: &str = "\
+/// What comes after its data: the script, in JavaScript. It has no double quotes and no backslashes, so that it stands here as a browser
+/// reads it.
+pub(crate) const SCRIPT: &str = "\
 </script>
 <script>
-";
-
-/// The script, in JavaScript. It has no double quotes and no backslashes, so that it stands here as a browser reads it.
-pub(crate) const SCRIPT: &str = "\
 'use strict';
 // Draws the rounds whose data the page has. What each line of the data means is told in the crate seam_page_html.
 const COLORS = ['#689efa', '#c8621a', '#156861', '#b74dc0', '#fdad03', '#6204ef', '#96ce72', '#641800',
@@ -524,4 +521,5 @@ function begin() {
 }
 
 begin();
+</script>
 ";

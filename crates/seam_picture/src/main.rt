@@ -10,7 +10,7 @@
 use seam_picture_svg::picture_of;
 use seam_replay::{Fault, io_fault};
 use std::env;
-use std::io::Read;
+use std::io::{Read, Write, writer};
 use std::process::ExitCode;
 
 fn main(rt: HostRuntime) -> ExitCode {
@@ -34,7 +34,8 @@ fn run(rt: &HostRuntime) -> Result<(), Fault> {
         return Err(io_fault(error, Fault::NotReadable));
     }
     let picture = picture_of(rt.alloc(), &text, wanted)?;
-    match print!(rt; "{picture}") {
+    let mut out = writer(rt);
+    match out.write_all(&picture) {
         Ok(()) => Ok(()),
         Err(_) => Err(Fault::NotWritable),
     }
