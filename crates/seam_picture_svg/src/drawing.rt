@@ -42,19 +42,6 @@ fn push_piece(out: &mut Vec<u8>, piece: Piece) -> Result<(), AllocError> {
     }
 }
 
-// Appends the start of a shape up to its classes.
-fn push_start(out: &mut Vec<u8>, start: &'static str, style: Style) -> Result<(), AllocError> {
-    push_pieces(
-        out,
-        &[
-            Piece::Text(start),
-            Piece::Text(style.classes()),
-            Piece::Text(style.color()),
-            Piece::Text(style.size()),
-        ],
-    )
-}
-
 /// Appends a rectangle, from its upper left corner to its lower right one.
 pub(crate) fn push_rectangle(
     out: &mut Vec<u8>,
@@ -62,10 +49,12 @@ pub(crate) fn push_rectangle(
     from: Point,
     to: Point,
 ) -> Result<(), AllocError> {
-    push_start(out, "<rect class=\"", style)?;
     push_pieces(
         out,
         &[
+            Piece::Text("<rect class=\""),
+            Piece::Text(style.sign),
+            Piece::Text(style.color),
             Piece::Text("\" x=\""),
             Piece::Number(from.x),
             Piece::Text("\" y=\""),
@@ -86,8 +75,22 @@ pub(crate) fn push_circle(
     center: Point,
     radius: u64,
 ) -> Result<(), AllocError> {
-    push_round(out, style, center, radius)?;
-    out.extend_from_slice(b"/>\n")
+    push_pieces(
+        out,
+        &[
+            Piece::Text("<circle class=\""),
+            Piece::Text(style.sign),
+            Piece::Text(style.color),
+            Piece::Text(style.size),
+            Piece::Text("\" cx=\""),
+            Piece::Number(center.x),
+            Piece::Text("\" cy=\""),
+            Piece::Number(center.y),
+            Piece::Text("\" r=\""),
+            Piece::Number(radius),
+            Piece::Text("\"/>\n"),
+        ],
+    )
 }
 
 /// Appends a filled circle about a point, with a number as its title.
@@ -98,35 +101,22 @@ pub(crate) fn push_dot(
     radius: u64,
     title: u32,
 ) -> Result<(), AllocError> {
-    push_round(out, style, center, radius)?;
     push_pieces(
         out,
         &[
-            Piece::Text("><title>"),
-            Piece::Number(u64::from(title)),
-            Piece::Text("</title></circle>\n"),
-        ],
-    )
-}
-
-// Appends a circle up to its end.
-fn push_round(
-    out: &mut Vec<u8>,
-    style: Style,
-    center: Point,
-    radius: u64,
-) -> Result<(), AllocError> {
-    push_start(out, "<circle class=\"", style)?;
-    push_pieces(
-        out,
-        &[
+            Piece::Text("<circle class=\""),
+            Piece::Text(style.sign),
+            Piece::Text(style.color),
+            Piece::Text(style.size),
             Piece::Text("\" cx=\""),
             Piece::Number(center.x),
             Piece::Text("\" cy=\""),
             Piece::Number(center.y),
             Piece::Text("\" r=\""),
             Piece::Number(radius),
-            Piece::Text("\""),
+            Piece::Text("\"><title>"),
+            Piece::Number(u64::from(title)),
+            Piece::Text("</title></circle>\n"),
         ],
     )
 }
@@ -138,10 +128,12 @@ pub(crate) fn push_straight(
     from: Point,
     to: Point,
 ) -> Result<(), AllocError> {
-    push_start(out, "<line class=\"", style)?;
     push_pieces(
         out,
         &[
+            Piece::Text("<line class=\""),
+            Piece::Text(style.sign),
+            Piece::Text(style.color),
             Piece::Text("\" x1=\""),
             Piece::Number(from.x),
             Piece::Text("\" y1=\""),
@@ -155,24 +147,27 @@ pub(crate) fn push_straight(
     )
 }
 
-/// Appends words on a base line through a point, on which side of it is up to the style.
+/// Appends words, and a number after them, on a base line through a point, on which side of it is up to the style.
 pub(crate) fn push_words(
     out: &mut Vec<u8>,
     style: Style,
     at: Point,
-    words: &[Piece],
+    words: &'static str,
+    number: u64,
 ) -> Result<(), AllocError> {
-    push_start(out, "<text class=\"", style)?;
     push_pieces(
         out,
         &[
+            Piece::Text("<text class=\""),
+            Piece::Text(style.sign),
             Piece::Text("\" x=\""),
             Piece::Number(at.x),
             Piece::Text("\" y=\""),
             Piece::Number(at.y),
             Piece::Text("\">"),
+            Piece::Text(words),
+            Piece::Number(number),
+            Piece::Text("</text>\n"),
         ],
-    )?;
-    push_pieces(out, words)?;
-    out.extend_from_slice(b"</text>\n")
+    )
 }

@@ -1,26 +1,7 @@
 // The legend below a picture.
-use crate::drawing::{Piece, push_pieces};
-use crate::map::{BOTTOM, LEFT};
-use std::alloc::AllocError;
 
-/// Appends what each sign is.
-pub(crate) fn push_legend(out: &mut Vec<u8>) -> Result<(), AllocError> {
-    push_pieces(
-        out,
-        &[
-            Piece::Text("<g transform=\"translate("),
-            Piece::Number(LEFT),
-            Piece::Text(" "),
-            Piece::Number(BOTTOM),
-            Piece::Text(")\">\n"),
-            Piece::Text(SIGNS),
-            Piece::Text("</g>\n"),
-        ],
-    )
-}
-
-// The signs with their words, from the lower left corner of the space: those of entity 7 of cell 0.
-const SIGNS: &str = "\
+/// What each sign is, from the lower left corner of the space: signs of entity 7 of cell 0.
+pub(crate) const LEGEND: &str = "\
 <circle class=\"home of0\" cx=\"16\" cy=\"52\" r=\"11\"/>
 <text class=\"number on-dot\" x=\"16\" y=\"56\">7</text>
 <text class=\"note\" x=\"40\" y=\"56\">home</text>

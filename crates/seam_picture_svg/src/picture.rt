@@ -2,7 +2,7 @@
 use crate::clients::Clients;
 use crate::dots::Dots;
 use crate::map::Map;
-use crate::scene::Scene;
+use crate::scene::{Canvas, Scene, push_end, push_head};
 use crate::shared::Points;
 use seam_replay::{Fault, Played, Replay};
 use std::alloc::{AllocError, Global};
@@ -11,7 +11,10 @@ use std::alloc::{AllocError, Global};
 /// of the last that was printed.
 pub fn picture_of(alloc: Global, input: &[u8], wanted: Option<usize>) -> Result<Vec<u8>, Fault> {
     let mut replay = Replay::of(alloc, input)?;
-    let mut told = Told::new(alloc);
+    let mut told = Told {
+        clients: Clients::new(alloc),
+        last: None,
+    };
     told.picture(alloc, &mut replay, wanted)
 }
 
@@ -23,51 +26,35 @@ struct Told {
 }
 
 impl Told {
-    fn new(alloc: Global) -> Told {
-        Told {
-            clients: Clients::new(alloc),
-            last: None,
-        }
-    }
-
     fn picture(
         &mut self,
         alloc: Global,
         replay: &mut Replay<'_>,
         wanted: Option<usize>,
     ) -> Result<Vec<u8>, Fault> {
-        match wanted {
-            Some(number) => self.hear_until(replay, number)?,
-            None => self.hear_all(replay)?,
-        }
-        let (Some(header), Some(played)) = (replay.header(), &self.last) else {
-            return Err(Fault::NotInScript(wanted.unwrap_or(1)));
-        };
-        Ok(drawn(alloc, played, &self.clients, header.settings.view_radius)?)
-    }
-
-    // Hears the rounds up to one, which the script has to have.
-    fn hear_until(&mut self, replay: &mut Replay<'_>, number: usize) -> Result<(), Fault> {
-        for _ in 0..number {
-            if !self.hear(replay.next_round()?)? {
-                return Err(Fault::NotInScript(number));
+        self.hear(replay, wanted)?;
+        match (replay.header(), &self.last) {
+            (Some(header), Some(played)) => {
+                let radius = header.settings.view_radius;
+                Ok(drawn(alloc, played, &self.clients, radius)?)
             }
+            _ => Err(Fault::NotInScript(1)),
         }
-        Ok(())
     }
 
-    // Hears all rounds that were printed.
-    fn hear_all(&mut self, replay: &mut Replay<'_>) -> Result<(), Fault> {
-        for _ in 0..usize::MAX {
-            if !self.hear(replay.next_printed()?)? {
-                return Ok(());
+    // Hears the rounds up to the one that is wanted, which the script has to have, or all that were printed.
+    fn hear(&mut self, replay: &mut Replay<'_>, wanted: Option<usize>) -> Result<(), Fault> {
+        for _ in 0..wanted.unwrap_or(usize::MAX) {
+            let next = next_of(replay, wanted)?;
+            if !self.hear_round(next)? {
+                return end_of(wanted);
             }
         }
         Ok(())
     }
 
     // Hears the next round: whether there is one.
-    fn hear(&mut self, next: Option<Played>) -> Result<bool, AllocError> {
+    fn hear_round(&mut self, next: Option<Played>) -> Result<bool, AllocError> {
         let Some(played) = next else {
             return Ok(false);
         };
@@ -77,6 +64,21 @@ impl Told {
             Ok(()) => Ok(true),
             Err(error) => Err(error),
         }
+    }
+}
+
+fn next_of(replay: &mut Replay<'_>, wanted: Option<usize>) -> Result<Option<Played>, Fault> {
+    match wanted {
+        Some(_) => replay.next_round(),
+        None => replay.next_printed(),
+    }
+}
+
+// What it means that there is no further round.
+fn end_of(wanted: Option<usize>) -> Result<(), Fault> {
+    match wanted {
+        Some(number) => Err(Fault::NotInScript(number)),
+        None => Ok(()),
     }
 }
 
@@ -94,9 +96,24 @@ fn drawn(
         view_radius,
         dots: Dots::of(played.round.homes.len()),
     };
-    let mut picture = Vec::new(alloc);
-    match scene.push(&mut picture) {
-        Ok(()) => Ok(picture),
+    let mut canvas = Canvas {
+        shapes: Vec::new(alloc),
+        words: Vec::new(alloc),
+    };
+    match push_picture(&mut canvas, &scene) {
+        Ok(()) => {
+            let Canvas { shapes, .. } = canvas;
+            Ok(shapes)
+        }
         Err(error) => Err(error),
     }
+}
+
+// Appends the whole picture to the shapes, with the words over them.
+fn push_picture(canvas: &mut Canvas, scene: &Scene<'_>) -> Result<(), AllocError> {
+    let number = scene.played.round.number;
+    push_head(&mut canvas.shapes, number)?;
+    scene.draw(canvas)?;
+    canvas.shapes.extend_from_slice(&canvas.words)?;
+    push_end(&mut canvas.shapes, number, scene.played.tree.size())
 }

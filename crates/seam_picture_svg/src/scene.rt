@@ -1,13 +1,15 @@
 // What a picture shows of a round.
 use crate::clients::{Clients, Sight};
 use crate::dots::Dots;
-use crate::drawing::{Piece, Point, push_pieces, push_rectangle, push_straight, push_words};
-use crate::legend::push_legend;
+use crate::drawing::{
+    Piece, Point, push_circle, push_pieces, push_rectangle, push_straight, push_words,
+};
+use crate::legend::LEGEND;
 use crate::map::{BOTTOM, Frame, LEFT, Map, RIGHT, TOP};
 use crate::shared::Points;
 use crate::style::{STYLE_SHEET, Style};
 use seam_geo::Rect;
-use seam_judge_data::{GhostLine, HomeLine, Round};
+use seam_judge_data::{GhostLine, HomeLine};
 use seam_replay::Played;
 use std::alloc::AllocError;
 
@@ -43,35 +45,22 @@ const NAME: Point = Point { x: 10, y: 24 };
 
 const PLACES: Point = Point { x: 10, y: 40 };
 
-// What is drawn over all that is drawn before it.
+// The layers of shapes, of which each is drawn over those before it.
 #[derive(Clone, Copy)]
 enum Layer {
-    Head,
     Areas,
     Reaches,
     Sights,
     Ghosts,
     Homes,
-    GhostNumbers,
-    HomeNumbers,
-    Names,
-    Ends,
-    Legend,
 }
 
-// From below to above: numbers stand over all dots.
-const LAYERS: [Layer; 11] = [
-    Layer::Head,
+const LAYERS: [Layer; 5] = [
     Layer::Areas,
     Layer::Reaches,
     Layer::Sights,
     Layer::Ghosts,
     Layer::Homes,
-    Layer::GhostNumbers,
-    Layer::HomeNumbers,
-    Layer::Names,
-    Layer::Ends,
-    Layer::Legend,
 ];
 
 /// A round to be drawn: what was printed of it, what clients have in view after it, where several entities are, and how far views reach.
@@ -84,14 +73,19 @@ pub(crate) struct Scene<'a> {
     pub(crate) dots: Dots,
 }
 
+/// The shapes of a picture, and the words, which are drawn over all of them.
+#[derive(Drop)]
+pub(crate) struct Canvas {
+    pub(crate) shapes: Vec<u8>,
+    pub(crate) words: Vec<u8>,
+}
+
 // Where a ghost of an entity that lives in a cell is drawn.
 #[derive(Clone, Copy)]
 struct GhostPlace {
-    cell: u8,
+    home: u8,
     own: Point,
     at: Point,
-    // whether the dots of both would meet, so that the ghost is a ring about the entity
-    meets: bool,
 }
 
 // The rings that were drawn about the entity whose ghosts come now.
@@ -111,42 +105,23 @@ impl Rings {
     }
 }
 
-// A line of text beside the space, which a number ends.
-#[derive(Clone, Copy)]
-struct Note {
-    style: Style,
-    at: Point,
-    words: &'static str,
-    number: u64,
-}
-
 impl Scene<'_> {
-    /// Appends the picture, as an SVG.
-    pub(crate) fn push(&self, out: &mut Vec<u8>) -> Result<(), AllocError> {
+    /// Draws all layers of shapes, and the words that stand in them.
+    pub(crate) fn draw(&self, canvas: &mut Canvas) -> Result<(), AllocError> {
         for layer in &LAYERS {
-            self.push_layer(out, *layer)?;
+            self.draw_layer(canvas, *layer)?;
         }
-        out.extend_from_slice(b"</svg>\n")
+        Ok(())
     }
 
-    fn push_layer(&self, out: &mut Vec<u8>, layer: Layer) -> Result<(), AllocError> {
+    fn draw_layer(&self, canvas: &mut Canvas, layer: Layer) -> Result<(), AllocError> {
         match layer {
-            Layer::Head => self.push_head(out),
-            Layer::Areas => self.push_areas(out),
-            Layer::Reaches => self.push_reaches(out),
-            Layer::Sights => self.push_sights(out),
-            Layer::Ghosts => self.push_ghosts(out),
-            Layer::Homes => self.push_homes(out),
-            Layer::GhostNumbers => self.push_ghost_numbers(out),
-            Layer::HomeNumbers => self.push_home_numbers(out),
-            Layer::Names => self.push_names(out),
-            Layer::Ends => self.push_ends(out),
-            Layer::Legend => push_legend(out),
+            Layer::Areas => self.draw_areas(canvas),
+            Layer::Reaches => self.draw_reaches(&mut canvas.shapes),
+            Layer::Sights => self.draw_sights(&mut canvas.shapes),
+            Layer::Ghosts => self.draw_ghosts(canvas),
+            Layer::Homes => self.draw_homes(canvas),
         }
-    }
-
-    fn round(&self) -> &Round {
-        &self.played.round
     }
 
     fn map(&self) -> Map {
@@ -157,136 +132,48 @@ impl Scene<'_> {
         self.map().point(home.state.pos)
     }
 
-    // The size, the title for those who do not see it, and the style sheet.
-    fn push_head(&self, out: &mut Vec<u8>) -> Result<(), AllocError> {
-        push_pieces(
-            out,
-            &[
-                Piece::Text("<svg xmlns=\"http://www.w3.org/2000/svg\" viewBox=\"0 0 "),
-                Piece::Number(SIZE.x),
-                Piece::Text(" "),
-                Piece::Number(SIZE.y),
-                Piece::Text("\">\n<title>Round "),
-                Piece::Number(self.round().number),
-                Piece::Text("</title>\n<style>\n"),
-                Piece::Text(STYLE_SHEET),
-                Piece::Text("</style>\n"),
-            ],
-        )
-    }
-
-    fn push_areas(&self, out: &mut Vec<u8>) -> Result<(), AllocError> {
-        push_rectangle(out, Style::Paper, Point { x: 0, y: 0 }, SIZE)?;
+    fn draw_areas(&self, canvas: &mut Canvas) -> Result<(), AllocError> {
         for cell in 0..self.played.tree.cells() {
             if let Some(area) = self.played.tree.area(cell) {
-                self.push_area(out, cell, area)?;
+                let frame = self.map().frame(area);
+                draw_area(&mut canvas.shapes, frame, cell)?;
+                write_name(&mut canvas.words, frame.from, cell, area)?;
             }
-        }
-        Ok(())
-    }
-
-    fn push_area(&self, out: &mut Vec<u8>, cell: u8, area: Rect) -> Result<(), AllocError> {
-        let Frame { from, to } = self.map().frame(area);
-        push_rectangle(out, Style::Area(cell), from, to)?;
-        push_rectangle(out, Style::Border, from, to)
-    }
-
-    fn push_names(&self, out: &mut Vec<u8>) -> Result<(), AllocError> {
-        for cell in 0..self.played.tree.cells() {
-            if let Some(area) = self.played.tree.area(cell) {
-                self.push_name(out, cell, area)?;
-            }
-        }
-        Ok(())
-    }
-
-    // A cell's number, and from where to where it goes.
-    fn push_name(&self, out: &mut Vec<u8>, cell: u8, area: Rect) -> Result<(), AllocError> {
-        let from = self.map().frame(area).from;
-        let (low, high) = (area.low(), area.high());
-        let name = [Piece::Text("cell "), Piece::Number(u64::from(cell))];
-        push_words(out, Style::CellName, from.plus(NAME), &name)?;
-        let places = [
-            Piece::Text("x "),
-            Piece::Number(u64::from(low.x)),
-            Piece::Text(" to "),
-            Piece::Number(u64::from(high.x)),
-            Piece::Text(", z "),
-            Piece::Number(u64::from(low.z)),
-            Piece::Text(" to "),
-            Piece::Number(u64::from(high.z)),
-        ];
-        push_words(out, Style::CellNote, from.plus(PLACES), &places)
-    }
-
-    // The title, and where the space begins and ends.
-    fn push_ends(&self, out: &mut Vec<u8>) -> Result<(), AllocError> {
-        let size = u64::from(self.played.tree.size());
-        let notes = [
-            Note {
-                style: Style::Title,
-                at: TITLE,
-                words: "Round ",
-                number: self.round().number,
-            },
-            Note {
-                style: Style::Note,
-                at: Z_NOTE,
-                words: "z = ",
-                number: size,
-            },
-            Note {
-                style: Style::EndNote,
-                at: X_NOTE,
-                words: "x = ",
-                number: size,
-            },
-            Note {
-                style: Style::Note,
-                at: LEAST_NOTE,
-                words: "",
-                number: 0,
-            },
-        ];
-        for note in &notes {
-            let words = [Piece::Text(note.words), Piece::Number(note.number)];
-            push_words(out, note.style, note.at, &words)?;
         }
         Ok(())
     }
 
     // How far the views of clients reach, and the rings about their entities.
-    fn push_reaches(&self, out: &mut Vec<u8>) -> Result<(), AllocError> {
-        for home in &self.round().homes {
-            if self.clients.has(home.entity) {
-                self.push_reach(out, home)?;
+    fn draw_reaches(&self, shapes: &mut Vec<u8>) -> Result<(), AllocError> {
+        for home in &self.played.round.homes {
+            if self.clients.entities.contains(&home.entity) {
+                self.draw_reach(shapes, home)?;
             }
         }
         Ok(())
     }
 
-    fn push_reach(&self, out: &mut Vec<u8>, home: &HomeLine) -> Result<(), AllocError> {
+    fn draw_reach(&self, shapes: &mut Vec<u8>, home: &HomeLine) -> Result<(), AllocError> {
         let Frame { from, to } = self.map().surroundings(home.state.pos, self.view_radius);
-        push_rectangle(out, Style::View, from, to)?;
-        self.dots.push_client_ring(out, self.point_of(home))
+        push_rectangle(shapes, Style::plain("view"), from, to)?;
+        let radius = self.dots.radius.saturating_add(3);
+        push_circle(shapes, Style::plain("client"), self.point_of(home), radius)
     }
 
     // Lines from the entities of clients to what these have in view.
-    fn push_sights(&self, out: &mut Vec<u8>) -> Result<(), AllocError> {
-        for sight in self.clients.sights() {
-            self.push_sight(out, *sight)?;
+    fn draw_sights(&self, shapes: &mut Vec<u8>) -> Result<(), AllocError> {
+        for sight in &self.clients.sights {
+            self.draw_sight(shapes, *sight)?;
         }
         Ok(())
     }
 
-    fn push_sight(&self, out: &mut Vec<u8>, sight: Sight) -> Result<(), AllocError> {
-        match (
-            self.played.home_of(sight.own),
-            self.played.home_of(sight.other),
-        ) {
+    fn draw_sight(&self, shapes: &mut Vec<u8>, sight: Sight) -> Result<(), AllocError> {
+        let own = self.played.home_of(sight.own);
+        match (own, self.played.home_of(sight.other)) {
             (Some(own), Some(other)) => push_straight(
-                out,
-                Style::InView,
+                shapes,
+                Style::plain("in-view"),
                 self.point_of(own),
                 self.point_of(other),
             ),
@@ -294,92 +181,158 @@ impl Scene<'_> {
         }
     }
 
+    fn draw_ghosts(&self, canvas: &mut Canvas) -> Result<(), AllocError> {
+        let mut rings = Rings {
+            entity: 0,
+            count: 0,
+        };
+        for copy in &self.played.round.ghosts {
+            if let Some(place) = self.ghost_place(copy) {
+                self.draw_ghost(canvas, &mut rings, copy, place)?;
+            }
+        }
+        Ok(())
+    }
+
     // Where a ghost is drawn: in the cell that has it, as near to its entity as there is room.
     fn ghost_place(&self, copy: &GhostLine) -> Option<GhostPlace> {
         let home = self.played.home_of(copy.entity)?;
         let area = self.played.tree.area(copy.cell)?;
         let own = self.point_of(home);
-        let at = self.map().frame(area).nearest(own, self.dots.margin());
+        let margin = self.dots.radius.saturating_add(6);
         Some(GhostPlace {
-            cell: home.cell,
+            home: home.cell,
             own,
-            at,
-            meets: self.dots.meet(own, at),
+            at: self.map().frame(area).nearest(own, margin),
         })
     }
 
-    fn push_ghosts(&self, out: &mut Vec<u8>) -> Result<(), AllocError> {
-        let mut rings = Rings {
-            entity: 0,
-            count: 0,
-        };
-        for copy in &self.round().ghosts {
-            if let Some(place) = self.ghost_place(copy) {
-                self.push_ghost(out, &mut rings, copy, place)?;
-            }
-        }
-        Ok(())
-    }
-
-    // A ghost at the end of a line from its entity, or a ring about that.
-    fn push_ghost(
+    // A ghost at the end of a line from its entity. Where both would meet, it is a ring about the entity.
+    fn draw_ghost(
         &self,
-        out: &mut Vec<u8>,
+        canvas: &mut Canvas,
         rings: &mut Rings,
         copy: &GhostLine,
         place: GhostPlace,
     ) -> Result<(), AllocError> {
-        let GhostPlace { cell, own, at, .. } = place;
-        if place.meets {
-            let before = rings.next(copy.entity);
-            return self.dots.push_ghost_ring(out, own, copy.cell, before);
+        let GhostPlace { home, own, at } = place;
+        let dots = self.dots;
+        if dots.meet(own, at) {
+            let style = Style::colored("ring", copy.cell, dots.size);
+            let radius = dots.ring(rings.next(copy.entity));
+            return push_circle(&mut canvas.shapes, style, own, radius);
         }
-        self.dots.push_ghost_line(out, own, at, cell)?;
-        self.dots.push_ghost(out, at, cell, copy.entity)
-    }
-
-    fn push_ghost_numbers(&self, out: &mut Vec<u8>) -> Result<(), AllocError> {
-        for copy in &self.round().ghosts {
-            self.push_ghost_number(out, copy)?;
+        if dots.have_numbers {
+            let style = Style::colored("ghost-line", home, "");
+            push_straight(&mut canvas.shapes, style, own, at)?;
         }
-        Ok(())
-    }
-
-    fn push_ghost_number(&self, out: &mut Vec<u8>, copy: &GhostLine) -> Result<(), AllocError> {
-        match self.ghost_place(copy) {
-            Some(place) if self.dots.have_numbers() && !place.meets => self
-                .dots
-                .push_number(out, Style::GhostNumber, place.at, copy.entity),
-            _ => Ok(()),
-        }
+        dots.push(&mut canvas.shapes, "ghost", at, home, copy.entity)?;
+        dots.push_number(&mut canvas.words, "number halo", at, copy.entity)
     }
 
     // The homes, of those at one point the first.
-    fn push_homes(&self, out: &mut Vec<u8>) -> Result<(), AllocError> {
-        for home in &self.round().homes {
+    fn draw_homes(&self, canvas: &mut Canvas) -> Result<(), AllocError> {
+        for home in &self.played.round.homes {
             let at = self.point_of(home);
-            if 0 < self.points.count_for(at, home.entity) {
-                self.dots.push_home(out, at, home.cell, home.entity)?;
+            let count = self.points.count_for(at, home.entity);
+            if 0 < count {
+                self.draw_home(canvas, at, home, count)?;
             }
         }
         Ok(())
     }
 
-    fn push_home_numbers(&self, out: &mut Vec<u8>) -> Result<(), AllocError> {
-        for home in &self.round().homes {
-            self.push_home_number(out, home)?;
-        }
-        Ok(())
+    fn draw_home(
+        &self,
+        canvas: &mut Canvas,
+        at: Point,
+        home: &HomeLine,
+        count: u32,
+    ) -> Result<(), AllocError> {
+        self.dots
+            .push(&mut canvas.shapes, "home", at, home.cell, home.entity)?;
+        self.dots
+            .push_number(&mut canvas.words, "number on-dot", at, home.entity)?;
+        self.dots.push_count(&mut canvas.words, at, count)
     }
+}
 
-    // The number of a home that is drawn, and how many are at its point.
-    fn push_home_number(&self, out: &mut Vec<u8>, home: &HomeLine) -> Result<(), AllocError> {
-        let at = self.point_of(home);
-        let count = self.points.count_for(at, home.entity);
-        if 0 < count && self.dots.have_numbers() {
-            self.dots
-                .push_number(out, Style::HomeNumber, at, home.entity)?;
-        }
-        self.dots.push_count(out, at, count)
+fn draw_area(shapes: &mut Vec<u8>, frame: Frame, cell: u8) -> Result<(), AllocError> {
+    let Frame { from, to } = frame;
+    push_rectangle(shapes, Style::colored("area", cell, ""), from, to)?;
+    push_rectangle(shapes, Style::plain("border"), from, to)
+}
+
+// A cell's number, and from where to where it goes.
+fn write_name(words: &mut Vec<u8>, from: Point, cell: u8, area: Rect) -> Result<(), AllocError> {
+    let name = Style::plain("halo cell name");
+    push_words(words, name, from.plus(NAME), "cell ", u64::from(cell))?;
+    let at = from.plus(PLACES);
+    let (low, high) = (area.low(), area.high());
+    push_pieces(
+        words,
+        &[
+            Piece::Text("<text class=\"halo cell\" x=\""),
+            Piece::Number(at.x),
+            Piece::Text("\" y=\""),
+            Piece::Number(at.y),
+            Piece::Text("\">x "),
+            Piece::Number(u64::from(low.x)),
+            Piece::Text(" to "),
+            Piece::Number(u64::from(high.x)),
+            Piece::Text(", z "),
+            Piece::Number(u64::from(low.z)),
+            Piece::Text(" to "),
+            Piece::Number(u64::from(high.z)),
+            Piece::Text("</text>\n"),
+        ],
+    )
+}
+
+/// Appends what comes before the shapes: the size, a title for those who do not see the picture, the style sheet and the paper.
+pub(crate) fn push_head(out: &mut Vec<u8>, number: u64) -> Result<(), AllocError> {
+    push_pieces(
+        out,
+        &[
+            Piece::Text("<svg xmlns=\"http://www.w3.org/2000/svg\" viewBox=\"0 0 "),
+            Piece::Number(SIZE.x),
+            Piece::Text(" "),
+            Piece::Number(SIZE.y),
+            Piece::Text("\">\n<title>Round "),
+            Piece::Number(number),
+            Piece::Text("</title>\n<style>\n"),
+            Piece::Text(STYLE_SHEET),
+            Piece::Text("</style>\n<rect class=\"paper\" width=\""),
+            Piece::Number(SIZE.x),
+            Piece::Text("\" height=\""),
+            Piece::Number(SIZE.y),
+            Piece::Text("\"/>\n"),
+        ],
+    )
+}
+
+/// Appends what comes after the words: the title, where the space begins and ends, and the legend.
+pub(crate) fn push_end(out: &mut Vec<u8>, number: u64, size: u32) -> Result<(), AllocError> {
+    let size = u64::from(size);
+    let notes = [
+        ("title", TITLE, "Round ", number),
+        ("note", Z_NOTE, "z = ", size),
+        ("note end", X_NOTE, "x = ", size),
+        ("note", LEAST_NOTE, "", 0),
+    ];
+    for (sign, at, words, number) in &notes {
+        push_words(out, Style::plain(*sign), *at, *words, *number)?;
     }
+    push_pieces(
+        out,
+        &[
+            Piece::Text("<g transform=\"translate("),
+            Piece::Number(LEFT),
+            Piece::Text(" "),
+            Piece::Number(BOTTOM),
+            Piece::Text(")\">\n"),
+            Piece::Text(LEGEND),
+            Piece::Text("</g>\n</svg>\n"),
+        ],
+    )
 }

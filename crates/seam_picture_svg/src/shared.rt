@@ -39,10 +39,8 @@ impl Points {
             },
             None => Shared { entity, count: 1 },
         };
-        match self.points.insert(point, shared) {
-            Ok(_) => Ok(()),
-            Err(_) => Err(AllocError),
-        }
+        self.points.insert(point, shared)?;
+        Ok(())
     }
 
     /// How many entities are at a point, for the first of them, and 0 for the others.

@@ -1,89 +1,33 @@
 // How the shapes of a picture look.
 
-/// How large a dot is, which says how its edge looks.
-#[derive(Clone, Copy, PartialEq, Eq)]
-pub(crate) enum Size {
-    Large,
-    Small,
-    Tiny,
-}
-
-/// What a shape is, which says how it looks. The number is that of the cell whose color it has.
+/// The classes of a shape in the style sheet.
 #[derive(Clone, Copy)]
-pub(crate) enum Style {
-    Paper,
-    Title,
-    Note,
-    EndNote,
-    Area(u8),
-    Border,
-    CellName,
-    CellNote,
-    View,
-    InView,
-    GhostLine(u8),
-    Ghost(u8, Size),
-    Ring(u8, Size),
-    GhostNumber,
-    Home(u8, Size),
-    HomeNumber,
-    LongNumber,
-    Count,
-    Client,
+pub(crate) struct Style {
+    /// What it is.
+    pub(crate) sign: &'static str,
+    /// Of which cell it has the color, with a space before it, or nothing.
+    pub(crate) color: &'static str,
+    /// How large the dots are, with a space before it, or nothing.
+    pub(crate) size: &'static str,
 }
 
 impl Style {
-    /// Its classes in the style sheet, without those of its color and its size.
-    pub(crate) fn classes(self) -> &'static str {
-        match self {
-            Style::Paper => "paper",
-            Style::Title => "title",
-            Style::Note => "note",
-            Style::EndNote => "note end",
-            Style::Area(_) => "area",
-            Style::Border => "border",
-            Style::CellName => "halo cell name",
-            Style::CellNote => "halo cell",
-            Style::View => "view",
-            Style::InView => "in-view",
-            Style::GhostLine(_) => "ghost-line",
-            Style::Ghost(..) => "ghost",
-            Style::Ring(..) => "ring",
-            Style::GhostNumber => "number halo",
-            Style::Home(..) => "home",
-            Style::HomeNumber => "number on-dot",
-            Style::LongNumber => "halo long",
-            Style::Count => "halo bold",
-            Style::Client => "client",
+    /// That of a sign which has no color of a cell.
+    pub(crate) fn plain(sign: &'static str) -> Style {
+        Style {
+            sign,
+            color: "",
+            size: "",
         }
     }
 
-    /// The class of its color, with a space before it, or nothing.
-    pub(crate) fn color(self) -> &'static str {
-        let cell = match self {
-            Style::Area(cell)
-            | Style::GhostLine(cell)
-            | Style::Ghost(cell, _)
-            | Style::Ring(cell, _)
-            | Style::Home(cell, _) => usize::from(cell),
-            _ => COLORS.len(),
-        };
-        match COLORS.get(cell) {
+    /// That of a sign in the color of a cell.
+    pub(crate) fn colored(sign: &'static str, cell: u8, size: &'static str) -> Style {
+        let color = match COLORS.get(usize::from(cell)) {
             Some(color) => *color,
             None => "",
-        }
-    }
-
-    /// The class of its size, with a space before it, or nothing.
-    pub(crate) fn size(self) -> &'static str {
-        match self {
-            Style::Ghost(_, size) | Style::Ring(_, size) | Style::Home(_, size) => match size {
-                Size::Large => "",
-                Size::Small => " small",
-                Size::Tiny => " tiny",
-            },
-            _ => "",
-        }
+        };
+        Style { sign, color, size }
     }
 }
 
