@@ -1,16 +1,15 @@
 // What is told of a round: what does not follow from the round before it.
-use crate::calls::Executed;
 use crate::lines::{push_line, push_words};
-use crate::told::Told;
+use crate::told::{Facts, Told};
 use seam_call::{Call, Sender};
 use seam_defs::{Deed, Defs};
 use seam_geo::{Pos, Rect};
-use seam_judge_data::{BaseLine, ClientLine, DoneLine, HomeLine, Same};
+use seam_judge_data::{BaseLine, DoneLine, HomeLine, Same};
 use seam_report::{
     BaseLine as BaseText, DoneLine as DoneText, HomeLine as HomeText, push_base, push_done,
     push_home, push_line as push_shown,
 };
-use seam_tree::{CellSet, MOST_CELLS};
+use seam_tree::{CellSet, Tree};
 use seam_value::push_number;
 use std::alloc::AllocError;
 
@@ -25,7 +24,6 @@ pub(crate) struct Change<'a> {
 // The lines of one kind.
 #[derive(Clone, Copy)]
 enum Section {
-    Number,
     Areas,
     Did,
     Dob,
@@ -38,8 +36,7 @@ enum Section {
 }
 
 // In their order.
-const SECTIONS: [Section; 10] = [
-    Section::Number,
+const SECTIONS: [Section; 9] = [
     Section::Areas,
     Section::Did,
     Section::Dob,
@@ -52,7 +49,7 @@ const SECTIONS: [Section; 10] = [
 ];
 
 impl Change<'_> {
-    /// Appends the lines of the round.
+    /// Appends the lines of the round, after that of its number.
     pub(crate) fn push(&self, out: &mut Vec<u8>) -> Result<(), AllocError> {
         for section in &SECTIONS {
             self.push_section(out, *section)?;
@@ -62,7 +59,6 @@ impl Change<'_> {
 
     fn push_section(&self, out: &mut Vec<u8>, section: Section) -> Result<(), AllocError> {
         match section {
-            Section::Number => push_line(out, b"round", &[self.now.played.round.number]),
             Section::Areas => self.push_areas(out),
             Section::Did => self.push_did(out),
             Section::Dob => self.push_dob(out),
@@ -77,44 +73,31 @@ impl Change<'_> {
 
     // The areas of the cells, where they changed.
     fn push_areas(&self, out: &mut Vec<u8>) -> Result<(), AllocError> {
+        let tree = &self.now.played.tree;
         match self.before {
-            Some(before) if before.played.tree.is(&self.now.played.tree) => Ok(()),
-            _ => self.push_all_areas(out),
+            Some(before) if before.played.tree.is(tree) => Ok(()),
+            _ => push_areas(out, tree),
         }
     }
 
-    fn push_all_areas(&self, out: &mut Vec<u8>) -> Result<(), AllocError> {
-        out.extend_from_slice(b"area")?;
-        for cell in 0..self.now.played.tree.cells() {
-            if let Some(area) = self.now.played.tree.area(cell) {
-                push_area(out, area)?;
-            }
-        }
-        out.push(b'\n')
-    }
-
-    // The calls that cell parts executed.
+    // The calls that cell parts executed. A move is told by how much more the entity's number is than that of the last one that was moved.
     fn push_did(&self, out: &mut Vec<u8>) -> Result<(), AllocError> {
         let mut last = 0;
         for line in &self.now.played.round.did {
-            self.push_executed(out, &mut last, line)?;
+            self.push_executed(out, line, last)?;
+            last = moved_by(line, last);
         }
         Ok(())
     }
 
-    // A call of a cell part. A move is told by how much more the entity's number is than that of the last one that was moved.
     fn push_executed(
         &self,
         out: &mut Vec<u8>,
-        last: &mut u32,
         line: &DoneLine,
+        last: u32,
     ) -> Result<(), AllocError> {
         match &line.call.deed {
-            Deed::Move(to) => {
-                let more = line.call.entity.wrapping_sub(*last);
-                *last = line.call.entity;
-                push_move(out, &line.call, more, *to)
-            }
+            Deed::Move(to) => push_move(out, &line.call, line.call.entity.wrapping_sub(last), *to),
             Deed::Method(..) => self.push_call(out, b"did ", line),
         }
     }
@@ -147,17 +130,14 @@ impl Change<'_> {
         let Some(last) = self.home_before(home.entity) else {
             return self.push_new(out, home);
         };
-        if !is_expected(last, self.now.calls.executed_by(home.entity), home) {
+        if !is_expected(last, self.now.facts_of(home.entity), home) {
             return self.push_whole(out, home);
         }
         if last.cell == home.cell {
             return Ok(());
         }
-        push_line(
-            out,
-            b"cell",
-            &[u64::from(home.entity), u64::from(home.cell)],
-        )
+        let numbers = [u64::from(home.entity), u64::from(home.cell)];
+        push_line(out, b"cell", &numbers)
     }
 
     fn home_before(&self, entity: u32) -> Option<&HomeLine> {
@@ -189,16 +169,11 @@ impl Change<'_> {
             return Ok(());
         };
         for home in &before.played.round.homes {
-            self.push_if_gone(out, home.entity)?;
+            if self.now.home_of(home.entity).is_none() {
+                push_line(out, b"gone", &[u64::from(home.entity)])?;
+            }
         }
         Ok(())
-    }
-
-    fn push_if_gone(&self, out: &mut Vec<u8>, entity: u32) -> Result<(), AllocError> {
-        match self.now.home_of(entity) {
-            Some(_) => Ok(()),
-            None => push_line(out, b"gone", &[u64::from(entity)]),
-        }
     }
 
     // The base parts that changed.
@@ -210,18 +185,15 @@ impl Change<'_> {
     }
 
     fn push_base(&self, out: &mut Vec<u8>, line: &BaseLine) -> Result<(), AllocError> {
+        let text = BaseText {
+            entity: line.entity,
+            ty: line.ty,
+            version: line.version,
+            props: &line.props,
+        };
         match self.base_before(line.entity) {
             Some(last) if last.is(line) => Ok(()),
-            _ => push_base(
-                out,
-                self.defs,
-                &BaseText {
-                    entity: line.entity,
-                    ty: line.ty,
-                    version: line.version,
-                    props: &line.props,
-                },
-            ),
+            _ => push_base(out, self.defs, &text),
         }
     }
 
@@ -231,60 +203,51 @@ impl Change<'_> {
 
     // The cells with ghosts of an entity, where they changed.
     fn push_ghosts(&self, out: &mut Vec<u8>) -> Result<(), AllocError> {
-        for (entity, cells) in self.now.ghosts.all() {
-            self.push_changed(out, *entity, *cells)?;
+        for (entity, facts) in &self.now.facts {
+            if !facts.ghosts.is(&self.ghosts_before(*entity)) {
+                push_cells(out, *entity, facts.ghosts)?;
+            }
         }
         Ok(())
-    }
-
-    fn push_changed(
-        &self,
-        out: &mut Vec<u8>,
-        entity: u32,
-        cells: CellSet,
-    ) -> Result<(), AllocError> {
-        if cells.is(&self.ghosts_before(entity)) {
-            return Ok(());
-        }
-        push_cells(out, entity, cells)
     }
 
     fn ghosts_before(&self, entity: u32) -> CellSet {
         match self.before {
-            Some(before) => before.ghosts.of(entity),
+            Some(before) => before.facts_of(entity).ghosts,
             None => CellSet::none(),
         }
     }
 
-    // The entities that had ghosts in the round before, and have none.
+    // The entities of which the round before has something, as ghosts, and this one nothing at all.
     fn push_ghosts_gone(&self, out: &mut Vec<u8>) -> Result<(), AllocError> {
         let Some(before) = self.before else {
             return Ok(());
         };
-        for (entity, _) in before.ghosts.all() {
-            self.push_if_no_ghosts(out, *entity)?;
+        for (entity, facts) in &before.facts {
+            if !self.now.facts.contains_key(entity) && !facts.ghosts.is(&CellSet::none()) {
+                push_cells(out, *entity, CellSet::none())?;
+            }
         }
         Ok(())
-    }
-
-    fn push_if_no_ghosts(&self, out: &mut Vec<u8>, entity: u32) -> Result<(), AllocError> {
-        if self.now.ghosts.has(entity) {
-            return Ok(());
-        }
-        push_cells(out, entity, CellSet::none())
     }
 
     // What clients were shown.
     fn push_shown(&self, out: &mut Vec<u8>) -> Result<(), AllocError> {
         for line in &self.now.played.round.shown {
-            self.push_shown_line(out, line)?;
+            push_shown(out, self.defs, line.entity, line.ty, &line.line)?;
         }
         Ok(())
     }
+}
 
-    fn push_shown_line(&self, out: &mut Vec<u8>, line: &ClientLine) -> Result<(), AllocError> {
-        push_shown(out, self.defs, line.entity, line.ty, &line.line)
+fn push_areas(out: &mut Vec<u8>, tree: &Tree) -> Result<(), AllocError> {
+    out.extend_from_slice(b"area")?;
+    for cell in 0..tree.cells() {
+        if let Some(area) = tree.area(cell) {
+            push_area(out, area)?;
+        }
     }
+    out.push(b'\n')
 }
 
 fn push_area(out: &mut Vec<u8>, area: Rect) -> Result<(), AllocError> {
@@ -298,16 +261,24 @@ fn push_area(out: &mut Vec<u8>, area: Rect) -> Result<(), AllocError> {
     push_words(out, b"", &corners)
 }
 
+// The entity that was moved last, after this line.
+fn moved_by(line: &DoneLine, last: u32) -> u32 {
+    match &line.call.deed {
+        Deed::Move(_) => line.call.entity,
+        Deed::Method(..) => last,
+    }
+}
+
 // A move of the entity whose number is so much more than that of the last one that was moved, modulo 2^32.
 fn push_move(out: &mut Vec<u8>, call: &Call, more: u32, to: Pos) -> Result<(), AllocError> {
-    out.push(b'm')?;
-    if more != 1 {
-        push_words(out, b"", &[u64::from(more)])?;
-    }
     let (letter, number) = match call.sender {
         Sender::Base(node) => (b'b', u64::from(node.number())),
         Sender::Client(entity) => (b'c', u64::from(entity)),
     };
+    out.push(b'm')?;
+    if more != 1 {
+        push_words(out, b"", &[u64::from(more)])?;
+    }
     out.extend_from_slice(&[b' ', letter])?;
     push_number(out, number)?;
     push_line(out, b"", &[u64::from(to.x), u64::from(to.z)])
@@ -315,7 +286,7 @@ fn push_move(out: &mut Vec<u8>, call: &Call, more: u32, to: Pos) -> Result<(), A
 
 fn push_cells(out: &mut Vec<u8>, entity: u32, cells: CellSet) -> Result<(), AllocError> {
     push_words(out, b"ghosts", &[u64::from(entity)])?;
-    for cell in 0..MOST_CELLS as u8 {
+    for cell in 0..16 {
         if cells.holds(cell) {
             push_words(out, b"", &[u64::from(cell)])?;
         }
@@ -323,10 +294,10 @@ fn push_cells(out: &mut Vec<u8>, entity: u32, cells: CellSet) -> Result<(), Allo
     out.push(b'\n')
 }
 
-// Whether a home is the last one with these calls, but for its cell.
-fn is_expected(last: &HomeLine, executed: Executed, home: &HomeLine) -> bool {
+// Whether a home is the last one with these facts, but for its cell.
+fn is_expected(last: &HomeLine, facts: Facts, home: &HomeLine) -> bool {
     last.ty == home.ty
-        && last.version.saturating_add(executed.count) == home.version
-        && executed.moved.unwrap_or(last.state.pos) == home.state.pos
+        && last.version.saturating_add(facts.executed) == home.version
+        && facts.moved.unwrap_or(last.state.pos) == home.state.pos
         && last.state.props.is(&home.state.props)
 }

@@ -18,9 +18,7 @@
 //! - `ghosts E CELL ..`: the cells that have a ghost of an entity, where they changed.
 #![tactic(auto)]
 
-mod calls;
 mod change;
-mod ghosts;
 mod lines;
 mod page;
 mod page_data;

@@ -41,6 +41,7 @@ impl PageData {
         if self.last.is_none() {
             push_space(&mut self.text, header)?;
         }
+        push_line(&mut self.text, b"round", &[now.played.round.number])?;
         let change = Change {
             defs: &header.defs,
             before: self.last.as_ref(),
