@@ -269,19 +269,25 @@ fn moved_by(line: &DoneLine, last: u32) -> u32 {
     }
 }
 
-// A move of the entity whose number is so much more than that of the last one that was moved, modulo 2^32.
+// A move of the entity whose number is so much more than that of the last one that was moved, modulo 2^32. It has no word, since there are
+// more moves than all else.
 fn push_move(out: &mut Vec<u8>, call: &Call, more: u32, to: Pos) -> Result<(), AllocError> {
-    let (letter, number) = match call.sender {
-        Sender::Base(node) => (b'b', u64::from(node.number())),
-        Sender::Client(entity) => (b'c', u64::from(entity)),
-    };
-    out.push(b'm')?;
     if more != 1 {
-        push_words(out, b"", &[u64::from(more)])?;
+        push_number(out, u64::from(more))?;
+        out.push(b' ')?;
     }
-    out.extend_from_slice(&[b' ', letter])?;
-    push_number(out, number)?;
+    push_mover(out, call.sender)?;
     push_line(out, b"", &[u64::from(to.x), u64::from(to.z)])
+}
+
+fn push_mover(out: &mut Vec<u8>, sender: Sender) -> Result<(), AllocError> {
+    match sender {
+        Sender::Base(node) => push_number(out, u64::from(node.number())),
+        Sender::Client(entity) => {
+            out.push(b'c')?;
+            push_number(out, u64::from(entity))
+        }
+    }
 }
 
 fn push_cells(out: &mut Vec<u8>, entity: u32, cells: CellSet) -> Result<(), AllocError> {

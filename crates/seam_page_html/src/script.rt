@@ -109,12 +109,12 @@ const READERS = {
     round.areas = [];
     for (let i = 0; i < numbers.length; i += 4) round.areas.push(numbers.slice(i, i + 4));
   },
-  m(round, line) {
+  move(round, line) {
     const words = line.split(' ');
-    const more = words.length > 4 ? Number(words[1]) : 1;
+    const more = words.length > 3 ? Number(words[0]) : 1;
     const [sender, x, z] = words.slice(-3);
     round.moved = (round.moved + more) % 4294967296;
-    round.calls.push({ part: 'did', entity: round.moved, text: sender + ' move ' + x + ' ' + z });
+    round.calls.push({ part: 'did', entity: round.moved, text: (sender[0] === 'c' ? '' : 'b') + sender + ' move ' + x + ' ' + z });
     execute(round, round.moved, { x: Number(x), z: Number(z) });
   },
   did(round, line) {
@@ -155,7 +155,7 @@ function readRounds(lines) {
   const rounds = [];
   let round = { areas: [], homes: new Map(), bases: new Map(), ghosts: new Map(), views: new Map() };
   for (const line of lines) {
-    const word = line.split(' ', 1)[0];
+    const word = /^c?[0-9]/.test(line) ? 'move' : line.split(' ', 1)[0];
     if (word === 'round') {
       round = newRound(Number(line.split(' ')[1]), round);
       rounds.push(round);
@@ -422,11 +422,12 @@ function texts(element, some) {
 function tellEntity(round) {
   const home = round.homes.get(chosen.entity);
   if (!home) return texts(by('state'), chosen.entity ? ['is not there in this round'] : []);
+  const [calls, held] = split(round.bases.get(chosen.entity) || '0', 1);
   const seers = [...round.views].filter(([, view]) => view.has(chosen.entity)).map(([client]) => client);
   texts(by('state'), [
     home.type + ' in cell ' + home.cell + ' at x = ' + home.x + ', z = ' + home.z + ', after ' + home.version + ' calls',
     'cell part: ' + (home.state || 'no properties'),
-    'base part after ' + split(round.bases.get(chosen.entity) || '0', 1).join(' calls: '),
+    'base part after ' + calls + ' calls: ' + (held || 'no properties'),
     'ghosts in cells: ' + ((round.ghosts.get(chosen.entity) || []).join(', ') || 'none'),
     'seen by the clients of: ' + (seers.join(', ') || 'nobody'),
   ]);
