@@ -97,7 +97,7 @@ impl Dots {
         }
         let above = Point {
             x: at.x.saturating_add(self.radius),
-            y: at.y.saturating_sub(self.radius / 2),
+            y: at.y.saturating_sub(self.radius),
         };
         push_words(
             out,

@@ -101,10 +101,7 @@ fn drawn(
         words: Vec::new(alloc),
     };
     match push_picture(&mut canvas, &scene) {
-        Ok(()) => {
-            let Canvas { shapes, .. } = canvas;
-            Ok(shapes)
-        }
+        Ok(()) => Ok(canvas.into_shapes()),
         Err(error) => Err(error),
     }
 }

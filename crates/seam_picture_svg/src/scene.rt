@@ -80,6 +80,16 @@ pub(crate) struct Canvas {
     pub(crate) words: Vec<u8>,
 }
 
+impl Canvas {
+    pub(crate) fn into_shapes(self) -> Vec<u8> {
+        let Canvas {
+            shapes,
+            words: _words,
+        } = self;
+        shapes
+    }
+}
+
 // Where a ghost of an entity that lives in a cell is drawn.
 #[derive(Clone, Copy)]
 struct GhostPlace {
