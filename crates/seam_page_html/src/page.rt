@@ -44,12 +44,15 @@ fn add_round(
     replay: &Replay<'_>,
     next: Option<Played>,
 ) -> Result<bool, AllocError> {
-    match (next, replay.header()) {
-        (Some(played), Some(header)) => match rounds.add(header, played) {
-            Ok(()) => Ok(true),
-            Err(error) => Err(error),
-        },
-        _ => Ok(false),
+    let Some(played) = next else {
+        return Ok(false);
+    };
+    match replay.header() {
+        Some(header) => {
+            rounds.add(header, played)?;
+            Ok(true)
+        }
+        None => Ok(false),
     }
 }
 
