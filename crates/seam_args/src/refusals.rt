@@ -46,19 +46,23 @@ fn before_usage(text: &str) -> &str {
     }
 }
 
-// Says how a file is read, where the word that is not expected may be the name of one.
+// Says how input is read, where the word that is not expected may be the name of a file.
 fn push_file(alloc: Global, words: &[String], text: &mut String) -> Result<(), AllocError> {
     'words: for word in words.iter().skip(1) {
         let named = format!(in alloc; "error: unexpected argument '{}' found", word.as_str())?;
         if !word.starts_with('-') && text.starts_with(named.as_str()) {
-            write!(
-                text,
-                "{}: input comes on standard input: seamless < {}\n",
-                word.as_str(),
-                word.as_str()
-            )?;
-            return Ok(());
+            return push_advice(word.as_str(), text);
         }
     }
     Ok(())
+}
+
+// An empty word is told by its quotes: it names no file.
+fn push_advice(word: &str, text: &mut String) -> Result<(), AllocError> {
+    let name = if word.is_empty() { "''" } else { word };
+    let file = if word.is_empty() { "FILE" } else { word };
+    write!(
+        text,
+        "{name}: input comes on standard input: seamless < {file}\n"
+    )
 }

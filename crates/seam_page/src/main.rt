@@ -28,20 +28,35 @@ fn main(rt: HostRuntime) -> ExitCode {
 }
 
 fn run(rt: &HostRuntime) -> Result<(), Fault> {
+    refuse_words(rt)?;
+    let page = read_page(rt)?;
+    write(rt, &page)
+}
+
+// There are no words but the program's name.
+fn refuse_words(rt: &HostRuntime) -> Result<(), Fault> {
     let mut words = match env::args(rt) {
         Ok(args) => args.skip(1),
         Err(error) => return Err(io_fault(error, Fault::Usage)),
     };
-    if words.next().is_some() {
-        return Err(Fault::Usage);
+    match words.next() {
+        Some(_) => Err(Fault::Usage),
+        None => Ok(()),
     }
+}
+
+// The page of standard input.
+fn read_page(rt: &HostRuntime) -> Result<Vec<u8>, Fault> {
     let mut text = Vec::new(rt.alloc());
-    if let Err(error) = rt.reader().read_to_end(&mut text) {
-        return Err(io_fault(error, Fault::NotReadable));
+    match rt.reader().read_to_end(&mut text) {
+        Ok(_) => page_of(rt.alloc(), &text),
+        Err(error) => Err(io_fault(error, Fault::NotReadable)),
     }
-    let page = page_of(rt.alloc(), &text)?;
+}
+
+fn write(rt: &HostRuntime, text: &[u8]) -> Result<(), Fault> {
     let mut out = writer(rt);
-    match out.write_all(&page) {
+    match out.write_all(text) {
         Ok(()) => Ok(()),
         Err(_) => Err(Fault::NotWritable),
     }

@@ -8,7 +8,8 @@
 //! - `space SIZE RADIUS`: the size of the space, and how far views reach; first of all.
 //! - `round R`: a round begins.
 //! - `area X Z X Z ..`: the least and the greatest corner of each cell, where they changed.
-//! - `m D S X Z`: a sender moved an entity, whose number is D more than in the `m` line before in this round, or D. A D of 1 is left out.
+//! - `D S X Z`, without a word: a sender moved an entity, whose number is D more than in the line before it of this kind and round, or D.
+//!   A D of 1 is left out. S is the number of a base node, or `c` and the number of the entity of a client.
 //! - `did`, `dob`, `to`: as printed.
 //! - `new E TYPE`: an entity that was not there before; its `home` line comes next.
 //! - `home`: as printed, where it is other than the last one with the calls of this round and the place of its last move.
@@ -18,12 +19,11 @@
 //! - `ghosts E CELL ..`: the cells that have a ghost of an entity, where they changed.
 #![tactic(auto)]
 
-mod calls;
-mod ghosts;
-mod homes;
+mod change;
 mod lines;
 mod page;
 mod page_data;
 mod script;
+mod told;
 
 pub use page::page_of;

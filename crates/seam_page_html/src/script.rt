@@ -54,14 +54,11 @@ pre { font: 12px monospace; max-height: 150px; overflow: auto; margin: 2px 0; pa
 <script type='text/plain' id='data'>
 ";
 
-/// What comes between the data and the script.
-pub(crate) const TAIL: &str = "\
+/// What comes after its data: the script, in JavaScript. It has no double quotes and no backslashes, so that it stands here as a browser
+/// reads it.
+pub(crate) const SCRIPT: &str = "\
 </script>
 <script>
-";
-
-/// The script, in JavaScript. It has no double quotes and no backslashes, so that it stands here as a browser reads it.
-pub(crate) const SCRIPT: &str = "\
 'use strict';
 // Draws the rounds whose data the page has. What each line of the data means is told in the crate seam_page_html.
 const COLORS = ['#689efa', '#c8621a', '#156861', '#b74dc0', '#fdad03', '#6204ef', '#96ce72', '#641800',
@@ -112,12 +109,12 @@ const READERS = {
     round.areas = [];
     for (let i = 0; i < numbers.length; i += 4) round.areas.push(numbers.slice(i, i + 4));
   },
-  m(round, line) {
+  move(round, line) {
     const words = line.split(' ');
-    const more = words.length > 4 ? Number(words[1]) : 1;
+    const more = words.length > 3 ? Number(words[0]) : 1;
     const [sender, x, z] = words.slice(-3);
     round.moved = (round.moved + more) % 4294967296;
-    round.calls.push({ part: 'did', entity: round.moved, text: sender + ' move ' + x + ' ' + z });
+    round.calls.push({ part: 'did', entity: round.moved, text: (sender[0] === 'c' ? '' : 'b') + sender + ' move ' + x + ' ' + z });
     execute(round, round.moved, { x: Number(x), z: Number(z) });
   },
   did(round, line) {
@@ -158,7 +155,7 @@ function readRounds(lines) {
   const rounds = [];
   let round = { areas: [], homes: new Map(), bases: new Map(), ghosts: new Map(), views: new Map() };
   for (const line of lines) {
-    const word = line.split(' ', 1)[0];
+    const word = /^c?[0-9]/.test(line) ? 'move' : line.split(' ', 1)[0];
     if (word === 'round') {
       round = newRound(Number(line.split(' ')[1]), round);
       rounds.push(round);
@@ -249,10 +246,10 @@ function ghostPlace(round, home, cell, margin) {
   return [nearest(x, left, right), nearest(y, top, bottom)];
 }
 
+// The ghosts, and of those that are no rings the numbers, which are written when all dots are there.
 function drawGhosts(pen, round, radius) {
+  const labels = [];
   pen.setLineDash(radius > 4 ? [3, 2] : []);
-  pen.textAlign = 'center';
-  pen.font = '11px Helvetica, Arial, sans-serif';
   for (const [entity, cells] of round.ghosts) {
     const home = round.homes.get(entity);
     const isChosen = entity === chosen.entity;
@@ -265,10 +262,17 @@ function drawGhosts(pen, round, radius) {
       pen.strokeStyle = COLORS[meets ? cell : home.cell];
       pen.lineWidth = isChosen ? 2.5 : radius > 4 ? 1.6 : 0.7;
       pen.stroke();
-      if (radius > 10 && !meets) haloed(pen, entity, at[0], at[1] + 4);
+      if (!meets) labels.push([entity, at]);
     });
   }
   pen.setLineDash([]);
+  return labels;
+}
+
+function writeGhosts(pen, labels) {
+  pen.textAlign = 'center';
+  pen.font = '11px Helvetica, Arial, sans-serif';
+  for (const [entity, at] of labels) haloed(pen, entity, at[0], at[1] + 4);
 }
 
 function drawView(pen, round) {
@@ -307,30 +311,18 @@ function drawWay(pen, round) {
   }
 }
 
+// The first of those at one point comes last, over the others.
+const backward = round => [...round.homes].reverse();
+
 function drawHomes(pen, round, radius) {
-  const counts = new Map();
-  for (const home of round.homes.values()) counts.set(home.x + ' ' + home.z, (counts.get(home.x + ' ' + home.z) || 0) + 1);
-  const isNumbered = radius > 10;
-  pen.font = 'bold 11px Helvetica, Arial, sans-serif';
-  for (const [entity, home] of round.homes) {
-    const at = place(home.x, home.z);
+  for (const [entity, home] of backward(round)) {
     const hasClient = round.views.has(entity);
-    circle(pen, at, radius);
+    circle(pen, place(home.x, home.z), radius);
     pen.fillStyle = COLORS[home.cell];
     pen.fill();
     pen.strokeStyle = hasClient ? '#222222' : '#ffffff';
     pen.lineWidth = hasClient ? Math.max(1.2, radius / 5) : radius / 9;
     if (hasClient || radius > 2) pen.stroke();
-    const count = counts.get(home.x + ' ' + home.z);
-    pen.textAlign = 'left';
-    if (count >= (isNumbered ? 2 : 5)) haloed(pen, String.fromCharCode(215) + count, at[0] + radius + 2, at[1] - radius / 2);
-    if (!isNumbered) continue;
-    pen.textAlign = 'center';
-    pen.lineWidth = 2;
-    pen.strokeStyle = '#222222';
-    pen.strokeText(entity, at[0], at[1] + 4);
-    pen.fillStyle = '#ffffff';
-    pen.fillText(entity, at[0], at[1] + 4);
   }
   const own = round.homes.get(chosen.entity);
   if (!own) return;
@@ -340,14 +332,39 @@ function drawHomes(pen, round, radius) {
   pen.stroke();
 }
 
+// The numbers of the homes, of those at one point the first, and how many are there.
+function writeHomes(pen, round, radius) {
+  const points = new Map();
+  for (const [entity, home] of backward(round)) {
+    const point = home.x + ' ' + home.z;
+    points.set(point, { entity, home, count: points.has(point) ? points.get(point).count + 1 : 1 });
+  }
+  const isNumbered = radius > 10;
+  pen.font = 'bold 11px Helvetica, Arial, sans-serif';
+  for (const { entity, home, count } of points.values()) {
+    const [x, y] = place(home.x, home.z);
+    pen.textAlign = 'left';
+    if (count >= (isNumbered ? 2 : 5)) haloed(pen, String.fromCharCode(215) + count, x + radius + 2, y - radius / 2);
+    if (!isNumbered) continue;
+    pen.textAlign = 'center';
+    pen.lineWidth = 2;
+    pen.strokeStyle = '#222222';
+    pen.strokeText(entity, x, y + 4);
+    pen.fillStyle = '#ffffff';
+    pen.fillText(entity, x, y + 4);
+  }
+}
+
 function drawSpace(round) {
   const pen = context(by('space'), SIDE, SIDE);
   const radius = dotRadius(round.homes.size);
   drawAreas(pen, round);
   drawView(pen, round);
-  drawGhosts(pen, round, radius);
+  const labels = drawGhosts(pen, round, radius);
   drawWay(pen, round);
   drawHomes(pen, round, radius);
+  if (radius > 10) writeGhosts(pen, labels);
+  writeHomes(pen, round, radius);
   drawNames(pen, round);
 }
 
@@ -405,11 +422,12 @@ function texts(element, some) {
 function tellEntity(round) {
   const home = round.homes.get(chosen.entity);
   if (!home) return texts(by('state'), chosen.entity ? ['is not there in this round'] : []);
+  const [calls, held] = split(round.bases.get(chosen.entity) || '0', 1);
   const seers = [...round.views].filter(([, view]) => view.has(chosen.entity)).map(([client]) => client);
   texts(by('state'), [
     home.type + ' in cell ' + home.cell + ' at x = ' + home.x + ', z = ' + home.z + ', after ' + home.version + ' calls',
     'cell part: ' + (home.state || 'no properties'),
-    'base part after ' + split(round.bases.get(chosen.entity) || '0', 1).join(' calls: '),
+    'base part after ' + calls + ' calls: ' + (held || 'no properties'),
     'ghosts in cells: ' + ((round.ghosts.get(chosen.entity) || []).join(', ') || 'none'),
     'seen by the clients of: ' + (seers.join(', ') || 'nobody'),
   ]);
@@ -468,15 +486,15 @@ function play() {
   timer = setInterval(() => Number(by('round').value) < rounds.length ? go(Number(by('round').value) + 1) : play(), 600);
 }
 
+// The entity that is nearest to the pointer, or 0.
 function nearest(event) {
-  const at = [event.offsetX, event.offsetY];
   let [found, least] = [0, 14];
   for (const [entity, home] of now().homes) {
     const [x, y] = place(home.x, home.z);
-    const far = Math.hypot(x - at[0], y - at[1]);
+    const far = Math.hypot(x - event.offsetX, y - event.offsetY);
     if (far < least) [found, least] = [entity, far];
   }
-  choose(found);
+  return found;
 }
 
 // All that was read, as text: for checks of this page.
@@ -515,7 +533,8 @@ function begin() {
   by('back').onclick = () => go(Number(by('round').value) - 1);
   by('next').onclick = () => go(Number(by('round').value) + 1);
   by('play').onclick = play;
-  by('space').onclick = nearest;
+  by('space').onclick = event => choose(nearest(event));
+  by('space').onmousemove = event => { by('space').title = nearest(event) || ''; };
   by('chart').onclick = event => go(1 + Math.floor(event.offsetX * rounds.length / 440));
   by('entity').oninput = () => choose(Number(by('entity').value));
   by('client').onchange = () => { chosen.client = Number(by('client').value); draw(); };
@@ -524,4 +543,5 @@ function begin() {
 }
 
 begin();
+</script>
 ";

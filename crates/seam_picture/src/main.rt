@@ -10,7 +10,7 @@
 use seam_picture_svg::picture_of;
 use seam_replay::{Fault, io_fault};
 use std::env;
-use std::io::Read;
+use std::io::{Read, Write, writer};
 use std::process::ExitCode;
 
 fn main(rt: HostRuntime) -> ExitCode {
@@ -29,12 +29,22 @@ fn main(rt: HostRuntime) -> ExitCode {
 
 fn run(rt: &HostRuntime) -> Result<(), Fault> {
     let wanted = wanted_round(rt)?;
+    let picture = read_picture(rt, wanted)?;
+    write(rt, &picture)
+}
+
+// The picture of a round of standard input.
+fn read_picture(rt: &HostRuntime, wanted: Option<usize>) -> Result<Vec<u8>, Fault> {
     let mut text = Vec::new(rt.alloc());
-    if let Err(error) = rt.reader().read_to_end(&mut text) {
-        return Err(io_fault(error, Fault::NotReadable));
+    match rt.reader().read_to_end(&mut text) {
+        Ok(_) => picture_of(rt.alloc(), &text, wanted),
+        Err(error) => Err(io_fault(error, Fault::NotReadable)),
     }
-    let picture = picture_of(rt.alloc(), &text, wanted)?;
-    match print!(rt; "{picture}") {
+}
+
+fn write(rt: &HostRuntime, text: &[u8]) -> Result<(), Fault> {
+    let mut out = writer(rt);
+    match out.write_all(text) {
         Ok(()) => Ok(()),
         Err(_) => Err(Fault::NotWritable),
     }

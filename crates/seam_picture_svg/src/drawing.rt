@@ -1,9 +1,9 @@
-// A drawing, as the text of an SVG. Its unit is a pixel of its own size; x goes to the right, and y down.
-use crate::style::{STYLE_SHEET, Style};
-use std::alloc::{AllocError, Global};
-use std::fmt::Display;
+// Shapes of a picture, as the text of an SVG. The unit is a pixel of the picture's own size; x goes to the right, and y down.
+use crate::style::Style;
+use seam_value::push_number;
+use std::alloc::AllocError;
 
-/// A point of a drawing.
+/// A point of a picture.
 #[derive(Clone, Copy, PartialEq, Eq, Hash)]
 pub(crate) struct Point {
     pub(crate) x: u64,
@@ -18,114 +18,156 @@ impl Point {
             y: self.y.saturating_add(offset.y),
         }
     }
+}
 
-    /// The point that is farther to the left and up by this.
-    pub(crate) fn minus(self, offset: Point) -> Point {
-        Point {
-            x: self.x.saturating_sub(offset.x),
-            y: self.y.saturating_sub(offset.y),
-        }
+/// A piece of a text: a constant of this crate, in which nothing has to be escaped, or a number.
+#[derive(Clone, Copy)]
+pub(crate) enum Piece {
+    Text(&'static str),
+    Number(u64),
+}
+
+/// Appends pieces, one after another.
+pub(crate) fn push_pieces(out: &mut Vec<u8>, pieces: &[Piece]) -> Result<(), AllocError> {
+    for piece in pieces {
+        push_piece(out, *piece)?;
+    }
+    Ok(())
+}
+
+fn push_piece(out: &mut Vec<u8>, piece: Piece) -> Result<(), AllocError> {
+    match piece {
+        Piece::Text(text) => out.extend_from_slice(text.as_bytes()),
+        Piece::Number(number) => push_number(out, number),
     }
 }
 
-/// A drawing to which pieces are added, each over those before it. What it is given to write are numbers and words of letters and digits
-/// alone, so that nothing has to be escaped.
-#[derive(Drop)]
-pub(crate) struct Drawing {
-    text: String,
+/// Appends a rectangle, from its upper left corner to its lower right one.
+pub(crate) fn push_rectangle(
+    out: &mut Vec<u8>,
+    style: Style,
+    from: Point,
+    to: Point,
+) -> Result<(), AllocError> {
+    push_pieces(
+        out,
+        &[
+            Piece::Text("<rect class=\""),
+            Piece::Text(style.sign),
+            Piece::Text(style.color),
+            Piece::Text("\" x=\""),
+            Piece::Number(from.x),
+            Piece::Text("\" y=\""),
+            Piece::Number(from.y),
+            Piece::Text("\" width=\""),
+            Piece::Number(to.x.saturating_sub(from.x)),
+            Piece::Text("\" height=\""),
+            Piece::Number(to.y.saturating_sub(from.y)),
+            Piece::Text("\"/>\n"),
+        ],
+    )
 }
 
-impl Drawing {
-    /// A drawing of a width and a height, with a title for those who do not see it.
-    pub(crate) fn new(
-        alloc: Global,
-        size: Point,
-        title: impl Display + Drop,
-    ) -> Result<Drawing, AllocError> {
-        let mut text = String::new(alloc);
-        let Point { x, y } = size;
-        writeln!(
-            text,
-            "<svg xmlns=\"http://www.w3.org/2000/svg\" viewBox=\"0 0 {x} {y}\">"
-        )?;
-        writeln!(text, "<title>{title}</title>")?;
-        writeln!(text, "<style>\n{STYLE_SHEET}</style>")?;
-        Ok(Drawing { text })
-    }
+/// Appends a circle about a point.
+pub(crate) fn push_circle(
+    out: &mut Vec<u8>,
+    style: Style,
+    center: Point,
+    radius: u64,
+) -> Result<(), AllocError> {
+    push_pieces(
+        out,
+        &[
+            Piece::Text("<circle class=\""),
+            Piece::Text(style.sign),
+            Piece::Text(style.color),
+            Piece::Text(style.size),
+            Piece::Text("\" cx=\""),
+            Piece::Number(center.x),
+            Piece::Text("\" cy=\""),
+            Piece::Number(center.y),
+            Piece::Text("\" r=\""),
+            Piece::Number(radius),
+            Piece::Text("\"/>\n"),
+        ],
+    )
+}
 
-    /// A rectangle, from its upper left corner to its lower right one.
-    pub(crate) fn rectangle(
-        &mut self,
-        style: Style,
-        from: Point,
-        to: Point,
-    ) -> Result<(), AllocError> {
-        let Point { x, y } = from;
-        let width = to.x.saturating_sub(x);
-        let height = to.y.saturating_sub(y);
-        writeln!(
-            self.text,
-            "<rect class=\"{style}\" x=\"{x}\" y=\"{y}\" width=\"{width}\" height=\"{height}\"/>"
-        )
-    }
+/// Appends a filled circle about a point, with a number as its title.
+pub(crate) fn push_dot(
+    out: &mut Vec<u8>,
+    style: Style,
+    center: Point,
+    radius: u64,
+    title: u32,
+) -> Result<(), AllocError> {
+    push_pieces(
+        out,
+        &[
+            Piece::Text("<circle class=\""),
+            Piece::Text(style.sign),
+            Piece::Text(style.color),
+            Piece::Text(style.size),
+            Piece::Text("\" cx=\""),
+            Piece::Number(center.x),
+            Piece::Text("\" cy=\""),
+            Piece::Number(center.y),
+            Piece::Text("\" r=\""),
+            Piece::Number(radius),
+            Piece::Text("\"><title>"),
+            Piece::Number(u64::from(title)),
+            Piece::Text("</title></circle>\n"),
+        ],
+    )
+}
 
-    /// A circle about a point.
-    pub(crate) fn circle(
-        &mut self,
-        style: Style,
-        center: Point,
-        radius: u64,
-    ) -> Result<(), AllocError> {
-        let Point { x, y } = center;
-        writeln!(
-            self.text,
-            "<circle class=\"{style}\" cx=\"{x}\" cy=\"{y}\" r=\"{radius}\"/>"
-        )
-    }
+/// Appends a straight line between two points.
+pub(crate) fn push_straight(
+    out: &mut Vec<u8>,
+    style: Style,
+    from: Point,
+    to: Point,
+) -> Result<(), AllocError> {
+    push_pieces(
+        out,
+        &[
+            Piece::Text("<line class=\""),
+            Piece::Text(style.sign),
+            Piece::Text(style.color),
+            Piece::Text("\" x1=\""),
+            Piece::Number(from.x),
+            Piece::Text("\" y1=\""),
+            Piece::Number(from.y),
+            Piece::Text("\" x2=\""),
+            Piece::Number(to.x),
+            Piece::Text("\" y2=\""),
+            Piece::Number(to.y),
+            Piece::Text("\"/>\n"),
+        ],
+    )
+}
 
-    /// A filled circle about a point, with a number as its title.
-    pub(crate) fn dot(
-        &mut self,
-        style: Style,
-        center: Point,
-        radius: u64,
-        title: u32,
-    ) -> Result<(), AllocError> {
-        let Point { x, y } = center;
-        writeln!(
-            self.text,
-            "<circle class=\"{style}\" cx=\"{x}\" cy=\"{y}\" r=\"{radius}\"><title>{title}</title></circle>"
-        )
-    }
-
-    /// A straight line between two points.
-    pub(crate) fn line(&mut self, style: Style, from: Point, to: Point) -> Result<(), AllocError> {
-        let Point { x, y } = from;
-        let Point { x: end_x, y: end_y } = to;
-        writeln!(
-            self.text,
-            "<line class=\"{style}\" x1=\"{x}\" y1=\"{y}\" x2=\"{end_x}\" y2=\"{end_y}\"/>"
-        )
-    }
-
-    /// Words on a base line through a point, on which side of it is up to the style.
-    pub(crate) fn words(
-        &mut self,
-        style: Style,
-        at: Point,
-        words: impl Display + Drop,
-    ) -> Result<(), AllocError> {
-        let Point { x, y } = at;
-        writeln!(
-            self.text,
-            "<text class=\"{style}\" x=\"{x}\" y=\"{y}\">{words}</text>"
-        )
-    }
-
-    /// The text of the drawing, which has no further pieces.
-    pub(crate) fn end(self) -> Result<String, AllocError> {
-        let Drawing { mut text } = self;
-        writeln!(text, "</svg>")?;
-        Ok(text)
-    }
+/// Appends words, and a number after them, on a base line through a point, on which side of it is up to the style.
+pub(crate) fn push_words(
+    out: &mut Vec<u8>,
+    style: Style,
+    at: Point,
+    words: &'static str,
+    number: u64,
+) -> Result<(), AllocError> {
+    push_pieces(
+        out,
+        &[
+            Piece::Text("<text class=\""),
+            Piece::Text(style.sign),
+            Piece::Text("\" x=\""),
+            Piece::Number(at.x),
+            Piece::Text("\" y=\""),
+            Piece::Number(at.y),
+            Piece::Text("\">"),
+            Piece::Text(words),
+            Piece::Number(number),
+            Piece::Text("</text>\n"),
+        ],
+    )
 }

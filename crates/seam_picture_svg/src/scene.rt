@@ -1,15 +1,17 @@
-// What a picture shows of a round, from what is below to what is above.
-use crate::clients::View;
+// What a picture shows of a round.
+use crate::clients::{Clients, Sight};
 use crate::dots::Dots;
-use crate::drawing::{Drawing, Point};
-use crate::legend::draw_legend;
+use crate::drawing::{
+    Piece, Point, push_circle, push_pieces, push_rectangle, push_straight, push_words,
+};
+use crate::legend::LEGEND;
 use crate::map::{BOTTOM, Frame, LEFT, Map, RIGHT, TOP};
 use crate::shared::Points;
-use crate::style::Style;
-use seam_geo::{Pos, Rect};
-use seam_judge_data::{GhostLine, HomeLine, Round};
+use crate::style::{STYLE_SHEET, Style};
+use seam_geo::Rect;
+use seam_judge_data::{GhostLine, HomeLine};
 use seam_replay::Played;
-use std::alloc::{AllocError, Global};
+use std::alloc::AllocError;
 
 // The picture has room on both sides of the space, and below it for the legend.
 const SIZE: Point = Point {
@@ -43,13 +45,57 @@ const NAME: Point = Point { x: 10, y: 24 };
 
 const PLACES: Point = Point { x: 10, y: 40 };
 
-/// A round to be drawn: what was printed of it, what clients have in view after it, and how far views reach.
+// The layers of shapes, of which each is drawn over those before it.
+#[derive(Clone, Copy)]
+enum Layer {
+    Areas,
+    Reaches,
+    Sights,
+    Ghosts,
+    Homes,
+}
+
+const LAYERS: [Layer; 5] = [
+    Layer::Areas,
+    Layer::Reaches,
+    Layer::Sights,
+    Layer::Ghosts,
+    Layer::Homes,
+];
+
+/// A round to be drawn: what was printed of it, what clients have in view after it, where several entities are, and how far views reach.
 #[derive(Clone, Copy)]
 pub(crate) struct Scene<'a> {
-    played: &'a Played,
-    views: &'a [View],
-    view_radius: u32,
-    dots: Dots,
+    pub(crate) played: &'a Played,
+    pub(crate) clients: &'a Clients,
+    pub(crate) points: &'a Points,
+    pub(crate) view_radius: u32,
+    pub(crate) dots: Dots,
+}
+
+/// The shapes of a picture, and the words, which are drawn over all of them.
+#[derive(Drop)]
+pub(crate) struct Canvas {
+    pub(crate) shapes: Vec<u8>,
+    pub(crate) words: Vec<u8>,
+}
+
+impl Canvas {
+    pub(crate) fn into_shapes(self) -> Vec<u8> {
+        let Canvas {
+            shapes,
+            words: _words,
+        } = self;
+        shapes
+    }
+}
+
+// Where a ghost of an entity that lives in a cell is drawn.
+#[derive(Clone, Copy)]
+struct GhostPlace {
+    home: u8,
+    own: Point,
+    at: Point,
 }
 
 // The rings that were drawn about the entity whose ghosts come now.
@@ -62,184 +108,241 @@ struct Rings {
 impl Rings {
     // How many were drawn about this entity, which gets one more.
     fn next(&mut self, entity: u32) -> u64 {
-        if self.entity != entity {
-            *self = Rings { entity, count: 0 };
-        }
-        let before = self.count;
+        let before = if self.entity == entity { self.count } else { 0 };
+        self.entity = entity;
         self.count = before.saturating_add(1);
         before
     }
 }
 
-impl<'a> Scene<'a> {
-    pub(crate) fn of(played: &'a Played, views: &'a [View], view_radius: u32) -> Scene<'a> {
-        Scene {
-            played,
-            views,
-            view_radius,
-            dots: Dots::of(played.round.homes.len()),
+impl Scene<'_> {
+    /// Draws all layers of shapes, and the words that stand in them.
+    pub(crate) fn draw(&self, canvas: &mut Canvas) -> Result<(), AllocError> {
+        for layer in &LAYERS {
+            self.draw_layer(canvas, *layer)?;
         }
+        Ok(())
     }
 
-    /// The picture, as an SVG.
-    pub(crate) fn draw(&self, alloc: Global) -> Result<String, AllocError> {
-        let number = self.round().number;
-        let mut drawing = Drawing::new(alloc, SIZE, format_args!("Round {number}"))?;
-        self.draw_areas(&mut drawing)?;
-        self.draw_views(&mut drawing)?;
-        self.draw_ghosts(&mut drawing)?;
-        self.draw_homes(alloc, &mut drawing)?;
-        self.draw_names(&mut drawing)?;
-        self.draw_ends(&mut drawing)?;
-        draw_legend(&mut drawing)?;
-        drawing.end()
-    }
-
-    fn round(&self) -> &Round {
-        &self.played.round
+    fn draw_layer(&self, canvas: &mut Canvas, layer: Layer) -> Result<(), AllocError> {
+        match layer {
+            Layer::Areas => self.draw_areas(canvas),
+            Layer::Reaches => self.draw_reaches(&mut canvas.shapes),
+            Layer::Sights => self.draw_sights(&mut canvas.shapes),
+            Layer::Ghosts => self.draw_ghosts(canvas),
+            Layer::Homes => self.draw_homes(canvas),
+        }
     }
 
     fn map(&self) -> Map {
         Map::of(&self.played.tree)
     }
 
-    // Where an entity is, if it lives.
-    fn point_of(&self, entity: u32) -> Option<Point> {
-        let home = self.played.home_of(entity)?;
-        Some(self.map().point(home.state.pos))
+    fn point_of(&self, home: &HomeLine) -> Point {
+        self.map().point(home.state.pos)
     }
 
-    fn draw_areas(&self, drawing: &mut Drawing) -> Result<(), AllocError> {
-        drawing.rectangle(Style::Paper, Point { x: 0, y: 0 }, SIZE)?;
+    fn draw_areas(&self, canvas: &mut Canvas) -> Result<(), AllocError> {
         for cell in 0..self.played.tree.cells() {
             if let Some(area) = self.played.tree.area(cell) {
-                let Frame { from, to } = self.map().frame(area);
-                drawing.rectangle(Style::Area(cell), from, to)?;
-                drawing.rectangle(Style::Border, from, to)?;
+                let frame = self.map().frame(area);
+                draw_area(&mut canvas.shapes, frame, cell)?;
+                write_name(&mut canvas.words, frame.from, cell, area)?;
             }
         }
         Ok(())
     }
 
-    fn draw_names(&self, drawing: &mut Drawing) -> Result<(), AllocError> {
-        for cell in 0..self.played.tree.cells() {
-            if let Some(area) = self.played.tree.area(cell) {
-                self.draw_name(drawing, cell, area)?;
+    // How far the views of clients reach, and the rings about their entities.
+    fn draw_reaches(&self, shapes: &mut Vec<u8>) -> Result<(), AllocError> {
+        for home in &self.played.round.homes {
+            if self.clients.entities.contains(&home.entity) {
+                self.draw_reach(shapes, home)?;
             }
         }
         Ok(())
     }
 
-    // A cell's number, and from where to where it goes.
-    fn draw_name(&self, drawing: &mut Drawing, cell: u8, area: Rect) -> Result<(), AllocError> {
-        let from = self.map().frame(area).from;
-        let name = format_args!("cell {cell}");
-        drawing.words(Style::CellName, from.plus(NAME), name)?;
-        let Pos { x: west, z: south } = area.low();
-        let Pos { x: east, z: north } = area.high();
-        let places = format_args!("x {west} to {east}, z {south} to {north}");
-        drawing.words(Style::CellNote, from.plus(PLACES), places)
+    fn draw_reach(&self, shapes: &mut Vec<u8>, home: &HomeLine) -> Result<(), AllocError> {
+        let Frame { from, to } = self.map().surroundings(home.state.pos, self.view_radius);
+        push_rectangle(shapes, Style::plain("view"), from, to)?;
+        let radius = self.dots.radius.saturating_add(3);
+        push_circle(shapes, Style::plain("client"), self.point_of(home), radius)
     }
 
-    // The title, and where the space begins and ends.
-    fn draw_ends(&self, drawing: &mut Drawing) -> Result<(), AllocError> {
-        let number = self.round().number;
-        let size = self.played.tree.size();
-        drawing.words(Style::Title, TITLE, format_args!("Round {number}"))?;
-        drawing.words(Style::Note, Z_NOTE, format_args!("z = {size}"))?;
-        drawing.words(Style::EndNote, X_NOTE, format_args!("x = {size}"))?;
-        drawing.words(Style::Note, LEAST_NOTE, 0)
-    }
-
-    // How far each view reaches, what is in it, and the rings about its entities.
-    fn draw_views(&self, drawing: &mut Drawing) -> Result<(), AllocError> {
-        for view in self.views {
-            if let Some(home) = self.played.home_of(view.entity) {
-                let pos = home.state.pos;
-                let Frame { from, to } = self.map().surroundings(pos, self.view_radius);
-                drawing.rectangle(Style::View, from, to)?;
-                self.draw_others(drawing, self.map().point(pos), &view.others)?;
-                self.dots.draw_client_ring(drawing, self.map().point(pos))?;
-            }
+    // Lines from the entities of clients to what these have in view.
+    fn draw_sights(&self, shapes: &mut Vec<u8>) -> Result<(), AllocError> {
+        for sight in &self.clients.sights {
+            self.draw_sight(shapes, *sight)?;
         }
         Ok(())
     }
 
-    // Lines to the others that are in a view.
-    fn draw_others(
-        &self,
-        drawing: &mut Drawing,
-        own: Point,
-        others: &[u32],
-    ) -> Result<(), AllocError> {
-        for other in others {
-            if let Some(point) = self.point_of(*other) {
-                drawing.line(Style::InView, own, point)?;
-            }
+    fn draw_sight(&self, shapes: &mut Vec<u8>, sight: Sight) -> Result<(), AllocError> {
+        let own = self.played.home_of(sight.own);
+        match (own, self.played.home_of(sight.other)) {
+            (Some(own), Some(other)) => push_straight(
+                shapes,
+                Style::plain("in-view"),
+                self.point_of(own),
+                self.point_of(other),
+            ),
+            _ => Ok(()),
         }
-        Ok(())
     }
 
-    fn draw_ghosts(&self, drawing: &mut Drawing) -> Result<(), AllocError> {
+    fn draw_ghosts(&self, canvas: &mut Canvas) -> Result<(), AllocError> {
         let mut rings = Rings {
             entity: 0,
             count: 0,
         };
-        for copy in &self.round().ghosts {
-            if let Some(home) = self.played.home_of(copy.entity) {
-                self.draw_ghost(drawing, &mut rings, home, copy)?;
+        for copy in &self.played.round.ghosts {
+            if let Some(place) = self.ghost_place(copy) {
+                self.draw_ghost(canvas, &mut rings, copy, place)?;
             }
         }
         Ok(())
     }
 
-    // A ghost, in the cell that has it, at the end of a line from its entity. Where the entity itself is there, it is a ring about it.
+    // Where a ghost is drawn: in the cell that has it, as near to its entity as there is room.
+    fn ghost_place(&self, copy: &GhostLine) -> Option<GhostPlace> {
+        let home = self.played.home_of(copy.entity)?;
+        let area = self.played.tree.area(copy.cell)?;
+        let own = self.point_of(home);
+        let margin = self.dots.radius.saturating_add(6);
+        Some(GhostPlace {
+            home: home.cell,
+            own,
+            at: self.map().frame(area).nearest(own, margin),
+        })
+    }
+
+    // A ghost at the end of a line from its entity. Where both would meet, it is a ring about the entity.
     fn draw_ghost(
         &self,
-        drawing: &mut Drawing,
+        canvas: &mut Canvas,
         rings: &mut Rings,
-        home: &HomeLine,
         copy: &GhostLine,
+        place: GhostPlace,
     ) -> Result<(), AllocError> {
-        let Some(area) = self.played.tree.area(copy.cell) else {
-            return Ok(());
-        };
-        let own = self.map().point(home.state.pos);
-        let point = self.map().frame(area).nearest(own, self.dots.margin());
-        if self.dots.meet(own, point) {
-            let before = rings.next(copy.entity);
-            return self.dots.draw_ghost_ring(drawing, own, copy.cell, before);
+        let GhostPlace { home, own, at } = place;
+        let dots = self.dots;
+        if dots.meet(own, at) {
+            let style = Style::colored("ring", copy.cell, dots.size);
+            let radius = dots.ring(rings.next(copy.entity));
+            return push_circle(&mut canvas.shapes, style, own, radius);
         }
-        self.dots.draw_ghost_line(drawing, own, point, home.cell)?;
-        self.dots.draw_ghost(drawing, point, home.cell, copy.entity)
+        if dots.have_numbers {
+            let style = Style::colored("ghost-line", home, "");
+            push_straight(&mut canvas.shapes, style, own, at)?;
+        }
+        dots.push(&mut canvas.shapes, "ghost", at, home, copy.entity)?;
+        dots.push_number(&mut canvas.words, "number halo", at, copy.entity)
     }
 
-    // The homes, of those at one point the first, and then how many are where.
-    fn draw_homes(&self, alloc: Global, drawing: &mut Drawing) -> Result<(), AllocError> {
-        let points = self.points(alloc)?;
-        for home in &self.round().homes {
-            let point = self.map().point(home.state.pos);
-            if 0 < points.count_for(point, home.entity) {
-                self.dots.draw_home(drawing, point, home.cell, home.entity)?;
+    // The homes, of those at one point the first.
+    fn draw_homes(&self, canvas: &mut Canvas) -> Result<(), AllocError> {
+        for home in &self.played.round.homes {
+            let at = self.point_of(home);
+            let count = self.points.count_for(at, home.entity);
+            if 0 < count {
+                self.draw_home(canvas, at, home, count)?;
             }
-        }
-        self.draw_counts(drawing, &points)
-    }
-
-    fn points(&self, alloc: Global) -> Result<Points, AllocError> {
-        let mut points = Points::new(alloc);
-        for home in &self.round().homes {
-            points.add(self.map().point(home.state.pos), home.entity)?;
-        }
-        Ok(points)
-    }
-
-    fn draw_counts(&self, drawing: &mut Drawing, points: &Points) -> Result<(), AllocError> {
-        for home in &self.round().homes {
-            let point = self.map().point(home.state.pos);
-            let count = points.count_for(point, home.entity);
-            self.dots.draw_count(drawing, point, count)?;
         }
         Ok(())
     }
+
+    fn draw_home(
+        &self,
+        canvas: &mut Canvas,
+        at: Point,
+        home: &HomeLine,
+        count: u32,
+    ) -> Result<(), AllocError> {
+        self.dots
+            .push(&mut canvas.shapes, "home", at, home.cell, home.entity)?;
+        self.dots
+            .push_number(&mut canvas.words, "number on-dot", at, home.entity)?;
+        self.dots.push_count(&mut canvas.words, at, count)
+    }
+}
+
+fn draw_area(shapes: &mut Vec<u8>, frame: Frame, cell: u8) -> Result<(), AllocError> {
+    let Frame { from, to } = frame;
+    push_rectangle(shapes, Style::colored("area", cell, ""), from, to)?;
+    push_rectangle(shapes, Style::plain("border"), from, to)
+}
+
+// A cell's number, and from where to where it goes.
+fn write_name(words: &mut Vec<u8>, from: Point, cell: u8, area: Rect) -> Result<(), AllocError> {
+    let name = Style::plain("halo cell name");
+    push_words(words, name, from.plus(NAME), "cell ", u64::from(cell))?;
+    let at = from.plus(PLACES);
+    let (low, high) = (area.low(), area.high());
+    push_pieces(
+        words,
+        &[
+            Piece::Text("<text class=\"halo cell\" x=\""),
+            Piece::Number(at.x),
+            Piece::Text("\" y=\""),
+            Piece::Number(at.y),
+            Piece::Text("\">x "),
+            Piece::Number(u64::from(low.x)),
+            Piece::Text(" to "),
+            Piece::Number(u64::from(high.x)),
+            Piece::Text(", z "),
+            Piece::Number(u64::from(low.z)),
+            Piece::Text(" to "),
+            Piece::Number(u64::from(high.z)),
+            Piece::Text("</text>\n"),
+        ],
+    )
+}
+
+/// Appends what comes before the shapes: the size, a title for those who do not see the picture, the style sheet and the paper.
+pub(crate) fn push_head(out: &mut Vec<u8>, number: u64) -> Result<(), AllocError> {
+    push_pieces(
+        out,
+        &[
+            Piece::Text("<svg xmlns=\"http://www.w3.org/2000/svg\" viewBox=\"0 0 "),
+            Piece::Number(SIZE.x),
+            Piece::Text(" "),
+            Piece::Number(SIZE.y),
+            Piece::Text("\">\n<title>Round "),
+            Piece::Number(number),
+            Piece::Text("</title>\n<style>\n"),
+            Piece::Text(STYLE_SHEET),
+            Piece::Text("</style>\n<rect class=\"paper\" width=\""),
+            Piece::Number(SIZE.x),
+            Piece::Text("\" height=\""),
+            Piece::Number(SIZE.y),
+            Piece::Text("\"/>\n"),
+        ],
+    )
+}
+
+/// Appends what comes after the words: the title, where the space begins and ends, and the legend.
+pub(crate) fn push_end(out: &mut Vec<u8>, number: u64, size: u32) -> Result<(), AllocError> {
+    let size = u64::from(size);
+    let notes = [
+        ("title", TITLE, "Round ", number),
+        ("note", Z_NOTE, "z = ", size),
+        ("note end", X_NOTE, "x = ", size),
+        ("note", LEAST_NOTE, "", 0),
+    ];
+    for (sign, at, words, number) in &notes {
+        push_words(out, Style::plain(*sign), *at, *words, *number)?;
+    }
+    push_pieces(
+        out,
+        &[
+            Piece::Text("<g transform=\"translate("),
+            Piece::Number(LEFT),
+            Piece::Text(" "),
+            Piece::Number(BOTTOM),
+            Piece::Text(")\">\n"),
+            Piece::Text(LEGEND),
+            Piece::Text("</g>\n</svg>\n"),
+        ],
+    )
 }

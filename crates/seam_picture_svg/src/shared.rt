@@ -1,13 +1,15 @@
 // Entities that are drawn at one point.
 use crate::drawing::Point;
+use crate::map::Map;
 use indexmap::IndexMap;
+use seam_judge_data::HomeLine;
 use std::alloc::{AllocError, Global};
 
 /// The first entity at a point, and how many are there.
 #[derive(Clone, Copy)]
-pub(crate) struct Shared {
-    pub(crate) entity: u32,
-    pub(crate) count: u32,
+struct Shared {
+    entity: u32,
+    count: u32,
 }
 
 /// The points at which entities are drawn.
@@ -17,14 +19,19 @@ pub(crate) struct Points {
 }
 
 impl Points {
-    pub(crate) fn new(alloc: Global) -> Points {
-        Points {
+    /// The points of these homes.
+    pub(crate) fn of(alloc: Global, map: Map, homes: &[HomeLine]) -> Result<Points, AllocError> {
+        let mut points = Points {
             points: IndexMap::new(alloc),
+        };
+        for home in homes {
+            points.add(map.point(home.state.pos), home.entity)?;
         }
+        Ok(points)
     }
 
-    /// Adds an entity at a point.
-    pub(crate) fn add(&mut self, point: Point, entity: u32) -> Result<(), AllocError> {
+    // Adds an entity at a point.
+    fn add(&mut self, point: Point, entity: u32) -> Result<(), AllocError> {
         let shared = match self.points.get(&point) {
             Some(shared) => Shared {
                 entity: shared.entity,
@@ -32,10 +39,8 @@ impl Points {
             },
             None => Shared { entity, count: 1 },
         };
-        match self.points.insert(point, shared) {
-            Ok(_) => Ok(()),
-            Err(_) => Err(AllocError),
-        }
+        self.points.insert(point, shared)?;
+        Ok(())
     }
 
     /// How many entities are at a point, for the first of them, and 0 for the others.

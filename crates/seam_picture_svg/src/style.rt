@@ -1,75 +1,41 @@
-// How the pieces of a picture look.
-use std::fmt;
+// How the shapes of a picture look.
 
-/// How large a dot is, which says how its edge looks.
-#[derive(Clone, Copy, PartialEq, Eq)]
-pub(crate) enum Size {
-    Large,
-    Small,
-    Tiny,
-}
-
-// The classes of the style sheet. A large dot needs none.
-impl fmt::Display for Size {
-    fn fmt<W: fmt::Write>(&self, f: &mut fmt::Formatter<W>) -> fmt::Result {
-        match self {
-            Size::Large => Ok(()),
-            Size::Small => write!(f, " small"),
-            Size::Tiny => write!(f, " tiny"),
-        }
-    }
-}
-
-/// What a piece of the picture is, which says how it looks. The number is that of the cell whose color it has.
+/// The classes of a shape in the style sheet.
 #[derive(Clone, Copy)]
-pub(crate) enum Style {
-    Paper,
-    Title,
-    Note,
-    EndNote,
-    Area(u8),
-    Border,
-    CellName,
-    CellNote,
-    View,
-    InView,
-    GhostLine(u8),
-    Ghost(u8, Size),
-    Ring(u8, Size),
-    GhostNumber,
-    Home(u8, Size),
-    HomeNumber,
-    LongNumber,
-    Count,
-    Client,
+pub(crate) struct Style {
+    /// What it is.
+    pub(crate) sign: &'static str,
+    /// Of which cell it has the color, with a space before it, or nothing.
+    pub(crate) color: &'static str,
+    /// How large the dots are, with a space before it, or nothing.
+    pub(crate) size: &'static str,
 }
 
-// The classes of the style sheet.
-impl fmt::Display for Style {
-    fn fmt<W: fmt::Write>(&self, f: &mut fmt::Formatter<W>) -> fmt::Result {
-        match self {
-            Style::Paper => write!(f, "paper"),
-            Style::Title => write!(f, "title"),
-            Style::Note => write!(f, "note"),
-            Style::EndNote => write!(f, "note end"),
-            Style::Area(cell) => write!(f, "area of{cell}"),
-            Style::Border => write!(f, "border"),
-            Style::CellName => write!(f, "halo cell name"),
-            Style::CellNote => write!(f, "halo cell"),
-            Style::View => write!(f, "view"),
-            Style::InView => write!(f, "in-view"),
-            Style::GhostLine(cell) => write!(f, "ghost-line of{cell}"),
-            Style::Ghost(cell, size) => write!(f, "ghost of{cell}{size}"),
-            Style::Ring(cell, size) => write!(f, "ring of{cell}{size}"),
-            Style::GhostNumber => write!(f, "number"),
-            Style::Home(cell, size) => write!(f, "home of{cell}{size}"),
-            Style::HomeNumber => write!(f, "number on-dot"),
-            Style::LongNumber => write!(f, "halo long"),
-            Style::Count => write!(f, "halo bold"),
-            Style::Client => write!(f, "client"),
+impl Style {
+    /// That of a sign which has no color of a cell.
+    pub(crate) fn plain(sign: &'static str) -> Style {
+        Style {
+            sign,
+            color: "",
+            size: "",
         }
     }
+
+    /// That of a sign in the color of a cell.
+    pub(crate) fn colored(sign: &'static str, cell: u8, size: &'static str) -> Style {
+        let color = match COLORS.get(usize::from(cell)) {
+            Some(color) => *color,
+            None => "",
+        };
+        Style { sign, color, size }
+    }
 }
+
+// The classes of the colors of the cells.
+const COLORS: [&str; 16] = [
+    " of0", " of1", " of2", " of3", " of4", " of5", " of6", " of7", " of8", " of9", " of10",
+    " of11", " of12", " of13", " of14", " of15",
+];
 
 /// The style sheet: how each class looks, and the colors of the sixteen cells, which are quiet where an area has them. Any two of the
 /// colors are at least 18 apart in the space CIELAB, for a reader with all kinds of cones and for one who lacks any one of them.
