@@ -247,7 +247,7 @@ fn push_areas(out: &mut Vec<u8>, tree: &Tree) -> Result<(), AllocError> {
             push_area(out, area)?;
         }
     }
-    out.push(b'\n')
+    out.extend_from_slice(b"\n")
 }
 
 fn push_area(out: &mut Vec<u8>, area: Rect) -> Result<(), AllocError> {
@@ -297,7 +297,7 @@ fn push_cells(out: &mut Vec<u8>, entity: u32, cells: CellSet) -> Result<(), Allo
             push_words(out, b"", &[u64::from(cell)])?;
         }
     }
-    out.push(b'\n')
+    out.extend_from_slice(b"\n")
 }
 
 // Whether a home is the last one with these facts, but for its cell.

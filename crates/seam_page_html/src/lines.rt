@@ -5,7 +5,7 @@ use std::alloc::AllocError;
 /// Appends a line: a word, and numbers after it.
 pub(crate) fn push_line(out: &mut Vec<u8>, word: &[u8], numbers: &[u64]) -> Result<(), AllocError> {
     push_words(out, word, numbers)?;
-    out.push(b'\n')
+    out.extend_from_slice(b"\n")
 }
 
 /// Appends a word, and numbers after it, each with a space before it.
@@ -40,6 +40,6 @@ fn push_byte(out: &mut Vec<u8>, byte: u8) -> Result<(), AllocError> {
         b'<' => out.extend_from_slice(b"&lt;"),
         b'\r' => out.extend_from_slice(b"&#13;"),
         0 => out.extend_from_slice(b"&#0;"),
-        _ => out.push(byte),
+        _ => out.extend_from_slice(&[byte]),
     }
 }
