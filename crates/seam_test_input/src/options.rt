@@ -111,6 +111,10 @@ fn a_refusal_names_the_word(rt: HostRuntime) -> Result<(), Fail> {
             ["a.txt", "--trace"],
             "a.txt: input comes on standard input: seamless < a.txt\n",
         ),
+        (
+            ["", "--trace"],
+            "'': input comes on standard input: seamless < FILE\n",
+        ),
         (["--trace", "--trace"], "'--trace'"),
     ];
     for (texts, part) in rows.iter() {
