@@ -82,8 +82,8 @@ impl Change<'_> {
 
     // The calls that cell parts executed. A move is told by how much more the entity's number is than that of the last one that was moved.
     fn push_did(&self, out: &mut Vec<u8>) -> Result<(), AllocError> {
-        let mut last = 0;
-        for line in &self.now.played.round.did {
+        let (now, mut last) = (self.now, 0);
+        for line in &now.played.round.did {
             self.push_executed(out, line, last)?;
             last = moved_by(line, last);
         }
@@ -104,7 +104,8 @@ impl Change<'_> {
 
     // The calls that base parts executed.
     fn push_dob(&self, out: &mut Vec<u8>) -> Result<(), AllocError> {
-        for line in &self.now.played.round.dob {
+        let now = self.now;
+        for line in &now.played.round.dob {
             self.push_call(out, b"dob ", line)?;
         }
         Ok(())
@@ -120,7 +121,8 @@ impl Change<'_> {
 
     // The homes, as far as they are other than what the round before and the calls tell.
     fn push_homes(&self, out: &mut Vec<u8>) -> Result<(), AllocError> {
-        for home in &self.now.played.round.homes {
+        let now = self.now;
+        for home in &now.played.round.homes {
             self.push_home(out, home)?;
         }
         Ok(())
@@ -178,7 +180,8 @@ impl Change<'_> {
 
     // The base parts that changed.
     fn push_bases(&self, out: &mut Vec<u8>) -> Result<(), AllocError> {
-        for line in &self.now.played.round.bases {
+        let now = self.now;
+        for line in &now.played.round.bases {
             self.push_base(out, line)?;
         }
         Ok(())
@@ -233,7 +236,8 @@ impl Change<'_> {
 
     // What clients were shown.
     fn push_shown(&self, out: &mut Vec<u8>) -> Result<(), AllocError> {
-        for line in &self.now.played.round.shown {
+        let now = self.now;
+        for line in &now.played.round.shown {
             push_shown(out, self.defs, line.entity, line.ty, &line.line)?;
         }
         Ok(())

@@ -38,17 +38,26 @@ impl PageData {
     }
 
     fn push(&mut self, header: &Header, now: &Told) -> Result<(), AllocError> {
-        if self.last.is_none() {
-            push_space(&mut self.text, header)?;
-        }
-        push_line(&mut self.text, b"round", &[now.played.round.number])?;
-        let change = Change {
-            defs: &header.defs,
-            before: self.last.as_ref(),
-            now,
-        };
-        change.push(&mut self.text)
+        push_round(&mut self.text, header, self.last.as_ref(), now)
     }
+}
+
+fn push_round<'a>(
+    out: &mut Vec<u8>,
+    header: &'a Header,
+    before: Option<&'a Told>,
+    now: &'a Told,
+) -> Result<(), AllocError> {
+    if before.is_none() {
+        push_space(out, header)?;
+    }
+    push_line(out, b"round", &[now.played.round.number])?;
+    let change = Change {
+        defs: &header.defs,
+        before,
+        now,
+    };
+    change.push(out)
 }
 
 fn push_space(out: &mut Vec<u8>, header: &Header) -> Result<(), AllocError> {

@@ -108,9 +108,10 @@ fn drawn(
 
 // Appends the whole picture to the shapes, with the words over them.
 fn push_picture(canvas: &mut Canvas, scene: &Scene<'_>) -> Result<(), AllocError> {
-    let number = scene.played.round.number;
+    let played = scene.played;
+    let number = played.round.number;
     push_head(&mut canvas.shapes, number)?;
     scene.draw(canvas)?;
     canvas.shapes.extend_from_slice(&canvas.words)?;
-    push_end(&mut canvas.shapes, number, scene.played.tree.size())
+    push_end(&mut canvas.shapes, number, played.tree.size())
 }

@@ -155,7 +155,8 @@ impl Scene<'_> {
 
     // How far the views of clients reach, and the rings about their entities.
     fn draw_reaches(&self, shapes: &mut Vec<u8>) -> Result<(), AllocError> {
-        for home in &self.played.round.homes {
+        let played = self.played;
+        for home in &played.round.homes {
             if self.clients.entities.contains(&home.entity) {
                 self.draw_reach(shapes, home)?;
             }
@@ -196,7 +197,8 @@ impl Scene<'_> {
             entity: 0,
             count: 0,
         };
-        for copy in &self.played.round.ghosts {
+        let played = self.played;
+        for copy in &played.round.ghosts {
             if let Some(place) = self.ghost_place(copy) {
                 self.draw_ghost(canvas, &mut rings, copy, place)?;
             }
@@ -242,7 +244,8 @@ impl Scene<'_> {
 
     // The homes, of those at one point the first.
     fn draw_homes(&self, canvas: &mut Canvas) -> Result<(), AllocError> {
-        for home in &self.played.round.homes {
+        let played = self.played;
+        for home in &played.round.homes {
             let at = self.point_of(home);
             let count = self.points.count_for(at, home.entity);
             if 0 < count {
