@@ -1,0 +1,4 @@
+pub mod Words
+pub mod TextLines
+pub mod Forms
+pub mod Example
