@@ -1,11 +1,10 @@
 -- A round is legal where each of its points holds.
-use Rattle.std.proofs.Common.{◌≡◌, ◌+◌, ◌++◌, ◌≤◌, ◌⊎◌, ℕ, Bool, true, false, List, map, Option, None, Some, sym, ap, ◌∙◌, subst, inl, inr}
-use Rattle.std.proofs.Common.{IsTrue, IsFalse, ◌↔◌}
-use Rattle.std.specs.Prelude.{filter, MatchBool}
+use Rattle.std.proofs.Common.{◌≡◌, ◌+◌, ◌++◌, ◌≤◌, ℕ, Bool, true, false, List, [], ◌∷◌, map, Option, None, Some, refl, sym, ap, ◌∙◌}
+use Rattle.std.proofs.Common.{subst, inl, inr, IsTrue, ◌↔◌}
+use Rattle.std.specs.Prelude.{⊤, filter, MatchBool}
 use Rattle.std.specs.List.{All, flat_map}
-use Rattle.std.proofs.lemmas.List.Elements.{filter-append}
-use Rattle.std.proofs.lemmas.Option.{same_Some}
-use Rattle.seam_rule_rounds.specs.Prelude.{MOST_CELLS, Division, cells_of, Part, is_for, Call, Create, Header, live_as, tree_of}
+use Rattle.std.proofs.lemmas.List.Elements.{All-weaker, filter-append}
+use Rattle.seam_rule_rounds.specs.Prelude.{MOST_CELLS, Division, Place, cells_of, Part, is_for, Call, Create, Header, live_as, tree_of}
 use Rattle.seam_rule_rounds.specs.Prelude.{has_balance, with_round_ended, DoneLine, Lists, ExtendsOrders, Standing, HasPlace, RoundData}
 use Rattle.seam_rule_rounds.specs.Prelude.{HasLooked, home_line, base_line, ghost_lines, with_bounds, HasBounds, IsRound}
 use Rattle.seam_rule_lines.proofs.Lists.{listed_is_one}
@@ -13,7 +12,7 @@ use Rattle.seam_judge_rounds.specs.Bounds.{PrintsBounds}
 use Rattle.seam_judge_data.specs.Standings.{standing_of}
 use Rattle.seam_judge_data.specs.declared.standing.Standing as plain
 use Rattle.seam_judge_rounds.specs.After.{AreForMade, after_round}
-use Rattle.seam_judge_rounds.specs.Points.{OfLive, Holds}
+use Rattle.seam_judge_rounds.specs.Points.{OfLive, Holds, HasCell, IsFirstBroken, later_points, points}
 use Rattle.seam_judge_rounds.specs.declared.verdict.Point.{Point}
 use Rattle.seam_judge_rounds.specs.declared.verdict.Point.TheVariants as point
 use Rattle.seam_judge_rounds.proofs.Leaves.{round_left}
@@ -21,31 +20,27 @@ use Rattle.seam_judge_rounds.proofs.Leaves.{round_left}
 -- ---- the first that does not hold
 
 module _ (H : Point → Type 0) where
-  -- what is known of an answer: there is none exactly where all of these hold, and the one that is given does not hold
-  abbrev pub Decides : Type 0 → Option Point → Type 0
-  Decides Q o = ((o ≡ None) ↔ Q) × ((p : Point) → o ≡ Some p → ¬ (H p))
+  -- each of the points holds
+  abbrev pub AllHold : List Point → Type 0
+  AllHold [] = ⊤
+  AllHold (p ∷ ps) = H p × AllHold ps
 
-  not_so : (x p : Point) (b : Bool) → (IsTrue b ↔ H x) → (p ≡ x) × IsFalse b → ¬ (H p)
-  not_so x p b decides (same, fails) holds = let so = decides.1 (subst H same holds) in absurd (cc)
+  -- none is named exactly where each holds
+  pub none_or_all : (ps : List Point) (o : Option Point) → IsFirstBroken H ps o → ((o ≡ None) ↔ AllHold ps)
+  none_or_all [] o is = ((λ _. tt), (λ _. is))
+  none_or_all (p ∷ ps) o (inl (broken, is)) = ((λ none. absurd (cc)), (λ all. absurd (broken all.0)))
+  none_or_all (p ∷ ps) o (inr (holds, rest)) =
+      let more = none_or_all ps o rest in ((λ none. (holds, more.0 none)), (λ all. more.1 all.1))
 
-  pub last_one : (x : Point) (b : Bool) (o later : Option Point) → later ≡ None → (IsTrue b ↔ H x) →
-      ((o ≡ None) ↔ (IsTrue b × (later ≡ None))) → ((p : Point) → o ≡ Some p → ((p ≡ x) × IsFalse b) ⊎ (later ≡ Some p)) →
-      Decides (H x) o
-  last_one x b o later no_later decides none some = (
-    ((λ is. decides.0 (none.0 is).0), (λ holds. none.1 (decides.1 holds, no_later))),
-    (λ p is. elim (some p is) [ inl this ↦ not_so x p b decides this | inr never ↦ absurd (cc) ]),
-  )
+  pub one_more : (p : Point) (ps : List Point) (b : Bool) (o later : Option Point) → IsFirstBroken H ps later → (IsTrue b ↔ H p) →
+      MatchBool b (o ≡ later) (o ≡ Some p) → IsFirstBroken H (p ∷ ps) o
+  one_more p ps true o later rest decides is = inr (decides.0 refl, subst (IsFirstBroken H ps) (sym is) rest)
+  one_more p ps false o later rest decides is = inl ((λ holds. let so : false ≡ true = decides.1 holds in absurd (cc)), is)
 
-  pub one_more : (Q : Type 0) (x : Point) (b : Bool) (o later : Option Point) → Decides Q later → (IsTrue b ↔ H x) →
-      ((o ≡ None) ↔ (IsTrue b × (later ≡ None))) → ((p : Point) → o ≡ Some p → ((p ≡ x) × IsFalse b) ⊎ (later ≡ Some p)) →
-      Decides (H x × Q) o
-  one_more Q x b o later rest decides none some = (
-    (
-      (λ is. let two = none.0 is in (decides.0 two.0, rest.0.0 two.1)),
-      (λ both. none.1 (decides.1 both.0, rest.0.1 both.1)),
-    ),
-    (λ p is. elim (some p is) [ inl this ↦ not_so x p b decides this | inr further ↦ rest.1 p further ]),
-  )
+  -- of the last point nothing comes after
+  pub last_one : (p : Point) (b : Bool) (o : Option Point) → (IsTrue b ↔ H p) → MatchBool b (o ≡ None) (o ≡ Some p) →
+      IsFirstBroken H (p ∷ []) o
+  last_one p b o decides is = one_more p [] b o None refl decides is
 
 -- ---- boundaries
 
@@ -97,12 +92,19 @@ module _ (h : Header) (s : Standing) (r : RoundData) (t : Standing) where
   as_live : (x : IsRound h s r t) (P : List Create → Type 0) → P x.live → OfLive s P
   as_live x P holds live listed = subst P (listed_is_one (live_as s.book) x.live live x.listed listed) holds
 
+  -- an entity that is held where it may be has its home where it may be
+  cell_of : (c : Create) → HasPlace h s t c → HasCell h s t c
+  cell_of c (inl is) = inl (sym (ap (λ (p : Place). p.home) is))
+  cell_of c (inr (one, is)) = inr (one, sym (ap (λ (p : Place). p.home) is))
+
   pub points_hold : IsRound h s r t → (p : Point) → Holds h s r t p
   points_hold x point.Number = x.number
   points_hold x point.Did = x.did
   points_hold x point.Dob = x.dob
-  points_hold x point.Places = as_live x (All (HasPlace h s t)) x.places
   points_hold x point.Homes = as_live x (λ (l : List Create). r.homes ≡ map (home_line h t) l) x.homes
+  points_hold x point.Cells =
+      as_live x (All (HasCell h s t)) (All-weaker (HasPlace h s t) (HasCell h s t) cell_of x.live x.places)
+  points_hold x point.Places = as_live x (All (HasPlace h s t)) x.places
   points_hold x point.Bases = as_live x (λ (l : List Create). r.bases ≡ map (base_line h t) l) x.bases
   points_hold x point.Ghosts = as_live x (λ (l : List Create). r.ghosts ≡ flat_map (ghost_lines h (tree_of s.book) t) l) x.ghosts
   points_hold x point.Shown = x.shown
@@ -128,57 +130,59 @@ module _ (h : Header) (s : Standing) (r : RoundData) (t : Standing) where
       rounds = rounds;
     }
 
-    -- the points in the order in which they are judged
-    abbrev pub InOrder : Type 0
-    InOrder =
-        Holds h s r t point.Did × (Holds h s r t point.Dob × (Holds h s r t point.Places × (Holds h s r t point.Homes
-        × (Holds h s r t point.Bases × (Holds h s r t point.Ghosts × (Holds h s r t point.Shown × (Holds h s r t point.Looked
-        × Holds h s r t point.Bounds)))))))
+    each : Holds h s r t point.Number → AllHold (Holds h s r t) later_points → (p : Point) → Holds h s r t p
+    each number (did, (dob, (homes, (cells, (bases, (places, (ghosts, (shown, (looked, (bounds, _)))))))))) point.Number = number
+    each number (did, (dob, (homes, (cells, (bases, (places, (ghosts, (shown, (looked, (bounds, _)))))))))) point.Did = did
+    each number (did, (dob, (homes, (cells, (bases, (places, (ghosts, (shown, (looked, (bounds, _)))))))))) point.Dob = dob
+    each number (did, (dob, (homes, (cells, (bases, (places, (ghosts, (shown, (looked, (bounds, _)))))))))) point.Homes = homes
+    each number (did, (dob, (homes, (cells, (bases, (places, (ghosts, (shown, (looked, (bounds, _)))))))))) point.Cells = cells
+    each number (did, (dob, (homes, (cells, (bases, (places, (ghosts, (shown, (looked, (bounds, _)))))))))) point.Bases = bases
+    each number (did, (dob, (homes, (cells, (bases, (places, (ghosts, (shown, (looked, (bounds, _)))))))))) point.Places = places
+    each number (did, (dob, (homes, (cells, (bases, (places, (ghosts, (shown, (looked, (bounds, _)))))))))) point.Ghosts = ghosts
+    each number (did, (dob, (homes, (cells, (bases, (places, (ghosts, (shown, (looked, (bounds, _)))))))))) point.Shown = shown
+    each number (did, (dob, (homes, (cells, (bases, (places, (ghosts, (shown, (looked, (bounds, _)))))))))) point.Looked = looked
+    each number (did, (dob, (homes, (cells, (bases, (places, (ghosts, (shown, (looked, (bounds, _)))))))))) point.Bounds = bounds
 
-    each : Holds h s r t point.Number → InOrder → (p : Point) → Holds h s r t p
-    each number (did, (dob, (places, (homes, (bases, (ghosts, (shown, (looked, bounds)))))))) point.Number = number
-    each number (did, (dob, (places, (homes, (bases, (ghosts, (shown, (looked, bounds)))))))) point.Did = did
-    each number (did, (dob, (places, (homes, (bases, (ghosts, (shown, (looked, bounds)))))))) point.Dob = dob
-    each number (did, (dob, (places, (homes, (bases, (ghosts, (shown, (looked, bounds)))))))) point.Places = places
-    each number (did, (dob, (places, (homes, (bases, (ghosts, (shown, (looked, bounds)))))))) point.Homes = homes
-    each number (did, (dob, (places, (homes, (bases, (ghosts, (shown, (looked, bounds)))))))) point.Bases = bases
-    each number (did, (dob, (places, (homes, (bases, (ghosts, (shown, (looked, bounds)))))))) point.Ghosts = ghosts
-    each number (did, (dob, (places, (homes, (bases, (ghosts, (shown, (looked, bounds)))))))) point.Shown = shown
-    each number (did, (dob, (places, (homes, (bases, (ghosts, (shown, (looked, bounds)))))))) point.Looked = looked
-    each number (did, (dob, (places, (homes, (bases, (ghosts, (shown, (looked, bounds)))))))) point.Bounds = bounds
-
-    -- a round of the right number is legal exactly where they all hold
-    pub legal : t ≡ after_round s r → r.number ≡ s.rounds + 1 → (o : Option Point) → ((o ≡ None) ↔ InOrder) → ((o ≡ None) ↔ IsRound h s r t)
-    legal follows number o decides = (
-      (λ is. round_of (ap (λ (x : Standing). x.lines) follows) (ap (λ (x : Standing). x.rounds) follows) (each number (decides.0 is))),
-      (λ x. let hold = points_hold x in
-          decides.1 (
-            hold point.Did,
+    all_later : IsRound h s r t → AllHold (Holds h s r t) later_points
+    all_later x =
+        let hold = points_hold x in (
+          hold point.Did,
+          (
+            hold point.Dob,
             (
-              hold point.Dob,
+              hold point.Homes,
               (
-                hold point.Places,
+                hold point.Cells,
                 (
-                  hold point.Homes,
+                  hold point.Bases,
                   (
-                    hold point.Bases,
-                    (hold point.Ghosts, (hold point.Shown, (hold point.Looked, hold point.Bounds))),
+                    hold point.Places,
+                    (hold point.Ghosts, (hold point.Shown, (hold point.Looked, (hold point.Bounds, tt)))),
                   ),
                 ),
               ),
             ),
-          )),
-    )
+          ),
+        )
+
+    -- a round of the right number is legal exactly where they all hold
+    pub legal : t ≡ after_round s r → r.number ≡ s.rounds + 1 → (o : Option Point) → IsFirstBroken (Holds h s r t) later_points o →
+        ((o ≡ None) ↔ IsRound h s r t)
+    legal follows number o first =
+        let decides = none_or_all (Holds h s r t) later_points o first in (
+          (λ is. round_of (ap (λ (x : Standing). x.lines) follows) (ap (λ (x : Standing). x.rounds) follows) (each number (decides.0 is))),
+          (λ x. decides.1 (all_later x)),
+        )
 
 -- ---- a round of another number
 
-pub wrong_number : (h : Header) (s : Standing) (r : RoundData) (t : Standing) (b : Bool) → b ≡ false →
-    (IsTrue b ↔ (r.number ≡ s.rounds + 1)) →
-    (p : Point) → Some point.Number ≡ Some p → ¬ (Holds h s r t p)
-wrong_number h s r t b fails decides p is holds =
-    let same : p ≡ point.Number = sym (same_Some point.Number p is) in
-    let so = decides.1 (subst (Holds h s r t) same holds) in
-    absurd (cc)
+pub wrong_number : (h : Header) (s : Standing) (r : RoundData) (t : Standing) (b : Bool) (o : Option Point) → b ≡ false →
+    (IsTrue b ↔ (r.number ≡ s.rounds + 1)) → o ≡ Some point.Number → IsFirstBroken (Holds h s r t) points o
+wrong_number h s r t b o fails decides is = inl ((λ holds. let so = decides.1 holds in absurd (cc)), is)
+
+pub right_number : (h : Header) (s : Standing) (r : RoundData) (t : Standing) (o : Option Point) → r.number ≡ s.rounds + 1 →
+    IsFirstBroken (Holds h s r t) later_points o → IsFirstBroken (Holds h s r t) points o
+right_number h s r t o number later = inr (number, later)
 
 pub never_legal : (h : Header) (s : Standing) (r : RoundData) (t : Standing) (b : Bool) → b ≡ false →
     (IsTrue b ↔ (r.number ≡ s.rounds + 1)) → ¬ (IsRound h s r t)

@@ -4,6 +4,7 @@ use Rattle.std.proofs.Common.{◌↔◌}
 use Rattle.std.specs.List.{range_with_len}
 use Rattle.seam_rule_rounds.specs.Prelude.{Pos, Division, Distances, Place, settled_all, IsPlaceAfter, Call, Create, Header, position_at}
 use Rattle.seam_rule_rounds.specs.Prelude.{positions_past}
+use Rattle.seam_judge_rounds.specs.Points.{IsCellAfter}
 
 pub place_after : (d : Distances) (t : Division) (was after first second : Place) (path tail : List Pos) (a b c r : Bool) →
     first ≡ settled_all d t was path → second ≡ settled_all d t was tail → tail ≡ drop 1 path → (IsTrue a ↔ (first ≡ after)) →
@@ -45,3 +46,18 @@ module _ (h : Header) (c : Create) (d : Distances) (r : Bool) where
       (subst (λ (p : Place). Decided t' was' order n v p) left
       (subst (λ (p : Place). Decided t' p order n v held) place
       (subst (λ (x : Division). Decided x was order n v held) tree decided)))))
+
+  abbrev pub CellDecided : Division → Place → List Call → ℕ → ℕ → ℕ → Type 0
+  CellDecided t was order n v home =
+      IsTrue r ↔ IsCellAfter d t was (position_at h c order v) (map (position_at h c order) (range_with_len (v + 1) (n - v))) home
+
+  pub cell_decided : (t t' : Division) (was was' held held' : Place) (order order' : List Call) (n v v' : ℕ) → t ≡ t' → was ≡ was' →
+      held ≡ held' → order ≡ order' → n ≡ length order' → v ≡ v' → CellDecided t was order n v held.home →
+      (IsTrue r ↔ IsCellAfter d t' was' (position_at h c order' v') (positions_past h c order' v') held'.home)
+  cell_decided t t' was was' held held' order order' n v v' tree place left calls long began decided =
+      subst (λ (m : ℕ). CellDecided t' was' order' (length order') m held'.home) began
+      (subst (λ (m : ℕ). CellDecided t' was' order' m v held'.home) long
+      (subst (λ (os : List Call). CellDecided t' was' os n v held'.home) calls
+      (subst (λ (p : Place). CellDecided t' was' order n v p.home) left
+      (subst (λ (p : Place). CellDecided t' p order n v held.home) place
+      (subst (λ (x : Division). CellDecided x was order n v held.home) tree decided)))))

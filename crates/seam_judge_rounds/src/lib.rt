@@ -26,7 +26,7 @@ pub use case::{Case, clients_among};
 pub use clients::has_shown;
 pub use laws::legal_rounds_leave_what_they_show;
 pub use looked::{has_looked, is_nothing_left};
-pub use places::{have_homes, have_places};
+pub use places::{have_cells, have_homes, have_places};
 pub use points::{are_bases, are_bounds, are_ghosts, are_homes, is_numbered};
 pub use shown::show_rightly;
 pub use truth::are_true;

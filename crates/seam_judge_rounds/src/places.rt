@@ -5,6 +5,7 @@ ghost use Rattle.seam_rule_rounds.specs.Prelude.{tree_of, position_at, Pos as Po
 ghost use Rattle.seam_rule_rounds.specs.Prelude.{HasPlace};
 ghost use Rattle.seam_judge_data.specs.Standings.{standing_of};
 ghost use Rattle.seam_judge_rounds.specs.HeldPlaces.{HaveHomes};
+ghost use Rattle.seam_judge_rounds.specs.Points.{HasCell, IsCellAfter};
 
 use seam_call::{Call, Create};
 use seam_defs::{Part, Settings};
@@ -40,6 +41,23 @@ fn is_place_after(settings: &Settings, tree: &Tree, was: Place, path: &[Pos], af
     let along_rest = settled_along(settings, tree, was, rest);
     let is_first = along_all.is(&after);
     let is_second = along_rest.is(&after);
+    first_or_both(is_first, is_long(path), is_second)
+}
+
+// Whether a place has the home of one settled along all of a path, or, where there is more than its start, along the rest.
+fn is_cell_after(settings: &Settings, tree: &Tree, was: Place, path: &[Pos], after: Place) -> bool
+    requires home { was.home < cells_of tree.now }
+    requires range { AreInRange settings.now }
+    requires start { 1 ≤ length path.now }
+    ensures { (start : Positions) (rest : List Positions) → path.now ≡ start ∷ rest →
+        (IsTrue result ↔ IsCellAfter (distances settings.now) tree.now was start rest
+        after.home) }
+{
+    let rest = &path[1..];
+    let along_all = settled_along(settings, tree, was, path);
+    let along_rest = settled_along(settings, tree, was, rest);
+    let is_first = along_all.home == after.home;
+    let is_second = along_rest.home == after.home;
     first_or_both(is_first, is_long(path), is_second)
 }
 
@@ -86,6 +104,29 @@ fn has_place(
     Ok(is_place_after(&header.settings, &tree, was, &path, held))
 }
 
+// Whether an entity may have its home in the cell in which it is left.
+fn has_cell(
+    alloc: Global,
+    header: &Header,
+    before: &Standing,
+    after: &Standing,
+    create: Create,
+) -> Result<bool, AllocError>
+    requires homes { HaveHomes (standing_of before.now) }
+    requires range { AreInRange header.now.settings }
+    ensures { IfOk result (λ r. IsTrue r ↔ HasCell header.now (standing_of before.now)
+        (standing_of after.now) create) }
+{
+    let order = after.order_of(alloc, Part::Cell, create.entity)?;
+    let former = before.order_of(alloc, Part::Cell, create.entity)?;
+    let began = former.as_slice().len();
+    let path = path_from(alloc, header, create, &order, began)?;
+    let tree = tree_in(before);
+    let was = place_before(before, create);
+    let held = after.place_of(create.entity);
+    Ok(is_cell_after(&header.settings, &tree, was, &path, held))
+}
+
 // Whether an entity has its home in a cell of the open round's tree.
 fn has_home(before: &Standing, entity: u32) -> bool
     ensures { IsTrue result ↔ (((standing_of before.now).places entity).home
@@ -122,6 +163,28 @@ pub fn have_places(
 {
     for create in live {
         let may_be = has_place(alloc, header, before, after, *create)?;
+        if !may_be {
+            return Ok(false);
+        }
+    }
+    Ok(true)
+}
+
+/// Whether each live entity may have its home in the cell in which it is left.
+pub fn have_cells(
+    alloc: Global,
+    header: &Header,
+    before: &Standing,
+    after: &Standing,
+    live: &[Create],
+) -> Result<bool, AllocError>
+    requires homes { HaveHomes (standing_of before.now) }
+    requires range { AreInRange header.now.settings }
+    ensures { IfOk result (λ r. IsTrue r ↔ All (HasCell header.now (standing_of before.now)
+        (standing_of after.now)) live.now) }
+{
+    for create in live {
+        let may_be = has_cell(alloc, header, before, after, *create)?;
         if !may_be {
             return Ok(false);
         }

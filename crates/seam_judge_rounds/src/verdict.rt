@@ -1,11 +1,11 @@
 // Which point of a legal round a round breaks.
-ghost use Rattle.std.specs.Prelude.{◌≡◌, ◌↔◌, ◌⊎◌, ◌+◌, None, Some, IsTrue, IsFalse, IfOk};
+ghost use Rattle.std.specs.Prelude.{◌≡◌, ◌↔◌, None, Some, IsTrue, IfOk, MatchBool};
 ghost use Rattle.seam_rule_rounds.specs.Prelude.{AreInRange, created_as, live_as, Lists, ExtendsOrders, Standing as Standings, IsRound};
 ghost use Rattle.seam_judge_data.specs.Standings.{standing_of};
 ghost use Rattle.seam_judge_rounds.specs.After.{AreForMade, after_round};
 ghost use Rattle.seam_judge_rounds.specs.Bounds.{PrintsBounds};
 ghost use Rattle.seam_judge_rounds.specs.HeldPlaces.{HaveHomes};
-ghost use Rattle.seam_judge_rounds.specs.Points.{Holds};
+ghost use Rattle.seam_judge_rounds.specs.Points.{Holds, IsFirstBroken, later_points, points};
 ghost use Rattle.seam_judge_rounds.specs.declared.verdict.Point.{Point as Points};
 
 use crate::after::{calls_done, standing_after};
@@ -13,7 +13,7 @@ use crate::calls::extends_orders;
 use crate::case::{Case, clients_among};
 use crate::clients::has_shown;
 use crate::looked::has_looked;
-use crate::places::have_places;
+use crate::places::{have_cells, have_places};
 use crate::points::{are_bases, are_bounds, are_ghosts, are_homes, is_numbered};
 use seam_call::Create;
 use seam_defs::Part;
@@ -31,12 +31,14 @@ pub enum Point {
     Did,
     /// Base parts executed all that was accepted for them.
     Dob,
-    /// Each live entity is held where it may be.
-    Places,
     /// Each live entity has its home line.
     Homes,
+    /// Each live entity has its home in a cell in which it may be left.
+    Cells,
     /// Each live entity has its base line.
     Bases,
+    /// Each live entity is held where it may be, the cells with a ghost of it among that.
+    Places,
     /// Each live entity has its ghost lines.
     Ghosts,
     /// Each client is shown what it may be shown, and what is true.
@@ -49,9 +51,7 @@ pub enum Point {
 
 // This point where it does not hold, or else what comes of the later ones.
 fn unless(holds: bool, point: Point, later: Option<Point>) -> Option<Point>
-    ensures none { (result ≡ None) ↔ (IsTrue holds × (later ≡ None)) }
-    ensures some { (p : Points) → result ≡ Some p → ((p ≡ point) × IsFalse holds) ⊎
-        (later ≡ Some p) }
+    ensures { MatchBool holds (result ≡ later) (result ≡ Some point) }
 {
     if holds { later } else { Some(point) }
 }
@@ -87,7 +87,7 @@ fn are_printed(alloc: Global, case: &Case<'_>) -> Result<bool, AllocError>
     }
 }
 
-// A point that does not hold of a round whose number is right.
+// The first point after the number that does not hold of a round.
 fn judge_case(
     alloc: Global,
     case: &Case<'_>,
@@ -98,23 +98,20 @@ fn judge_case(
     requires range { AreInRange case.now.header.now.settings }
     requires made { Lists (created_as (standing_of case.now.before.now).book) made.now }
     requires live { Lists (live_as (standing_of case.now.before.now).book) live.now }
-    requires number { case.now.round.now.number ≡ case.now.before.now.rounds + 1 }
     requires after { standing_of case.now.after.now ≡ after_round (standing_of case.now.before.now)
         case.now.round.now }
-    ensures legal { IfOk result (λ broken. (broken ≡ None) ↔
-        IsRound case.now.header.now (standing_of case.now.before.now) case.now.round.now
-        (standing_of case.now.after.now)) }
-    ensures point { IfOk result (λ broken. (p : Points) → broken ≡ Some p →
-        ¬ (Holds case.now.header.now (standing_of case.now.before.now) case.now.round.now
-        (standing_of case.now.after.now) p)) }
+    ensures { IfOk result (IsFirstBroken (Holds case.now.header.now
+        (standing_of case.now.before.now) case.now.round.now (standing_of case.now.after.now))
+        later_points) }
 {
     let (header, before, after, round) = (case.header, case.before, case.after, case.round);
     let clients = clients_among(alloc, before, made)?;
     let did = executed_all(alloc, case, Part::Cell, made, &round.did)?;
     let dob = executed_all(alloc, case, Part::Base, made, &round.dob)?;
-    let places = have_places(alloc, header, before, after, live)?;
     let homes = are_homes(alloc, header, after, live, &round.homes)?;
+    let cells = have_cells(alloc, header, before, after, live)?;
     let bases = are_bases(alloc, header, after, live, &round.bases)?;
+    let places = have_places(alloc, header, before, after, live)?;
     let ghosts = are_ghosts(alloc, header, before, after, live, &round.ghosts)?;
     let shown = has_shown(alloc, case, &clients)?;
     let looked = has_looked(alloc, case, &clients, live)?;
@@ -123,15 +120,16 @@ fn judge_case(
     let from_looked = unless(looked, Point::Looked, from_bounds);
     let from_shown = unless(shown, Point::Shown, from_looked);
     let from_ghosts = unless(ghosts, Point::Ghosts, from_shown);
-    let from_bases = unless(bases, Point::Bases, from_ghosts);
-    let from_homes = unless(homes, Point::Homes, from_bases);
-    let from_places = unless(places, Point::Places, from_homes);
-    let from_dob = unless(dob, Point::Dob, from_places);
+    let from_places = unless(places, Point::Places, from_ghosts);
+    let from_bases = unless(bases, Point::Bases, from_places);
+    let from_cells = unless(cells, Point::Cells, from_bases);
+    let from_homes = unless(homes, Point::Homes, from_cells);
+    let from_dob = unless(dob, Point::Dob, from_homes);
     Ok(unless(did, Point::Did, from_dob))
 }
 
-/// `None` where what a round prints is legal after a standing whose book has all lines of the round; else a point of a legal round that
-/// does not hold of it. The points are tried in their order, but the clauses say of the point that is named only that it does not hold.
+/// `None` where what a round prints is legal after a standing whose book has all lines of the round; else the first point of a legal
+/// round, in the order of *points*, that does not hold of it.
 ///
 /// The standing that the round leaves is the one that its lines show. Where the round is not legal with that standing, it is legal with
 /// none.
@@ -146,9 +144,8 @@ pub fn judge(
     ensures legal { IfOk result (λ broken. (broken ≡ None) ↔
         IsRound header.now (standing_of before.now) round.now
         (after_round (standing_of before.now) round.now)) }
-    ensures point { IfOk result (λ broken. (p : Points) → broken ≡ Some p →
-        ¬ (Holds header.now (standing_of before.now) round.now
-        (after_round (standing_of before.now) round.now) p)) }
+    ensures first { IfOk result (IsFirstBroken (Holds header.now (standing_of before.now) round.now
+        (after_round (standing_of before.now) round.now)) points) }
     ensures refused { IfOk result (λ broken. (p : Points) → broken ≡ Some p →
         AreForMade (standing_of before.now).book → (t : Standings) →
         ¬ (IsRound header.now (standing_of before.now) round.now t)) }
