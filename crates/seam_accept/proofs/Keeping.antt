@@ -6,6 +6,7 @@ use Rattle.std.specs.List.{AllByRecursion, IsDistinct, list_any, filter_map, con
 use Rattle.std.proofs.lemmas.List.Elements.{filter_map-append}
 use Rattle.std.proofs.lemmas.List.Folds.{list_any-append}
 use Rattle.std.proofs.lemmas.Option.{none-some}
+use Rattle.std.proofs.lemmas.Bool.{false≢true}
 use Rattle.std.proofs.lemmas.Bool.Decides.{eqb_tells}
 use Rattle.seam_value.specs.NumberWords.{IsWhole}
 use Rattle.seam_tree.specs.Division.{Division}
@@ -25,7 +26,7 @@ use Rattle.seam_rule_lines.specs.declared.verdict.Entry.TheVariants as entry
 use Rattle.seam_rule_lines.proofs.BookEntries.{same, differ, created_here, created_with_call, creates_with_entry}
 use Rattle.seam_rule_lines.proofs.InOrderLemmas.{entries_after_round}
 use Rattle.seam_rule_lines.proofs.OneSender.{same_sender_is}
-use Rattle.seam_accept.specs.Last.{LastView, number_of}
+use Rattle.seam_accept.specs.Last.{number_of}
 use Rattle.seam_accept.specs.Entities.{last_of, Remembers, EntitiesRefine, EntityRefines, IsUnknown, IsNextCall, ChangesOne, KeepsLast}
 use Rattle.seam_accept.specs.Entities.{Dies, LivesAlone, entity_at, ClientsRefine, is_client}
 use Rattle.seam_accept.specs.Batches.{ordered, joined, destroyed}
@@ -57,7 +58,7 @@ spared b x e (Some v) spares was = record {
   whole = was.whole;
   ty = was.ty;
   live = was.live ∙ ap not (sym (destroyed_same b x e spares));
-  last = λ p s is. was.last p s is ∙ ap length (sym (accepted_same b x e spares p s));
+  last = λ lives p s is. was.last lives p s is ∙ ap length (sym (accepted_same b x e spares p s));
 }
 
 -- each entity is created once
@@ -149,7 +150,7 @@ module _ (b : Book) (c : Create) (whole : IsWhole c.entity) (unknown : IsUnknown
     ty = fresh.ty;
     live = fresh.live
         ∙ sym (ap not (any_with (destroys c.entity) b (entry.Created c) ∙ ap (λ (y : Bool). y || false) unknown.undestroyed));
-    last = λ p s is. fresh.last p s is
+    last = λ lives p s is. fresh.last p s is
         ∙ ap length (sym (accepted_with_entry b (entry.Created c) p c.entity s ∙ append-nil (accepted b p c.entity s)
         ∙ unknown.uncalled p s));
   }
@@ -181,7 +182,7 @@ entity_called b call v w next kept was = record {
   whole = was.whole;
   ty = kept.ty ∙ was.ty;
   live = kept.live ∙ was.live ∙ ap not (sym (any_with (destroys call.entity) b (entry.Called call) ∙ or_false _));
-  last = λ p s is. kept.last p s is ∙ by p s is (same_part call.part p && same_sender call.sender s) refl;
+  last = λ lives p s is. kept.last p s is ∙ by (sym kept.live ∙ lives) p s is (same_part call.part p && same_sender call.sender s) refl;
 }
   where
     or_false : (x : Bool) → (x || false) ≡ x
@@ -197,16 +198,16 @@ entity_called b call v w next kept was = record {
         accepted_with_entry b (entry.Called call) p call.entity s
         ∙ ap (λ (x : Bool). accepted b p call.entity s ++ cond x (call ∷ []) []) (added call p s ∙ is)
 
-    by : (p : Part) (s : Sender) → IsSender s → (y : Bool) → (same_part call.part p && same_sender call.sender s) ≡ y →
+    by : v.live ≡ true → (p : Part) (s : Sender) → IsSender s → (y : Bool) → (same_part call.part p && same_sender call.sender s) ≡ y →
         cond y call.number (number_of (last_of p v) s) ≡ length (accepted (with_entry b (entry.Called call)) p call.entity s)
-    by p s sender true is =
+    by lives p s sender true is =
         let tests = both (same_part call.part p) (same_sender call.sender s) is in
         let of_part : call.part ≡ p = same_part_is call.part p tests.0 in
         let of_sender : call.sender ≡ s = same_sender_is call.sender s tests.1 in
         next.next ∙ (λ i. length (accepted b (of_part i) call.entity (of_sender i)) + 1)
         ∙ sym (ap length (grows p s true is) ∙ length-append (accepted b p call.entity s) (call ∷ []))
-    by p s sender false is =
-        was.last p s sender ∙ sym (ap length (grows p s false is ∙ append-nil (accepted b p call.entity s)))
+    by lives p s sender false is =
+        was.last lives p s sender ∙ sym (ap length (grows p s false is ∙ append-nil (accepted b p call.entity s)))
 
 -- the entities after a call was kept
 pub entities_with_call : (b : Book) (old new : List (ℕ × Entity)) (call : Call) (v : Entity) → EntitiesRefine b old → IsNextCall b call →
@@ -224,26 +225,22 @@ entity_joined b e v was = record {
   whole = was.whole;
   ty = was.ty;
   live = was.live ∙ ap not (sym (any_with (destroys e) b (entry.Joined e) ∙ or_false (list_any (destroys e) (entries b))));
-  last = λ p s sender. was.last p s sender
+  last = λ lives p s sender. was.last lives p s sender
       ∙ ap length (sym (accepted_with_entry b (entry.Joined e) p e s ∙ append-nil (accepted b p e s)));
 }
 
 entity_destroyed : (b : Book) (e : ℕ) (v w : Entity) → Dies v w → EntityRefines b e v → EntityRefines (with_entry b (entry.Destroyed e)) e w
-entity_destroyed b e v w is was = subst (EntityRefines (with_entry b (entry.Destroyed e)) e) (sym is) (record {
+entity_destroyed b e v w dies was = record {
   made = was.made;
   is = created_with b (entry.Destroyed e) e ∙ or_none (created_as b e) ∙ was.is;
   whole = was.whole;
-  ty = was.ty;
-  live = ap not (sym (any_with (destroys e) b (entry.Destroyed e) ∙ ap (λ (y : Bool). list_any (destroys e) (entries b) || y) (same e)
+  ty = dies.0 ∙ was.ty;
+  live = dies.1
+    ∙ ap not (sym (any_with (destroys e) b (entry.Destroyed e) ∙ ap (λ (y : Bool). list_any (destroys e) (entries b) || y) (same e)
       ∙ or_true (list_any (destroys e) (entries b))));
-  last = λ p s sender. ap (λ (l : LastView). number_of l s) (same_last p) ∙ was.last p s sender
-      ∙ ap length (sym (accepted_with_entry b (entry.Destroyed e) p e s ∙ append-nil (accepted b p e s)));
-})
+  last = λ lives. absurd (false≢true (sym dies.1 ∙ lives));
+}
   where
-    same_last : (p : Part) → last_of p (record v { live = false }) ≡ last_of p v
-    same_last part.Cell = refl
-    same_last part.Base = refl
-
     or_true : (x : Bool) → (x || true) ≡ true
     or_true true = refl
     or_true false = refl
@@ -448,7 +445,7 @@ module _ (b d : Book) (alike : entries b ≡ entries d) where
     whole = was.whole;
     ty = was.ty;
     live = was.live ∙ ap not (same_any (destroys e));
-    last = λ p s is. was.last p s is ∙ ap length (same_accepted p e s);
+    last = λ lives p s is. was.last lives p s is ∙ ap length (same_accepted p e s);
   }
 
   -- entities go with what was accepted, in whatever rounds

@@ -69,7 +69,7 @@ pub marked_live : (b : Book) (entities : List (ℕ × Entity)) (e : ℕ) (v : Bo
     entity_at entities e ≡ Some v.now → v.now.live ≡ true → IsLive b e v
 marked_live b entities e v was found live =
     let here = entity_found b entities e v.now was found in
-    record { refines = here; lives = live_is b e v.now here ∙ ap (λ (x : Bool). cond x (Some here.made) None) live }
+    record { refines = here; marked = live; lives = live_is b e v.now here ∙ ap (λ (x : Bool). cond x (Some here.made) None) live }
 
 pub marked_dead : (b : Book) (entities : List (ℕ × Entity)) (e : ℕ) (v : Entity) → EntitiesRefine b entities →
     entity_at entities e ≡ Some v → v.live ≡ false → live_as b e ≡ None

@@ -1,5 +1,5 @@
 -- What is kept of entities, beside the book of a transcript.
-use Rattle.std.specs.Prelude.{◌≡◌, ◌≢◌, ⊤, ℕ, ◌+◌, Bool, false, not, cond, ◌&&◌, eqb, map, List, [], length, slice_get}
+use Rattle.std.specs.Prelude.{◌≡◌, ◌≢◌, ⊤, ℕ, ◌+◌, Bool, true, false, not, cond, ◌&&◌, eqb, map, List, [], length, slice_get}
 use Rattle.std.specs.Prelude.{Option, None, Some, MatchOption, IfSome, IsSome}
 use Rattle.std.specs.Borrow.{Bor}
 use Rattle.std.specs.Map.{lookup}
@@ -33,14 +33,14 @@ pub record Remembers (p : Part) (s : Sender) (number : ℕ) (old new : Entity) :
   pub last : (q : Part) (t : Sender) → IsSender t →
       number_of (last_of q new) t ≡ cond (same_part p q && same_sender s t) number (number_of (last_of q old) t)
 
--- an entity of the book: its type, whether it was destroyed, and how many calls each sender made to its parts
+-- an entity of the book: its type, whether it was destroyed, and where it lives how many calls each sender made to its parts
 pub record EntityRefines (b : Book) (e : ℕ) (v : Entity) : Type 0 where
   pub made : Create
   pub is : created_as b e ≡ Some made
   pub whole : IsWhole e
   pub ty : v.ty ≡ made.ty
   pub live : v.live ≡ not (list_any (destroys e) (entries b))
-  pub last : (p : Part) (s : Sender) → IsSender s → number_of (last_of p v) s ≡ length (accepted b p e s)
+  pub last : v.live ≡ true → (p : Part) (s : Sender) → IsSender s → number_of (last_of p v) s ≡ length (accepted b p e s)
 
 -- the book has no entity of this number, and nothing was accepted for one
 pub record IsUnknown (b : Book) (e : ℕ) : Type 0 where
@@ -76,6 +76,7 @@ pub record ClientsRefine (b : Book) (clients : List ℕ) : Type 0 where
 -- an entity lives, and is kept so
 pub record IsLive (b : Book) (e : ℕ) (v : Bor Entity) : Type 0 where
   pub refines : EntityRefines b e v.now
+  pub marked : v.now.live ≡ true
   pub lives : live_as b e ≡ Some refines.made
 
 -- an entity lives without a client
@@ -103,9 +104,9 @@ pub record ChangesOne (old new : List (ℕ × Entity)) (e : ℕ) (Changes : Enti
   pub here : IfSome (entity_at old e) (λ v. (w : Entity) × (entity_at new e ≡ Some w) × Changes v w)
   pub others : (other : ℕ) → other ≢ e → entity_at new other ≡ entity_at old other
 
--- an entity is destroyed
+-- an entity is destroyed: of its calls nothing is kept
 abbrev pub Dies : Entity → Entity → Type 0
-Dies v w = w ≡ record v { live = false }
+Dies v w = (w.ty ≡ v.ty) × (w.live ≡ false)
 
 -- an entity remembers a call as its sender's last one
 abbrev pub KeepsLast : List (ℕ × Entity) → List (ℕ × Entity) → Call → Type 0

@@ -178,9 +178,7 @@ impl Book {
         ensures unchanged { OnErr result (self.new ≡ self.old) }
     {
         self.creates.reserve(1)?;
-        let _ = self
-            .entities
-            .insert(create.entity, Entity::new(self.alloc, create.ty))?;
+        let _ = self.entities.insert(create.entity, Entity::new(create.ty))?;
         self.creates.push_reserved(create);
         Ok(())
     }
@@ -194,7 +192,7 @@ impl Book {
         ensures unchanged { OnErr result (self.new ≡ self.old) }
     {
         self.orders.reserve(1)?;
-        keep_last(&mut self.entities, place, &call)?;
+        keep_last(self.alloc, &mut self.entities, place, &call)?;
         let node = node_of(call.sender, self.header.settings.bases);
         self.orders.push_reserved((node, order(call)));
         Ok(())

@@ -14,7 +14,7 @@ use seam_defs::Part;
 use seam_table::HashKey;
 use std::alloc::{AllocError, Global};
 
-/// An entity: its type, whether it lives, and for each part and sender the number of the last call.
+/// An entity: its type, whether it lives, and then for each part and sender the number of the last call.
 #[derive(Drop)]
 pub struct Entity {
     pub ty: u16,
@@ -25,7 +25,7 @@ pub struct Entity {
 
 impl Entity {
     /// A live entity that no call was accepted for.
-    pub fn new(alloc: Global, ty: u16) -> Self
+    pub fn new(ty: u16) -> Self
         ensures ty { result.ty ≡ ty }
         ensures live { result.live ≡ true }
         ensures last { (p : Parts) (s : Senders) → IsSender s → number_of (last_of p result) s ≡ 0 }
@@ -33,8 +33,8 @@ impl Entity {
         Entity {
             ty,
             live: true,
-            cell: LastCalls::new(alloc),
-            base: LastCalls::new(alloc),
+            cell: LastCalls::new(),
+            base: LastCalls::new(),
         }
     }
 
@@ -49,18 +49,24 @@ impl Entity {
     }
 
     /// Keeps the number of a sender's last call to a part.
-    pub fn keep_last(&mut self, part: Part, sender: Sender, number: u64) -> Result<(), AllocError>
+    pub fn keep_last(
+        &mut self,
+        alloc: Global,
+        part: Part,
+        sender: Sender,
+        number: u64,
+    ) -> Result<(), AllocError>
         ensures kept { OnOk result (Remembers part sender number self.old self.new) }
         ensures unchanged { OnErr result (self.new ≡ self.old) }
     {
         match part {
-            Part::Cell => self.cell.keep(sender, number),
-            Part::Base => self.base.keep(sender, number),
+            Part::Cell => self.cell.keep(alloc, sender, number),
+            Part::Base => self.base.keep(alloc, sender, number),
         }
     }
 }
 
-/// Keeps that an entity is destroyed.
+/// Keeps that an entity is destroyed. The numbers of its calls are forgotten, since none is accepted for it any more.
 pub fn keep_destroyed(entities: &mut IndexMap<u32, Entity, HashKey>, entity: u32)
     ensures { ChangesOne entities.old.entries entities.new.entries entity Dies }
 {
@@ -68,10 +74,13 @@ pub fn keep_destroyed(entities: &mut IndexMap<u32, Entity, HashKey>, entity: u32
         return;
     };
     found.live = false;
+    found.cell = LastCalls::new();
+    found.base = LastCalls::new();
 }
 
 /// Keeps the number of a call to the entity at a place as that of its sender's last one.
 pub fn keep_last(
+    alloc: Global,
     entities: &mut IndexMap<u32, Entity, HashKey>,
     place: usize,
     call: &Call,
@@ -83,5 +92,5 @@ pub fn keep_last(
     let Some(called) = entities.get_index_mut(place) else {
         unreachable!()
     };
-    called.keep_last(call.part, call.sender, call.number)
+    called.keep_last(alloc, call.part, call.sender, call.number)
 }

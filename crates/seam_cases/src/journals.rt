@@ -7,7 +7,7 @@ use std::test::Fail;
 
 const ONE_CALL: Run<'static> = Run {
     words: &["--trace"],
-    script: "%%\ncreate 1 Avatar 100 100\ncall b1 1 hit 30\nsync\n",
+    script: b"%%\ncreate 1 Avatar 100 100\ncall b1 1 hit 30\nsync\n",
     streams: GOOD,
 };
 

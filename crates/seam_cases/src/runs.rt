@@ -37,12 +37,12 @@ pub const GOOD: Streams = Streams {
 #[derive(Clone, Copy)]
 pub struct Run<'a> {
     pub words: &'static [&'static str],
-    pub script: &'a str,
+    pub script: &'a [u8],
     pub streams: Streams,
 }
 
 fn input_of(alloc: Global, run: &Run) -> Result<MemSource, AllocError> {
-    let bytes = run.script.as_bytes().to_vec(alloc)?;
+    let bytes = run.script.to_vec(alloc)?;
     let cuts = run.streams.cuts.to_vec(alloc)?;
     let fails = run.streams.bad_reads.to_vec(alloc)?;
     Ok(MemSource::new(bytes, cuts, fails))

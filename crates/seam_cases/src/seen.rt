@@ -1,6 +1,6 @@
 // When the answers to lines are written.
 use crate::runs::{GOOD, Run, Streams, play};
-use seam_io::{RealSink, RealSource};
+use seam_io::{Patient, RealSink, RealSource};
 use seam_watch::NoWatch;
 use seam_workers::OpenGate;
 use seam_world::{Status, run_seamless};
@@ -10,14 +10,28 @@ use std::io;
 use std::io::{ErrorKind, Read, Write};
 use std::test::Fail;
 
+// Of three calls in a row the first is interrupted, the second would block, and only the third is done.
+fn refusal(calls: &mut u32) -> Option<ErrorKind> {
+    *calls = calls.wrapping_add(1);
+    match *calls % 3 {
+        1 => Some(ErrorKind::Interrupted),
+        2 => Some(ErrorKind::WouldBlock),
+        _ => None,
+    }
+}
+
 // A screen that counts the lines that it shows.
 #[derive(Drop)]
 struct Screen<'a> {
     shown: &'a Cell<u32>,
+    calls: u32,
 }
 
 impl Write for Screen<'_> {
     fn write(&mut self, buf: &[u8]) -> io::Result<usize> {
+        if let Some(kind) = refusal(&mut self.calls) {
+            return Err(kind.into());
+        }
         for byte in buf {
             if *byte == b'\n' {
                 self.shown.set(self.shown.get().saturating_add(1));
@@ -36,10 +50,14 @@ impl Write for Screen<'_> {
 struct Typist<'a> {
     shown: &'a Cell<u32>,
     typed: u32,
+    calls: u32,
 }
 
 impl Read for Typist<'_> {
     fn read(&mut self, buf: &mut [u8]) -> io::Result<usize> {
+        if let Some(kind) = refusal(&mut self.calls) {
+            return Err(kind.into());
+        }
         let line = match self.typed {
             0 => b"%%\n".as_slice(),
             1 | 2 | 3 => b"tock\n".as_slice(),
@@ -54,14 +72,21 @@ impl Read for Typist<'_> {
     }
 }
 
+// Interrupted calls, and those that would block, are made again.
 #[test]
 fn an_answer_is_written_before_the_next_read(rt: HostRuntime) -> Result<(), Fail> {
     let shown = Cell::new(0);
-    let mut input = RealSource::new(Typist {
+    let typist = Typist {
         shown: &shown,
         typed: 0,
-    });
-    let mut out = RealSink::new(Screen { shown: &shown });
+        calls: 0,
+    };
+    let screen = Screen {
+        shown: &shown,
+        calls: 0,
+    };
+    let mut input = RealSource::new(Patient::new(typist, &rt));
+    let mut out = RealSink::new(Patient::new(screen, &rt));
     let status = run_seamless(
         &rt,
         rt.alloc(),
@@ -90,7 +115,7 @@ fn the_answers_to_the_lines_of_one_read_are_one_write(rt: HostRuntime) -> Result
     let script = tocks(rt.alloc(), 200)?;
     let run = Run {
         words: &[],
-        script: &script,
+        script: script.as_bytes(),
         streams: Streams {
             bad_writes: &[2],
             ..GOOD

@@ -12,6 +12,7 @@ use Rattle.seam_node_steps.specs.Prelude.{IsTree, with_node, EachNode, Order, Ba
 use Rattle.seam_node_steps.specs.Prelude.{Cell, Base, IsNode, with_nodes, order_if, ordered_at, reap_ordered_at, with_orders, with_reap}
 use Rattle.seam_node_steps.specs.Prelude.{reaps_loaded, loaded, look_loaded}
 use Rattle.seam_law_calls.specs.Prelude.{Frame, here_at, IsAt, IsInFrame}
+use Rattle.seam_law_calls.proofs.Trees.{of_only}
 use Rattle.seam_law_rounds.specs.Prelude.{framed, each, node_loaded}
 use Rattle.seam_call.specs.declared.order.Order.TheVariants as order
 use Rattle.seam_node_steps.specs.Loads.{with_order}
@@ -192,7 +193,7 @@ module _ (w : World) (is : IsWorld w) where
 
   size_by : (size k : ℕ) (s : NodeView) → IsAt f k s → HasSize size s → HasSpace size s
   size_by size k (Cell c) at same =
-      (ap (λ t. t.size) at.tree ∙ (is.space ∙ (sym (ap (λ h. h.settings.size) at.here) ∙ same)), same)
+      (is.space c.tree at.tree ∙ (sym (ap (λ h. h.settings.size) at.here) ∙ same), same)
   size_by size k (Base n) at same = tt
 
   -- so there is a base node
@@ -224,7 +225,8 @@ module _ (w : World) (is : IsWorld w) where
       nodes = subst (λ v. IsInFrame (framed f b) v) (sym (loaded_is w b))
           (frame_turns f (framed f b) refl (node_loaded b) (node_goes f b tree) w is.nodes);
       many = ap (λ v. length v.nodes) (loaded_is w b) ∙ (length-map w.nodes (node_loaded b) ∙ is.many);
-      space = let n = first_node in sym (may 0 n.0 n.1).space ∙ ap (λ h. h.settings.size) (knows 0 n.0 n.1);
+      space = of_only (framed f b) (λ t. t.size ≡ f.settings.size) refl
+          (let n = first_node in sym (may 0 n.0 n.1).space ∙ ap (λ h. h.settings.size) (knows 0 n.0 n.1));
     }
 
   pub world_reaps : (es : List ℕ) → IsWorld (reaps_loaded w es)

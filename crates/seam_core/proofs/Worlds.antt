@@ -7,6 +7,7 @@ use Rattle.seam_law_calls.specs.Prelude.{IsFrame}
 use Rattle.seam_law_rounds.specs.Prelude.{IsBetweenRounds, first_frame}
 use Rattle.seam_machine.proofs.Occurring.{occurs, length-happens}
 use Rattle.seam_net_runs.proofs.Runs.{leads_extend}
+use Rattle.seam_law_calls.proofs.Trees.{of_only}
 use Rattle.seam_law_calls.proofs.Classify.{frame_happens}
 use Rattle.seam_law_rounds.proofs.Opened.{opened_between}
 use Rattle.seam_core.specs.Worlds.{IsWorld, Leads, KeepsLaws, Lives, in_calls, in_reaps, in_looks}
@@ -54,7 +55,7 @@ one_is_tree size from to = record {
 
 module _ (defs : List TypeDef) (settings : Settings) (are : AreDefs defs) (legal : AreLegal settings) where
   pub frame_opened : IsFrame (first_frame defs settings)
-  frame_opened = record { defs = are; tree = one_is_tree settings.size legal.in_range.some_size legal.in_range.size }
+  frame_opened = record { defs = are; tree = one_is_tree settings.size legal.in_range.some_size legal.in_range.size; later = tt }
 
   abbrev between : IsBetweenRounds (first_frame defs settings) (opened defs settings)
   between = opened_between defs settings frame_opened legal.in_range.some_bases
@@ -63,7 +64,12 @@ module _ (defs : List TypeDef) (settings : Settings) (are : AreDefs defs) (legal
   many_opened = between.many
 
   pub world_opened : IsWorld (opened defs settings)
-  world_opened = record { frame = first_frame defs settings; nodes = between.nodes; many = between.many; space = refl }
+  world_opened = record {
+    frame = first_frame defs settings;
+    nodes = between.nodes;
+    many = between.many;
+    space = of_only (first_frame defs settings) (λ t. t.size ≡ settings.size) refl refl;
+  }
 
   -- a net of its nodes with empty links is such a world
   pub is_opened : (ns : List NodeView) (net : World) → ns ≡ (opened defs settings).nodes →

@@ -1,10 +1,11 @@
 -- Worlds that a run reaches, and the laws that hold of each.
 use Rattle.std.specs.Prelude.{◌≡◌, ℕ, ◌+◌, ◌≤◌, List, length, Some, if◌then◌else◌}
 use Rattle.std.specs.List.{AllByRecursion}
-use Rattle.seam_node_steps.specs.Prelude.{LeadsTo, IsQuiet, Event, Batch, GhostCopy, cell_count, RealView, holders, World, node_steps}
+use Rattle.seam_node_steps.specs.Prelude.{Division, LeadsTo, IsQuiet, Event, Batch, GhostCopy, cell_count, RealView, holders, World}
+use Rattle.seam_node_steps.specs.Prelude.{node_steps}
 use Rattle.seam_node_steps.specs.Prelude.{node_has_work, loaded, reaps_loaded, look_loaded}
 use Rattle.seam_law_flow.specs.Prelude.{In}
-use Rattle.seam_law_calls.specs.Prelude.{Frame, IsInFrame, entity_flow, real_in}
+use Rattle.seam_law_calls.specs.Prelude.{Frame, IsTreeOf, IsInFrame, entity_flow, real_in}
 use Rattle.seam_law_rounds.specs.Prelude.{framed, AreReapable, reap_comes}
 use Rattle.seam_law_ghosts.specs.Prelude.{IsHushed, copy_at}
 use Rattle.seam_law_clients.specs.Prelude.{clients_loaded, clients_shown}
@@ -12,12 +13,12 @@ use Rattle.seam_law_all.specs.Prelude.{KeepsRecords, KeepsRecordsWithin, MayBeGi
 use Rattle.seam_law_all.specs.Prelude.{ObeysLawsOfLooks, AreShownOneLook, clients_looked}
 use Rattle.seam_rule_clients.specs.Clients.{ClientReplica}
 
--- a world has all its nodes, and they go by the same definitions, settings and tree, in the settings' space
+-- a world has all its nodes, and they go by the same definitions, settings and trees, in the settings' space
 pub record IsWorld (w : World) : Type 0 where
   pub frame : Frame
   pub nodes : IsInFrame frame w
   pub many : length w.nodes ≡ cell_count + frame.settings.bases
-  pub space : frame.tree.size ≡ frame.settings.size
+  pub space : (t : Division) → IsTreeOf frame t → t.size ≡ frame.settings.size
 
 -- events lead from one world to another
 abbrev pub Leads : World → List Event → World → Type 0

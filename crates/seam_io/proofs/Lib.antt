@@ -1,3 +1,4 @@
+pub mod Again
 pub mod Copies
 pub mod LineLemmas
 pub mod RangeLemmas

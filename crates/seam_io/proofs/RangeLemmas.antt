@@ -1,6 +1,6 @@
 -- The part of a list between two places.
-use Rattle.std.proofs.Common.{◌≡◌, ℕ, ◌+◌, ◌-◌, ◌<◌, ◌≤◌, false, List, [], ◌++◌, length, take, drop, get_or, sym, ap, ◌∙◌}
-use Rattle.std.proofs.Common.{subst, arith}
+use Rattle.std.proofs.Common.{◌≡◌, ℕ, ◌+◌, ◌-◌, ◌<◌, ◌≤◌, ◌⊎◌, inr, Bool, true, false, List, [], ◌++◌, length, take, drop, get_or}
+use Rattle.std.proofs.Common.{sym, ap, ◌∙◌, subst, arith}
 use Rattle.std.specs.Prelude.{slice_index, slice_range, Option, None, Some, MatchOption, MatchBool}
 use Rattle.std.specs.Option.{is_some}
 use Rattle.std.proofs.Math.Nat.{sub_self, sub-zero}
@@ -56,11 +56,12 @@ no_feed_denied : (held : List ℕ) (len : ℕ) → IsFeedAt held len → ¬ (Has
 no_feed_denied held len feed none =
     false≢true (sym (All-get_or (λ byte. is_feed byte ≡ false) held len 0 feed.within none) ∙ ap is_feed feed.feed)
 
--- the answer of a search for a line feed, as a test
-pub found_or_none : (held : List ℕ) (found : Option ℕ) → MatchOption found (HasNoFeed held) (IsFeedAt held)
-    → MatchBool (is_some found) (¬ (HasNoFeed held)) (HasNoFeed held)
-found_or_none held None answer = answer
-found_or_none held (Some len) answer = no_feed_denied held len answer
+-- the answer of a search for a line feed, as a test, where no line is passed over
+pub found_or_none : (passing : Bool) (held : List ℕ) (found : Option ℕ) → passing ≡ false →
+    MatchOption found (HasNoFeed held) (IsFeedAt held)
+    → MatchBool (is_some found) ((passing ≡ false) × ¬ (HasNoFeed held)) ((passing ≡ true) ⊎ HasNoFeed held)
+found_or_none passing held None plain answer = inr answer
+found_or_none passing held (Some len) plain answer = (plain, no_feed_denied held len answer)
 
 -- bytes were read after those that were moved to the start
 pub no_feed_after_read : (old new : List ℕ) (a b f : ℕ) → take (b - a) new ≡ slice_range old a b → b - a ≤ f

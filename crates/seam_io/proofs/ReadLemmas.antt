@@ -7,16 +7,15 @@ use Rattle.std.proofs.KnownBytes.{Consumes-trans, Consumes-kept}
 use Rattle.std.proofs.Math.Nat.{sub-zero}
 use Rattle.std.proofs.Math.Seq.{take-add}
 use Rattle.std.proofs.lemmas.Bool.{false≢true}
-use Rattle.std.proofs.lemmas.List.{length-take, length-drop, same_from_push, take-append-le}
-use Rattle.std.proofs.lemmas.List.Elements.{All-take}
+use Rattle.std.proofs.lemmas.List.{length-take, length-drop}
 use Rattle.seam_io.specs.Causes.{Rose}
-use Rattle.seam_io.specs.Lines.{Line, Content, Long, is_feed, lines_of, whole_lines_of, lines_left, HasNoFeed}
-use Rattle.seam_io.specs.Reading.{Reader, Reading, IsExact, NeedsMore, IsDone, IsSparing, lines_given}
+use Rattle.seam_io.specs.Lines.{Line, Content, Long, lines_of, whole_lines_of, text_left, lines_left, whole_left}
+use Rattle.seam_io.specs.Reading.{Reader, Reading, IsExact, IsOpen, NeedsMore, IsDone, IsSparing, held_on, lines_given}
 use Rattle.seam_io.specs.States.{SourceState}
-use Rattle.seam_io.specs.Steps.{Moves, Answers, Fills}
+use Rattle.seam_io.specs.Steps.{IsWaiting, Skips, Moves, Answers, Takes, Fills}
 use Rattle.seam_io.specs.declared.lines.Next.{Next}
 use Rattle.seam_io.specs.declared.lines.Next.TheVariants as next
-use Rattle.seam_io.proofs.LineLemmas.{no_feed_append, no_feed_tail, lines_of-none, lines_of-whole, left_one, some_line}
+use Rattle.seam_io.proofs.LineLemmas.{lines_of-none, whole_left-none}
 use Rattle.seam_io.proofs.StepLemmas.{reader_of, same_but_held}
 use Rattle.seam_io.specs.declared.lines.TheConstants.{CHUNK}
 
@@ -44,13 +43,16 @@ filled start now later old new given got read r f took faults ends going more_ro
   ended = λ e. let at_end = ended e in let none = ap length at_end.0 in let a = f.taken in let b = f.limit in
       (at_end.1, rose_later start.ends now.ends later.ends r.ends at_end.2, omega arith);
   room = let a = r.room in let b = f.limit in let b2 = f.taken in let b3 = f.within in let d = ap length f.held in
-      let e : cond {A = ℕ} new.passing 1 0 ≡ cond old.passing 1 0 = ap (λ (p : Bool). cond {A = ℕ} p 1 0) f.passing in
       omega (arith, length-append old.held got);
   lines = λ more allowed.
       let old_lines = r.lines (got ++ more) (λ e. absurd (false≢true (sym going ∙ e))) in
       ap lines_of (append_assoc given got more) ∙ old_lines
       ∙ ap (λ bytes. read ++ lines_left old.passing bytes) (sym (append_assoc old.held got more) ∙ ap (λ bytes. bytes ++ more) (sym f.held))
       ∙ ap (λ p. read ++ lines_left p (new.held ++ more)) (sym f.passing);
+  whole = λ still more.
+      ap whole_lines_of (append_assoc given got more) ∙ r.whole going (got ++ more)
+      ∙ ap (λ bytes. read ++ whole_left old.passing bytes) (sym (append_assoc old.held got more) ∙ ap (λ bytes. bytes ++ more) (sym f.held))
+      ∙ ap (λ p. read ++ whole_left p (new.held ++ more)) (sym f.passing);
 }
 
 -- a reader that moved what it holds to the start of its buffer, and read after it
@@ -96,6 +98,7 @@ unread start now later old new given read r same going kept faults ends =
       ended = λ e. absurd (false≢true (sym going ∙ e));
       room = r.room;
       lines = r.lines;
+      whole = r.whole;
     }
 
 no_bytes : (n : ℕ) (bytes : List ℕ) → eqb n 0 ≡ true → take n bytes ≡ []
@@ -107,7 +110,7 @@ pub refilled : (start now later : SourceState) (old new : Reader) (given : List 
     → Fills old new (take count bytes) → Consumes now.left later.left (take count bytes)
     × (count ≡ 0 → 0 < length bytes → IsAtEnd later.left) → 0 < length bytes
     → now.faults ≤ later.faults → now.ends ≤ later.ends → (count ≡ 0 → Rose now.ends later.ends) → (count ≢ 0 → later.ends ≡ now.ends)
-    → NeedsMore old → new.ended ≡ eqb count 0 → Reading start later new (given ++ take count bytes) read
+    → IsWaiting old → new.ended ≡ eqb count 0 → Reading start later new (given ++ take count bytes) read
 refilled start now later old new given read count bytes r f took some faults ends rose same needs ended =
     filled start now later old new given (take count bytes) read r f took.0 faults ends needs.going needs.room
     (λ e. same (λ zero. false≢true (sym e ∙ ended ∙ ap (λ n. eqb n 0) zero)))
@@ -132,24 +135,23 @@ moved start now old new given read gave r m = record {
   lines = λ more allowed.
       let allowed' : old.ended ≡ true → more ≡ [] = λ e. allowed (m.ended ∙ e) in
       r.lines more allowed' ∙ ap (λ ls. read ++ ls) (m.lines more allowed') ∙ sym (append_assoc read gave _);
+  whole = λ still more.
+      let going : old.ended ≡ false = sym m.ended ∙ still in
+      r.whole going more ∙ ap (λ ls. read ++ ls) (m.whole going more) ∙ sym (append_assoc read gave _);
 }
 
--- the same reader, after the prefix of a long line was let go
+-- the same reader, after the rest of a line was let go
 pub kept : (start now : SourceState) (old new : Reader) (given : List ℕ) (read : List Line) → Reading start now old given read →
     Moves old new [] → Reading start now new given read
 kept start now old new given read r m =
     subst (λ ls. Reading start now new given ls) (append-nil read) (moved start now old new given read [] r m)
 
--- where no line feed is held, the lines that a line feed ended were given
+-- where the prefix of a line is held, the lines that stay were given
 whole_given : (start now : SourceState) (r : Reader) (given : List ℕ) (read : List Line) → Reading start now r given read →
-    r.ended ≡ false → HasNoFeed r.held
-    → whole_lines_of given ≡ read
-whole_given start now r given read h going whole =
-    let one = left_one r.passing r.held whole in
-    let fed = lines_of-whole given in
-    let both : whole_lines_of given ++ fed.0 ∷ [] ≡ read ++ one.0 ∷ [] =
-    sym fed.1 ∙ h.lines (10 ∷ []) (λ e. absurd (false≢true (sym going ∙ e))) ∙ ap (λ ls. read ++ ls) one.1 in
-    (same_from_push _ _ _ _ both).0
+    r.ended ≡ false → IsOpen r.held → whole_lines_of given ≡ read
+whole_given start now r given read h going text =
+    ap whole_lines_of (sym (append-nil given)) ∙ h.whole going [] ∙ ap (λ bytes. read ++ whole_left r.passing bytes) (append-nil r.held)
+    ∙ ap (λ ls. read ++ ls) (whole_left-none r.passing r.held text.whole text.short) ∙ append-nil read
 
 -- where nothing is held at the end, all lines were given
 all_given : (start now : SourceState) (r : Reader) (given : List ℕ) (read : List Line) → Reading start now r given read → r.held ≡ [] →
@@ -169,17 +171,8 @@ not_whole : (start now : SourceState) (r : Reader) (given : List ℕ) (read : Li
     Reading start now r given (read ++ line ∷ []) → r.ended ≡ false
     → whole_lines_of given ≡ read → ⊥
 not_whole start now r given read line h going all =
-    let fed = lines_of-whole given in
-    let whole =
-    ap length (ap (λ ls. ls ++ fed.0 ∷ []) (sym all) ∙ sym fed.1 ∙ h.lines (10 ∷ []) (λ e. absurd (false≢true (sym going ∙ e)))) in
-    let some = some_line r.passing r.held in
-    omega (
-      arith,
-      whole,
-      length-append read (fed.0 ∷ []),
-      length-append (read ++ line ∷ []) (lines_left r.passing (r.held ++ 10 ∷ [])),
-      length-append read (line ∷ []),
-    )
+    let whole = ap length (sym all ∙ ap whole_lines_of (sym (append-nil given)) ∙ h.whole going []) in
+    omega (arith, whole, length-append (read ++ line ∷ []) (whole_left r.passing (r.held ++ [])), length-append read (line ∷ []))
 
 exact_line : (n : Next) (start now : SourceState) (r : Reader) (given : List ℕ) (read : List Line) (line : Line) → (n ≡ next.End → ⊥) →
     (n ≡ next.Limit → ⊥)
@@ -226,14 +219,14 @@ answered n start now old new given read r a =
     (h, exact_by_answer n start now old new given read a h)
 
 -- a fault where more bytes were wanted
-pub faulted : (start now : SourceState) (r : Reader) (given : List ℕ) (read : List Line) → Reading start now r given read → NeedsMore r
+pub faulted : (start now : SourceState) (r : Reader) (given : List ℕ) (read : List Line) → Reading start now r given read → IsWaiting r
     → Reading start now r given (read ++ []) × IsExact next.ReadFault r given read
 faulted start now r given read h needs = (
   subst (λ ls. Reading start now r given ls) (sym (append-nil read)) h,
   record {
     ended = (λ e. cc, λ all. absurd (false≢true (sym needs.going ∙ all.0)));
     full = (λ e. cc, λ all. absurd (let room = needs.room in let same = all.0 in omega arith));
-    fault = λ _. (needs.going, needs.room, whole_given start now r given read h needs.going needs.whole);
+    fault = λ _. (needs.going, needs.room, whole_given start now r given read h needs.going needs.text);
   },
 )
 
@@ -291,22 +284,26 @@ turn_falls limit taken later old new going room (inr end) =
 
 -- ---- what a call takes
 
--- where all that was taken before has no line feed, one more read of 4,096 bytes at most is sparing
-pub sparing_more : (got more : List ℕ) → HasNoFeed got → length more ≤ CHUNK → IsSparing (got ++ more)
-sparing_more got more whole small =
-    let size : length (got ++ more) - CHUNK ≤ length got = omega (arith, length-append got more) in
-    subst HasNoFeed (sym (take-append-le (length (got ++ more) - CHUNK) got more size))
-    (All-take (λ byte. is_feed byte ≡ false) (length (got ++ more) - CHUNK) got whole)
+pub takes_none : (r : Reader) → Takes r r []
+takes_none r = λ rest. refl
 
-pub sparing_same : (got : List ℕ) → IsSparing got → IsSparing (got ++ [])
-sparing_same got sparing = subst IsSparing (sym (append-nil got)) sparing
+-- the next read took more, after what was held of a refused line was let go
+pub takes_more : (old now mid new : Reader) (got more : List ℕ) → Takes old now got → Skips now mid → mid.ended ≡ false →
+    new.held ≡ mid.held ++ more → new.passing ≡ mid.passing → Takes old new (got ++ more)
+takes_more old now mid new got more before skips going held passing = λ rest.
+    ap (λ bytes. text_left old.passing (old.held ++ bytes)) (append_assoc got more rest) ∙ before (more ++ rest)
+    ∙ skips.texts (more ++ rest) (λ e. absurd (false≢true (sym going ∙ skips.moves.ended ∙ e)))
+    ∙ ap (λ bytes. text_left mid.passing bytes) (sym (append_assoc mid.held more rest) ∙ ap (λ bytes. bytes ++ rest) (sym held))
+    ∙ ap (λ p. text_left p (new.held ++ rest)) (sym passing)
 
-pub no_feed_after : (prefix rest : List ℕ) → HasNoFeed (prefix ++ rest) → HasNoFeed rest
-no_feed_after [] rest h = h
-no_feed_after (b ∷ prefix) rest h = no_feed_after prefix rest (no_feed_tail b (prefix ++ rest) h)
-
-pub no_feed_more : (held got more now : List ℕ) → now ≡ held ++ more → HasNoFeed got → HasNoFeed now → HasNoFeed (got ++ more)
-no_feed_more held got more now same whole h = no_feed_append got more whole (no_feed_after held more (subst HasNoFeed same h))
+-- where all that was taken before is the prefix of a line at most, one more read of 4,096 bytes at most is sparing
+pub sparing_more : (old now : Reader) (got more : List ℕ) → Takes old now got → NeedsMore now → length more ≤ CHUNK →
+    IsSparing old (got ++ more)
+sparing_more old now got more takes needs small =
+    let same : text_left old.passing (old.held ++ got) ≡ held_on now =
+    ap (λ bytes. text_left old.passing (old.held ++ bytes)) (sym (append-nil got)) ∙ takes []
+    ∙ ap (λ bytes. text_left now.passing bytes) (append-nil now.held) in
+    inr (got, more, refl, small, subst IsOpen (sym same) needs.text)
 
 pub not_needed : (r : Reader) → IsDone r → ¬ (NeedsMore r)
 not_needed r done needs = false≢true (sym needs.going ∙ done.ended)

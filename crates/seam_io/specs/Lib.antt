@@ -1,5 +1,6 @@
 pub mod Causes
 pub mod States
+pub mod Patience
 pub mod Lines
 pub mod Reading
 pub mod RealSource

@@ -23,17 +23,17 @@ lines_between [] = []
 lines_between (text ∷ []) = if length text == 0 then [] else line_of text ∷ []
 lines_between (text ∷ next ∷ more) = line_of text ∷ lines_between (next ∷ more)
 
--- the lines of the texts round the line feeds that have a line feed after them
+-- the lines of the texts round the line feeds that have a line feed after them, and of a last one that is too long already
 abbrev pub whole_between : List (List ℕ) → List Line
 whole_between [] = []
-whole_between (text ∷ []) = []
+whole_between (text ∷ []) = if nat_lt LONGEST_LINE (length text) then Long ∷ [] else []
 whole_between (text ∷ next ∷ more) = line_of text ∷ whole_between (next ∷ more)
 
 -- the lines of an input
 unfoldable pub lines_of : List ℕ → List Line
 lines_of bytes = lines_between (slice_split is_feed bytes)
 
--- the lines of an input that a line feed ends
+-- the lines of an input that stay, whatever comes after it: those that a line feed ends, and a last one that is too long already
 unfoldable pub whole_lines_of : List ℕ → List Line
 whole_lines_of bytes = whole_between (slice_split is_feed bytes)
 
@@ -41,6 +41,13 @@ whole_lines_of bytes = whole_between (slice_split is_feed bytes)
 abbrev pub HasNoFeed : List ℕ → Type 0
 HasNoFeed bytes = All (λ byte. is_feed byte ≡ false) bytes
 
--- the lines of what is left of an input, of which the prefix of a line that is too long may be gone
+-- what is left of an input after the line that was refused as too long, if the rest of it is to be passed over
+abbrev pub text_left : Bool → List ℕ → List ℕ
+text_left passing bytes = if passing then after_first is_feed bytes else bytes
+
+-- the lines of what is left of an input, and those that stay
 abbrev pub lines_left : Bool → List ℕ → List Line
-lines_left passing bytes = if passing then Long ∷ lines_of (after_first is_feed bytes) else lines_of bytes
+lines_left passing bytes = lines_of (text_left passing bytes)
+
+abbrev pub whole_left : Bool → List ℕ → List Line
+whole_left passing bytes = whole_lines_of (text_left passing bytes)

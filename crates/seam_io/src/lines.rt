@@ -1,14 +1,15 @@
 // The lines of a source.
 ghost use Rattle.std.specs.Prelude.{◌≡◌, ◌≢◌, ◌<◌, ◌≤◌, ◌⊎◌, ◌+◌, ◌-◌, ◌++◌, [], ◌∷◌, List, ℕ, true, false, length, take, drop};
 ghost use Rattle.std.specs.Prelude.{slice_index, slice_range, vec_len, IfOk, IfSome, IfNone, OnOk, OnErr};
-ghost use Rattle.std.specs.Prelude.{MatchBool, MatchOption, if◌then◌else◌};
+ghost use Rattle.std.specs.Prelude.{MatchBool, MatchOption};
 ghost use Rattle.std.specs.Io.KnownBytes.{ReadConsumes};
 ghost use Rattle.std.specs.Str.Lines.{strip_carriage_return};
 ghost use Rattle.seam_io.specs.Causes.{Rose, HasCause, CountsEnds};
-ghost use Rattle.seam_io.specs.Lines.{Line, Long, line_of, HasNoFeed};
-ghost use Rattle.seam_io.specs.Reading.{Reader, Reading, IsExact, IsSparing, IsDone, IsLine, NeedsMore, lines_given, budget};
+ghost use Rattle.seam_io.specs.Lines.{Line, line_of, HasNoFeed};
+ghost use Rattle.seam_io.specs.Reading.{Reader, Reading, IsExact, IsSparing, IsDone, IsLine, IsOpen, NeedsMore};
+ghost use Rattle.seam_io.specs.Reading.{held_on, lines_given, budget};
 ghost use Rattle.seam_io.specs.States.{SourceState};
-ghost use Rattle.seam_io.specs.Steps.{IsFeedAt, LetsGo, Answers, Waits};
+ghost use Rattle.seam_io.specs.Steps.{IsFeedAt, IsWaiting, Skips, Answers, Waits};
 
 use crate::{Failed, Source};
 use memchr::memchr;
@@ -20,7 +21,7 @@ use std::marker::Model;
 pub enum Next {
     /// A line, which [`Lines::line`] lends.
     Line,
-    /// A line whose content, with a carriage return at its end, has more than 4,096 bytes. It is passed over.
+    /// A line whose content, with a carriage return at its end, has more than 4,096 bytes, as soon as so many came. It is passed over.
     Long,
     /// The end of the input, with nothing left.
     End,
@@ -49,7 +50,7 @@ pub struct Lines {
     // Where the content of the line that was given is.
     line_start: usize,
     line_end: usize,
-    // The prefix of a line that is too long was let go.
+    // What comes next, up to a line feed, is the rest of a line that was refused.
     passing: bool,
     ended: bool,
     taken: u64,
@@ -185,17 +186,23 @@ impl Lines {
         self.taken
     }
 
-    /// Whether a whole line is left in what was taken, so that the next call of [`Lines::next`] answers without a read.
+    /// Whether a whole line is left in what was taken, so that the next call of [`Lines::next`] answers without a read. After a line that
+    /// is too long the answer is no, until the next call.
     pub fn has_line(&self) -> bool
-        ensures { MatchBool result (¬ (HasNoFeed self.now.held)) (HasNoFeed self.now.held) }
+        ensures { MatchBool result ((self.now.passing ≡ false) × ¬ (HasNoFeed self.now.held))
+            ((self.now.passing ≡ true) ⊎ HasNoFeed self.now.held) }
     {
+        if self.passing {
+            return false;
+        }
         self.find_feed().is_some()
     }
 
     /// The next line of the source.
     ///
-    /// It reads only where no whole line is left in what was taken, at most 4,096 bytes at a time and never past the
-    /// limit. Calls after [`Next::End`] answer it again without a read.
+    /// It reads only where no whole line is left in what was taken, and no more than 4,096 bytes of one: the 4,097th byte of a line is
+    /// answered with [`Next::Long`] before any further read, and the rest of that line is passed over by the next call. A read is of at
+    /// most 4,096 bytes and never past the limit. Calls after [`Next::End`] answer it again without a read.
     pub fn next<S: Source>(&mut self, source: &mut S) -> Next
         ensures reads { (start : SourceState) (given : List ℕ) (read : List Line) →
             Reading start (S.state source.old) self.old given read →
@@ -203,7 +210,7 @@ impl Lines {
             × Reading start (S.state source.new) self.new
             (given ++ got) (read ++ lines_given result self.new.line)
             × IsExact result self.new (given ++ got) read
-            × IsSparing got }
+            × IsSparing self.old got }
         ensures fault { result ≡ Next.ReadFault → Rose (S.state source.old).faults
             (S.state source.new).faults }
         ensures later { (S.state source.old).faults ≤ (S.state source.new).faults }
@@ -213,7 +220,7 @@ impl Lines {
             (self.new.taken ≡ self.old.taken) × (self.new.ended ≡ self.old.ended) }
         ensures done { result ≡ Next.End → IsDone self.new }
         ensures again { IsDone self.old → result ≡ Next.End }
-        ensures whole { ¬ (HasNoFeed self.old.held) → IsLine result }
+        ensures whole { ¬ (IsOpen (held_on self.old)) → IsLine result }
 
         // Each line that is given lowers the budget.
         ensures budget { length (lines_given result self.new.line) + budget self.new
@@ -238,11 +245,14 @@ impl Lines {
         ensures some { IfSome result (λ n. Answers n self.old self.new) }
         ensures none { IfNone result (Waits self.old self.new) }
     {
+        self.skip();
         match self.find_feed() {
             Some(len) => return Some(self.give(len, 1)),
             None => {}
         }
-        self.let_go();
+        if self.held_len() > LONGEST_LINE {
+            return Some(self.refuse());
+        }
         if self.ended {
             return Some(self.finish());
         }
@@ -250,6 +260,31 @@ impl Lines {
             return Some(Next::Limit);
         }
         None
+    }
+
+    // Lets what is held of the line that was refused go.
+    fn skip(&mut self)
+        ensures { Skips self.old self.new }
+    {
+        self.line_start = 0;
+        self.line_end = 0;
+        if !self.passing {
+            return;
+        }
+        if self.feed < self.end {
+            self.start = self.feed + 1;
+            self.feed = feed_between(&self.buffer, self.start, self.end);
+            self.passing = false;
+            return;
+        }
+        self.start = self.end;
+        self.passing = !self.ended;
+    }
+
+    fn held_len(&self) -> usize
+        ensures { result ≡ length self.now.held }
+    {
+        self.end - self.start
     }
 
     // How many bytes come before the first line feed that is held.
@@ -268,19 +303,15 @@ impl Lines {
         requires { len + skip ≤ length self.old.held }
         ensures rest { self.new ≡ record self.old {
           held = drop (len + skip) self.old.held;
-          passing = false;
           line = self.new.line;
         } }
-        ensures gave { lines_given result self.new.line ≡ (if self.old.passing then Long
-            else line_of (take len self.old.held)) ∷ [] }
+        ensures gave { lines_given result self.new.line ≡ line_of (take len self.old.held) ∷ [] }
         ensures line { result ≢ Next.Line → self.new.line ≡ [] }
     {
         let text = self.start;
-        let long = self.passing || len > LONGEST_LINE;
         self.start += len + skip;
         self.feed = feed_between(&self.buffer, self.start, self.end);
-        self.passing = false;
-        if long {
+        if len > LONGEST_LINE {
             self.line_start = 0;
             self.line_end = 0;
             return Next::Long;
@@ -290,29 +321,31 @@ impl Lines {
         Next::Line
     }
 
-    // Lets what is held go where it is the prefix of a line that is too long.
-    fn let_go(&mut self)
-        requires { HasNoFeed self.old.held }
-        ensures { LetsGo self.old self.new }
+    // Refuses the line whose prefix is held, since that is too long already, and lets it go.
+    fn refuse(&mut self) -> Next
+        requires whole { HasNoFeed self.old.held }
+        requires long { LONGEST_LINE < length self.old.held }
+        requires plain { self.old.passing ≡ false }
+        requires line { self.old.line ≡ [] }
+        ensures { Answers result self.old self.new }
     {
-        self.line_start = 0;
-        self.line_end = 0;
+        self.start = self.end;
         self.feed = self.end;
-        if self.passing || self.end - self.start > LONGEST_LINE {
-            self.start = self.end;
-            self.passing = true;
-        }
+        self.passing = true;
+        Next::Long
     }
 
     // The last line of the input, or its end.
     fn finish(&mut self) -> Next
         requires whole { HasNoFeed self.old.held }
+        requires short { length self.old.held ≤ LONGEST_LINE }
+        requires plain { self.old.passing ≡ false }
         requires ended { self.old.ended ≡ true }
         requires line { self.old.line ≡ [] }
         ensures { Answers result self.old self.new }
     {
-        let len = self.end - self.start;
-        if self.passing || len > 0 {
+        let len = self.held_len();
+        if len > 0 {
             return self.give(len, 0);
         }
         Next::End
@@ -320,9 +353,7 @@ impl Lines {
 
     // Takes more of the input, or finds its end.
     fn fill<S: Source>(&mut self, source: &mut S) -> Result<(), Failed>
-        requires needs { NeedsMore self.old }
-        requires short { length self.old.held ≤ LONGEST_LINE }
-        requires line { self.old.line ≡ [] }
+        requires { IsWaiting self.old }
         ensures reads { (start : SourceState) (given : List ℕ) (read : List Line) →
             Reading start (S.state source.old) self.old given read →
             (got : List ℕ)
@@ -331,6 +362,7 @@ impl Lines {
             × (length got ≤ CHUNK) }
         ensures cause { HasCause (S.state source.old).faults (S.state source.new).faults result }
         ensures budget { budget self.new ≤ budget self.old }
+        ensures passing { self.new.passing ≡ self.old.passing }
         ensures limit { self.new.limit ≡ self.old.limit }
         ensures line { self.new.line ≡ [] }
         ensures falls { OnOk result ((self.old.taken < self.new.taken) ⊎

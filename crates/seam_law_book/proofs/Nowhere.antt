@@ -82,7 +82,7 @@ module _ (f : Frame) (e k : ℕ) (s : Has) (i : Option Msg) (t : Has) (sent : Li
   never : (r : RealView) → s.cell.slot.real ≡ Some r → ⊥
   never r has = let z = sym (ap (λ x. x.real) here.slot) ∙ has in cc
 
-  cell_bare : t.base ≡ s.base → CellMoves (here_at f k) f.tree e s.cell i t.cell sent → Stays
+  cell_bare : t.base ≡ s.base → {tree : Division} → CellMoves (here_at f k) tree e s.cell i t.cell sent → Stays
   cell_bare base (move.rests n d) = with_sent (same_slot base _ refl d.state) _ d.sends tt
   cell_bare base (move.strays m n b d) = with_sent (same_slot base _ refl d.state) _ d.sends tt
   cell_bare base (move.stays u r q changed has own acts at d) = absurd (never r has)
@@ -138,7 +138,7 @@ module _ (f : Frame) (e k : ℕ) (s : Has) (i : Option Msg) (t : Has) (sent : Li
   base_bare cells cell (base_move.stuck_client p n has v may a z) = absurd (no_part p has)
 
   stays_bare : Moves f e k s i t sent → Stays
-  stays_bare (at_a_cell low m base) = cell_bare base m
+  stays_bare (at_a_cell tree of low m base) = cell_bare base m
   stays_bare (at_a_base high m cell) = base_bare _ cell m
 
 -- ---- a list of events

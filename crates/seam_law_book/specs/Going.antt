@@ -1,5 +1,5 @@
 -- A book goes with a quiet world: what the book says of entities is what the world has of them.
-use Rattle.std.specs.Prelude.{◌≡◌, ℕ, ◌+◌, ◌%◌, ◌^◌, ◌<◌, ◌≤◌, is_some, length, None, Some}
+use Rattle.std.specs.Prelude.{◌≡◌, ℕ, ◌+◌, ◌%◌, ◌^◌, ◌<◌, ◌≤◌, is_some, [], length, None, Some}
 use Rattle.seam_node_steps.specs.Prelude.{Division, cells_of, Create, cell_count, RealView, PartView, World}
 use Rattle.seam_rule_rounds.specs.Prelude.{Header, Book, entries, open_lines, created_as, live_as, has_client, tree_of, MOST_LINES}
 use Rattle.seam_law_calls.specs.Prelude.{Frame, entity_flow, real_at}
@@ -7,9 +7,9 @@ use Rattle.seam_law_rounds.specs.Prelude.{next_from, numbers_of, IsNew, next_to,
 use Rattle.seam_defs.specs.declared.flags.Part.TheVariants as part
 use Rattle.seam_law_book.specs.Bringing.{last_number}
 
--- what the nodes of a world of the header go by, with this tree
+-- what the nodes of a world of the header go by, with this tree alone
 abbrev pub frame_of : Header → Division → Frame
-frame_of h t = record { defs = h.defs; settings = h.settings; tree = t }
+frame_of h t = record { defs = h.defs; settings = h.settings; tree = t; later = [] }
 
 -- the base node of an entity
 abbrev pub base_node : Header → ℕ → ℕ

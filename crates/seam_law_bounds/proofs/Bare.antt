@@ -65,7 +65,7 @@ module _ (f : Frame) (e k : ℕ) (s : Has) (i : Option Msg) (t : Has) (sent : Li
   witness_silent (witness.looks n r q w v shown at has wit now wit2 sum small z) = absurd (omega (arith, at, none))
 
   update_silent : Moves f e k s i t sent → IsSilent update_in sent
-  update_silent (at_a_cell low m same) = witness_silent (witness_moves f e k s i t sent m)
+  update_silent (at_a_cell tree of low m same) = witness_silent (witness_moves f e k s i t sent m)
   update_silent (at_a_base high m same) = base_silent update_in sees_no_update _ _ e _ i _ sent m
 
 -- ---- a list of events

@@ -3,7 +3,8 @@ use Rattle.std.proofs.Common.{◌≡◌, ℕ, Bool, true, false, cond, List, [],
 use Rattle.std.specs.Prelude.{slice_get}
 use Rattle.std.specs.List.{AllByRecursion}
 use Rattle.std.specs.FinSet as set
-use Rattle.seam_node_steps.specs.Prelude.{link, happens, enabled, EachNode, Event, Call as CallData, Order, Msg, base_numbers, base_of}
+use Rattle.seam_node_steps.specs.Prelude.{Division, link, happens, enabled, EachNode, Event, Call as CallData, Order, Msg, base_numbers}
+use Rattle.seam_node_steps.specs.Prelude.{base_of}
 use Rattle.seam_node_steps.specs.Prelude.{haunts_at, ghost_messages, current_to, NodeView, World, node_steps, node_has_work, Cell, Base}
 use Rattle.seam_law_flow.specs.Prelude.{comes, slot_at, letters_of, IsSilent}
 use Rattle.seam_law_calls.specs.Prelude.{Frame, here_at, IsInFrame, Has, mine, order_concerns, orders_of, has_of, has_none, entity_flow}
@@ -51,13 +52,13 @@ module _ (P : CallData → Type 0) where
     of : (l : List (ℕ × Msg)) → sent ≡ l → IsSilent call_in l → SentAre
     of l is h = subst (AllByRecursion (λ p. MessageIs p.1)) (sym is) (silent l h)
 
-    cell_sends : CellMoves (here_at f k) f.tree e s.cell i t.cell sent → SentAre
+    cell_sends : {tree : Division} → CellMoves (here_at f k) tree e s.cell i t.cell sent → SentAre
     cell_sends (move.rests n d) = of [] d.sends tt
     cell_sends (move.strays m n b d) = of [] d.sends tt
-    cell_sends (move.stays u r q changed has own acts at d) =
-        of _ d.sends (ghosts_silent call_in no_calls (here_at f k) q k (haunts_at (here_at f k) f.tree q.state.pos k q.haunts) changed)
-    cell_sends (move.goes u r q changed j has own acts at n d) =
-        let haunts = haunts_at (here_at f k) f.tree q.state.pos j (set.insert q.haunts k) in
+    cell_sends {tree} (move.stays u r q changed has own acts at d) =
+        of _ d.sends (ghosts_silent call_in no_calls (here_at f k) q k (haunts_at (here_at f k) tree q.state.pos k q.haunts) changed)
+    cell_sends {tree} (move.goes u r q changed j has own acts at n d) =
+        let haunts = haunts_at (here_at f k) tree q.state.pos j (set.insert q.haunts k) in
         of _ d.sends
         (all_append (λ p. call_in p.1 ≡ None) (ghost_messages (here_at f k) q j haunts changed) _
         (ghosts_silent call_in no_calls (here_at f k) q j haunts changed) (refl, tt))
@@ -83,7 +84,7 @@ module _ (P : CallData → Type 0) where
         (record { calls = λ c r at is. is; base_calls = λ c is. tt; ticks = λ is j lt. tt; reaps = λ r at is. tt }) stored).1
 
     sends_are : Moves f e k s i t sent → SentAre
-    sends_are (at_a_cell low m same) = cell_sends m
+    sends_are (at_a_cell tree of low m same) = cell_sends m
     sends_are (at_a_base high m same) = base_sends _ m
 
   -- ---- a world

@@ -3,7 +3,8 @@ use Rattle.std.proofs.Common.{◌≡◌, ℕ, ◌+◌, ◌<◌, ◌≤◌, ◌�
 use Rattle.std.proofs.Common.{inr}
 use Rattle.std.specs.List.{range_with_len}
 use Rattle.std.specs.FinSet as set
-use Rattle.seam_node_steps.specs.Prelude.{Call as CallData, Order, RealView, Msg, Hand, cell_count, base_numbers, base_of, NextPlace}
+use Rattle.seam_node_steps.specs.Prelude.{Division, Call as CallData, Order, RealView, Msg, Hand, cell_count, base_numbers, base_of}
+use Rattle.seam_node_steps.specs.Prelude.{NextPlace}
 use Rattle.seam_node_steps.specs.Prelude.{haunts_at, ghost_messages, settled_to, stray_call, is_stray, current_to, RouteView, tick_to}
 use Rattle.seam_law_flow.specs.Prelude.{IsSilent}
 use Rattle.seam_law_calls.specs.Prelude.{Frame, here_at, Has, CellMoves, Moves, at_a_cell, at_a_base, real_in}
@@ -47,11 +48,11 @@ module _ (f : Frame) (e k : ℕ) (s : Has) (i : Option Msg) (t : Has) (sent : Li
   silent_of : (l : List (ℕ × Msg)) → sent ≡ l → IsSilent call_in l → IsSilent call_in sent
   silent_of l is h = subst (IsSilent call_in) (sym is) h
 
-  stray_none : (m : Msg) → i ≡ Some m → is_stray (here_at f k) f.tree s.cell.slot m ≡ true → NonePasses
-  stray_none m a b c is away n at =
+  stray_none : (tree : Division) (m : Msg) → i ≡ Some m → is_stray (here_at f k) tree s.cell.slot m ≡ true → NonePasses
+  stray_none tree m a b c is away n at =
       let same : m ≡ Call c = let z = sym a ∙ is in cc in
       let strays : stray_call (here_at f k) c s.cell.slot.real s.cell.slot.next ≡ true =
-      ap (is_stray (here_at f k) f.tree s.cell.slot) (sym same) ∙ b in
+      ap (is_stray (here_at f k) tree s.cell.slot) (sym same) ∙ b in
       let gone = ap (λ o. stray_call (here_at f k) c o s.cell.slot.next) away in
       let left = ap (stray_call (here_at f k) c None) at in
       let z = sym strays ∙ (gone ∙ left) in
@@ -61,14 +62,14 @@ module _ (f : Frame) (e k : ℕ) (s : Has) (i : Option Msg) (t : Has) (sent : Li
     same : FewerOrders
     same = inl (ap (λ b. b.orders) base)
 
-    cell_sends : CellMoves (here_at f k) f.tree e s.cell i t.cell sent → Sends
+    cell_sends : {tree : Division} → CellMoves (here_at f k) tree e s.cell i t.cell sent → Sends
     cell_sends (move.rests n d) = plain (silent_of [] d.sends tt) (task n) same
-    cell_sends (move.strays m n b d) = plain (silent_of [] d.sends tt) (stray_none m n b) same
-    cell_sends (move.stays u r q changed has own acts at d) =
-        plain (silent_of _ d.sends (ghosts_silent call_in no_calls (here_at f k) q k (haunts_at (here_at f k) f.tree q.state.pos k q.haunts)
+    cell_sends {tree} (move.strays m n b d) = plain (silent_of [] d.sends tt) (stray_none tree m n b) same
+    cell_sends {tree} (move.stays u r q changed has own acts at d) =
+        plain (silent_of _ d.sends (ghosts_silent call_in no_calls (here_at f k) q k (haunts_at (here_at f k) tree q.state.pos k q.haunts)
         changed)) (held r has) same
-    cell_sends (move.goes u r q changed j has own acts at n d) =
-        let haunts = haunts_at (here_at f k) f.tree q.state.pos j (set.insert q.haunts k) in
+    cell_sends {tree} (move.goes u r q changed j has own acts at n d) =
+        let haunts = haunts_at (here_at f k) tree q.state.pos j (set.insert q.haunts k) in
         let gone = settled_to q haunts (q.beat + 1) (q.generation + 1) in
         let told = ghost_messages (here_at f k) q j haunts changed in
         plain (silent_of _ d.sends (all_append (λ p. call_in p.1 ≡ None) told ((j, Hand gone) ∷ [])
@@ -105,5 +106,5 @@ module _ (f : Frame) (e k : ℕ) (s : Has) (i : Option Msg) (t : Has) (sent : Li
     base_sends cells (base.reaps r n at has z) = plain (silent_of _ z (refl, tt)) at_base (inr (_, at))
 
   pub sends : ((c : CallData) → i ≡ Some (Call c) → k < cell_count) → Moves f e k s i t sent → Sends
-  sends cell (at_a_cell low m is) = cell_sends is m
+  sends cell (at_a_cell tree of low m is) = cell_sends is m
   sends cell (at_a_base high m is) = base_sends high cell _ (base_deeds m)

@@ -3,7 +3,8 @@ use Rattle.std.proofs.Common.{◌≡◌, ℕ, ◌+◌, ◌≤◌, Bool, true, fa
 use Rattle.std.specs.Prelude.{is_some, is_none}
 use Rattle.std.specs.List.{range_with_len}
 use Rattle.std.specs.FinSet as set
-use Rattle.seam_node_steps.specs.Prelude.{happens, AllEnabled, Occurs, total, Event, rank_of, RealView, Msg, Hand, Reap, base_numbers}
+use Rattle.seam_node_steps.specs.Prelude.{Division, happens, AllEnabled, Occurs, total, Event, rank_of, RealView, Msg, Hand, Reap}
+use Rattle.seam_node_steps.specs.Prelude.{base_numbers}
 use Rattle.seam_node_steps.specs.Prelude.{base_of, settled_to, SlotStep, slot_after, haunts_at, ghost_messages, current_to, shown_of}
 use Rattle.seam_node_steps.specs.Prelude.{looks_with, tick_to, NodeView, World, node_steps, node_has_work}
 use Rattle.seam_law_flow.specs.Prelude.{letter_in, slot_at, IsSilent}
@@ -135,11 +136,12 @@ module _ (f : Frame) (e k : ℕ) (s : Has) (i : Option Msg) (t : Has) (sent : Li
       let g = ap (gone_by (real_in s)) (now x u d ∙ same) ∙ gone_same (real_in s) in
       omega (arith, a, b, c, z, g, less)
 
-  stays_lowers : (u : AtCell) (r q : RealView) (changed : Bool) → s.cell.slot.real ≡ Some r → Acts (here_at f k) e s.cell i r u q changed →
-      Does u (settle.stays (here_at f k) f.tree s.cell.slot q changed) t.cell sent → t.base ≡ s.base → Lowers
-  stays_lowers u r q changed has acts d base =
-      let x = settle.stays (here_at f k) f.tree s.cell.slot q changed in
-      let haunts = haunts_at (here_at f k) f.tree q.state.pos k q.haunts in
+  stays_lowers : (tree : Division) (u : AtCell) (r q : RealView) (changed : Bool) → s.cell.slot.real ≡ Some r →
+      Acts (here_at f k) e s.cell i r u q changed →
+      Does u (settle.stays (here_at f k) tree s.cell.slot q changed) t.cell sent → t.base ≡ s.base → Lowers
+  stays_lowers tree u r q changed has acts d base =
+      let x = settle.stays (here_at f k) tree s.cell.slot q changed in
+      let haunts = haunts_at (here_at f k) tree q.state.pos k q.haunts in
       let a = real_is x u d in
       let b = survey_is x u d in
       let c = sent_is x u d (ghosts_silent heavy no_ghosts (here_at f k) q k haunts changed) in
@@ -149,12 +151,12 @@ module _ (f : Frame) (e k : ℕ) (s : Has) (i : Option Msg) (t : Has) (sent : Li
       let was = had r has in
       omega (arith, a, b, c, z, g, p, was)
 
-  goes_lowers : (u : AtCell) (r q : RealView) (changed : Bool) (j : ℕ) → s.cell.slot.real ≡ Some r →
-      Acts (here_at f k) e s.cell i r u q changed → Does u (settle.goes (here_at f k) f.tree s.cell.slot q changed j) t.cell sent →
+  goes_lowers : (tree : Division) (u : AtCell) (r q : RealView) (changed : Bool) (j : ℕ) → s.cell.slot.real ≡ Some r →
+      Acts (here_at f k) e s.cell i r u q changed → Does u (settle.goes (here_at f k) tree s.cell.slot q changed j) t.cell sent →
       t.base ≡ s.base → Lowers
-  goes_lowers u r q changed j has acts d base =
-      let x = settle.goes (here_at f k) f.tree s.cell.slot q changed j in
-      let haunts = haunts_at (here_at f k) f.tree q.state.pos j (set.insert q.haunts k) in
+  goes_lowers tree u r q changed j has acts d base =
+      let x = settle.goes (here_at f k) tree s.cell.slot q changed j in
+      let haunts = haunts_at (here_at f k) tree q.state.pos j (set.insert q.haunts k) in
       let told = ghost_messages (here_at f k) q j haunts changed in
       let left = settled_to q haunts (q.beat + 1) (q.generation + 1) in
       let a = real_is x u d in
@@ -168,11 +170,11 @@ module _ (f : Frame) (e k : ℕ) (s : Has) (i : Option Msg) (t : Has) (sent : Li
       let was = had r has in
       omega (arith, a, b, c, none, z, g, p, was)
 
-  cell_lowers : CellMoves (here_at f k) f.tree e s.cell i t.cell sent → t.base ≡ s.base → Lowers
+  cell_lowers : {tree : Division} → CellMoves (here_at f k) tree e s.cell i t.cell sent → t.base ≡ s.base → Lowers
   cell_lowers (move.rests n d) base = rests _ s.cell d refl (omega arith) tt base
   cell_lowers (move.strays m n b d) base = rests _ s.cell d refl (omega arith) tt base
-  cell_lowers (move.stays u r q changed has own acts at d) base = stays_lowers u r q changed has acts d base
-  cell_lowers (move.goes u r q changed j has own acts at n d) base = goes_lowers u r q changed j has acts d base
+  cell_lowers {tree} (move.stays u r q changed has own acts at d) base = stays_lowers tree u r q changed has acts d base
+  cell_lowers {tree} (move.goes u r q changed j has own acts at n d) base = goes_lowers tree u r q changed j has acts d base
   cell_lowers (move.late c r n has may lt d) base = rests _ s.cell d refl (omega arith) tt base
   cell_lowers (move.holds c r n is has own may lt d) base =
       let a = real_is _ s.cell d in
@@ -246,7 +248,7 @@ module _ (f : Frame) (e k : ℕ) (s : Has) (i : Option Msg) (t : Has) (sent : Li
       omega (arith, a, b, g, paid)
 
   pub move_lowers : Moves f e k s i t sent → Lowers
-  move_lowers (at_a_cell low m same) = cell_lowers m same
+  move_lowers (at_a_cell tree of low m same) = cell_lowers m same
   move_lowers (at_a_base high m same) = base_lowers _ m same
 
 -- ---- a world

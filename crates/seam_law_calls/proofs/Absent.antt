@@ -1,7 +1,8 @@
 -- An entity that is nowhere, and that nothing brings, stays so.
 use Rattle.std.proofs.Common.{◌≡◌, ℕ, Bool, true, false, cond, nat_lt, List, Option, None, Some, refl, sym, ap, ◌∙◌, subst}
 use Rattle.std.specs.List.{AllByRecursion}
-use Rattle.seam_node_steps.specs.Prelude.{happens, Occurs, Event, Ghost, beat_in, copy_in, ghost_after, GhostCopy, RealView, Msg, Hand}
+use Rattle.seam_node_steps.specs.Prelude.{Division, happens, Occurs, Event, Ghost, beat_in, copy_in, ghost_after, GhostCopy, RealView, Msg}
+use Rattle.seam_node_steps.specs.Prelude.{Hand}
 use Rattle.seam_node_steps.specs.Prelude.{GhostSet, World, node_steps}
 use Rattle.seam_law_calls.specs.Prelude.{Frame, here_at, IsInFrame, Has, AtCell, CellMoves, BaseMoves, Moves, at_a_cell, at_a_base, real_in}
 use Rattle.seam_law_calls.specs.Prelude.{IsBlank, CarriesNoEntity, IsAbsent, HasFewEntities, RunsTo}
@@ -42,7 +43,7 @@ module _ (f : Frame) (e k : ℕ) (s : Has) (i : Option Msg) (t : Has) (sent : Li
   never : (r : RealView) → real_in s ≡ Some r → ⊥
   never r has = let z = sym here.real ∙ has in cc
 
-  cell_blank : CellMoves (here_at f k) f.tree e s.cell i t.cell sent → Stays
+  cell_blank : {tree : Division} → CellMoves (here_at f k) tree e s.cell i t.cell sent → Stays
   cell_blank (move.rests n d) = with_sent (slot_same _ refl d.state) _ d.sends tt
   cell_blank (move.strays m n b d) = with_sent (slot_same _ refl d.state) _ d.sends tt
   cell_blank (move.stays u r q changed has own acts at d) = absurd (never r has)
@@ -74,7 +75,7 @@ module _ (f : Frame) (e k : ℕ) (s : Has) (i : Option Msg) (t : Has) (sent : Li
   )
 
   stays_blank : Moves f e k s i t sent → Stays
-  stays_blank (at_a_cell low m base) = cell_blank m
+  stays_blank (at_a_cell tree of low m base) = cell_blank m
   stays_blank (at_a_base high m cell) = base_blank _ cell m
 
 module _ (f : Frame) (e : ℕ) where

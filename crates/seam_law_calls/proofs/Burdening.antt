@@ -2,7 +2,8 @@
 use Rattle.std.proofs.Common.{◌≡◌, ℕ, ◌+◌, ◌*◌, ◌≤◌, Bool, false, List, [], ◌∷◌, map, Option, None, Some, refl, ap, ◌∙◌, arith}
 use Rattle.std.specs.List.{range_with_len}
 use Rattle.std.specs.FinSet as set
-use Rattle.seam_node_steps.specs.Prelude.{rank_of, total, RealView, Msg, Hand, Reap, base_numbers, base_of, SlotStep, slot_after, haunts_at}
+use Rattle.seam_node_steps.specs.Prelude.{Division, rank_of, total, RealView, Msg, Hand, Reap, base_numbers, base_of, SlotStep, slot_after}
+use Rattle.seam_node_steps.specs.Prelude.{haunts_at}
 use Rattle.seam_node_steps.specs.Prelude.{ghost_messages, beat_after, settled_to, current_to, shown_of, looks_with, tick_to}
 use Rattle.seam_law_flow.specs.Prelude.{IsSilent}
 use Rattle.seam_law_calls.specs.Prelude.{Frame, here_at, Has, AtCell, unlisted_if, Does, Acts, surveys, calls, readies, CellMoves}
@@ -95,14 +96,15 @@ module _ (f : Frame) (e k : ℕ) (s : Has) (i : Option Msg) (t : Has) (sent : Li
       let z = base_is same in
       omega (arith, a, b, c, z)
 
-  stays_eased : (u : AtCell) (r q : RealView) (changed : Bool) → s.cell.slot.real ≡ Some r → Acts (here_at f k) e s.cell i r u q changed →
-      Does u (settle.stays (here_at f k) f.tree s.cell.slot q changed) t.cell sent → t.base ≡ s.base → Eased
-  stays_eased u r q changed has acts d same =
-      let haunts = haunts_at (here_at f k) f.tree q.state.pos k q.haunts in
+  stays_eased : (tree : Division) (u : AtCell) (r q : RealView) (changed : Bool) → s.cell.slot.real ≡ Some r →
+      Acts (here_at f k) e s.cell i r u q changed →
+      Does u (settle.stays (here_at f k) tree s.cell.slot q changed) t.cell sent → t.base ≡ s.base → Eased
+  stays_eased tree u r q changed has acts d same =
+      let haunts = haunts_at (here_at f k) tree q.state.pos k q.haunts in
       let told = ghost_messages (here_at f k) q k haunts changed in
-      let a = real_is (settle.stays (here_at f k) f.tree s.cell.slot q changed) u d in
-      let b = survey_is (settle.stays (here_at f k) f.tree s.cell.slot q changed) u d in
-      let c = sent_is (settle.stays (here_at f k) f.tree s.cell.slot q changed) u d
+      let a = real_is (settle.stays (here_at f k) tree s.cell.slot q changed) u d in
+      let b = survey_is (settle.stays (here_at f k) tree s.cell.slot q changed) u d in
+      let c = sent_is (settle.stays (here_at f k) tree s.cell.slot q changed) u d
       (ghosts_silent heavy no_ghosts (here_at f k) q k haunts changed) in
       let z = base_is same in
       let p = pays u r q changed acts in
@@ -113,15 +115,15 @@ module _ (f : Frame) (e k : ℕ) (s : Has) (i : Option Msg) (t : Has) (sent : Li
       let was = had r has in
       omega (arith, a, b, c, z, pb, pg, pp, up, was)
 
-  goes_eased : (u : AtCell) (r q : RealView) (changed : Bool) (j : ℕ) → s.cell.slot.real ≡ Some r →
-      Acts (here_at f k) e s.cell i r u q changed → Does u (settle.goes (here_at f k) f.tree s.cell.slot q changed j) t.cell sent →
+  goes_eased : (tree : Division) (u : AtCell) (r q : RealView) (changed : Bool) (j : ℕ) → s.cell.slot.real ≡ Some r →
+      Acts (here_at f k) e s.cell i r u q changed → Does u (settle.goes (here_at f k) tree s.cell.slot q changed j) t.cell sent →
       t.base ≡ s.base → Eased
-  goes_eased u r q changed j has acts d same =
-      let haunts = haunts_at (here_at f k) f.tree q.state.pos j (set.insert q.haunts k) in
+  goes_eased tree u r q changed j has acts d same =
+      let haunts = haunts_at (here_at f k) tree q.state.pos j (set.insert q.haunts k) in
       let told = ghost_messages (here_at f k) q j haunts changed in
       let gone = settled_to q haunts (q.beat + 1) (q.generation + 1) in
-      let a = real_is (settle.goes (here_at f k) f.tree s.cell.slot q changed j) u d in
-      let b = survey_is (settle.goes (here_at f k) f.tree s.cell.slot q changed j) u d in
+      let a = real_is (settle.goes (here_at f k) tree s.cell.slot q changed j) u d in
+      let b = survey_is (settle.goes (here_at f k) tree s.cell.slot q changed j) u d in
       let c : sent_burden sent ≡ sent_burden told + real_burden gone =
       ap sent_burden d.sends ∙ total-push (λ p. letter_burden p.1) told (j, Hand gone) in
       let none = light_sent told (ghosts_silent heavy no_ghosts (here_at f k) q j haunts changed) in
@@ -133,11 +135,11 @@ module _ (f : Frame) (e k : ℕ) (s : Has) (i : Option Msg) (t : Has) (sent : Li
       let was = had r has in
       omega (arith, a, b, c, none, z, pb, pg, pp, was)
 
-  cell_eased : CellMoves (here_at f k) f.tree e s.cell i t.cell sent → t.base ≡ s.base → Eased
+  cell_eased : {tree : Division} → CellMoves (here_at f k) tree e s.cell i t.cell sent → t.base ≡ s.base → Eased
   cell_eased (move.rests n d) same = rests d same
   cell_eased (move.strays m n b d) same = rests d same
-  cell_eased (move.stays u r q changed has own acts at d) same = stays_eased u r q changed has acts d same
-  cell_eased (move.goes u r q changed j has own acts at n d) same = goes_eased u r q changed j has acts d same
+  cell_eased {tree} (move.stays u r q changed has own acts at d) same = stays_eased tree u r q changed has acts d same
+  cell_eased {tree} (move.goes u r q changed j has own acts at n d) same = goes_eased tree u r q changed j has acts d same
   cell_eased (move.late c r n has may lt d) same = rests d same
   cell_eased (move.holds c r n is has own may lt d) same =
       let a = real_is _ s.cell d in
@@ -228,5 +230,5 @@ module _ (f : Frame) (e k : ℕ) (s : Has) (i : Option Msg) (t : Has) (sent : Li
 
   -- no move raises it
   pub eased : Moves f e k s i t sent → Eased
-  eased (at_a_cell low m same) = cell_eased m same
+  eased (at_a_cell tree of low m same) = cell_eased m same
   eased (at_a_base high m same) = base_eased _ m same

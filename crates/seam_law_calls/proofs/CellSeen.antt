@@ -6,14 +6,16 @@ use Rattle.std.specs.FinMap as table
 use Rattle.std.specs.FinSet as set
 use Rattle.std.proofs.lemmas.Bool.{cases_eq}
 use Rattle.seam_table.proofs.Found.{found}
-use Rattle.seam_node_steps.specs.Prelude.{items_to, OrderView, next_item, Call as CallData, Order, rank_of, order_or, order_of, RealView}
+use Rattle.seam_node_steps.specs.Prelude.{Division, items_to, OrderView, next_item, Call as CallData, Order, rank_of, order_or, order_of}
+use Rattle.seam_node_steps.specs.Prelude.{RealView}
 use Rattle.seam_node_steps.specs.Prelude.{Msg, BaseCall, Hand, Current, GhostSet, GhostDrop, Tick, Reap, Update, Here, cell_count}
 use Rattle.seam_node_steps.specs.Prelude.{base_numbers, base_of, order_is_ready, ready_order, may_call, with_offer, settled_to, NextPlace}
-use Rattle.seam_node_steps.specs.Prelude.{SlotStep, slot_after, haunts_at, ghost_messages, current_to, stray_call, is_stray, may_come}
+use Rattle.seam_node_steps.specs.Prelude.{SlotStep, slot_after, haunts_at, ghost_messages, current_to, stray_call, is_stray}
 use Rattle.seam_node_steps.specs.Prelude.{shown_of, looks_with, tick_to}
 use Rattle.seam_law_flow.specs.Prelude.{letters_of, more_letter, IsSilent, carried_in, Desk, Post, Mail, Item, Quiet, Only, Passes, rests}
 use Rattle.seam_law_flow.specs.Prelude.{sends, offers, takes, Twice, once, twice}
-use Rattle.seam_law_calls.specs.Prelude.{Frame, here_at, Has, AtCell, Does, Acts, surveys, calls, readies, CellMoves, BaseMoves, Moves}
+use Rattle.seam_law_calls.specs.Prelude.{Frame, IsTreeOf, here_at, Has, AtCell, Does, Acts, surveys, calls, readies, CellMoves, BaseMoves}
+use Rattle.seam_law_calls.specs.Prelude.{Moves}
 use Rattle.seam_law_calls.specs.Prelude.{at_a_cell, at_a_base, real_in, desk_for, cell_order_from, real_desk, cell_post, cell_mail}
 use Rattle.seam_law_calls.specs.Prelude.{FindsTurn}
 use Rattle.seam_law_flow.proofs.SendLists.{sees_none, sees_after_silent, sees_one_here, sees_one_there}
@@ -25,7 +27,7 @@ use Rattle.seam_law_calls.specs.CellMoves as move
 use Rattle.seam_law_calls.specs.BaseMoves as base_move
 use Rattle.seam_law_calls.proofs.Holds.{not_both}
 use Rattle.seam_law_calls.proofs.Plain.{SeesNoGhost, ghosts_silent, mapped_silent, numbered_silent}
-use Rattle.seam_law_calls.proofs.Handling.{FindsRoom}
+use Rattle.seam_law_calls.proofs.Handling.{FindsRoom, not_stray}
 use Rattle.seam_law_calls.proofs.DeskLemmas.{from_same, from_other, desk_executes, desk_holds, desk_keeps, desk_stays, desk_takes}
 
 -- a ready call is of the sender under whose place it is held
@@ -137,20 +139,20 @@ module _ (f : Frame) (e k s : ℕ) (h : Has) (i : Option Msg) (t : Has) (sent : 
           | inr is ↦ rests (ap (carried_in mine) a) (stays_put r q has (desk_keeps s r.orders r.done c p.0 _ its is)) z
         ]
 
-    stays_seen : (u : AtCell) (r q : RealView) (changed : Bool) → real_in h ≡ Some r → HoldsOwn h →
-        Acts (here_at f k) e h.cell i r u q changed → Does u (settle.stays (here_at f k) f.tree h.cell.slot q changed) t.cell sent → Seen
-    stays_seen u r q changed has own acts d =
-        let x = settle.stays (here_at f k) f.tree h.cell.slot q changed in
-        let silent = ghosts_silent mine no_ghosts (here_at f k) q k (haunts_at (here_at f k) f.tree q.state.pos k q.haunts) changed in
+    stays_seen : (tree : Division) (u : AtCell) (r q : RealView) (changed : Bool) → real_in h ≡ Some r → HoldsOwn h →
+        Acts (here_at f k) e h.cell i r u q changed → Does u (settle.stays (here_at f k) tree h.cell.slot q changed) t.cell sent → Seen
+    stays_seen tree u r q changed has own acts d =
+        let x = settle.stays (here_at f k) tree h.cell.slot q changed in
+        let silent = ghosts_silent mine no_ghosts (here_at f k) q k (haunts_at (here_at f k) tree q.state.pos k q.haunts) changed in
         let after : cell_post s t ≡ acted q = post_is (stores t) (stores h) (desk_at t) _ stores_same (real_is x u d) in
         once (subst (λ p. Passes k (cell_post s h) came p seen_out) (sym after)
         (acts_seen u r q changed has own acts seen_out (quiet (silent_of x u d silent))))
 
-    goes_seen : (u : AtCell) (r q : RealView) (changed : Bool) (j : ℕ) → real_in h ≡ Some r → HoldsOwn h →
-        Acts (here_at f k) e h.cell i r u q changed → Does u (settle.goes (here_at f k) f.tree h.cell.slot q changed j) t.cell sent → Seen
-    goes_seen u r q changed j has own acts d =
-        let x = settle.goes (here_at f k) f.tree h.cell.slot q changed j in
-        let haunts = haunts_at (here_at f k) f.tree q.state.pos j (set.insert q.haunts k) in
+    goes_seen : (tree : Division) (u : AtCell) (r q : RealView) (changed : Bool) (j : ℕ) → real_in h ≡ Some r → HoldsOwn h →
+        Acts (here_at f k) e h.cell i r u q changed → Does u (settle.goes (here_at f k) tree h.cell.slot q changed j) t.cell sent → Seen
+    goes_seen tree u r q changed j has own acts d =
+        let x = settle.goes (here_at f k) tree h.cell.slot q changed j in
+        let haunts = haunts_at (here_at f k) tree q.state.pos j (set.insert q.haunts k) in
         let gone = settled_to q haunts (q.beat + 1) (q.generation + 1) in
         let silent = ghosts_silent mine no_ghosts (here_at f k) q j haunts changed in
         let after : cell_post s t ≡ post (stores h) None = post_is (stores t) (stores h) (desk_at t) None stores_same (real_is x u d) in
@@ -177,47 +179,44 @@ module _ (f : Frame) (e k s : ℕ) (h : Has) (i : Option Msg) (t : Has) (sent : 
 
     module _ (room : (r : RealView) → i ≡ Some (Hand r) → FindsRoom f k h r) (turn : (c : CallData) → i ≡ Some (Call c) →
         FindsTurn f k h c) where
-      stray_none : (m : Msg) → i ≡ Some m → is_stray (here_at f k) f.tree h.cell.slot m ≡ true → came ≡ None
-      stray_none (Call c) a b =
+      stray_none : (tree : Division) → IsTreeOf f tree → (m : Msg) → i ≡ Some m → is_stray (here_at f k) tree h.cell.slot m ≡ true →
+          came ≡ None
+      stray_none tree of (Call c) a b =
           let p = turn c a in
           absurd (call_not_stray (here_at f k) c h.cell.slot.real h.cell.slot.next p.may p.place b)
-      stray_none (Hand r) a b =
-          let p = room r a in
-          absurd (not_both (may_come (here_at f k) f.tree r) p.may
-          (sym (ap (λ o. is_stray (here_at f k) f.tree (record { real = o; next = h.cell.slot.next; ghost = h.cell.slot.ghost }) (Hand r))
-          p.free)
-          ∙ b))
-      stray_none m a b = unseen m a refl
+      stray_none tree of (Hand r) a b = absurd (not_stray f k h r (room r a) tree of b)
+      stray_none tree of m a b = unseen m a refl
 
-      cell_seen : HoldsOwn h → (i ≡ Some (Reap e) → ⊥) → CellMoves (here_at f k) f.tree e h.cell i t.cell sent → Seen
-      cell_seen own calm (move.rests n d) = idle_step _ h.cell d refl (ap (carried_in mine) n) tt
-      cell_seen own calm (move.strays m n b d) = idle_step _ h.cell d refl (stray_none m n b) tt
-      cell_seen own calm (move.stays u r q changed has is acts at d) = stays_seen u r q changed has own acts d
-      cell_seen own calm (move.goes u r q changed j has is acts at n d) = goes_seen u r q changed j has own acts d
-      cell_seen own calm (move.late c r n has may lt d) = let le = (turn c n).due r has in absurd (omega (arith, le, lt))
-      cell_seen own calm (move.holds c r n is has mine_is may lt d) =
+      cell_seen : HoldsOwn h → (i ≡ Some (Reap e) → ⊥) → (tree : Division) → IsTreeOf f tree →
+          CellMoves (here_at f k) tree e h.cell i t.cell sent → Seen
+      cell_seen own calm tree of (move.rests n d) = idle_step _ h.cell d refl (ap (carried_in mine) n) tt
+      cell_seen own calm tree of (move.strays m n b d) = idle_step _ h.cell d refl (stray_none tree of m n b) tt
+      cell_seen own calm tree of (move.stays u r q changed has is acts at d) = stays_seen tree u r q changed has own acts d
+      cell_seen own calm tree of (move.goes u r q changed j has is acts at n d) = goes_seen tree u r q changed j has own acts d
+      cell_seen own calm tree of (move.late c r n has may lt d) = let le = (turn c n).due r has in absurd (omega (arith, le, lt))
+      cell_seen own calm tree of (move.holds c r n is has mine_is may lt d) =
           holds_seen c r n has lt (post_is (stores t) (stores h) (desk_at t) _ stores_same (real_is _ h.cell d)) (silent_of _ h.cell d tt)
-      cell_seen own calm (move.passes c p n is has at d) =
+      cell_seen own calm tree of (move.passes c p n is has at d) =
           passes_seen c p.cell n (post_is (stores t) (stores h) (desk_at t) (desk_at h) stores_same (real_is _ h.cell d)) d.sends
-      cell_seen own calm (move.lands r n is has may d) =
+      cell_seen own calm tree of (move.lands r n is has may d) =
           once (lands (desk_for s r.orders r.done) (ap (carried_in mine) n)
           (post_is (stores t) (stores h) (desk_at t) _ stores_same (real_is _ h.cell d))
           (quiet (silent_of _ h.cell d (mapped_silent mine (current_to (here_at f k) r) (λ b. refl) (base_numbers (here_at f k))))))
-      cell_seen own calm (move.hears_set n c a has d) = idle_step _ h.cell d refl (unseen (GhostSet e n c) a refl) tt
-      cell_seen own calm (move.ignores_set n c r a has d) = idle_step _ h.cell d refl (unseen (GhostSet e n c) a refl) tt
-      cell_seen own calm (move.hears_drop n a d) = idle_step _ h.cell d refl (unseen (GhostDrop e n) a refl) tt
-      cell_seen own calm (move.reaped r n has is may d) = absurd (calm n)
-      cell_seen own calm (move.ticks n st se) =
+      cell_seen own calm tree of (move.hears_set n c a has d) = idle_step _ h.cell d refl (unseen (GhostSet e n c) a refl) tt
+      cell_seen own calm tree of (move.ignores_set n c r a has d) = idle_step _ h.cell d refl (unseen (GhostSet e n c) a refl) tt
+      cell_seen own calm tree of (move.hears_drop n a d) = idle_step _ h.cell d refl (unseen (GhostDrop e n) a refl) tt
+      cell_seen own calm tree of (move.reaped r n has is may d) = absurd (calm n)
+      cell_seen own calm tree of (move.ticks n st se) =
           idle (unseen Tick n refl) (subst (IsSilent mine) (sym se) tt) stores_same (ap (λ a. real_desk s a.slot.real) st)
-      cell_seen own calm (move.unlists n a at b d) =
+      cell_seen own calm tree of (move.unlists n a at b d) =
           idle_step _ (record { slot = h.cell.slot; survey = n; looks = h.cell.looks }) d refl (ap (carried_in mine) a) tt
-      cell_seen own calm (move.looks n r w known a at has is v small d) =
+      cell_seen own calm tree of (move.looks n r w known a at has is v small d) =
           idle_step (looks_with (here_at f k) h.cell.slot r w known (shown_of (here_at f k) r w known))
           (record { slot = h.cell.slot; survey = h.cell.survey; looks = n }) d (sym (before r has)) (ap (carried_in mine) a)
           (numbered_silent mine (base_of (here_at f k) r.entity) r.entity w.sent _ (λ u. refl))
-      cell_seen own calm (move.overlooks n known a at b d) =
+      cell_seen own calm tree of (move.overlooks n known a at b d) =
           idle_step _ (record { slot = h.cell.slot; survey = h.cell.survey; looks = n }) d refl (ap (carried_in mine) a) tt
-      cell_seen own calm (move.stuck r a has ready may d) = idle_step _ h.cell d refl (ap (carried_in mine) a) tt
+      cell_seen own calm tree of (move.stuck r a has ready may d) = idle_step _ h.cell d refl (ap (carried_in mine) a) tt
 
   -- ---- a base node
 
@@ -295,5 +294,5 @@ module _ (f : Frame) (e k s : ℕ) (h : Has) (i : Option Msg) (t : Has) (sent : 
 
   pub calls_seen : ((r : RealView) → i ≡ Some (Hand r) → FindsRoom f k h r) → ((c : CallData) → i ≡ Some (Call c) → FindsTurn f k h c) →
       HoldsOwn h → (i ≡ Some (Reap e) → ⊥) → Moves f e k h i t sent → Seen
-  calls_seen room turn own calm (at_a_cell low m same) = cell_seen same room turn own calm m
+  calls_seen room turn own calm (at_a_cell tree of low m same) = cell_seen same room turn own calm tree of m
   calls_seen room turn own calm (at_a_base high m same) = base_seen same high room turn _ m

@@ -1,9 +1,10 @@
 -- For callers: a step of a node is, for each entity, one of the moves, and so is an event of a world.
-use Rattle.std.proofs.Common.{ℕ, Option, refl, ◌∙◌, subst}
+use Rattle.std.proofs.Common.{ℕ, Option, refl, sym, ◌∙◌, subst}
 use Rattle.seam_node_steps.specs.Prelude.{cells_of, happens, Occurs, items_to, Input, Task, From, Event, Msg, cell_steps, BaseView}
 use Rattle.seam_node_steps.specs.Prelude.{base_steps, NodeView, World, node_steps, node_has_work, node_peers, Cell, Base, IsNode}
 use Rattle.seam_law_flow.specs.Prelude.{Goes, letter_in, letters_of}
-use Rattle.seam_law_calls.specs.Prelude.{Frame, IsAt, IsInFrame, Has, mine, concerning, at_cell, at_base, has_of, has_none, entity_flow}
+use Rattle.seam_law_calls.specs.Prelude.{Frame, IsAt, IsInFrame, IsTreeOf, Has, mine, concerning, at_cell, at_base, has_of, has_none}
+use Rattle.seam_law_calls.specs.Prelude.{entity_flow}
 use Rattle.seam_law_calls.specs.Prelude.{CellMoves, BaseMoves, Moves, at_a_cell, at_a_base, MovesTo}
 use Rattle.seam_net_runs.specs.Sound.{MachineLaws}
 use Rattle.seam_net_runs.proofs.Keeping.{each_node}
@@ -38,11 +39,9 @@ module _ (f : Frame) (e k : ℕ) where
   pub node_moves : (s : NodeView) (i : Input Msg) → IsNode s → IsAt f k s →
       Moves f e k (has_of e s) (letter_in (mine e) i) (has_of e (node_steps s i).state) (concerning e (node_steps s i).sent)
   node_moves (Cell c) i is at =
-      at_a_cell at.low
-      (subst (λ h. CellMoves h f.tree e (at_cell e c) (letter_in (mine e) i) (at_cell e (cell_steps c i).state)
-      (concerning e (cell_steps c i).sent)) at.here
-      (subst (λ t. CellMoves c.here t e (at_cell e c) (letter_in (mine e) i) (at_cell e (cell_steps c i).state)
-      (concerning e (cell_steps c i).sent)) at.tree (cell_moves c is.keys e i))) refl
+      at_a_cell c.tree at.tree at.low
+      (subst (λ h. CellMoves h c.tree e (at_cell e c) (letter_in (mine e) i) (at_cell e (cell_steps c i).state)
+      (concerning e (cell_steps c i).sent)) at.here (cell_moves c is.keys e i)) refl
   node_moves (Base b) i is at =
       at_a_base at.high
       (subst (λ h. BaseMoves h (cells_of f.tree) e (at_base e b) (letter_in (mine e) i) (at_base e (base_steps b i).state)
@@ -54,7 +53,7 @@ module _ (f : Frame) (e k : ℕ) where
 stays_at : (f : Frame) (k : ℕ) (s : NodeView) (i : Input Msg) → IsAt f k s → IsAt f k (node_steps s i).state
 stays_at f k (Cell c) i at =
     let s = cell_frame c i in
-    record { low = at.low; here = s.here ∙ at.here; tree = s.tree ∙ at.tree }
+    record { low = at.low; here = s.here ∙ at.here; tree = subst (IsTreeOf f) (sym s.tree) at.tree }
 stays_at f k (Base b) i at =
     let s = base_frame b i in
     record { high = at.high; here = s.here ∙ at.here; cells = s.cells ∙ at.cells }

@@ -282,7 +282,7 @@ module _ (f : Frame) (e k number : ℕ) (s : Has) (i : Option Msg) (t : Has) (se
           (ap (carried_in tells) n) (quiet z)) refl
 
     pub told_by : ((os : List Order) → s.base.orders ≡ order.Reap e ∷ os → ⊥) → Moves f e k s i t sent → Told
-    told_by calm (at_a_cell low m same) = cell_told low same (witness_moves f e k s i t sent m)
+    told_by calm (at_a_cell tree of low m same) = cell_told low same (witness_moves f e k s i t sent m)
     told_by calm (at_a_base high m same) =
         client_told same (base_silent update_in sees_no_update _ _ e _ i _ sent m) (base_silent real_of sees_no_real _ _ e _ i _ sent m)
         (client_after (here_at f k) e s.base i t.base sent calm (part_moves f e k s i t sent (at_a_base high m same)))

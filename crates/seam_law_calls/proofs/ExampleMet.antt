@@ -22,6 +22,7 @@ use Rattle.seam_defs.proofs.TestLemmas.{of_group-Decides}
 use Rattle.seam_call.specs.declared.order.Order.TheVariants as order
 use Rattle.seam_node_steps.specs.EarlyCall.{world_0, base_17}
 use Rattle.seam_node_steps.proofs.Tables.{computing}
+use Rattle.seam_law_calls.proofs.Trees.{first_tree}
 
 -- ---- lists of nodes, one by one
 
@@ -139,7 +140,7 @@ tree_is = record {
     proper (suc (suc c)) h = absurd (omega (arith, h))
 
 pub frame_is : IsFrame frame
-frame_is = record { defs = builtin-are-defs; tree = tree_is }
+frame_is = record { defs = builtin-are-defs; tree = tree_is; later = tt }
 
 -- ---- the nodes
 
@@ -156,7 +157,7 @@ low_of k lt = record {
 }
 
 idle_at : (k : ℕ) → k < 16 → IsAt frame k (idle two_cells k)
-idle_at k lt = record { low = lt; here = refl; tree = refl }
+idle_at k lt = record { low = lt; here = refl; tree = first_tree frame }
 
 -- one value alone
 pub one_there : {X : Type 0} (x : X) (q : ℕ) → table.get (one x) q ≡ cond (eqb q 1) (Some x) None
@@ -201,7 +202,7 @@ idle_is k lt = (low_of k lt, idle_at k lt)
 nodes_are : EachFrom Q 0 world_0.nodes
 unfolding world_0
 nodes_are =
-    nodes_of Q node_0 node_16 node_17 (home_is, record { low = omega arith; here = refl; tree = refl }) idle_is (
+    nodes_of Q node_0 node_16 node_17 (home_is, record { low = omega arith; here = refl; tree = first_tree frame }) idle_is (
       record { bases = omega arith; cells = omega arith; routes = route_low 0 },
       record { high = omega arith; here = refl; cells = refl },
     ) (

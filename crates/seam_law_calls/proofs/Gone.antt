@@ -1,7 +1,8 @@
 -- A Reap that finds the real takes it out of the world, and an entity that no one has stays gone.
 use Rattle.std.proofs.Common.{◌≡◌, ℕ, ◌+◌, Bool, true, false, not, List, Option, None, Some, refl, sym, ap, ◌∙◌, subst, arith}
 use Rattle.std.specs.List.{AllByRecursion}
-use Rattle.seam_node_steps.specs.Prelude.{happens, Occurs, Event, RealView, Msg, Hand, Reap, limit, may_rise, is_stray, World, node_steps}
+use Rattle.seam_node_steps.specs.Prelude.{Division, happens, Occurs, Event, RealView, Msg, Hand, Reap, limit, may_rise, is_stray, World}
+use Rattle.seam_node_steps.specs.Prelude.{node_steps}
 use Rattle.seam_law_flow.specs.Prelude.{Goes, comes, letter_in, letters_of, IsSilent, carried_in, Nobody, Handles, still, turns, lands}
 use Rattle.seam_law_flow.specs.Prelude.{leaves, relays}
 use Rattle.seam_law_calls.specs.Prelude.{Frame, here_at, IsInFrame, Has, AtCell, mine, has_of, entity_flow, Acts, surveys, calls, readies}
@@ -44,7 +45,7 @@ module _ (f : Frame) (frame : IsFrame f) (e : ℕ) (w : World) (v : Event) (o : 
 
   pub gone_happens : Nobody real_in real_of (entity_flow e (happens node_steps w v))
   gone_happens =
-      gone_by (handled f frame.defs e 0 moves.k _ (comes moves.input) _ moves.moves.sent moves.out moves.moves.items
+      gone_by (handled f frame e 0 moves.k _ (comes moves.input) _ moves.moves.sent moves.out moves.moves.items
       (λ r h. absurd (none_comes r h)) (λ r h is. none_here r h) moves.moves.moves).0
 
 -- after every list of events
@@ -77,17 +78,17 @@ module _ (f : Frame) (e k : ℕ) (s : Has) (i : Option Msg) (t : Has) (sent : Li
   acts_not u p q changed (calls c a b d g) = not_reap _ a (λ z. cc)
   acts_not u p q changed (readies o c a b d g) = never a
 
-  stray_not : (m : Msg) → i ≡ Some m → is_stray (here_at f k) f.tree s.cell.slot m ≡ true → Takes
-  stray_not m n b =
+  stray_not : (tree : Division) (m : Msg) → i ≡ Some m → is_stray (here_at f k) tree s.cell.slot m ≡ true → Takes
+  stray_not tree m n b =
       let same : Reap e ≡ m = let z = sym is ∙ n in cc in
-      let c = ap (is_stray (here_at f k) f.tree s.cell.slot) same ∙ b in
+      let c = ap (is_stray (here_at f k) tree s.cell.slot) same ∙ b in
       absurd (not_yes (may_rise r.beat) may
-      (sym (ap (λ o. is_stray (here_at f k) f.tree (record { real = o; next = s.cell.slot.next; ghost = s.cell.slot.ghost }) (Reap e))
+      (sym (ap (λ o. is_stray (here_at f k) tree (record { real = o; next = s.cell.slot.next; ghost = s.cell.slot.ghost }) (Reap e))
       has) ∙ c))
 
-  takes : CellMoves (here_at f k) f.tree e s.cell i t.cell sent → Takes
+  takes : {tree : Division} → CellMoves (here_at f k) tree e s.cell i t.cell sent → Takes
   takes (move.rests n d) = never n
-  takes (move.strays m n b d) = stray_not m n b
+  takes {tree} (move.strays m n b d) = stray_not tree m n b
   takes (move.stays u p q changed h own acts at d) = acts_not u p q changed acts
   takes (move.goes u p q changed j h own acts at n d) = acts_not u p q changed acts
   takes (move.late c p n h m lt d) = not_reap _ n (λ z. cc)
@@ -123,7 +124,7 @@ module _ (f : Frame) (frame : IsFrame f) (e ty : ℕ) (w : World) (v : Event) (o
   ends : (t : Has) → Moves f e finds.k ((entity_flow e w).slot finds.k) (comes finds.input) t finds.moves.0.sent →
       Takes f e finds.k ((entity_flow e w).slot finds.k) (comes finds.input) t finds.moves.0.sent r finds.moves.1.0 finds.moves.1.1
       finds.moves.1.2
-  ends t (at_a_cell low m same) =
+  ends t (at_a_cell tree of low m same) =
       takes f e finds.k _ (comes finds.input) t finds.moves.0.sent r finds.moves.1.0 finds.moves.1.1 finds.moves.1.2 m
   ends t (at_a_base high m same) =
       let fits = has.fits.reals finds.k r finds.moves.1.1 in

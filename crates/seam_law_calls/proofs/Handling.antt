@@ -3,12 +3,13 @@ use Rattle.std.proofs.Common.{◌≡◌, ℕ, ◌+◌, ◌<◌, ◌≤◌, Bool,
 use Rattle.std.proofs.Common.{inr}
 use Rattle.std.specs.List.{range_with_len}
 use Rattle.std.specs.FinSet as set
-use Rattle.seam_node_steps.specs.Prelude.{AreDefs, items_to, RealView, Msg, BaseCall, Hand, Current, GhostSet, GhostDrop, Tick, Reap}
+use Rattle.seam_node_steps.specs.Prelude.{Division, items_to, RealView, Msg, BaseCall, Hand, Current, GhostSet, GhostDrop, Tick, Reap}
 use Rattle.seam_node_steps.specs.Prelude.{Update, cell_count, base_numbers, base_of, with_offer, settled_to, SlotStep, slot_after}
 use Rattle.seam_node_steps.specs.Prelude.{haunts_at, ghost_messages, beat_after, current_to, is_stray, may_come, shown_of, looks_with}
 use Rattle.seam_node_steps.specs.Prelude.{tick_to}
 use Rattle.seam_law_flow.specs.Prelude.{letters_of, IsSilent, carried_in, SendsNone, Handles, still, turns, lands, leaves, relays}
-use Rattle.seam_law_calls.specs.Prelude.{Frame, here_at, Has, AtCell, Does, Acts, surveys, calls, readies, CellMoves, BaseMoves, Moves}
+use Rattle.seam_law_calls.specs.Prelude.{Frame, IsTreeOf, here_at, IsFrame, Has, AtCell, Does, Acts, surveys, calls, readies, CellMoves}
+use Rattle.seam_law_calls.specs.Prelude.{BaseMoves, Moves}
 use Rattle.seam_law_calls.specs.Prelude.{at_a_cell, at_a_base, Replays, RealFits, real_in, real_of}
 use Rattle.seam_law_flow.proofs.SendLists.{sees_none, sees_after_silent, sees_one_here, sees_one_there}
 use Rattle.seam_entity.specs.declared.message.Msg.TheVariants.{Call}
@@ -23,13 +24,21 @@ use Rattle.seam_law_calls.proofs.RealsKept.{executed_fits, held_fits, ready_fits
 pub reals_unseen : SeesNoGhost real_of
 reals_unseen = record { sets = λ e n c. refl; drops = λ e n. refl }
 
--- what a hand-over finds where it comes: a cell without the real, which may take it
+-- what a hand-over finds where it comes: a cell without the real, which may take it by each of the trees
 pub record FindsRoom (f : Frame) (k : ℕ) (s : Has) (r : RealView) : Type 0 where
   pub cell : k < cell_count
   pub free : real_in s ≡ None
-  pub may : may_come (here_at f k) f.tree r ≡ true
+  pub may : (tree : Division) → IsTreeOf f tree → may_come (here_at f k) tree r ≡ true
 
-module _ (f : Frame) (defs : AreDefs f.defs) (e ty k : ℕ) (s : Has) (i : Option Msg) (t : Has) (sent : List (ℕ × Msg)) (out : ℕ →
+-- so it is not stray
+pub not_stray : (f : Frame) (k : ℕ) (s : Has) (r : RealView) → FindsRoom f k s r → (tree : Division) → IsTreeOf f tree →
+    is_stray (here_at f k) tree s.cell.slot (Hand r) ≡ true → ⊥
+not_stray f k s r p tree of stray =
+    not_both (may_come (here_at f k) tree r) (p.may tree of)
+    (sym (ap (λ o. is_stray (here_at f k) tree (record { real = o; next = s.cell.slot.next; ghost = s.cell.slot.ghost }) (Hand r)) p.free)
+    ∙ stray)
+
+module _ (f : Frame) (frame : IsFrame f) (e ty k : ℕ) (s : Has) (i : Option Msg) (t : Has) (sent : List (ℕ × Msg)) (out : ℕ →
     List Msg) (items : (j : ℕ) → out j ≡ items_to j sent) where
   abbrev pub Does_it : Type 0
   Does_it = Handles real_in real_of (Replays f) s i t out
@@ -59,8 +68,8 @@ module _ (f : Frame) (defs : AreDefs f.defs) (e ty k : ℕ) (s : Has) (i : Optio
   acts_fit : (u : AtCell) (r q : RealView) (changed : Bool) → Acts (here_at f k) e s.cell i r u q changed → RealFits f e ty k r →
       RealFits f e ty k q
   acts_fit u r q changed (surveys n a b c) is = is
-  acts_fit u r q changed (calls c a b d g) is = executed_fits f defs e ty k r c is d
-  acts_fit u r q changed (readies o c a b d g) is = ready_fits f defs e ty k r o c is d g
+  acts_fit u r q changed (calls c a b d g) is = executed_fits f frame.defs e ty k r c is d
+  acts_fit u r q changed (readies o c a b d g) is = ready_fits f frame.defs e ty k r o c is d g
 
   settled_replays : (u : AtCell) (r q : RealView) (changed : Bool) (haunts : _) (beat generation : ℕ) →
       Acts (here_at f k) e s.cell i r u q changed → Replays f r (settled_to q haunts beat generation)
@@ -81,106 +90,105 @@ module _ (f : Frame) (defs : AreDefs f.defs) (e ty k : ℕ) (s : Has) (i : Optio
   came_none : (m : Msg) → i ≡ Some m → real_of m ≡ None → carried_in real_of i ≡ None
   came_none m h n = ap (carried_in real_of) h ∙ n
 
-  stray_none : ((r : RealView) → i ≡ Some (Hand r) → FindsRoom f k s r) → (m : Msg) → i ≡ Some m →
-      is_stray (here_at f k) f.tree s.cell.slot m ≡ true → carried_in real_of i ≡ None
-  stray_none room (Hand r) h b =
-      let p = room r h in
-      absurd (not_both (may_come (here_at f k) f.tree r) p.may
-      (sym (ap (λ o. is_stray (here_at f k) f.tree (record { real = o; next = s.cell.slot.next; ghost = s.cell.slot.ghost }) (Hand r))
-      p.free)
-      ∙ b))
-  stray_none room m h b = came_none m h refl
+  -- ---- a cell
 
-  -- a settling that stays
-  stays_handled : (u : AtCell) (r q : RealView) (changed : Bool) → real_in s ≡ Some r → Acts (here_at f k) e s.cell i r u q changed →
-      Does u (settle.stays (here_at f k) f.tree s.cell.slot q changed) t.cell sent → Handled
-  stays_handled u r q changed has acts d =
-      let haunts = haunts_at (here_at f k) f.tree q.state.pos k q.haunts in
-      let told = ghost_messages (here_at f k) q k haunts changed in
-      let beat = beat_after told q.beat in (
-        turns r (settled_to q haunts beat q.generation) has
-            (real_is (settle.stays (here_at f k) f.tree s.cell.slot q changed) u d)
-            (inr (settled_replays u r q changed haunts beat q.generation acts)) (acts_none u r q changed acts)
-            (sends_none (silent_of (settle.stays (here_at f k) f.tree s.cell.slot q changed) u d
-            (ghosts_silent real_of reals_unseen (here_at f k) q k haunts changed))),
-        λ is. settled_fits f defs e ty k q k k q.haunts beat q.generation (acts_fit u r q changed acts is) is.home,
-      )
+  module _ (tree : Division) (of : IsTreeOf f tree) where
+    stray_none : ((r : RealView) → i ≡ Some (Hand r) → FindsRoom f k s r) → (m : Msg) → i ≡ Some m →
+        is_stray (here_at f k) tree s.cell.slot m ≡ true → carried_in real_of i ≡ None
+    stray_none room (Hand r) h b = absurd (not_stray f k s r (room r h) tree of b)
+    stray_none room m h b = came_none m h refl
 
-  -- a settling that goes
-  goes_handled : (u : AtCell) (r q : RealView) (changed : Bool) (j : ℕ) → real_in s ≡ Some r →
-      Acts (here_at f k) e s.cell i r u q changed → settle.home_after (here_at f k) f.tree q.state.pos ≡ j →
-      Does u (settle.goes (here_at f k) f.tree s.cell.slot q changed j) t.cell sent → Handled
-  goes_handled u r q changed j has acts at d =
-      let old = set.insert q.haunts k in
-      let haunts = haunts_at (here_at f k) f.tree q.state.pos j old in
-      let told = ghost_messages (here_at f k) q j haunts changed in
-      let gone = settled_to q haunts (q.beat + 1) (q.generation + 1) in
-      let silent = ghosts_silent real_of reals_unseen (here_at f k) q j haunts changed in (
-        leaves r gone j has (real_is (settle.goes (here_at f k) f.tree s.cell.slot q changed j) u d)
-            (inr (settled_replays u r q changed haunts (q.beat + 1) (q.generation + 1) acts)) (acts_none u r q changed acts)
-            (record {
-              here =
-                  ap (letters_of real_of) (items j ∙ ap (items_to j) d.sends)
-                  ∙ (sees_after_silent real_of j told ((j, Hand gone) ∷ []) silent ∙ sees_one_here real_of j (Hand gone));
-              others = λ x n.
-                  ap (letters_of real_of) (items x ∙ ap (items_to x) d.sends)
-                  ∙ (sees_after_silent real_of x told ((j, Hand gone) ∷ []) silent ∙ sees_one_there real_of j x (Hand gone) n);
-            }),
-        λ is.
-            let fits = acts_fit u r q changed acts is in
-            settled_fits f defs e ty k q j j old (q.beat + 1) (q.generation + 1) fits
-            (home_is_low f defs e ty k q.state.pos j at is.home),
-      )
+    -- a settling that stays
+    stays_handled : (u : AtCell) (r q : RealView) (changed : Bool) → real_in s ≡ Some r → Acts (here_at f k) e s.cell i r u q changed →
+        Does u (settle.stays (here_at f k) tree s.cell.slot q changed) t.cell sent → Handled
+    stays_handled u r q changed has acts d =
+        let haunts = haunts_at (here_at f k) tree q.state.pos k q.haunts in
+        let told = ghost_messages (here_at f k) q k haunts changed in
+        let beat = beat_after told q.beat in (
+          turns r (settled_to q haunts beat q.generation) has
+              (real_is (settle.stays (here_at f k) tree s.cell.slot q changed) u d)
+              (inr (settled_replays u r q changed haunts beat q.generation acts)) (acts_none u r q changed acts)
+              (sends_none (silent_of (settle.stays (here_at f k) tree s.cell.slot q changed) u d
+              (ghosts_silent real_of reals_unseen (here_at f k) q k haunts changed))),
+          λ is. settled_fits f frame tree of e ty k q k k q.haunts beat q.generation (acts_fit u r q changed acts is) is.home,
+        )
 
-  cell_handled : ((r : RealView) → i ≡ Some (Hand r) → FindsRoom f k s r) → ((r : RealView) → real_in s ≡ Some r → i ≡ Some (Reap e) → ⊥) →
-      CellMoves (here_at f k) f.tree e s.cell i t.cell sent → Handled
-  cell_handled room spared (move.rests n d) = rests (real_is _ s.cell d) (none_of n) (silent_of _ s.cell d tt)
-  cell_handled room spared (move.strays m n b d) = rests (real_is _ s.cell d) (stray_none room m n b) (silent_of _ s.cell d tt)
-  cell_handled room spared (move.stays u r q changed has own acts at d) = stays_handled u r q changed has acts d
-  cell_handled room spared (move.goes u r q changed j has own acts at n d) = goes_handled u r q changed j has acts at d
-  cell_handled room spared (move.late c r n has may lt d) =
-      rests (real_is _ s.cell d) (came_none (Call c) n refl) (silent_of _ s.cell d tt)
-  cell_handled room spared (move.holds c r n is has own may lt d) = (
-    turns r (with_offer r c) has (real_is _ s.cell d) (inr (record { further = []; entity = refl; type = refl; account = refl }))
-        (came_none (Call c) n refl) (sends_none (silent_of _ s.cell d tt)),
-    λ fits. held_fits f defs e ty k r c fits may,
-  )
-  cell_handled room spared (move.passes c p n is has at d) =
-      rests (real_is _ s.cell d) (came_none (Call c) n refl) (silent_of _ s.cell d (refl, tt))
-  cell_handled room spared (move.lands r n is has may d) = (
-    lands r r (ap (carried_in real_of) n) (real_is _ s.cell d) (inl refl)
-        (sends_none (silent_of _ s.cell d (mapped_silent real_of (current_to (here_at f k) r) (λ b. refl) (base_numbers (here_at f k))))),
-    λ fits. fits,
-  )
-  cell_handled room spared (move.hears_set n c h has d) =
-      rests (real_is _ s.cell d) (came_none (GhostSet e n c) h refl) (silent_of _ s.cell d tt)
-  cell_handled room spared (move.ignores_set n c r h has d) =
-      rests (real_is _ s.cell d) (came_none (GhostSet e n c) h refl) (silent_of _ s.cell d tt)
-  cell_handled room spared (move.hears_drop n h d) =
-      rests (real_is _ s.cell d) (came_none (GhostDrop e n) h refl) (silent_of _ s.cell d tt)
-  cell_handled room spared (move.reaped r n has own may d) = absurd (spared r has n)
-  cell_handled room spared (move.ticks n st se) =
-      rests (ap (λ a. a.slot.real) st) (came_none Tick n refl) (subst (IsSilent real_of) (sym se) tt)
-  cell_handled room spared (move.unlists n h at b d) =
-      rests (real_is _ (record { slot = s.cell.slot; survey = n; looks = s.cell.looks }) d) (none_of h) (silent_of _ _ d tt)
-  cell_handled room spared (move.looks n r w known h at has own is small d) = (
-    turns r _ has (real_is (looks_with (here_at f k) s.cell.slot r w known (shown_of (here_at f k) r w known)) _ d)
-        (inr (record { further = []; entity = refl; type = refl; account = refl })) (none_of h)
-        (sends_none (silent_of (looks_with (here_at f k) s.cell.slot r w known (shown_of (here_at f k) r w known)) _ d
-        (numbered_silent real_of (base_of (here_at f k) r.entity) r.entity w.sent _ (λ u. refl)))),
-    λ fits. record {
-      entity = fits.entity;
-      type = fits.type;
-      values = fits.values;
-      inside = fits.inside;
-      held = fits.held;
-      home = fits.home;
-      haunts = fits.haunts;
-    },
-  )
-  cell_handled room spared (move.overlooks n known h at b d) =
-      rests (real_is _ (record { slot = s.cell.slot; survey = s.cell.survey; looks = n }) d) (none_of h) (silent_of _ _ d tt)
-  cell_handled room spared (move.stuck r h has ready may d) = rests (real_is _ s.cell d) (none_of h) (silent_of _ s.cell d tt)
+    -- a settling that goes
+    goes_handled : (u : AtCell) (r q : RealView) (changed : Bool) (j : ℕ) → real_in s ≡ Some r →
+        Acts (here_at f k) e s.cell i r u q changed → settle.home_after (here_at f k) tree q.state.pos ≡ j →
+        Does u (settle.goes (here_at f k) tree s.cell.slot q changed j) t.cell sent → Handled
+    goes_handled u r q changed j has acts at d =
+        let old = set.insert q.haunts k in
+        let haunts = haunts_at (here_at f k) tree q.state.pos j old in
+        let told = ghost_messages (here_at f k) q j haunts changed in
+        let gone = settled_to q haunts (q.beat + 1) (q.generation + 1) in
+        let silent = ghosts_silent real_of reals_unseen (here_at f k) q j haunts changed in (
+          leaves r gone j has (real_is (settle.goes (here_at f k) tree s.cell.slot q changed j) u d)
+              (inr (settled_replays u r q changed haunts (q.beat + 1) (q.generation + 1) acts)) (acts_none u r q changed acts)
+              (record {
+                here =
+                    ap (letters_of real_of) (items j ∙ ap (items_to j) d.sends)
+                    ∙ (sees_after_silent real_of j told ((j, Hand gone) ∷ []) silent ∙ sees_one_here real_of j (Hand gone));
+                others = λ x n.
+                    ap (letters_of real_of) (items x ∙ ap (items_to x) d.sends)
+                    ∙ (sees_after_silent real_of x told ((j, Hand gone) ∷ []) silent ∙ sees_one_there real_of j x (Hand gone) n);
+              }),
+          λ is.
+              let fits = acts_fit u r q changed acts is in
+              settled_fits f frame tree of e ty k q j j old (q.beat + 1) (q.generation + 1) fits
+              (home_is_low f frame tree of k q.state.pos j at is.home),
+        )
+
+    cell_handled : ((r : RealView) → i ≡ Some (Hand r) → FindsRoom f k s r) →
+        ((r : RealView) → real_in s ≡ Some r → i ≡ Some (Reap e) → ⊥) →
+        CellMoves (here_at f k) tree e s.cell i t.cell sent → Handled
+    cell_handled room spared (move.rests n d) = rests (real_is _ s.cell d) (none_of n) (silent_of _ s.cell d tt)
+    cell_handled room spared (move.strays m n b d) = rests (real_is _ s.cell d) (stray_none room m n b) (silent_of _ s.cell d tt)
+    cell_handled room spared (move.stays u r q changed has own acts at d) = stays_handled u r q changed has acts d
+    cell_handled room spared (move.goes u r q changed j has own acts at n d) = goes_handled u r q changed j has acts at d
+    cell_handled room spared (move.late c r n has may lt d) =
+        rests (real_is _ s.cell d) (came_none (Call c) n refl) (silent_of _ s.cell d tt)
+    cell_handled room spared (move.holds c r n is has own may lt d) = (
+      turns r (with_offer r c) has (real_is _ s.cell d) (inr (record { further = []; entity = refl; type = refl; account = refl }))
+          (came_none (Call c) n refl) (sends_none (silent_of _ s.cell d tt)),
+      λ fits. held_fits f frame.defs e ty k r c fits may,
+    )
+    cell_handled room spared (move.passes c p n is has at d) =
+        rests (real_is _ s.cell d) (came_none (Call c) n refl) (silent_of _ s.cell d (refl, tt))
+    cell_handled room spared (move.lands r n is has may d) = (
+      lands r r (ap (carried_in real_of) n) (real_is _ s.cell d) (inl refl)
+          (sends_none (silent_of _ s.cell d (mapped_silent real_of (current_to (here_at f k) r) (λ b. refl) (base_numbers (here_at f k))))),
+      λ fits. fits,
+    )
+    cell_handled room spared (move.hears_set n c h has d) =
+        rests (real_is _ s.cell d) (came_none (GhostSet e n c) h refl) (silent_of _ s.cell d tt)
+    cell_handled room spared (move.ignores_set n c r h has d) =
+        rests (real_is _ s.cell d) (came_none (GhostSet e n c) h refl) (silent_of _ s.cell d tt)
+    cell_handled room spared (move.hears_drop n h d) =
+        rests (real_is _ s.cell d) (came_none (GhostDrop e n) h refl) (silent_of _ s.cell d tt)
+    cell_handled room spared (move.reaped r n has own may d) = absurd (spared r has n)
+    cell_handled room spared (move.ticks n st se) =
+        rests (ap (λ a. a.slot.real) st) (came_none Tick n refl) (subst (IsSilent real_of) (sym se) tt)
+    cell_handled room spared (move.unlists n h at b d) =
+        rests (real_is _ (record { slot = s.cell.slot; survey = n; looks = s.cell.looks }) d) (none_of h) (silent_of _ _ d tt)
+    cell_handled room spared (move.looks n r w known h at has own is small d) = (
+      turns r _ has (real_is (looks_with (here_at f k) s.cell.slot r w known (shown_of (here_at f k) r w known)) _ d)
+          (inr (record { further = []; entity = refl; type = refl; account = refl })) (none_of h)
+          (sends_none (silent_of (looks_with (here_at f k) s.cell.slot r w known (shown_of (here_at f k) r w known)) _ d
+          (numbered_silent real_of (base_of (here_at f k) r.entity) r.entity w.sent _ (λ u. refl)))),
+      λ fits. record {
+        entity = fits.entity;
+        type = fits.type;
+        values = fits.values;
+        inside = fits.inside;
+        held = fits.held;
+        home = fits.home;
+        haunts = fits.haunts;
+      },
+    )
+    cell_handled room spared (move.overlooks n known h at b d) =
+        rests (real_is _ (record { slot = s.cell.slot; survey = s.cell.survey; looks = n }) d) (none_of h) (silent_of _ _ d tt)
+    cell_handled room spared (move.stuck r h has ready may d) = rests (real_is _ s.cell d) (none_of h) (silent_of _ s.cell d tt)
 
   -- ---- a base node
 
@@ -220,5 +228,5 @@ module _ (f : Frame) (defs : AreDefs f.defs) (e ty k : ℕ) (s : Has) (i : Optio
 
   pub handled : ((r : RealView) → i ≡ Some (Hand r) → FindsRoom f k s r) → ((r : RealView) → real_in s ≡ Some r → i ≡ Some (Reap e) → ⊥) →
       Moves f e k s i t sent → Handled
-  handled room spared (at_a_cell low m same) = cell_handled room spared m
+  handled room spared (at_a_cell tree of low m same) = cell_handled tree of room spared m
   handled room spared (at_a_base high m same) = base_handled high room _ m (ap (λ c. c.slot.real) same)

@@ -1,4 +1,5 @@
 pub mod Lists
+pub mod Trees
 pub mod Sent
 pub mod SlotSteps
 pub mod Ticking

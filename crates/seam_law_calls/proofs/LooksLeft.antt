@@ -5,7 +5,7 @@ use Rattle.std.specs.List.{range_with_len}
 use Rattle.std.specs.FinSet as set
 use Rattle.std.proofs.lemmas.List.FromFn.{length-range_with_len}
 use Rattle.seam_law_flow.proofs.Following.{all_append}
-use Rattle.seam_node_steps.specs.Prelude.{cells_of, happens, total, Occurs, Event, Shown, RealView, Msg, Tick, Here, base_numbers}
+use Rattle.seam_node_steps.specs.Prelude.{Division, cells_of, happens, total, Occurs, Event, Shown, RealView, Msg, Tick, Here, base_numbers}
 use Rattle.seam_node_steps.specs.Prelude.{cell_count, SlotStep, haunts_at, ghost_messages, current_to, tick_to, Known, numbered, World}
 use Rattle.seam_node_steps.specs.Prelude.{node_steps}
 use Rattle.seam_law_flow.specs.Prelude.{letter_in, IsSilent}
@@ -73,14 +73,14 @@ module _ (f : Frame) (e k : ℕ) (s : Has) (i : Option Msg) (t : Has) (sent : Li
     acts_keep u r q changed (surveys n a b c) = omega arith
     acts_keep u r q changed _ = omega arith
 
-    cell_eases : CellMoves (here_at f k) f.tree e s.cell i t.cell sent → Eased
+    cell_eases : {tree : Division} → CellMoves (here_at f k) tree e s.cell i t.cell sent → Eased
     cell_eases (move.rests n d) = cell_step _ s.cell d (omega arith) tt
     cell_eases (move.strays m n b d) = cell_step _ s.cell d (omega arith) tt
-    cell_eases (move.stays u r q changed has own acts at d) =
+    cell_eases {tree} (move.stays u r q changed has own acts at d) =
         cell_step _ u d (acts_keep u r q changed acts)
-        (ghosts_silent tick_in no_tick (here_at f k) q k (haunts_at (here_at f k) f.tree q.state.pos k q.haunts) changed)
-    cell_eases (move.goes u r q changed j has own acts at n d) =
-        let haunts = haunts_at (here_at f k) f.tree q.state.pos j (set.insert q.haunts k) in
+        (ghosts_silent tick_in no_tick (here_at f k) q k (haunts_at (here_at f k) tree q.state.pos k q.haunts) changed)
+    cell_eases {tree} (move.goes u r q changed j has own acts at n d) =
+        let haunts = haunts_at (here_at f k) tree q.state.pos j (set.insert q.haunts k) in
         cell_step _ u d (acts_keep u r q changed acts)
         (all_append (λ p. tick_in p.1 ≡ None) (ghost_messages (here_at f k) q j haunts changed) _
         (ghosts_silent tick_in no_tick (here_at f k) q j haunts changed) (refl, tt))
@@ -128,7 +128,7 @@ module _ (f : Frame) (e k : ℕ) (s : Has) (i : Option Msg) (t : Has) (sent : Li
       omega (arith, looks, paid)
 
   move_eases : cells_of f.tree ≤ cell_count → Moves f e k s i t sent → Eased
-  move_eases most (at_a_cell low m same) = cell_eases same m
+  move_eases most (at_a_cell tree of low m same) = cell_eases same m
   move_eases most (at_a_base high m same) = base_eases _ most same m
 
 -- ---- an event

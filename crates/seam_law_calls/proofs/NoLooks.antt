@@ -2,7 +2,7 @@
 use Rattle.std.proofs.Common.{◌≡◌, ℕ, ◌≤◌, Bool, true, false, List, Option, None, Some, refl, sym, ap, ◌∙◌, subst, arith}
 use Rattle.std.specs.List.{AllByRecursion}
 use Rattle.std.specs.FinSet as set
-use Rattle.seam_node_steps.specs.Prelude.{happens, enabled, Event, Order, RealView, Msg, Tick, base_numbers, SlotStep, haunts_at}
+use Rattle.seam_node_steps.specs.Prelude.{Division, happens, enabled, Event, Order, RealView, Msg, Tick, base_numbers, SlotStep, haunts_at}
 use Rattle.seam_node_steps.specs.Prelude.{ghost_messages, current_to, World, node_steps, node_has_work}
 use Rattle.seam_law_flow.specs.Prelude.{comes, IsSilent}
 use Rattle.seam_law_calls.specs.Prelude.{Frame, here_at, IsInFrame, Has, AtCell, entity_flow, unlisted_if, Does, Acts, surveys, calls}
@@ -48,14 +48,14 @@ module _ (f : Frame) (e k : ℕ) (s : Has) (i : Option Msg) (t : Has) (sent : Li
       calm_step : (x : SlotStep) (u : AtCell) → Does u x t.cell sent → u.looks ≡ 0 → IsSilent tick_in x.sent → Calm
       calm_step x u d is z = record { cell = looks_are x u d is; orders = base; silent = subst (IsSilent tick_in) (sym d.sends) z }
 
-      cell_calm : CellMoves (here_at f k) f.tree e s.cell i t.cell sent → Calm
+      cell_calm : {tree : Division} → CellMoves (here_at f k) tree e s.cell i t.cell sent → Calm
       cell_calm (move.rests n d) = calm_step _ s.cell d none tt
       cell_calm (move.strays m n b d) = calm_step _ s.cell d none tt
-      cell_calm (move.stays u r q changed has own acts at d) =
+      cell_calm {tree} (move.stays u r q changed has own acts at d) =
           calm_step _ u d (acts_keep u r q changed acts)
-          (ghosts_silent tick_in no_tick (here_at f k) q k (haunts_at (here_at f k) f.tree q.state.pos k q.haunts) changed)
-      cell_calm (move.goes u r q changed j has own acts at n d) =
-          let haunts = haunts_at (here_at f k) f.tree q.state.pos j (set.insert q.haunts k) in
+          (ghosts_silent tick_in no_tick (here_at f k) q k (haunts_at (here_at f k) tree q.state.pos k q.haunts) changed)
+      cell_calm {tree} (move.goes u r q changed j has own acts at n d) =
+          let haunts = haunts_at (here_at f k) tree q.state.pos j (set.insert q.haunts k) in
           calm_step _ u d (acts_keep u r q changed acts)
           (all_append (λ p. tick_in p.1 ≡ None) (ghost_messages (here_at f k) q j haunts changed) _
           (ghosts_silent tick_in no_tick (here_at f k) q j haunts changed) (refl, tt))
@@ -75,7 +75,7 @@ module _ (f : Frame) (e k : ℕ) (s : Has) (i : Option Msg) (t : Has) (sent : Li
       cell_calm (move.stuck r h has ready may d) = calm_step _ s.cell d none tt
 
   calm_moves : s.cell.looks ≡ 0 → NoTicks s.base.orders → Moves f e k s i t sent → Calm
-  calm_moves none before (at_a_cell low m same) = cell_calm none (subst NoTicks (sym (ap (λ b. b.orders) same)) before) m
+  calm_moves none before (at_a_cell tree of low m same) = cell_calm none (subst NoTicks (sym (ap (λ b. b.orders) same)) before) m
   calm_moves none before (at_a_base high m same) =
       let b = base_keeps (λ o. is_tick_order o ≡ false) (λ j x. tick_in x ≡ None) m (record {
         calls = λ c r at is. refl;

@@ -4,12 +4,13 @@ use Rattle.std.proofs.Common.{◌∙◌, subst, arith, inl, inr}
 use Rattle.std.specs.List.{AllByRecursion, list_all}
 use Rattle.std.specs.FinSet as set
 use Rattle.std.proofs.lemmas.Bool.{cases_eq}
-use Rattle.seam_node_steps.specs.Prelude.{cells_of, AreDefs, happens, enabled, run, AllEnabled, Occurs, items_to, Input, Task, From, Event}
+use Rattle.seam_node_steps.specs.Prelude.{Division, cells_of, happens, enabled, run, AllEnabled, Occurs, items_to, Input, Task, From, Event}
 use Rattle.seam_node_steps.specs.Prelude.{RealView, Msg, Hand, Reap, limit, cell_numbers, properties, is_cell_if, may_come, World}
 use Rattle.seam_node_steps.specs.Prelude.{node_steps, node_has_work}
 use Rattle.seam_law_flow.specs.Prelude.{Goes, comes, letter_in, letters_of, carried_in, TokenPlace, On, Sole, Handles, still, turns, lands}
 use Rattle.seam_law_flow.specs.Prelude.{leaves, relays, place_after, token_after}
-use Rattle.seam_law_calls.specs.Prelude.{Frame, here_at, IsInFrame, Has, concerns, kept_if, mine, entity_flow, MovesTo, Replays, RealFits}
+use Rattle.seam_law_calls.specs.Prelude.{Frame, IsTreeOf, here_at, IsInFrame, Has, concerns, kept_if, mine, entity_flow, MovesTo, Replays}
+use Rattle.seam_law_calls.specs.Prelude.{RealFits}
 use Rattle.seam_law_calls.specs.Prelude.{IsFitReal, IsFitHand, real_burden, real_in, real_of, reaped_by, HasNoReaps, IsSpared, AllFits}
 use Rattle.seam_law_calls.specs.Prelude.{IsFrame, HasOne, OneFrom, reaps, NoReapComes, RunsTo, real_at}
 use Rattle.seam_defs.specs.declared.flags.Group.TheVariants as group
@@ -22,6 +23,7 @@ use Rattle.seam_entity.specs.declared.message.Msg.TheVariants.{Call}
 use Rattle.seam_node_steps.specs.CellCases.{haunts_cell}
 use Rattle.seam_law_calls.proofs.Keeping.{run_keeps}
 use Rattle.seam_law_calls.proofs.Classify.{frame_happens, event_moves_with}
+use Rattle.seam_law_calls.proofs.Trees.{cells_alike}
 use Rattle.seam_law_calls.proofs.Holds.{all_two, below_is}
 use Rattle.seam_law_calls.proofs.Replaying.{replays_none, replays_on}
 use Rattle.seam_law_calls.proofs.Handling.{FindsRoom, StillFits, Handled, handled}
@@ -30,30 +32,34 @@ use Rattle.seam_law_calls.proofs.Easing.{burden_happens, came_small}
 
 -- ---- a real that fits may come
 
-haunt_by : (f : Frame) (r : RealView) (j : ℕ) (b : Bool) → set.contains r.haunts j ≡ b →
-    ((j : ℕ) → set.contains r.haunts j ≡ true → j < cells_of f.tree) → is_cell_if b f.tree j ≡ true
-haunt_by f r j true is low = below_is j (cells_of f.tree) (low j is)
-haunt_by f r j false is low = refl
+haunt_by : (tree : Division) (r : RealView) (j : ℕ) (b : Bool) → set.contains r.haunts j ≡ b →
+    ((j : ℕ) → set.contains r.haunts j ≡ true → j < cells_of tree) → is_cell_if b tree j ≡ true
+haunt_by tree r j true is low = below_is j (cells_of tree) (low j is)
+haunt_by tree r j false is low = refl
 
-haunts_in : (f : Frame) (r : RealView) → ((j : ℕ) → set.contains r.haunts j ≡ true → j < cells_of f.tree) → (js : List ℕ) →
-    list_all (haunts_cell f.tree r) js ≡ true
-haunts_in f r low [] = refl
-haunts_in f r low (j ∷ js) =
-    all_two (haunts_cell f.tree r j) (list_all (haunts_cell f.tree r) js) (haunt_by f r j (set.contains r.haunts j) refl low)
-    (haunts_in f r low js)
+haunts_in : (tree : Division) (r : RealView) → ((j : ℕ) → set.contains r.haunts j ≡ true → j < cells_of tree) → (js : List ℕ) →
+    list_all (haunts_cell tree r) js ≡ true
+haunts_in tree r low [] = refl
+haunts_in tree r low (j ∷ js) =
+    all_two (haunts_cell tree r j) (list_all (haunts_cell tree r) js) (haunt_by tree r j (set.contains r.haunts j) refl low)
+    (haunts_in tree r low js)
 
-module _ (f : Frame) (e ty k : ℕ) where
-  pub may_land : (r : RealView) → ty < length f.defs → RealFits f e ty k r → real_burden r < limit → may_come (here_at f k) f.tree r ≡ true
+module _ (f : Frame) (frame : IsFrame f) (e ty k : ℕ) (tree : Division) (of : IsTreeOf f tree) where
+  pub may_land : (r : RealView) → ty < length f.defs → RealFits f e ty k r → real_burden r < limit → may_come (here_at f k) tree r ≡ true
   may_land r known is few =
+      let alike = cells_alike f frame tree of in
+      let home = is.home in
+      let haunts = is.haunts in
       let ps = properties (here_at f k) r.ty in
       let type = is.type in
       let a : r.ty < length f.defs = omega (arith, type, known) in
       let values = (of_group-Decides ps group.Real r.state.props).1 is.values in
       let fits = all_two _ _ (below_is r.ty (length f.defs) a) (all_two _ _ values (all_two _ _ is.inside is.held)) in
-      let tree = all_two _ _ (below_is k (cells_of f.tree) is.home) (haunts_in f r is.haunts cell_numbers) in
+      let inside = all_two _ _ (below_is k (cells_of tree) (omega (arith, home, alike)))
+      (haunts_in tree r (λ j at. let low = haunts j at in omega (arith, low, alike)) cell_numbers) in
       let small = all_two _ _ (below_is r.beat limit (omega (arith, few)))
       (all_two _ _ (below_is r.generation limit (omega (arith, few))) (below_is r.version limit (omega (arith, few)))) in
-      all_two _ _ fits (all_two _ _ tree small)
+      all_two _ _ fits (all_two _ _ inside small)
 
 -- ---- letters that carry a real
 
@@ -81,7 +87,7 @@ module _ (P : RealView → Type 0) where
 
 -- ---- what fits after a move
 
-module _ (f : Frame) (defs : AreDefs f.defs) (e ty k : ℕ) (s : Has) (i : Option Msg) (t : Has) (sent : List (ℕ × Msg)) (out : ℕ → List Msg)
+module _ (f : Frame) (frame : IsFrame f) (e ty k : ℕ) (s : Has) (i : Option Msg) (t : Has) (sent : List (ℕ × Msg)) (out : ℕ → List Msg)
     (items : (j : ℕ) → out j ≡ items_to j sent) where
   abbrev Handles_it : Type 0
   Handles_it = Handles real_in real_of (Replays f) s i t out
@@ -95,7 +101,7 @@ module _ (f : Frame) (defs : AreDefs f.defs) (e ty k : ℕ) (s : Has) (i : Optio
   none_fits : (o : Option RealView) → o ≡ None → IsFitReal f e ty k o
   none_fits o at r h = cc
 
-  slot_fits : (m : Handles_it) → StillFits f defs e ty k s i t sent out items m → IsFitReal f e ty k (real_in s) →
+  slot_fits : (m : Handles_it) → StillFits f frame e ty k s i t sent out items m → IsFitReal f e ty k (real_in s) →
       ((r : RealView) → i ≡ Some (Hand r) → RealFits f e ty k r) → IsFitReal f e ty k (real_in t)
   slot_fits (still a b c) fit here hand = same_fits (real_in s) (real_in t) a here
   slot_fits (turns r q a b c d o) fit here hand = one_fits q (real_in t) b (fit (here r a))
@@ -115,7 +121,7 @@ module _ (f : Frame) (defs : AreDefs f.defs) (e ty k : ℕ) (s : Has) (i : Optio
     | inr n ↦ nothing_fits j (others j n)
   ]
 
-  out_fits : (m : Handles_it) → StillFits f defs e ty k s i t sent out items m → IsFitReal f e ty k (real_in s) →
+  out_fits : (m : Handles_it) → StillFits f frame e ty k s i t sent out items m → IsFitReal f e ty k (real_in s) →
       ((r : RealView) → i ≡ Some (Hand r) → RealFits f e ty k r) → (j : ℕ) → AllByRecursion (IsFitHand f e ty j) (out j)
   out_fits (still a b c) fit here hand j = nothing_fits j (c j)
   out_fits (turns r q a b c d o) fit here hand j = nothing_fits j (o j)
@@ -158,13 +164,13 @@ module _ (f : Frame) (frame : IsFrame f) (e ty : ℕ) (known : ty < length f.def
       record {
         cell = omega (arith, low, most);
         free = free_by has.place c.0 c.1 has.one;
-        may = may_land f e ty node r known fits (goes.moves.1.0 r is);
+        may = λ tree of. may_land f frame e ty node tree of r known fits (goes.moves.1.0 r is);
       }
 
-  what : Handled f frame.defs e ty node ((entity_flow e w).slot node) letter ((entity_flow e next).slot node) goes.moves.0.sent goes.out
+  what : Handled f frame e ty node ((entity_flow e w).slot node) letter ((entity_flow e next).slot node) goes.moves.0.sent goes.out
       goes.moves.0.items
   what =
-      handled f frame.defs e ty node ((entity_flow e w).slot node) letter ((entity_flow e next).slot node) goes.moves.0.sent goes.out
+      handled f frame e ty node ((entity_flow e w).slot node) letter ((entity_flow e next).slot node) goes.moves.0.sent goes.out
       goes.moves.0.items room (λ r h. goes.moves.1.1) goes.moves.0.moves
 
   fits_next : AllFits f e ty next
@@ -174,10 +180,10 @@ module _ (f : Frame) (frame : IsFrame f) (e ty : ℕ) (known : ty < length f.def
       record {
         frame = frame_happens f w v o has.fits.frame;
         reals = slots_kept (λ k s. IsFitReal f e ty k (real_in s)) goes has.fits.reals
-            (slot_fits f frame.defs e ty node _ letter _ goes.moves.0.sent goes.out goes.moves.0.items what.0 what.1 (has.fits.reals node)
+            (slot_fits f frame e ty node _ letter _ goes.moves.0.sent goes.out goes.moves.0.items what.0 what.1 (has.fits.reals node)
             hand_fits);
         hands = letters_kept (λ a k m. IsFitHand f e ty k m) goes has.fits.hands
-            (out_fits f frame.defs e ty node _ letter _ goes.moves.0.sent goes.out goes.moves.0.items what.0 what.1 (has.fits.reals node)
+            (out_fits f frame e ty node _ letter _ goes.moves.0.sent goes.out goes.moves.0.items what.0 what.1 (has.fits.reals node)
             hand_fits);
         room = omega (arith, eased, few);
       }

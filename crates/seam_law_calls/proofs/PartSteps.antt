@@ -6,7 +6,8 @@ use Rattle.std.specs.declared.cmp.Ordering.{Ordering}
 use Rattle.std.specs.declared.cmp.Ordering.TheVariants.{Less, Equal, Greater}
 use Rattle.std.specs.FinSet as set
 use Rattle.std.proofs.lemmas.Bool.Decides.{nat_tests}
-use Rattle.seam_node_steps.specs.Prelude.{Call as CallData, Order, order_of, RealView, Msg, BaseCall, Hand, Current, GhostSet, GhostDrop}
+use Rattle.seam_node_steps.specs.Prelude.{Division, Call as CallData, Order, order_of, RealView, Msg, BaseCall, Hand, Current, GhostSet}
+use Rattle.seam_node_steps.specs.Prelude.{GhostDrop}
 use Rattle.seam_node_steps.specs.Prelude.{Tick, Reap, Update, Here, cell_count, base_numbers, base_of, PartView, ProxyView, offered}
 use Rattle.seam_node_steps.specs.Prelude.{after_showing, tick_to, SlotStep, haunts_at, ghost_messages, current_to}
 use Rattle.seam_law_flow.specs.Prelude.{letters_of, more_letter, IsSilent}
@@ -75,14 +76,14 @@ module _ (f : Frame) (e k : ℕ) (s : Has) (i : Option Msg) (t : Has) (sent : Li
     acts_unseen u r q changed (calls c a x m d) = other (Call c) a refl refl
     acts_unseen u r q changed (readies o c a m at item) = none a
 
-    cell_part : CellMoves (here_at f k) f.tree e s.cell i t.cell sent → Its
+    cell_part : {tree : Division} → CellMoves (here_at f k) tree e s.cell i t.cell sent → Its
     cell_part (move.rests n d) = of _ s.cell d (none n) tt
     cell_part (move.strays m n b d) = strays m n d
-    cell_part (move.stays u r q changed has own acts at d) =
+    cell_part {tree} (move.stays u r q changed has own acts at d) =
         of _ u d (acts_unseen u r q changed acts)
-        (ghosts_silent base_call_in no_ghosts (here_at f k) q k (haunts_at (here_at f k) f.tree q.state.pos k q.haunts) changed)
-    cell_part (move.goes u r q changed j has own acts at n d) =
-        let haunts = haunts_at (here_at f k) f.tree q.state.pos j (set.insert q.haunts k) in
+        (ghosts_silent base_call_in no_ghosts (here_at f k) q k (haunts_at (here_at f k) tree q.state.pos k q.haunts) changed)
+    cell_part {tree} (move.goes u r q changed j has own acts at n d) =
+        let haunts = haunts_at (here_at f k) tree q.state.pos j (set.insert q.haunts k) in
         of _ u d (acts_unseen u r q changed acts)
         (all_append (λ p. base_call_in p.1 ≡ None) (ghost_messages (here_at f k) q j haunts changed) _
         (ghosts_silent base_call_in no_ghosts (here_at f k) q j haunts changed) (refl, tt))
@@ -176,5 +177,5 @@ module _ (f : Frame) (e k : ℕ) (s : Has) (i : Option Msg) (t : Has) (sent : Li
   base_part cells (base_move.stuck_client p n has is may a z) = idle (none n) a z
 
   pub part_moves : Moves f e k s i t sent → PartMoves (here_at f k) e s.base i t.base sent
-  part_moves (at_a_cell low m same) = cell_part low same m
+  part_moves (at_a_cell tree of low m same) = cell_part low same m
   part_moves (at_a_base high m same) = base_part _ m

@@ -3,12 +3,13 @@ use Rattle.std.proofs.Common.{◌≡◌, ℕ, ◌+◌, ◌<◌, Bool, true, fals
 use Rattle.std.specs.FinMap as table
 use Rattle.std.specs.FinSet as set
 use Rattle.std.proofs.lemmas.Bool.Decides.{nat_tests}
-use Rattle.seam_node_steps.specs.Prelude.{Pos, leaf_at, cells_of, Cells, haunts_of, Part, TypeDef, State, Deed, Move, Method, method_of}
+use Rattle.seam_node_steps.specs.Prelude.{Pos, Division, leaf_at, cells_of, Cells, haunts_of, Part, TypeDef, State, Deed, Move, Method}
+use Rattle.seam_node_steps.specs.Prelude.{method_of}
 use Rattle.seam_node_steps.specs.Prelude.{AreDefs, IsType, fits_deed, fit_values, after, IsOfGroup, OrderView, next_item, Call, rank_of}
 use Rattle.seam_node_steps.specs.Prelude.{is_for, order_of, RealView, is_inside, can_do, Here, type_at, order_passes, order_is_ready}
 use Rattle.seam_node_steps.specs.Prelude.{ready_order, fits_cell_part, may_call, with_offer, executed, executed_ready, settled_to}
 use Rattle.seam_node_steps.specs.Prelude.{home_after, haunts_at}
-use Rattle.seam_law_calls.specs.Prelude.{Frame, here_at, RealFits}
+use Rattle.seam_law_calls.specs.Prelude.{Frame, IsTreeOf, here_at, RealFits, IsFrame}
 use Rattle.seam_tree.proofs.Leaves.{leaf_is_cell}
 use Rattle.seam_haunt.specs.Haunts.{is_haunt}
 use Rattle.seam_haunt.proofs.Chosen.{contains_chosen}
@@ -19,6 +20,7 @@ use Rattle.seam_defs.specs.Tests.{same_part}
 use Rattle.seam_defs.proofs.Numbers.{type_of-is}
 use Rattle.seam_defs.proofs.Keeping.{method-keeps}
 use Rattle.seam_defs.proofs.TestLemmas.{fit-Decides}
+use Rattle.seam_law_calls.proofs.Trees.{cells_alike}
 use Rattle.seam_law_calls.proofs.Holds.{both, picked_passes, item_passes_too, held_offered, held_taken}
 
 -- ---- deeds
@@ -103,21 +105,24 @@ module _ (f : Frame) (defs : AreDefs f.defs) (e ty k : ℕ) where
         haunts = is.haunts;
       }
 
-  -- ---- settling
+-- ---- settling
 
-  low_of : (a b n : ℕ) → (nat_le 0 a && nat_lt a (0 + n)) ≡ true → a < n
-  low_of a b n is = grind (arith, nat_tests, is)
+low_of : (a b n : ℕ) → (nat_le 0 a && nat_lt a (0 + n)) ≡ true → a < n
+low_of a b n is = grind (arith, nat_tests, is)
 
-  haunts_low : (p : Pos) (home : ℕ) (old : Cells) (near far j : ℕ) → set.contains (haunts_of p home old f.tree near far) j ≡ true →
+module _ (f : Frame) (frame : IsFrame f) (tree : Division) (of : IsTreeOf f tree) where
+  haunts_low : (p : Pos) (home : ℕ) (old : Cells) (near far j : ℕ) → set.contains (haunts_of p home old tree near far) j ≡ true →
       j < cells_of f.tree
   haunts_low p home old near far j is =
-      let test = is_haunt p home old f.tree near far in
-      let parts = both (nat_le 0 j && nat_lt j (0 + cells_of f.tree)) (test j) (sym (contains_chosen test 0 (cells_of f.tree) j) ∙ is) in
-      low_of j 0 (cells_of f.tree) parts.0
+      let test = is_haunt p home old tree near far in
+      let parts = both (nat_le 0 j && nat_lt j (0 + cells_of tree)) (test j) (sym (contains_chosen test 0 (cells_of tree) j) ∙ is) in
+      let low = low_of j 0 (cells_of tree) parts.0 in
+      let alike = cells_alike f frame tree of in
+      omega (arith, low, alike)
 
-  pub settled_fits : (q : RealView) (j home : ℕ) (old : Cells) (beat generation : ℕ) → RealFits f e ty k q → home < cells_of f.tree →
-      RealFits f e ty home (settled_to q (haunts_at h f.tree q.state.pos j old) beat generation)
-  settled_fits q j home old beat generation is low = record {
+  pub settled_fits : (e ty k : ℕ) (q : RealView) (j home : ℕ) (old : Cells) (beat generation : ℕ) → RealFits f e ty k q →
+      home < cells_of f.tree → RealFits f e ty home (settled_to q (haunts_at (here_at f k) tree q.state.pos j old) beat generation)
+  settled_fits e ty k q j home old beat generation is low = record {
     entity = is.entity;
     type = is.type;
     values = is.values;
@@ -128,9 +133,9 @@ module _ (f : Frame) (defs : AreDefs f.defs) (e ty k : ℕ) where
         haunts_low q.state.pos j old f.settings.ghost_distance (f.settings.ghost_distance + f.settings.ghost_hysteresis) i there;
   }
 
-  home_low : (b : Bool) (p : Pos) → k < cells_of f.tree → cond b k (leaf_at f.tree p) < cells_of f.tree
-  home_low true p low = low
-  home_low false p low = leaf_is_cell f.tree p
+  home_low : (b : Bool) (k : ℕ) (p : Pos) → k < cells_of f.tree → cond b k (leaf_at tree p) < cells_of f.tree
+  home_low true k p low = low
+  home_low false k p low = let leaf = leaf_is_cell tree p in let alike = cells_alike f frame tree of in omega (arith, leaf, alike)
 
-  pub home_is_low : (p : Pos) (j : ℕ) → home_after h f.tree p ≡ j → k < cells_of f.tree → j < cells_of f.tree
-  home_is_low p j at low = subst (λ i. i < cells_of f.tree) at (home_low _ p low)
+  pub home_is_low : (k : ℕ) (p : Pos) (j : ℕ) → home_after (here_at f k) tree p ≡ j → k < cells_of f.tree → j < cells_of f.tree
+  home_is_low k p j at low = subst (λ i. i < cells_of f.tree) at (home_low _ k p low)

@@ -5,15 +5,18 @@ use Rattle.std.specs.Prelude.{filter_map, ◌==◌, ◌||◌}
 use Rattle.std.specs.List.{AllByRecursion, range_with_len, cons_option}
 use Rattle.std.specs.FinSet as set
 use Rattle.std.proofs.lemmas.Nat.{mod_below}
-use Rattle.seam_node_steps.specs.Prelude.{Pos, Cells, IsTree, leaf_at, cells_of, GhostCopy, Shown, RealView, Msg, BaseCall, Hand, Current}
+use Rattle.seam_node_steps.specs.Prelude.{Division, Pos, Cells, IsTree, leaf_at, cells_of, GhostCopy, Shown, RealView, Msg, BaseCall, Hand}
+use Rattle.seam_node_steps.specs.Prelude.{Current}
 use Rattle.seam_node_steps.specs.Prelude.{GhostSet, GhostDrop, Tick, Update, limit, Here, cell_count, base_of, copy_of_real, NextPlace}
 use Rattle.seam_node_steps.specs.Prelude.{SlotStep, told, told_unless, ghost_message, ghost_messages, haunts_at, home_after, current_to}
 use Rattle.seam_node_steps.specs.Prelude.{drop_if, drop_at, drops, numbered, shown_of, RouteView}
-use Rattle.seam_law_calls.specs.Prelude.{Frame, here_at, Has, AtCell, Does, CellMoves, BaseMoves, Moves, at_a_cell, at_a_base, IsBaseNumber}
+use Rattle.seam_law_calls.specs.Prelude.{Frame, here_at, Has, AtCell, Does, CellMoves, BaseMoves, Moves, at_a_cell, at_a_base, IsFrame}
+use Rattle.seam_law_calls.specs.Prelude.{IsBaseNumber}
 use Rattle.seam_law_calls.specs.Prelude.{is_for_cells, IsForNode}
 use Rattle.seam_tree.proofs.Leaves.{leaf_is_cell}
 use Rattle.seam_law_flow.proofs.Following.{all_append}
 use Rattle.seam_law_calls.specs.CellMoves as move
+use Rattle.seam_law_calls.proofs.Trees.{tree_is}
 use Rattle.seam_law_calls.proofs.BaseDeeds.{base_keeps, mapped_all}
 use Rattle.seam_law_calls.proofs.Keeping.{units}
 
@@ -108,15 +111,15 @@ home_by : (me leaf : ℕ) (b : Bool) → me < cell_count → leaf < cell_count �
 home_by me leaf true a c = a
 home_by me leaf false a c = c
 
-home_low : (f : Frame) (k : ℕ) (p : Pos) → IsTree f.tree → k < cell_count → home_after (here_at f k) f.tree p < cell_count
-home_low f k p is low =
-    let leaf = leaf_is_cell f.tree p in
+home_low : (f : Frame) (tree : Division) (k : ℕ) (p : Pos) → IsTree tree → k < cell_count → home_after (here_at f k) tree p < cell_count
+home_low f tree k p is low =
+    let leaf = leaf_is_cell tree p in
     let most = is.cells_to in
-    home_by k (leaf_at f.tree p) _ low (omega (arith, leaf, most))
+    home_by k (leaf_at tree p) _ low (omega (arith, leaf, most))
 
 -- ---- moves
 
-module _ (f : Frame) (tree : IsTree f.tree) (some : 1 ≤ f.settings.bases) (e k : ℕ) (s : Has) (i : Option Msg) (t : Has)
+module _ (f : Frame) (frame : IsFrame f) (some : 1 ≤ f.settings.bases) (e k : ℕ) (s : Has) (i : Option Msg) (t : Has)
     (sent : List (ℕ × Msg)) (small : (r : RealView) → i ≡ Some (Hand r) → r.generation < limit) where
   abbrev Right : Type 0
   Right = AllSent (IsForNode f) sent
@@ -128,39 +131,39 @@ module _ (f : Frame) (tree : IsTree f.tree) (some : 1 ≤ f.settings.bases) (e k
   is l z h = subst (AllSent (IsForNode f)) (sym z) h
 
   cell_right : k < cell_count → ((n : NextPlace) → s.cell.slot.next ≡ Some n → n.cell < cell_count) →
-      CellMoves (here_at f k) f.tree e s.cell i t.cell sent → Right
-  cell_right low nexts (move.rests n d) = of _ s.cell d tt
-  cell_right low nexts (move.strays m n b d) = of _ s.cell d tt
-  cell_right low nexts (move.stays u r q changed has own acts at d) =
-      of _ u d (ghosts_right f (here_at f k) q k (haunts_at (here_at f k) f.tree q.state.pos k q.haunts) changed)
-  cell_right low nexts (move.goes u r q changed j has own acts at n d) =
-      let haunts = haunts_at (here_at f k) f.tree q.state.pos j (set.insert q.haunts k) in
-      let home = home_low f k q.state.pos tree low in
+      {tree : Division} → IsTree tree → CellMoves (here_at f k) tree e s.cell i t.cell sent → Right
+  cell_right low nexts is_tree (move.rests n d) = of _ s.cell d tt
+  cell_right low nexts is_tree (move.strays m n b d) = of _ s.cell d tt
+  cell_right low nexts {tree} is_tree (move.stays u r q changed has own acts at d) =
+      of _ u d (ghosts_right f (here_at f k) q k (haunts_at (here_at f k) tree q.state.pos k q.haunts) changed)
+  cell_right low nexts {tree} is_tree (move.goes u r q changed j has own acts at n d) =
+      let haunts = haunts_at (here_at f k) tree q.state.pos j (set.insert q.haunts k) in
+      let home = home_low f tree k q.state.pos is_tree low in
       of _ u d (all_append (λ p. IsForNode f p.0 p.1) (ghost_messages (here_at f k) q j haunts changed) _
       (ghosts_right f (here_at f k) q j haunts changed) (for_cell f j _ refl (omega (arith, home, at)), tt))
-  cell_right low nexts (move.late c r n has may lt d) = of _ s.cell d tt
-  cell_right low nexts (move.holds c r n own has mine may lt d) = of _ s.cell d tt
-  cell_right low nexts (move.passes c p n own has at d) = of _ s.cell d (for_cell f p.cell _ refl (nexts p at), tt)
-  cell_right low nexts (move.lands r n own has may d) =
+  cell_right low nexts is_tree (move.late c r n has may lt d) = of _ s.cell d tt
+  cell_right low nexts is_tree (move.holds c r n own has mine may lt d) = of _ s.cell d tt
+  cell_right low nexts is_tree (move.passes c p n own has at d) = of _ s.cell d (for_cell f p.cell _ refl (nexts p at), tt)
+  cell_right low nexts is_tree (move.lands r n own has may d) =
       of _ s.cell d
       (mapped_all (IsForNode f) (current_to (here_at f k) r) cell_count f.settings.bases
       (λ b le lt. current_for f b r.entity k r.generation (record { from = le; below = lt }) low (small r n)))
-  cell_right low nexts (move.hears_set n c h has d) = of _ s.cell d tt
-  cell_right low nexts (move.ignores_set n c r h has d) = of _ s.cell d tt
-  cell_right low nexts (move.hears_drop n h d) = of _ s.cell d tt
-  cell_right low nexts (move.reaped r n has own may d) = of _ s.cell d (drops_right f r)
-  cell_right low nexts (move.ticks n st z) = is [] z tt
-  cell_right low nexts (move.unlists n h at b d) = of _ _ d tt
-  cell_right low nexts (move.looks n r w known h at has own v few d) =
+  cell_right low nexts is_tree (move.hears_set n c h has d) = of _ s.cell d tt
+  cell_right low nexts is_tree (move.ignores_set n c r h has d) = of _ s.cell d tt
+  cell_right low nexts is_tree (move.hears_drop n h d) = of _ s.cell d tt
+  cell_right low nexts is_tree (move.reaped r n has own may d) = of _ s.cell d (drops_right f r)
+  cell_right low nexts is_tree (move.ticks n st z) = is [] z tt
+  cell_right low nexts is_tree (move.unlists n h at b d) = of _ _ d tt
+  cell_right low nexts is_tree (move.looks n r w known h at has own v few d) =
       of _ _ d (numbered_right f (base_of (here_at f k) r.entity) r.entity w.sent (shown_of (here_at f k) r w known)
       (home_is_base f r.entity some))
-  cell_right low nexts (move.overlooks n known h at b d) = of _ _ d tt
-  cell_right low nexts (move.stuck r h has ready may d) = of _ s.cell d tt
+  cell_right low nexts is_tree (move.overlooks n known h at b d) = of _ _ d tt
+  cell_right low nexts is_tree (move.stuck r h has ready may d) = of _ s.cell d tt
 
   base_right : ((r : RouteView) → s.base.route ≡ Some r → r.cell < cell_count) →
       BaseMoves (here_at f k) (cells_of f.tree) e s.base i t.base sent → Right
   base_right routes m =
-      let most = tree.cells_to in (base_keeps (λ o. Unit {0}) (IsForNode f) m (record {
+      let most = frame.tree.cells_to in (base_keeps (λ o. Unit {0}) (IsForNode f) m (record {
         calls = λ c r at is. for_cell f r.cell _ refl (routes r at);
         base_calls = λ c is. base_call_for f _ c (home_is_base f e some);
         ticks = λ is j lt. for_cell f j Tick refl (omega (arith, lt, most));
@@ -169,5 +172,5 @@ module _ (f : Frame) (tree : IsTree f.tree) (some : 1 ≤ f.settings.bases) (e k
 
   pub sends_right : ((n : NextPlace) → s.cell.slot.next ≡ Some n → n.cell < cell_count) →
       ((r : RouteView) → s.base.route ≡ Some r → r.cell < cell_count) → Moves f e k s i t sent → Right
-  sends_right nexts routes (at_a_cell low m same) = cell_right low nexts m
+  sends_right nexts routes (at_a_cell tree one low m same) = cell_right low nexts (tree_is f frame tree one) m
   sends_right nexts routes (at_a_base high m same) = base_right routes m

@@ -40,7 +40,7 @@ module _ (h : Here) (cells e : ℕ) (s : AtBase) (i : Option Msg) (t : AtBase) (
 
 pub route_moves : (f : Frame) (e k : ℕ) (s : Has) (i : Option Msg) (t : Has) (sent : List (ℕ × Msg)) → Moves f e k s i t sent →
     HasRoute s.base → HasRoute t.base
-route_moves f e k s i t sent (at_a_cell low m same) r = (r.0, ap (λ b. b.route) same ∙ r.1)
+route_moves f e k s i t sent (at_a_cell tree of low m same) r = (r.0, ap (λ b. b.route) same ∙ r.1)
 route_moves f e k s i t sent (at_a_base high m same) r = route_stays (here_at f k) _ e s.base i t.base sent m r
 
 -- ---- what is true of every node
@@ -76,7 +76,7 @@ module _ (f : Frame) (frame : IsFrame f) (e ty : ℕ) (known : ty < length f.def
       let q = one.fits.frame in
       let some = some_base f v.node o.node (q.sound.states v.node o.node o.is_node) (q.nodes v.node o.node o.is_node) in
       let sends =
-      sends_right f frame.tree some e g.k ((entity_flow e w).slot g.k) (comes g.input) ((entity_flow e (happens node_steps w v)).slot g.k)
+      sends_right f frame some e g.k ((entity_flow e w).slot g.k) (comes g.input) ((entity_flow e (happens node_steps w v)).slot g.k)
       g.moves.0.sent (λ r is. let few = g.moves.1.0 r is in omega (arith, few)) lead.0 lead.1 g.moves.0.moves in
       record {
         routes =

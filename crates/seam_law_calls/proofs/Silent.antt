@@ -31,7 +31,7 @@ module _ (f : Frame) (e k : ℕ) (s : Has) (i : Option Msg) (t : Has) (sent : Li
   cell_silent (witness.looks n r q w v shown at has wit now wit' sum small z) = absurd (never n r w at has wit)
 
   moves_silent : Moves f e k s i t sent → IsSilent update_in sent
-  moves_silent (at_a_cell low m same) = cell_silent (witness_moves f e k s i t sent m)
+  moves_silent (at_a_cell tree of low m same) = cell_silent (witness_moves f e k s i t sent m)
   moves_silent (at_a_base high m same) = base_silent update_in sees_no_update _ _ e _ i _ sent m
 
 -- ---- an event

@@ -2,7 +2,8 @@
 use Rattle.std.proofs.Common.{◌≡◌, ℕ, Bool, true, false, cond, eqb, List, [], ◌∷◌, Option, None, refl, sym, subst}
 use Rattle.std.specs.List.{AllByRecursion}
 use Rattle.std.specs.FinSet as set
-use Rattle.seam_node_steps.specs.Prelude.{items_to, Order, Msg, base_numbers, base_of, SlotStep, haunts_at, ghost_messages, current_to}
+use Rattle.seam_node_steps.specs.Prelude.{Division, items_to, Order, Msg, base_numbers, base_of, SlotStep, haunts_at, ghost_messages}
+use Rattle.seam_node_steps.specs.Prelude.{current_to}
 use Rattle.seam_law_flow.specs.Prelude.{IsSilent}
 use Rattle.seam_law_calls.specs.Prelude.{Frame, here_at, Has, AtCell, AtBase, Does, CellMoves, BaseMoves, Moves, at_a_cell, at_a_base}
 use Rattle.seam_law_calls.specs.Prelude.{reaped_by, reaped_by_order, HasNoReaps}
@@ -37,13 +38,13 @@ module _ (f : Frame) (e k : ℕ) (s : Has) (i : Option Msg) (t : Has) (sent : Li
   is : (l : List (ℕ × Msg)) → sent ≡ l → IsSilent reaped_by l → Unreaped
   is l z h = subst (IsSilent reaped_by) (sym z) h
 
-  cell_silent : CellMoves (here_at f k) f.tree e s.cell i t.cell sent → Unreaped
+  cell_silent : {tree : Division} → CellMoves (here_at f k) tree e s.cell i t.cell sent → Unreaped
   cell_silent (move.rests n d) = of _ s.cell d tt
   cell_silent (move.strays m n b d) = of _ s.cell d tt
-  cell_silent (move.stays u r q changed has own acts at d) =
-      of _ u d (ghosts_silent reaped_by no_ghosts (here_at f k) q k (haunts_at (here_at f k) f.tree q.state.pos k q.haunts) changed)
-  cell_silent (move.goes u r q changed j has own acts at n d) =
-      let haunts = haunts_at (here_at f k) f.tree q.state.pos j (set.insert q.haunts k) in
+  cell_silent {tree} (move.stays u r q changed has own acts at d) =
+      of _ u d (ghosts_silent reaped_by no_ghosts (here_at f k) q k (haunts_at (here_at f k) tree q.state.pos k q.haunts) changed)
+  cell_silent {tree} (move.goes u r q changed j has own acts at n d) =
+      let haunts = haunts_at (here_at f k) tree q.state.pos j (set.insert q.haunts k) in
       of _ u d (all_append (λ p. reaped_by p.1 ≡ None) (ghost_messages (here_at f k) q j haunts changed) _
       (ghosts_silent reaped_by no_ghosts (here_at f k) q j haunts changed) (refl, tt))
   cell_silent (move.late c r n has may lt d) = of _ s.cell d tt
@@ -69,9 +70,9 @@ module _ (f : Frame) (e k : ℕ) (s : Has) (i : Option Msg) (t : Has) (sent : Li
       (record { calls = λ c r at is. refl; base_calls = λ c is. refl; ticks = λ is j lt. refl; reaps = λ r at is. is }) h
 
   pub orders_spared : HasNoReaps s → Moves f e k s i t sent → HasNoReaps t
-  orders_spared h (at_a_cell low m same) = subst (λ (b : AtBase). NoneReaped b.orders) (sym same) h
+  orders_spared h (at_a_cell tree of low m same) = subst (λ (b : AtBase). NoneReaped b.orders) (sym same) h
   orders_spared h (at_a_base high m same) = (base_left _ h m).0
 
   pub sent_spared : HasNoReaps s → Moves f e k s i t sent → Unreaped
-  sent_spared h (at_a_cell low m same) = cell_silent m
+  sent_spared h (at_a_cell tree of low m same) = cell_silent m
   sent_spared h (at_a_base high m same) = (base_left _ h m).1

@@ -7,7 +7,8 @@ use Rattle.std.specs.FinMap as table
 use Rattle.std.specs.FinSet as set
 use Rattle.std.proofs.lemmas.Bool.{cases_lt}
 use Rattle.std.proofs.lemmas.List.{length-map}
-use Rattle.seam_node_steps.specs.Prelude.{cells_of, happens, enabled, Occurs, Event, copy_in, GhostCopy, Shown, RealView, WitnessView, Msg}
+use Rattle.seam_node_steps.specs.Prelude.{Division, cells_of, happens, enabled, Occurs, Event, copy_in, GhostCopy, Shown, RealView}
+use Rattle.seam_node_steps.specs.Prelude.{WitnessView, Msg}
 use Rattle.seam_node_steps.specs.Prelude.{Hand, Here, base_numbers, base_of, cell_count, SlotStep, slot_after, haunts_at, ghost_messages}
 use Rattle.seam_node_steps.specs.Prelude.{current_to, Known, seen_as, shown_for, own_due, looks_of, shown_of, after_looking, CellView}
 use Rattle.seam_node_steps.specs.Prelude.{known_to, NodeView, World, node_steps, node_has_work, Cell, Base, IsNode}
@@ -69,14 +70,14 @@ module _ (P : RealView → Type 0) (by_witness : ByWitness P) (f : Frame) (e k :
   takes_it n q none at is now (gone none_now) = let z = sym none_now ∙ now in cc
   takes_it n q none at is now (ticked fed) = let z = sym none ∙ fed in cc
 
-  cell_holds : NotTaken s.cell i t.cell → CellMoves (here_at f k) f.tree e s.cell i t.cell sent → Holds
+  cell_holds : NotTaken s.cell i t.cell → {tree : Division} → CellMoves (here_at f k) tree e s.cell i t.cell sent → Holds
   cell_holds not (move.rests n d) = same (is_now _ s.cell d) (silent _ s.cell d tt)
   cell_holds not (move.strays m n b d) = same (is_now _ s.cell d) (silent _ s.cell d tt)
-  cell_holds not (move.stays u r q changed has own acts at d) =
+  cell_holds not {tree} (move.stays u r q changed has own acts at d) =
       turned r _ has (is_now _ u d) (acts_keep u r q changed acts)
-      (silent _ u d (ghosts_silent real_of no_real (here_at f k) q k (haunts_at (here_at f k) f.tree q.state.pos k q.haunts) changed))
-  cell_holds not (move.goes u r q changed j has own acts at n d) =
-      let haunts = haunts_at (here_at f k) f.tree q.state.pos j (set.insert q.haunts k) in
+      (silent _ u d (ghosts_silent real_of no_real (here_at f k) q k (haunts_at (here_at f k) tree q.state.pos k q.haunts) changed))
+  cell_holds not {tree} (move.goes u r q changed j has own acts at n d) =
+      let haunts = haunts_at (here_at f k) tree q.state.pos j (set.insert q.haunts k) in
       record {
         slot = λ x now. absurd (let z = sym (is_now _ u d) ∙ now in cc);
         sends =
@@ -120,7 +121,7 @@ module _ (P : RealView → Type 0) (by_witness : ByWitness P) (f : Frame) (e k :
   cell_holds not (move.stuck r h has ready may d) = same (is_now _ s.cell d) (silent _ s.cell d tt)
 
   moves_hold : NotTaken s.cell i t.cell → Moves f e k s i t sent → Holds
-  moves_hold not (at_a_cell low m base) = cell_holds not m
+  moves_hold not (at_a_cell tree of low m base) = cell_holds not m
   moves_hold not (at_a_base high m cell) =
       same (ap (λ c. c.slot.real) cell) (base_silent real_of sees_no_real _ _ e _ i _ sent m)
 

@@ -3,19 +3,20 @@ use Rattle.std.proofs.Common.{◌≡◌, ℕ, ◌+◌, ◌≤◌, ◌⊎◌, Boo
 use Rattle.std.proofs.Common.{Some, refl, sym, ap, ◌∙◌, subst, arith, inl, inr}
 use Rattle.std.specs.List.{range_with_len}
 use Rattle.std.specs.FinSet as set
-use Rattle.seam_node_steps.specs.Prelude.{Call as CallData, RealView, Msg, BaseCall, Hand, Current, Reap, cell_count, base_numbers, base_of}
-use Rattle.seam_node_steps.specs.Prelude.{Slot, NextPlace, SlotStep, slot_after, haunts_at, ghost_messages, settled_to, is_stray, may_come}
+use Rattle.seam_node_steps.specs.Prelude.{Division, Call as CallData, RealView, Msg, BaseCall, Hand, Current, Reap, cell_count}
+use Rattle.seam_node_steps.specs.Prelude.{base_numbers, base_of}
+use Rattle.seam_node_steps.specs.Prelude.{Slot, NextPlace, SlotStep, slot_after, haunts_at, ghost_messages, settled_to, is_stray}
 use Rattle.seam_node_steps.specs.Prelude.{RouteView, tick_to}
 use Rattle.seam_law_flow.specs.Prelude.{IsSilent}
-use Rattle.seam_law_calls.specs.Prelude.{Frame, here_at, Has, AtCell, Does, Acts, surveys, calls, readies, CellMoves, BaseMoves, Moves}
+use Rattle.seam_law_calls.specs.Prelude.{Frame, IsTreeOf, here_at, Has, AtCell, Does, Acts, surveys, calls, readies, CellMoves, BaseMoves}
+use Rattle.seam_law_calls.specs.Prelude.{Moves}
 use Rattle.seam_law_calls.specs.Prelude.{at_a_cell, at_a_base, is_visited, is_call}
 use Rattle.seam_law_flow.proofs.Following.{all_append}
 use Rattle.seam_entity.specs.declared.message.Msg.TheVariants.{Call}
 use Rattle.seam_law_calls.specs.CellMoves as move
 use Rattle.seam_law_calls.specs.BaseMoves as base_move
-use Rattle.seam_law_calls.proofs.Holds.{not_both}
 use Rattle.seam_law_calls.proofs.Plain.{SeesNoGhost, ghosts_silent, mapped_silent, numbered_silent}
-use Rattle.seam_law_calls.proofs.Handling.{FindsRoom}
+use Rattle.seam_law_calls.proofs.Handling.{FindsRoom, not_stray}
 
 abbrev pub kept : Bool → Option ℕ
 kept true = Some 0
@@ -105,31 +106,26 @@ module _ (f : Frame) (e k : ℕ) (s : Has) (i : Option Msg) (t : Has) (sent : Li
     quiet : IsSilent call_in x.sent → IsSilent route_in x.sent → Sends k s i t sent
     quiet a b = plain (subst (IsSilent call_in) (sym d.sends) a) (subst (IsSilent route_in) (sym d.sends) b)
 
-  stray_no : (m : Msg) → i ≡ Some m → is_stray (here_at f k) f.tree s.cell.slot m ≡ true → NoHand
-  stray_no m n b r h =
-      let p = room r h in
+  stray_no : (tree : Division) → IsTreeOf f tree → (m : Msg) → i ≡ Some m → is_stray (here_at f k) tree s.cell.slot m ≡ true → NoHand
+  stray_no tree of m n b r h =
       let is : m ≡ Hand r = let z = sym n ∙ h in cc in
-      let c = ap (is_stray (here_at f k) f.tree s.cell.slot) (sym is) ∙ b in
-      not_both (may_come (here_at f k) f.tree r) p.may
-      (sym (ap (λ o. is_stray (here_at f k) f.tree (record { real = o; next = s.cell.slot.next; ghost = s.cell.slot.ghost }) (Hand r))
-      p.free)
-      ∙ c)
+      not_stray f k s r (room r h) tree of (ap (is_stray (here_at f k) tree s.cell.slot) (sym is) ∙ b)
 
   rest : (u : AtCell) → u.slot ≡ s.cell.slot → NoHand → t.base ≡ s.base →
       Does u (record { slot = None; unlisted = false; sent = [] }) t.cell sent → Goal
   rest u is nh b d =
       same nh (seen_is _ u d ∙ ap seen is) (next_is _ u d ∙ ap (λ a. a.next) is) (ap (λ a. a.route) b) (quiet _ u d tt tt)
 
-  cell_leads : t.base ≡ s.base → CellMoves (here_at f k) f.tree e s.cell i t.cell sent → Goal
-  cell_leads b (move.rests n d) = rest s.cell refl (no_task n) b d
-  cell_leads b (move.strays m n st d) = rest s.cell refl (stray_no m n st) b d
-  cell_leads b (move.stays u r q changed has own acts at d) =
-      let haunts = haunts_at (here_at f k) f.tree q.state.pos k q.haunts in
+  cell_leads : t.base ≡ s.base → (tree : Division) → IsTreeOf f tree → CellMoves (here_at f k) tree e s.cell i t.cell sent → Goal
+  cell_leads b tree of (move.rests n d) = rest s.cell refl (no_task n) b d
+  cell_leads b tree of (move.strays m n st d) = rest s.cell refl (stray_no tree of m n st) b d
+  cell_leads b tree of (move.stays u r q changed has own acts at d) =
+      let haunts = haunts_at (here_at f k) tree q.state.pos k q.haunts in
       here (acts_no u r q changed acts) (seen_is _ u d) (next_is _ u d) (ap (λ a. a.route) b)
       (quiet _ u d (ghosts_silent call_in no_calls (here_at f k) q k haunts changed)
       (ghosts_silent route_in no_routes (here_at f k) q k haunts changed))
-  cell_leads b (move.goes u r q changed j has own acts at n d) =
-      let haunts = haunts_at (here_at f k) f.tree q.state.pos j (set.insert q.haunts k) in
+  cell_leads b tree of (move.goes u r q changed j has own acts at n d) =
+      let haunts = haunts_at (here_at f k) tree q.state.pos j (set.insert q.haunts k) in
       let told = ghost_messages (here_at f k) q j haunts changed in
       let gone = settled_to q haunts (q.beat + 1) (q.generation + 1) in
       record {
@@ -154,35 +150,35 @@ module _ (f : Frame) (e k : ℕ) (s : Has) (i : Option Msg) (t : Has) (sent : Li
     where
       new_next : (j g : ℕ) (x : NextPlace) → Some (record { cell = j; generation = g }) ≡ Some x → j ≡ x.cell
       new_next j g x h = let z : record { cell = j; generation = g } ≡ x = cc in ap (λ y. y.cell) z
-  cell_leads b (move.late c r n has may lt d) = rest s.cell refl (λ q h. let z = sym n ∙ h in cc) b d
-  cell_leads b (move.holds c r n own has mine may lt d) =
+  cell_leads b tree of (move.late c r n has may lt d) = rest s.cell refl (λ q h. let z = sym n ∙ h in cc) b d
+  cell_leads b tree of (move.holds c r n own has mine may lt d) =
       here (λ q h. let z = sym n ∙ h in cc) (seen_is _ s.cell d) (next_is _ s.cell d) (ap (λ a. a.route) b) (quiet _ s.cell d tt tt)
-  cell_leads b (move.passes c p n own has at d) =
+  cell_leads b tree of (move.passes c p n own has at d) =
       same (λ q h. let z = sym n ∙ h in cc) (seen_is _ s.cell d) (next_is _ s.cell d) (ap (λ a. a.route) b)
       (one_call c p.cell d.sends (by_next p at refl (λ q h. let z = sym n ∙ h in cc)))
-  cell_leads b (move.lands r n own has may d) = record {
+  cell_leads b tree of (move.lands r n own has may d) = record {
     visited = λ h. seen_is _ s.cell d;
     landed = λ q h. seen_is _ s.cell d;
     next = λ q h. absurd (let z = sym (next_is _ s.cell d) ∙ h in cc);
     route = λ q h. inl (sym (ap (λ a. a.route) b) ∙ h);
     sends = tells r (base_numbers (here_at f k)) d.sends (seen_is _ s.cell d);
   }
-  cell_leads b (move.hears_set n c h has d) =
+  cell_leads b tree of (move.hears_set n c h has d) =
       same (λ q g. let z = sym h ∙ g in cc) (seen_is _ s.cell d) (next_is _ s.cell d) (ap (λ a. a.route) b) (quiet _ s.cell d tt tt)
-  cell_leads b (move.ignores_set n c r h has d) = rest s.cell refl (λ q g. let z = sym h ∙ g in cc) b d
-  cell_leads b (move.hears_drop n h d) =
+  cell_leads b tree of (move.ignores_set n c r h has d) = rest s.cell refl (λ q g. let z = sym h ∙ g in cc) b d
+  cell_leads b tree of (move.hears_drop n h d) =
       same (λ q g. let z = sym h ∙ g in cc) (seen_is _ s.cell d) (next_is _ s.cell d) (ap (λ a. a.route) b) (quiet _ s.cell d tt tt)
-  cell_leads b (move.reaped r n has own may d) = absurd (unreaped n)
-  cell_leads b (move.ticks n st se) =
+  cell_leads b tree of (move.reaped r n has own may d) = absurd (unreaped n)
+  cell_leads b tree of (move.ticks n st se) =
       same (λ q h. let z = sym n ∙ h in cc) (ap (λ a. seen a.slot) st) (ap (λ a. a.slot.next) st) (ap (λ a. a.route) b)
       (plain (subst (IsSilent call_in) (sym se) tt) (subst (IsSilent route_in) (sym se) tt))
-  cell_leads b (move.unlists n h at st d) = rest _ refl (no_task h) b d
-  cell_leads b (move.looks n r w known h at has own is small d) =
+  cell_leads b tree of (move.unlists n h at st d) = rest _ refl (no_task h) b d
+  cell_leads b tree of (move.looks n r w known h at has own is small d) =
       here (no_task h) (seen_is _ _ d) (next_is _ _ d) (ap (λ a. a.route) b)
       (quiet _ _ d (numbered_silent call_in (base_of (here_at f k) r.entity) r.entity w.sent _ (λ u. refl))
       (numbered_silent route_in (base_of (here_at f k) r.entity) r.entity w.sent _ (λ u. refl)))
-  cell_leads b (move.overlooks n known h at st d) = rest _ refl (no_task h) b d
-  cell_leads b (move.stuck r h has ready may d) = rest s.cell refl (no_task h) b d
+  cell_leads b tree of (move.overlooks n known h at st d) = rest _ refl (no_task h) b d
+  cell_leads b tree of (move.stuck r h has ready may d) = rest s.cell refl (no_task h) b d
 
   -- ---- a base node
 
@@ -235,5 +231,5 @@ module _ (f : Frame) (e k : ℕ) (s : Has) (i : Option Msg) (t : Has) (sent : Li
     base_leads cells (base_move.stuck_client p n has st may a z) = base_same (ap (λ b. b.route) a) (nothing z)
 
   pub leads : Moves f e k s i t sent → Goal
-  leads (at_a_cell low m b) = cell_leads b m
+  leads (at_a_cell tree of low m b) = cell_leads b tree of m
   leads (at_a_base high m is) = base_leads high is _ m

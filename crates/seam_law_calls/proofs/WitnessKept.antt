@@ -70,7 +70,7 @@ module _ (P : RealView → Type 0) (by_witness : ByWitness P) (f : Frame) (e k :
   }
 
   pub moves_keep : Moves f e k s i t sent → Kept
-  moves_keep (at_a_cell low m same) = cell_keeps (witness_moves f e k s i t sent m)
+  moves_keep (at_a_cell tree of low m same) = cell_keeps (witness_moves f e k s i t sent m)
   moves_keep (at_a_base high m same) = record {
     slot = λ r has. here r (sym (ap (λ c. c.slot.real) same) ∙ has);
     sends = none_carried P sent (base_silent real_of sees_no_real _ _ e _ i _ sent m);

@@ -2,7 +2,8 @@
 use Rattle.std.proofs.Common.{◌≡◌, ℕ, ◌+◌, ◌<◌, Bool, true, nat_lt, List, length, Option, None, Some, refl, sym, ap, ◌∙◌, subst, arith}
 use Rattle.std.specs.FinSet as set
 use Rattle.std.proofs.lemmas.Bool.Decides.{nat_tests}
-use Rattle.seam_node_steps.specs.Prelude.{RealView, Msg, limit, base_numbers, base_of, SlotStep, slot_after, haunts_at, ghost_messages}
+use Rattle.seam_node_steps.specs.Prelude.{Division, RealView, Msg, limit, base_numbers, base_of, SlotStep, slot_after, haunts_at}
+use Rattle.seam_node_steps.specs.Prelude.{ghost_messages}
 use Rattle.seam_node_steps.specs.Prelude.{current_to, numbered, shown_of}
 use Rattle.seam_law_flow.specs.Prelude.{IsSilent}
 use Rattle.seam_law_calls.specs.Prelude.{Frame, here_at, Has, AtCell, Does, Acts, surveys, calls, readies, CellMoves, real_of, update_in}
@@ -57,16 +58,16 @@ module _ (f : Frame) (e k : ℕ) (s : Has) (i : Option Msg) (t : Has) (sent : Li
   acts_keep u r q changed (surveys n a b c) = refl
   acts_keep u r q changed _ = refl
 
-  pub witness_moves : CellMoves (here_at f k) f.tree e s.cell i t.cell sent → Its
+  pub witness_moves : {tree : Division} → CellMoves (here_at f k) tree e s.cell i t.cell sent → Its
   witness_moves (move.rests n d) = still _ s.cell d refl tt tt
   witness_moves (move.strays m n b d) = still _ s.cell d refl tt tt
-  witness_moves (move.stays u r q changed has own acts at d) =
-      let haunts = haunts_at (here_at f k) f.tree q.state.pos k q.haunts in
+  witness_moves {tree} (move.stays u r q changed has own acts at d) =
+      let haunts = haunts_at (here_at f k) tree q.state.pos k q.haunts in
       of _ u d (keeps_turned was is_now r _ has (real_is _ u d) (acts_keep u r q changed acts))
       (ghosts_silent update_in no_update (here_at f k) q k haunts changed)
       (ghosts_silent real_of no_real (here_at f k) q k haunts changed)
-  witness_moves (move.goes u r q changed j has own acts at n d) =
-      let haunts = haunts_at (here_at f k) f.tree q.state.pos j (set.insert q.haunts k) in
+  witness_moves {tree} (move.goes u r q changed j has own acts at n d) =
+      let haunts = haunts_at (here_at f k) tree q.state.pos j (set.insert q.haunts k) in
       leaves r _ j (ghost_messages (here_at f k) q j haunts changed) has (real_is _ u d) (acts_keep u r q changed acts) d.sends
       (ghosts_silent update_in no_update (here_at f k) q j haunts changed)
       (ghosts_silent real_of no_real (here_at f k) q j haunts changed)

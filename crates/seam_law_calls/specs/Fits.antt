@@ -6,7 +6,7 @@ use Rattle.seam_defs.specs.declared.flags.Group.TheVariants as group
 use Rattle.seam_law_calls.specs.Frames.{Frame, here_at}
 
 -- the real is one of entity e and of type ty, has values of the group, is in the space, and each call that it holds fits; it is in cell
--- k or on its way there, and that cell and its haunts are cells of the tree
+-- k or on its way there, and that cell and its haunts are cells of the trees
 pub record RealFits (f : Frame) (e ty k : ℕ) (r : RealView) : Type 0 where
   pub entity : r.entity ≡ e
   pub type : r.ty ≡ ty

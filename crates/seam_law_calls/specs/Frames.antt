@@ -1,26 +1,40 @@
 -- What all nodes of a world go by in a round.
-use Rattle.std.specs.Prelude.{◌≡◌, ℕ, ◌<◌, ◌≤◌, List}
+use Rattle.std.specs.Prelude.{◌≡◌, ℕ, ◌<◌, ◌≤◌, List, [], ◌∷◌, slice_get, Some}
 use Rattle.seam_node_steps.specs.Prelude.{Division, cells_of, TypeDef, Settings, EachNode, Here, cell_count, CellView, BaseView, NodeView}
 use Rattle.seam_node_steps.specs.Prelude.{World, node_peers, Cell, Base, here_of, IsNode}
 use Rattle.seam_net_runs.specs.Sound.{IsSound}
 
--- the definitions, the settings, and the tree that applies in the round
+-- the definitions, the settings, the tree that applies at the round's start, and those that replace it in the round, in their order
 pub record Frame : Type 0 where
   pub defs : List TypeDef
   pub settings : Settings
   pub tree : Division
+  pub later : List Division
+
+-- the trees of the round: the place of one in this list is its number
+abbrev pub trees_of : Frame → List Division
+trees_of f = f.tree ∷ f.later
+
+-- no tree replaces the first in the round
+abbrev pub HasOneTree : Frame → Type 0
+HasOneTree f = f.later ≡ []
+
+-- t is one of the trees
+pub record IsTreeOf (f : Frame) (t : Division) : Type 0 where
+  pub number : ℕ
+  pub is : slice_get (trees_of f) number ≡ Some t
 
 -- what node k knows
 abbrev pub here_at : Frame → ℕ → Here
 here_at f k = here_of f.defs f.settings k
 
--- node k is a cell, and has the frame's tree
+-- node k is a cell, and has one of the frame's trees
 pub record IsCellAt (f : Frame) (k : ℕ) (c : CellView) : Type 0 where
   pub low : k < cell_count
   pub here : c.here ≡ here_at f k
-  pub tree : c.tree ≡ f.tree
+  pub tree : IsTreeOf f c.tree
 
--- node k is a base node, and knows how many cells the frame's tree has
+-- node k is a base node, and knows how many cells the trees have
 pub record IsBaseAt (f : Frame) (k : ℕ) (b : BaseView) : Type 0 where
   pub high : cell_count ≤ k
   pub here : b.here ≡ here_at f k

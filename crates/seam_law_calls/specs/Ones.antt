@@ -1,7 +1,8 @@
 -- Exactly one real: where it is, and what it is.
 use Rattle.std.specs.Prelude.{◌≡◌, ℕ, ◌<◌, ◌==◌, Bool, false, List, [], ◌∷◌, Option, None, Some}
 use Rattle.std.specs.List.{AllByRecursion}
-use Rattle.seam_node_steps.specs.Prelude.{IsTree, AreDefs, Order, RealView, Msg, Hand, Reap, limit, input_from, happens, Input, Task, From}
+use Rattle.seam_node_steps.specs.Prelude.{Division, cells_of, IsTree, AreDefs, Order, RealView, Msg, Hand, Reap, limit, input_from, happens}
+use Rattle.seam_node_steps.specs.Prelude.{Input, Task, From}
 use Rattle.seam_node_steps.specs.Prelude.{Event, World, node_steps}
 use Rattle.seam_law_flow.specs.Prelude.{TokenPlace, Sole}
 use Rattle.seam_call.specs.declared.order.Order.TheVariants as order
@@ -55,10 +56,15 @@ pub record AllFits (f : Frame) (e ty : ℕ) (w : World) : Type 0 where
   pub hands : (a k : ℕ) → AllByRecursion (IsFitHand f e ty k) ((entity_flow e w).mail a k)
   pub room : burden e w < limit
 
--- the frame's definitions and its tree are such
+-- a later tree of the frame is one, and has as many cells as the first
+abbrev pub IsLaterTree : Frame → Division → Type 0
+IsLaterTree f t = IsTree t × (cells_of t ≡ cells_of f.tree)
+
+-- the frame's definitions and its trees are such
 pub record IsFrame (f : Frame) : Type 0 where
   pub defs : AreDefs f.defs
   pub tree : IsTree f.tree
+  pub later : AllByRecursion (IsLaterTree f) f.later
 
 -- ---- the law
 

@@ -226,7 +226,7 @@ module _ (f : Frame) (u : World) (between : IsBetweenRounds f u) (parts : HasPar
 
     moves_so : (k : ℕ) (s : Has) (i : Option Msg) (t : Has) (sent : List (ℕ × Msg)) → Moves f e k s i t sent → WaitsOrGone s.base →
         WaitsOrGone t.base
-    moves_so k s i t sent (at_a_cell low m same) so = subst WaitsOrGone (sym same) so
+    moves_so k s i t sent (at_a_cell tree of low m same) so = subst WaitsOrGone (sym same) so
     moves_so k s i t sent (at_a_base high m same) so = so_after (here_at f k) _ e s.base i t.base sent m so
 
     module _ (home : ℕ) (r : RealView) (here : real_at e u home ≡ Some r) (listed : 1 ≤ times e es) where

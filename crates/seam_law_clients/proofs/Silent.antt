@@ -4,7 +4,8 @@ use Rattle.std.specs.Prelude.{option_map}
 use Rattle.std.specs.List.{AllByRecursion}
 use Rattle.std.specs.FinSet as set
 use Rattle.std.proofs.lemmas.Bool.{eq-eqb}
-use Rattle.seam_node_steps.specs.Prelude.{items_to, OrderView, Shown, RealView, WitnessView, Msg, Hand, base_numbers, SlotStep, slot_after}
+use Rattle.seam_node_steps.specs.Prelude.{Division, items_to, OrderView, Shown, RealView, WitnessView, Msg, Hand, base_numbers, SlotStep}
+use Rattle.seam_node_steps.specs.Prelude.{slot_after}
 use Rattle.seam_node_steps.specs.Prelude.{haunts_at, ghost_messages, current_to, numbered}
 use Rattle.seam_law_flow.specs.Prelude.{letters_of, IsSilent, more_issued, number_from}
 use Rattle.seam_law_calls.specs.Prelude.{Frame, here_at, Has, AtCell, Does, Acts, surveys, calls, readies, CellMoves, Moves, at_a_cell}
@@ -79,14 +80,14 @@ module _ (seen : Option WitnessView) where
     takes_it n q none at is now (gone none_now) = let z = sym none_now ∙ now in cc
     takes_it n q none at is now (ticked fed) = let z = sym none ∙ fed in cc
 
-    cell_holds : NotTaken s.cell i t.cell → CellMoves (here_at f k) f.tree e s.cell i t.cell sent → Holds
+    cell_holds : NotTaken s.cell i t.cell → {tree : Division} → CellMoves (here_at f k) tree e s.cell i t.cell sent → Holds
     cell_holds not (move.rests n d) = still _ s.cell d refl (tt, tt)
     cell_holds not (move.strays m n b d) = still _ s.cell d refl (tt, tt)
-    cell_holds not (move.stays u r q changed has own acts at d) =
+    cell_holds not {tree} (move.stays u r q changed has own acts at d) =
         turned _ u d r _ has refl (acts_keep u r q changed acts)
-        (ghosts_neither q k (haunts_at (here_at f k) f.tree q.state.pos k q.haunts) changed)
-    cell_holds not (move.goes u r q changed j has own acts at n d) =
-        let haunts = haunts_at (here_at f k) f.tree q.state.pos j (set.insert q.haunts k) in
+        (ghosts_neither q k (haunts_at (here_at f k) tree q.state.pos k q.haunts) changed)
+    cell_holds not {tree} (move.goes u r q changed j has own acts at n d) =
+        let haunts = haunts_at (here_at f k) tree q.state.pos j (set.insert q.haunts k) in
         let none = ghosts_neither q j haunts changed in
         record {
           slot = λ x now. absurd (let z = sym (is_now _ u d) ∙ now in cc);
@@ -125,7 +126,7 @@ module _ (seen : Option WitnessView) where
     cell_holds not (move.stuck r h has ready may d) = still _ s.cell d refl (tt, tt)
 
     pub moves_hold : NotTaken s.cell i t.cell → Moves f e k s i t sent → Holds
-    moves_hold not (at_a_cell low m base) = cell_holds not m
+    moves_hold not (at_a_cell tree of low m base) = cell_holds not m
     moves_hold not (at_a_base high m cell) =
         holds (λ r now. here r (sym (ap (λ c. c.slot.real) cell) ∙ now))
         (base_silent update_in sees_no_update _ _ e _ i _ sent m, base_silent real_of sees_no_real _ _ e _ i _ sent m)

@@ -1,29 +1,26 @@
 -- The place of a real stays on its way after each event, and so after every list of events.
-use Rattle.std.proofs.Common.{◌≡◌, ℕ, ◌+◌, ◌<◌, ◌≤◌, true, List, [], ◌∷◌, ◌++◌, length, Option, Some, refl, sym, ap, ◌∙◌, subst, arith, inl}
-use Rattle.std.proofs.Common.{inr}
+use Rattle.std.proofs.Common.{◌≡◌, ℕ, ◌<◌, ◌≤◌, true, List, [], ◌∷◌, ◌++◌, length, Option, Some, refl, sym, ap, ◌∙◌, subst, inl, inr}
 use Rattle.std.proofs.lemmas.Bool.{cases_eq}
-use Rattle.seam_node_steps.specs.Prelude.{Pos, Distances, Place, last_of, after, type_of, happens, enabled, Occurs, Event, Call, RealView}
-use Rattle.seam_node_steps.specs.Prelude.{limit, Msg, Hand, Reap, may_settle, World, node_steps, node_has_work}
-use Rattle.seam_law_flow.specs.Prelude.{Flow, Goes, comes, letter_in, In, On, Sole, Turned, still, turns, lands, leaves, relays}
+use Rattle.seam_node_steps.specs.Prelude.{Pos, Distances, Place, last_of, after, type_of, happens, enabled, Occurs, Event, Call}
+use Rattle.seam_node_steps.specs.Prelude.{RealView, limit, Msg, Hand, Reap, World, node_steps, node_has_work}
+use Rattle.seam_law_flow.specs.Prelude.{Flow, Goes, comes, letter_in, In, On, Sole, Turned, Handles, still, turns, lands, leaves, relays}
 use Rattle.seam_law_flow.specs.Prelude.{place_after, token_after}
-use Rattle.seam_law_calls.specs.Prelude.{Frame, Has, mine, entity_flow, MovesTo, real_burden, Replays, real_in, real_of, IsOne, IsSpared}
-use Rattle.seam_law_calls.specs.Prelude.{AllFits, IsFrame, HasOne, OneFrom, RunsTo}
+use Rattle.seam_law_calls.specs.Prelude.{Frame, HasOneTree, Has, mine, entity_flow, MovesTo, real_burden, Replays, real_in}
+use Rattle.seam_law_calls.specs.Prelude.{real_of, IsOne, IsSpared, AllFits, IsFrame, HasOne, OneFrom, RunsTo}
 use Rattle.seam_law_ghosts.specs.Prelude.{distances_of, place_of, path_of, home_of, IsDue, IsOnItsWay, waits, IsPlaced}
 use Rattle.seam_haunt.specs.Places.{settled}
 use Rattle.seam_machine.proofs.Occurring.{occurs}
-use Rattle.seam_net_runs.specs.Sums.{weight_or}
 use Rattle.seam_net_runs.proofs.Runs.{leads_keeps}
 use Rattle.seam_law_flow.specs.Tokens as token
 use Rattle.seam_law_flow.proofs.TokenLemmas.{sole_here, sole_came, sole_goes, token_turns}
-use Rattle.seam_law_calls.proofs.Holds.{all_two, below_is}
-use Rattle.seam_law_calls.proofs.OneReal.{goes, room, one_happens, calm_of, spared_happens}
+use Rattle.seam_law_calls.proofs.OneReal.{goes, one_happens, calm_of, spared_happens}
 use Rattle.seam_law_calls.proofs.Replaying.{replays_none, replays_on}
-use Rattle.seam_law_ghosts.proofs.Lasting.{slot_bound}
 use Rattle.seam_law_ghosts.proofs.Ways.{way_due, way_survey, way_call}
 use Rattle.seam_law_ghosts.proofs.Paths.{is_at_last, path_more, same_further, more_further}
-use Rattle.seam_law_ghosts.proofs.Placing.{Settles, by_survey, by_call, Does_it, PlacesBy, Placed, placed}
+use Rattle.seam_law_ghosts.proofs.Placing.{Settles, by_survey, by_call, PlacesBy, Placed}
+use Rattle.seam_law_ghosts.proofs.PlaceMoves.{by_first_tree}
 
-module _ (f : Frame) (home : ℕ) (start : RealView) where
+module _ (f : Frame) (alone : HasOneTree f) (home : ℕ) (start : RealView) where
   abbrev d : Distances
   d = distances_of f.settings
 
@@ -46,7 +43,7 @@ module _ (f : Frame) (home : ℕ) (start : RealView) where
         (subst (λ x. OnWay p.further x then) (sym place)
         (way_due d f.tree (place_of home start) start.state.pos (path_of f start p.further) (place_of k r) due then more way))
 
-    settles_way : (j : ℕ) → Settles f k j r q → OnWay n.further (place_of j q) then
+    settles_way : (j : ℕ) → Settles f f.tree k j r q → OnWay n.further (place_of j q) then
     settles_way j (by_survey done state is) =
         let at : q.state.pos ≡ last_of start.state.pos (path_of f start p.further) = ap (λ s. s.pos) state ∙ is_at_last f start r p in
         subst (λ cs. OnWay cs (place_of j q) then) (sym (same_further f start r p q n done))
@@ -56,7 +53,8 @@ module _ (f : Frame) (home : ℕ) (start : RealView) where
         let at : Pos = (after (type_of f.defs r.ty) r.state c.deed).pos in
         subst (λ cs. OnWay cs (place_of j q) then) (sym (more_further f start r p q n c done))
         (subst (λ ps. Way ps (place_of j q)) (sym (path_more f start r p c))
-        (subst (Way (path_of f start p.further ++ at ∷ [])) (sym (is ∙ ap (λ s. settled d f.tree (place_of k r) s.pos) state))
+        (subst (Way (path_of f start p.further ++ at ∷ []))
+        (sym (is ∙ ap (λ s. settled d f.tree (place_of k r) s.pos) state))
         (way_call d f.tree (place_of home start) start.state.pos (path_of f start p.further) (place_of k r) at due then way)))
 
   -- ---- an event
@@ -79,23 +77,11 @@ module _ (f : Frame) (home : ℕ) (start : RealView) where
       abbrev g : Goes (λ k s i t out. MovesTo f e k s i t out × Comes i) flow (entity_flow e next)
       g = goes f frame e ty known w v o has calm
 
-      may : (r : RealView) → real_in (flow.slot g.k) ≡ Some r → 1 ≤ (flow.slot g.k).cell.survey → may_settle r ≡ true
-      may r at some =
-          let a = slot_bound e w g.k in
-          let b = ap (weight_or real_burden) at in
-          let few = has.fits.room in
-          all_two _ _ (below_is (r.beat + 1) limit (omega (arith, a, b, few, some)))
-          (below_is (r.generation + 1) limit (omega (arith, a, b, few, some)))
-
       abbrev Its : Type 0
-      Its = Does_it f frame.defs e ty g.k (flow.slot g.k) (comes g.input) ((entity_flow e next).slot g.k) g.moves.0.sent g.out
-          g.moves.0.items
+      Its = Handles real_in real_of (Replays f) (flow.slot g.k) (comes g.input) ((entity_flow e next).slot g.k) g.out
 
-      what : Placed f frame.defs e ty g.k (flow.slot g.k) (comes g.input) ((entity_flow e next).slot g.k) g.moves.0.sent g.out
-          g.moves.0.items
-      what =
-          placed f frame.defs e ty g.k (flow.slot g.k) (comes g.input) ((entity_flow e next).slot g.k) g.moves.0.sent g.out
-          g.moves.0.items (room f frame e ty known w v o has calm) (λ r at. g.moves.1.1) may g.moves.0.moves
+      what : Placed f f.tree g.k (flow.slot g.k) (comes g.input) ((entity_flow e next).slot g.k) g.out
+      what = by_first_tree f frame e ty known w v o has calm alone
 
       -- ---- the one real after it
 
@@ -140,8 +126,8 @@ module _ (f : Frame) (home : ℕ) (start : RealView) where
       abbrev Then : token.TokenPlace → RealView → List Call → Type 0
       Then p q calls = OnWay calls (place_of (home_of p) q) (IsDue e next p)
 
-      way_by : (m : Its) → PlacesBy f frame.defs e ty g.k (flow.slot g.k) (comes g.input) ((entity_flow e next).slot g.k)
-          g.moves.0.sent g.out g.moves.0.items m → (n : Replays f start (token_after m has.real)) →
+      way_by : (m : Its) → PlacesBy f f.tree g.k (flow.slot g.k) (comes g.input) ((entity_flow e next).slot g.k) g.out m →
+          (n : Replays f start (token_after m has.real)) →
           Then (place_after g.k m has.place) (token_after m has.real) n.further
       way_by (still a b c) stays n =
           same_way (home_of has.place) has.real x.one.replays (IsDue e w has.place) x.way has.real n (IsDue e next has.place)
@@ -155,7 +141,7 @@ module _ (f : Frame) (home : ℕ) (start : RealView) where
           let at = sole_here real_in real_of flow has.place has.real r g.k has.one a in
           subst (λ p. Then p q n.further) (sym at.0)
           (settles_way g.k has.real x.one.replays (IsDue e w (In g.k)) (way_here at.0) q n (IsDue e next (In g.k)) g.k
-          (subst (λ i. Settles f g.k g.k i q) at.1 settles))
+          (subst (λ i. Settles f f.tree g.k g.k i q) at.1 settles))
       way_by (lands r q a b c y) same n =
           let at = sole_came real_in real_of g has.place has.real r has.one a in
           let is = same ∙ at.2 in
@@ -165,7 +151,7 @@ module _ (f : Frame) (home : ℕ) (start : RealView) where
       way_by (leaves r q to a b c y z) settles n =
           let at = sole_here real_in real_of flow has.place has.real r g.k has.one a in
           settles_way g.k has.real x.one.replays (IsDue e w (In g.k)) (way_here at.0) q n ⊥ to
-          (subst (λ i. Settles f g.k to i q) at.1 settles)
+          (subst (λ i. Settles f f.tree g.k to i q) at.1 settles)
       way_by (relays r q to a b c z) h n = absurd h
 
       pub placed_happens : IsPlaced f e ty home start next

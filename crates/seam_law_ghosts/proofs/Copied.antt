@@ -1,7 +1,8 @@
 -- Where entities are reaped, and where witnesses look, a cell gets no copy: each that it has is the one that it had.
 use Rattle.std.proofs.Common.{◌≡◌, ℕ, ◌+◌, ◌<◌, Bool, true, false, ltb, cond, List, [], ◌∷◌, Option, None, Some, refl, sym, ap, ◌∙◌, arith}
 use Rattle.std.specs.FinMap as table
-use Rattle.seam_node_steps.specs.Prelude.{happens, enabled, LeadsTo, Ghost, copy_in, beat_in, ghost_after, GhostCopy, RealView, Msg}
+use Rattle.seam_node_steps.specs.Prelude.{Division, happens, enabled, LeadsTo, Ghost, copy_in, beat_in, ghost_after, GhostCopy, RealView}
+use Rattle.seam_node_steps.specs.Prelude.{Msg}
 use Rattle.seam_node_steps.specs.Prelude.{Hand, GhostSet, SlotStep, slot_after, order_or, may_rise, Event, holders, NodeView, World}
 use Rattle.seam_node_steps.specs.Prelude.{node_steps, node_has_work, with_nodes, reap_ordered_at, ordered_at, reaps_loaded, look_loaded}
 use Rattle.seam_law_flow.specs.Prelude.{Goes, comes}
@@ -57,7 +58,7 @@ module _ (f : Frame) (e home : ℕ) (r : RealView) (told : Bool) (k : ℕ) (s : 
   same : Copies (copy_in s.cell.slot.ghost) (copy_in s.cell.slot.ghost)
   same c is = is
 
-  cell_keeps : CellMoves (here_at f k) f.tree e s.cell i t.cell sent → Kept
+  cell_keeps : {tree : Division} → CellMoves (here_at f k) tree e s.cell i t.cell sent → Kept
   cell_keeps (move.rests n d) = steps _ s.cell d same
   cell_keeps (move.strays m n b d) = steps _ s.cell d same
   cell_keeps (move.stays u p q changed has own acts at d) = absurd (acts_never u p q changed has acts)
@@ -77,7 +78,7 @@ module _ (f : Frame) (e home : ℕ) (r : RealView) (told : Bool) (k : ℕ) (s : 
   cell_keeps (move.stuck p h has ready may d) = steps _ s.cell d same
 
   keeps_copies : Moves f e k s i t sent → Kept
-  keeps_copies (at_a_cell low m is) = cell_keeps m
+  keeps_copies (at_a_cell tree of low m is) = cell_keeps m
   keeps_copies (at_a_base high m is) = λ c at. sym (ap (λ (x : AtCell). copy_in x.slot.ghost) is) ∙ at
 
 -- ---- a list of events

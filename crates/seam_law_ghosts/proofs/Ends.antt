@@ -1,15 +1,14 @@
 -- Where a loaded world is quiet again, each place is one that the rounds allow; and the last phases leave places.
 use Rattle.std.proofs.Common.{◌≡◌, ℕ, ◌≤◌, ◌⊎◌, Bool, false, List, [], ◌∷◌, ◌++◌, Some, refl, sym, ap, ◌∙◌, subst, arith, inl, inr}
 use Rattle.std.specs.List.{AllByRecursion}
-use Rattle.seam_node_steps.specs.Prelude.{leaf_at, Place, IsPlaceAfter, last_of, IsQuiet, Event, Create, Batch, RealView, holders, NodeView}
+use Rattle.seam_node_steps.specs.Prelude.{leaf_at, Place, IsPlaceAfter, IsQuiet, Event, Create, Batch, RealView, holders, NodeView}
 use Rattle.seam_node_steps.specs.Prelude.{World, node_has_work, Cell, Base, loaded, reaps_loaded, look_loaded}
 use Rattle.seam_law_flow.specs.Prelude.{letters_of, In}
 use Rattle.seam_law_calls.specs.Prelude.{Frame, mine, times, has_of, entity_flow, real_in, real_of, HasOne, RunsTo, real_at}
 use Rattle.seam_law_rounds.specs.Prelude.{IsBetweenRounds, framed, AreReapable, MayBegin}
-use Rattle.seam_law_ghosts.specs.Prelude.{distances_of, place_of, first_place, path_of, made_real, home_of, IsDue, IsPlaced, IsRightPlace}
+use Rattle.seam_law_ghosts.specs.Prelude.{distances_of, place_of, first_place, path_of, made_real, home_of, IsDue, IsPlaced, IsRestful}
+use Rattle.seam_law_ghosts.specs.Prelude.{IsRightPlace}
 use Rattle.seam_law_ghosts.specs.Prelude.{BeginsAt, HadSameReal, ArePlaced}
-use Rattle.seam_haunt.specs.Places.{settled}
-use Rattle.seam_haunt.proofs.Settling.{after_settled}
 use Rattle.seam_machine.proofs.Quiet.{quiet_links, quiet_tasks}
 use Rattle.seam_law_flow.specs.Tokens as token
 use Rattle.seam_law_flow.proofs.TokenLemmas.{sole_here}
@@ -26,9 +25,10 @@ use Rattle.seam_law_rounds.proofs.Phases.{calm_leads}
 use Rattle.seam_law_rounds.proofs.Reaping as reaping
 use Rattle.seam_law_rounds.proofs.Looking as looking
 use Rattle.seam_law_ghosts.proofs.Ways.{way_ends}
-use Rattle.seam_law_ghosts.proofs.Paths.{further_done, is_at_last}
+use Rattle.seam_law_ghosts.proofs.Paths.{further_done}
 use Rattle.seam_law_ghosts.proofs.Along.{placed_leads}
 use Rattle.seam_law_ghosts.proofs.Begun.{listed, was_begins, each_begins}
+use Rattle.seam_law_ghosts.proofs.Resting.{restful_loaded}
 
 -- ---- a quiet world has no one on a survey list
 
@@ -75,17 +75,6 @@ module _ (f : Frame) (e ty home : ℕ) (start : RealView) (v : World) (x : IsPla
       (subst (IsPlaceAfter (distances_of f.settings) f.tree (place_of home start) start.state.pos (path_of f start x.one.replays.further))
       place_is ended)
 
-  -- it is settled where the entity is
-  pub settled_there : settled (distances_of f.settings) f.tree (place_of k q) q.state.pos ≡ place_of k q
-  settled_there =
-      let last : q.state.pos ≡ last_of start.state.pos (path_of f start x.one.replays.further) =
-      ap (λ (r : RealView). r.state.pos) found.1 ∙ is_at_last f start has.real x.one.replays in
-      ap (settled (distances_of f.settings) f.tree (place_of k q)) last
-      ∙ after_settled (distances_of f.settings) f.tree (place_of home start) start.state.pos (path_of f start x.one.replays.further)
-      (place_of k q)
-      (subst (IsPlaceAfter (distances_of f.settings) f.tree (place_of home start) start.state.pos (path_of f start x.one.replays.further))
-      place_is ended)
-
 -- ---- a loaded world
 
 module _ (f : Frame) (w : World) (b : Batch) (begin : MayBegin f w b) where
@@ -94,7 +83,7 @@ module _ (f : Frame) (w : World) (b : Batch) (begin : MayBegin f w b) where
     pub placed_loaded : (e home : ℕ) (r : RealView) → real_at e (loaded w b) home ≡ Some r → IsPlaced (framed f b) e r.ty home r v
     placed_loaded e home r here =
         let settled = settled_loaded f w b begin e home r here in
-        placed_leads (framed f b) home r (frame_loaded f w b begin) e r.ty settled.type (loaded w b) v es
+        placed_leads (framed f b) refl home r (frame_loaded f w b begin) e r.ty settled.type (loaded w b) v es
         (one_loaded f w b begin e home r here).fits (spared_loaded f w b begin e home r here)
         (one_at_home (framed f b) (loaded w b) e home r settled (no_mail f w b begin e)) (listed e w b home r here) run
 
@@ -127,9 +116,8 @@ module _ (f : Frame) (w : World) (b : Batch) (begin : MayBegin f w b) where
       -- ---- the record of places
 
       placed_by : (e k : ℕ) (q : RealView) → real_at e v k ≡ Some q → Somewhere e (loaded w b) ⊎ Nowhere e
-          (loaded w b) → settled (distances_of f.settings) b.tree (place_of k q) q.state.pos ≡ place_of k q
-      placed_by e k q at (inl p) =
-          settled_there (framed f b) e p.1.ty p.0 p.1 v (placed_loaded e p.0 p.1 p.2) quiet k q at
+          (loaded w b) → IsRestful f.settings b.tree k q
+      placed_by e k q at (inl p) = (restful_loaded f w b begin v es run e p.0 p.1 p.2).cells k q at (none_due e v quiet k)
       placed_by e k q at (inr n) =
           let gone = gone_leads (framed f b) (frame_loaded f w b begin) e (loaded w b) v es (in_frame f w b begin)
           (record { slots = n; mail = λ x y. ap (letters_of real_of) (no_mail f w b begin e x y) }) run in
@@ -196,7 +184,7 @@ stays_placed f u v was placed = record {
   space = placed.space;
   settled = λ e k q at.
       let there = was e k q at in
-      subst (λ (y : RealView). settled (distances_of f.settings) f.tree (place_of k y) y.state.pos ≡ place_of k y) (sym there.same)
+      subst (IsRestful f.settings f.tree k) (sym there.same)
       (placed.settled e k there.real there.here);
 }
 

@@ -63,7 +63,7 @@ three_are_tree = record {
     proper (suc (suc (suc c))) h = absurd (omega (arith, h))
 
 first_is : IsFrame first
-first_is = record { defs = frame_is.defs; tree = one_is_tree }
+first_is = record { defs = frame_is.defs; tree = one_is_tree; later = tt }
 
 -- ---- nodes, one by one
 

@@ -3,7 +3,8 @@ use Rattle.std.proofs.Common.{◌≡◌, ℕ, ◌+◌, ◌<◌, ◌≤◌, Bool,
 use Rattle.std.specs.Prelude.{slice_get}
 use Rattle.std.specs.List.{AllByRecursion}
 use Rattle.std.proofs.lemmas.Bool.Decides.{nat_tests}
-use Rattle.seam_node_steps.specs.Prelude.{link, RealView, Msg, GhostDrop, Tick, Reap, Update, limit, is_small, may_rise, cell_count, about}
+use Rattle.seam_node_steps.specs.Prelude.{Division, link, RealView, Msg, GhostDrop, Tick, Reap, Update, limit, is_small, may_rise}
+use Rattle.seam_node_steps.specs.Prelude.{cell_count, about}
 use Rattle.seam_node_steps.specs.Prelude.{is_stray, stray_reap, NodeView, World, RouteView, order_or}
 use Rattle.seam_law_calls.specs.Prelude.{Frame, here_at, entity_flow, real_at}
 use Rattle.seam_law_rounds.proofs.Calm.{IsCalmTo, IsCalm}
@@ -31,19 +32,19 @@ module _ (f : Frame) (e home : ℕ) (r : RealView) (cell : home < cell_count) (n
       let same : p ≡ q = cc in
       not_true (may_rise p.beat) (ap (λ (y : RealView). may_rise y.beat) same ∙ may)
 
-  kind_by : (m : Msg) (ms : List Msg) → link v.rows a k ≡ m ∷ ms → about m ≡ Some e → IsCalmTo told home r k m →
-      is_stray (here_at f k) f.tree ((entity_flow e v).slot k).cell.slot m ≡ false
-  kind_by (GhostDrop x n) ms at is h = not_true (is_small n) (small_to n r.beat h.1 (small h.0))
-  kind_by Tick ms at is h = refl
-  kind_by (Reap x) ms at is h =
+  kind_by : (tree : Division) (m : Msg) (ms : List Msg) → link v.rows a k ≡ m ∷ ms → about m ≡ Some e → IsCalmTo told home r k m →
+      is_stray (here_at f k) tree ((entity_flow e v).slot k).cell.slot m ≡ false
+  kind_by tree (GhostDrop x n) ms at is h = not_true (is_small n) (small_to n r.beat h.1 (small h.0))
+  kind_by tree Tick ms at is h = refl
+  kind_by tree (Reap x) ms at is h =
       let q = found_home f e home r cell none was leads told small v (record { node = k; from = Some a }) (feeds v a k s
       (Reap x) ms node at)
       calm x (mine_is e (Reap x) is) in
       reap_by ((entity_flow e v).slot k).cell.slot.real q.0 (ap (λ j. real_at e v j) h ∙ q.1) q.2
-  kind_by (Update u) ms at is h = absurd (omega (arith, h, low))
-  kind_by _ ms at is h = absurd h
+  kind_by tree (Update u) ms at is h = absurd (omega (arith, h, low))
+  kind_by tree _ ms at is h = absurd h
 
-  pub calm_free : (m : Msg) (ms : List Msg) → link v.rows a k ≡ m ∷ ms → about m ≡ Some e →
-      is_stray (here_at f k) f.tree ((entity_flow e v).slot k).cell.slot m ≡ false
-  calm_free m ms at is =
-      kind_by m ms at is (subst (AllByRecursion (IsCalmTo told home r k)) (seen_first e v a k m ms at is) (calm.mail a k)).0
+  pub calm_free : (tree : Division) (m : Msg) (ms : List Msg) → link v.rows a k ≡ m ∷ ms → about m ≡ Some e →
+      is_stray (here_at f k) tree ((entity_flow e v).slot k).cell.slot m ≡ false
+  calm_free tree m ms at is =
+      kind_by tree m ms at is (subst (AllByRecursion (IsCalmTo told home r k)) (seen_first e v a k m ms at is) (calm.mail a k)).0

@@ -2,10 +2,12 @@
 use Rattle.std.proofs.Common.{◌≡◌, ℕ, ◌<◌, ◌≤◌, ◌⊎◌, false, List, ◌∷◌, None, Some, refl, sym, ap, ◌∙◌, subst, inl, inr}
 use Rattle.std.specs.Prelude.{slice_get}
 use Rattle.std.specs.List.{AllByRecursion}
-use Rattle.seam_node_steps.specs.Prelude.{link, Event, Batch, RealView, Msg, Hand, Tick, limit, cell_count, about, is_stray, CellView}
+use Rattle.seam_node_steps.specs.Prelude.{Division, link, Event, Batch, RealView, Msg, Hand, Tick, limit, cell_count, about, is_stray}
+use Rattle.seam_node_steps.specs.Prelude.{CellView}
 use Rattle.seam_node_steps.specs.Prelude.{slot_of, holders, NodeView, World, Cell, loaded}
 use Rattle.seam_law_flow.specs.Prelude.{letters_of, slot_at, TokenPlace, In, On}
-use Rattle.seam_law_calls.specs.Prelude.{Frame, here_at, mine, has_of, has_none, entity_flow, RealFits, IsFitHand, real_burden, real_in}
+use Rattle.seam_law_calls.specs.Prelude.{Frame, IsTreeOf, here_at, mine, has_of, has_none, entity_flow, RealFits, IsFitHand, real_burden}
+use Rattle.seam_law_calls.specs.Prelude.{real_in}
 use Rattle.seam_law_calls.specs.Prelude.{real_of, IsOne, reaped_by, RunsTo, real_at}
 use Rattle.seam_law_rounds.specs.Prelude.{IsSettled, framed, calls_of, next_from, MayBegin}
 use Rattle.seam_law_flow.proofs.TokenLemmas.{sole_here}
@@ -71,8 +73,8 @@ module _ (f : Frame) (w : World) (b : Batch) (begin : MayBegin f w b) (v : World
           letters = λ a k. subst (AllByRecursion (FitsNode g k)) (sym (no_mail f w b begin e a k)) tt;
         }) run
 
-    module _ (a k : ℕ) (s : NodeView) (node : slice_get v.nodes k ≡ Some s) (low : k < cell_count) (m : Msg) (ms : List Msg)
-        (at : link v.rows a k ≡ m ∷ ms) (is : about m ≡ Some e) where
+    module _ (a k : ℕ) (s : NodeView) (node : slice_get v.nodes k ≡ Some s) (low : k < cell_count) (tree : Division)
+        (of : IsTreeOf g tree) (m : Msg) (ms : List Msg) (at : link v.rows a k ≡ m ∷ ms) (is : about m ≡ Some e) where
       seen : (entity_flow e v).mail a k ≡ m ∷ letters_of (mine e) ms
       seen = seen_first e v a k m ms at is
 
@@ -86,9 +88,9 @@ module _ (f : Frame) (w : World) (b : Batch) (begin : MayBegin f w b) (v : World
                 (mine_is e m is ∙ ap Some same),
           )
 
-      pub present_free : is_stray (here_at g k) g.tree ((entity_flow e v).slot k).cell.slot m ≡ false
+      pub present_free : is_stray (here_at g k) tree ((entity_flow e v).slot k).cell.slot m ≡ false
       present_free =
-          kind_fits g e r.ty k settled.type low ((entity_flow e v).slot k) m
+          kind_fits g (frame_loaded f w b begin) e r.ty k settled.type low tree of ((entity_flow e v).slot k) m
           (subst (AllByRecursion (FitsNode g k)) seen (fair.letters a k)).0
           (subst (AllByRecursion (λ x. reaped_by x ≡ None)) seen (fair.spared.letters a k)).0
           (λ c same.
@@ -103,18 +105,17 @@ module _ (f : Frame) (w : World) (b : Batch) (begin : MayBegin f w b) (v : World
       (record { slots = n; mail = λ x y. ap (letters_of real_of) (no_mail f w b begin e x y) })
 
   pub free_by_place : (a k : ℕ) (c : CellView) (m : Msg) (ms : List Msg) (e : ℕ) → slice_get v.nodes k ≡ Some (Cell c) →
-      link v.rows a k ≡ m ∷ ms → about m ≡ Some e → k < cell_count → Somewhere e (loaded w b) ⊎ Nowhere e (loaded w b) →
-      is_stray (here_at g k) g.tree ((entity_flow e v).slot k).cell.slot m ≡ false
-  free_by_place a k c m ms e node at is low (inl p) = present_free e p.0 p.1 p.2 a k (Cell c) node low m ms at is
-  free_by_place a k c m ms e node at is low (inr n) =
+      link v.rows a k ≡ m ∷ ms → about m ≡ Some e → k < cell_count → IsTreeOf g c.tree →
+      Somewhere e (loaded w b) ⊎ Nowhere e (loaded w b) → is_stray (here_at g k) c.tree ((entity_flow e v).slot k).cell.slot m ≡ false
+  free_by_place a k c m ms e node at is low of (inl p) = present_free e p.0 p.1 p.2 a k (Cell c) node low c.tree of m ms at is
+  free_by_place a k c m ms e node at is low of (inr n) =
       absurd (unknown_gets_none g e v (unknown_leads g e (loaded w b) v es (unknown_loaded f w b begin e
       (nobody e n)) run) a k m ms at is)
 
 -- what is said of a cell by its entity's flow, said of the cell
 pub of_cell : (g : Frame) (v : World) (k : ℕ) (c : CellView) (e : ℕ) (m : Msg) → slice_get v.nodes k ≡ Some (Cell c) →
-    c.here ≡ here_at g k → c.tree ≡ g.tree → is_stray (here_at g k) g.tree ((entity_flow e v).slot k).cell.slot m ≡ false →
+    c.here ≡ here_at g k → is_stray (here_at g k) c.tree ((entity_flow e v).slot k).cell.slot m ≡ false →
     is_stray c.here c.tree (slot_of c e) m ≡ false
-of_cell g v k c e m node here tree h =
+of_cell g v k c e m node here h =
     ap (λ x. is_stray x c.tree (slot_of c e) m) here
-    ∙ (ap (λ x. is_stray (here_at g k) x (slot_of c e) m) tree
-    ∙ (sym (ap (λ o. is_stray (here_at g k) g.tree (slot_at (has_of e) has_none o).cell.slot m) node) ∙ h))
+    ∙ (sym (ap (λ o. is_stray (here_at g k) c.tree (slot_at (has_of e) has_none o).cell.slot m) node) ∙ h)

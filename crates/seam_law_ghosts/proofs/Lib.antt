@@ -17,8 +17,10 @@ pub mod Hushing
 pub mod Ways
 pub mod Paths
 pub mod Placing
+pub mod PlaceMoves
 pub mod Along
 pub mod Begun
+pub mod Resting
 pub mod Ends
 pub mod NearKnown
 pub mod PlacesKept

@@ -1,7 +1,7 @@
 -- An entity in a cell's survey list has its real there, and one in its look list has a witness too.
 use Rattle.std.proofs.Common.{◌≡◌, ℕ, ◌≤◌, Bool, true, false, cond, is_some, List, Option, Some, ◌⊎◌, inl, inr, refl, sym, ap, ◌∙◌, subst}
 use Rattle.std.proofs.Common.{arith}
-use Rattle.seam_node_steps.specs.Prelude.{RealView, Msg, Here, SlotStep, slot_after}
+use Rattle.seam_node_steps.specs.Prelude.{Division, RealView, Msg, Here, SlotStep, slot_after}
 use Rattle.seam_law_calls.specs.Prelude.{Frame, here_at, Has, AtCell, unlisted_if, Does, Acts, surveys, calls, readies, has_witness}
 use Rattle.seam_law_calls.specs.Prelude.{looks_after_tick, CellMoves, Moves, at_a_cell, at_a_base, real_in}
 use Rattle.seam_law_calls.specs.CellMoves as move
@@ -61,7 +61,7 @@ module _ (f : Frame) (e k : ℕ) (s : Has) (i : Option Msg) (t : Has) (sent : Li
       by true h = refl
       by false h = absurd (omega (arith, h))
 
-  cell_listed : CellMoves h f.tree e s.cell i t.cell sent → IsListed t.cell
+  cell_listed : {tree : Division} → CellMoves h tree e s.cell i t.cell sent → IsListed t.cell
   cell_listed (move.rests n d) = same _ s.cell d (omega arith) (omega arith) refl refl
   cell_listed (move.strays m n b d) = same _ s.cell d (omega arith) (omega arith) refl refl
   cell_listed (move.stays u r q changed has own acts at d) =
@@ -99,5 +99,5 @@ module _ (f : Frame) (e k : ℕ) (s : Has) (i : Option Msg) (t : Has) (sent : Li
   cell_listed (move.stuck r is has ready may d) = same _ s.cell d (omega arith) (omega arith) refl refl
 
   pub stays_listed : Moves f e k s i t sent → IsListed t.cell
-  stays_listed (at_a_cell low m is) = cell_listed m
+  stays_listed (at_a_cell tree of low m is) = cell_listed m
   stays_listed (at_a_base high m is) = subst IsListed (sym is) here

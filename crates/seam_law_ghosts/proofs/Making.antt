@@ -11,8 +11,8 @@ use Rattle.seam_node_steps.specs.Prelude.{ghost_message, ghost_messages, beat_af
 use Rattle.seam_law_flow.specs.Prelude.{letters_of, OfEntry, AllBring, entry_in, greater_entry, IsSilent, carried_in, SendsNone, Handles}
 use Rattle.seam_law_flow.specs.Prelude.{still, turns, lands, leaves, relays}
 use Rattle.seam_law_calls.specs.Prelude.{Frame, here_at, Has, account_of, after_call, real_in, real_of}
-use Rattle.seam_law_ghosts.specs.Prelude.{Entry, brings, book_entry, Executes, nothing, executes, haunts_staying, haunts_going}
-use Rattle.seam_law_ghosts.specs.Prelude.{told_staying, told_going, going, left_entry, GhostMoves, shown_at}
+use Rattle.seam_law_ghosts.specs.Prelude.{Entry, brings, book_entry, Executes, nothing, executes}
+use Rattle.seam_law_ghosts.specs.Prelude.{told_settling, going, left_entry, GhostMoves, shown_at}
 use Rattle.seam_defs.specs.declared.flags.Part.TheVariants as part
 use Rattle.seam_law_flow.proofs.Following.{all_append}
 use Rattle.seam_law_flow.proofs.SendLists.{sees_none, sees_after_silent, sees_one_here, sees_one_there}
@@ -188,27 +188,28 @@ module _ (f : Frame) (e k : ℕ) (s : Has) (i : Option Msg) (t : Has) (sent : Li
     | inr b ↦ inr (inl (comes ∙ ap Some (sym (is ∙ b))))
   ]
 
-  stays_by : (r q : RealView) (changed : Bool) (ms : List (ℕ × Msg)) → told_staying f k q changed ≡ ms → entry_in brings i ≡ None →
+  stays_by : (r q : RealView) (changed : Bool) (haunts : Cells) (ms : List (ℕ × Msg)) → told_settling f k k haunts q changed ≡ ms →
+      entry_in brings i ≡ None →
       real_in s ≡ Some r → Executes f r q changed → real_in t ≡ Some
-      (settled_to q (haunts_staying f k q) (beat_after ms q.beat) q.generation) → book_entry t ≡ book_entry s → sent ≡ ms → Handled
-  stays_by r q changed [] is none has acts real book z = (
-    turns r (settled_to q (haunts_staying f k q) q.beat q.generation) has real
-        (inr (settled_did f r q changed (haunts_staying f k q) q.beat q.generation acts)) (none_carried i none)
+      (settled_to q haunts (beat_after ms q.beat) q.generation) → book_entry t ≡ book_entry s → sent ≡ ms → Handled
+  stays_by r q changed haunts [] is none has acts real book z = (
+    turns r (settled_to q haunts q.beat q.generation) has real
+        (inr (settled_did f r q changed haunts q.beat q.generation acts)) (none_carried i none)
         (sends_none (subst (IsSilent real_of) (sym z) tt)),
     (
       silent (executes_beat f r q changed acts) (makes_none (subst (IsSilent brings) (sym z) tt) (inl book)),
       all_sent NoEntry (subst (AllByRecursion (λ p. Brings NoEntry p.1)) (sym z) tt) k,
     ),
   )
-  stays_by r q changed (m ∷ ms) is none has acts real book z =
-      let after = settled_to q (haunts_staying f k q) (q.beat + 1) q.generation in
-      let all = ghosts_fresh f (IsFresh f after) k q k (haunts_staying f k q) changed
+  stays_by r q changed haunts (m ∷ ms) is none has acts real book z =
+      let after = settled_to q haunts (q.beat + 1) q.generation in
+      let all = ghosts_fresh f (IsFresh f after) k q k haunts changed
       (record { at = refl; copy = λ c h. let is_same : copy_of_real (here_at f k) q ≡ c = cc in sym is_same })
       (record { at = refl; copy = λ c h. cc }) in (
         turns r after has real
-            (inr (settled_did f r q changed (haunts_staying f k q) (q.beat + 1) q.generation acts)) (none_carried i none)
+            (inr (settled_did f r q changed haunts (q.beat + 1) q.generation acts)) (none_carried i none)
             (sends_none (subst (IsSilent real_of) (is ∙ sym z)
-            (ghosts_silent real_of reals_unseen (here_at f k) q k (haunts_staying f k q) changed))),
+            (ghosts_silent real_of reals_unseen (here_at f k) q k haunts changed))),
         (
           fresh (ap (λ n. n + 1) (executes_beat f r q changed acts))
               (record {
@@ -216,7 +217,7 @@ module _ (f : Frame) (e k : ℕ) (s : Has) (i : Option Msg) (t : Has) (sent : Li
                 sent = all_sent (IsFresh f after) (subst (AllByRecursion (λ p. Brings (IsFresh f after) p.1)) (is ∙ sym z) all);
               }),
           subst (AllBring brings NoEntry)
-              (sym (items k ∙ (ap (items_to k) (z ∙ sym is) ∙ none_here f k q k (haunts_staying f k q) changed))) tt,
+              (sym (items k ∙ (ap (items_to k) (z ∙ sym is) ∙ none_here f k q k haunts changed))) tt,
         ),
       )
 
@@ -224,30 +225,31 @@ module _ (f : Frame) (e k : ℕ) (s : Has) (i : Option Msg) (t : Has) (sent : Li
   kept_copy true c d h = let is_same : c ≡ d = cc in sym is_same
   kept_copy false c d h = cc
 
-  left_fresh : (q : RealView) (j : ℕ) → IsFresh f (going f k j q) (left_entry f k j q)
-  left_fresh q j = record {
+  left_fresh : (q : RealView) (haunts : Cells) → IsFresh f (going haunts q) (left_entry f k haunts q)
+  left_fresh q haunts = record {
     at = refl;
-    copy = λ c h. kept_copy (set.contains (haunts_going f k j q) k) (copy_of_real (here_at f k) q) c h;
+    copy = λ c h. kept_copy (set.contains haunts k) (copy_of_real (here_at f k) q) c h;
   }
 
-  left_book : (q : RealView) (j : ℕ) → book_entry t ≡ greater_entry (book_entry s) (Some (left_entry f k j q)) →
-      (book_entry t ≡ book_entry s) ⊎ ((entry_in brings i ≡ Some (book_entry t)) ⊎ IsFresh f (going f k j q) (book_entry t))
-  left_book q j is = elim (greater_either (book_entry s) (left_entry f k j q)) [
+  left_book : (q : RealView) (haunts : Cells) → book_entry t ≡ greater_entry (book_entry s) (Some (left_entry f k haunts q)) →
+      (book_entry t ≡ book_entry s) ⊎ ((entry_in brings i ≡ Some (book_entry t)) ⊎ IsFresh f (going haunts q) (book_entry t))
+  left_book q haunts is = elim (greater_either (book_entry s) (left_entry f k haunts q)) [
     | inl a ↦ inl (is ∙ a)
-    | inr b ↦ inr (inr (subst (IsFresh f (going f k j q)) (sym (is ∙ b)) (left_fresh q j)))
+    | inr b ↦ inr (inr (subst (IsFresh f (going haunts q)) (sym (is ∙ b)) (left_fresh q haunts)))
   ]
 
-  goes_by : (r q : RealView) (changed : Bool) (j : ℕ) → entry_in brings i ≡ None → real_in s ≡ Some r → Executes f r q changed →
-      real_in t ≡ None → book_entry t ≡ greater_entry (book_entry s) (Some (left_entry f k j q)) →
-      sent ≡ told_going f k j q changed ++ (j, Hand (going f k j q)) ∷ [] → Handled
-  goes_by r q changed j none has acts real book z =
-      let after = going f k j q in
-      let ms = told_going f k j q changed in
-      let unseen = ghosts_silent real_of reals_unseen (here_at f k) q j (haunts_going f k j q) changed in
-      let all = ghosts_fresh f (IsFresh f after) k q j (haunts_going f k j q) changed
+  goes_by : (r q : RealView) (changed : Bool) (j : ℕ) (haunts : Cells) → entry_in brings i ≡ None → real_in s ≡ Some r →
+      Executes f r q changed →
+      real_in t ≡ None → book_entry t ≡ greater_entry (book_entry s) (Some (left_entry f k haunts q)) →
+      sent ≡ told_settling f k j haunts q changed ++ (j, Hand (going haunts q)) ∷ [] → Handled
+  goes_by r q changed j haunts none has acts real book z =
+      let after = going haunts q in
+      let ms = told_settling f k j haunts q changed in
+      let unseen = ghosts_silent real_of reals_unseen (here_at f k) q j haunts changed in
+      let all = ghosts_fresh f (IsFresh f after) k q j haunts changed
       (record { at = refl; copy = λ c h. let is_same : copy_of_real (here_at f k) q ≡ c = cc in sym is_same })
       (record { at = refl; copy = λ c h. cc }) in (
-        leaves r after j has real (inr (settled_did f r q changed (haunts_going f k j q) (q.beat + 1) (q.generation + 1) acts))
+        leaves r after j has real (inr (settled_did f r q changed haunts (q.beat + 1) (q.generation + 1) acts))
             (none_carried i none)
             (record {
               here =
@@ -259,7 +261,7 @@ module _ (f : Frame) (e k : ℕ) (s : Has) (i : Option Msg) (t : Has) (sent : Li
             }),
         fresh (ap (λ n. n + 1) (executes_beat f r q changed acts))
             (record {
-              book = left_book q j book;
+              book = left_book q haunts book;
               sent = all_sent (IsFresh f after)
                   (subst (AllByRecursion (λ p. Brings (IsFresh f after) p.1)) (sym z)
                   (all_append (λ p. Brings (IsFresh f after) p.1) ms ((j, Hand after) ∷ []) all
@@ -284,7 +286,8 @@ module _ (f : Frame) (e k : ℕ) (s : Has) (i : Option Msg) (t : Has) (sent : Li
       subst (λ p. r.beat ≤ p.0) (sym book) (greater_has (book_entry s) (r.beat, None)),
     ),
   )
-  told_of spared (ghost.stays r q changed none has acts real book z) =
-      stays_by r q changed (told_staying f k q changed) refl none has acts real book z
-  told_of spared (ghost.goes r q changed j apart none has acts real book z) = goes_by r q changed j none has acts real book z
+  told_of spared (ghost.stays r q changed haunts own none has acts real book z) =
+      stays_by r q changed haunts (told_settling f k k haunts q changed) refl none has acts real book z
+  told_of spared (ghost.goes r q changed j haunts apart goal none has acts real book z) =
+      goes_by r q changed j haunts none has acts real book z
   told_of spared (ghost.reaped r h has real book z) = absurd (spared r has h)

@@ -6,14 +6,15 @@ use Rattle.std.specs.Ordering.{nat_cmp}
 use Rattle.std.proofs.lemmas.Bool.{cases_eq}
 use Rattle.std.proofs.lemmas.Bool.Decides.{nat_tests}
 use Rattle.std.proofs.lemmas.List.{append-nil}
-use Rattle.seam_node_steps.specs.Prelude.{items_to, GhostCopy, RealView, Msg, Hand, GhostSet, GhostDrop, Reap, cell_count, settled_to}
+use Rattle.seam_node_steps.specs.Prelude.{Division, Cells, items_to, GhostCopy, RealView, Msg, Hand, GhostSet, GhostDrop, Reap, cell_count}
+use Rattle.seam_node_steps.specs.Prelude.{settled_to}
 use Rattle.seam_node_steps.specs.Prelude.{copy_if, is_stray, drops, World}
 use Rattle.seam_law_flow.specs.Prelude.{Flow, Goes, comes, letters_of, NotAbove, OfEntry, AllBring, Has as HasEntry, entry_in}
 use Rattle.seam_law_flow.specs.Prelude.{greater_entry, Newest, IsSilent, carried_in, TokenPlace, In, On, SendsNone, SendsOne, still, turns}
 use Rattle.seam_law_flow.specs.Prelude.{lands, leaves}
 use Rattle.seam_law_calls.specs.Prelude.{Frame, here_at, Has, entity_flow, account_of, real_in, real_of, IsOne}
-use Rattle.seam_law_ghosts.specs.Prelude.{Entry, brings, book_entry, IsPlacedAlike, Executes, nothing as still_as, executes, haunts_staying}
-use Rattle.seam_law_ghosts.specs.Prelude.{haunts_going, told_staying, told_going, staying, going, left_entry, IsMissed, GhostMoves, present}
+use Rattle.seam_law_ghosts.specs.Prelude.{Entry, brings, book_entry, IsPlacedAlike, Executes, nothing as still_as, executes}
+use Rattle.seam_law_ghosts.specs.Prelude.{told_settling, staying, going, left_entry, IsMissed, GhostMoves, present}
 use Rattle.seam_law_ghosts.specs.Prelude.{wanted, NewestAreWanted, IsForgotten}
 use Rattle.seam_machine.proofs.SendLemmas.{items_to-append}
 use Rattle.seam_law_flow.proofs.NewestLemmas.{newest_stays, newest_rises, not_above_rises, taken_comes}
@@ -26,7 +27,7 @@ use Rattle.seam_law_ghosts.specs.GhostMoves as ghost
 use Rattle.seam_law_ghosts.proofs.Making.{executes_beat, NoEntry, none_carried, all_unseen, none_brought, none_here}
 use Rattle.seam_law_ghosts.proofs.Present.{same_shown_of, unseen_same}
 use Rattle.seam_law_ghosts.specs.Copies.{NewestIsWanted, IsAway}
-use Rattle.seam_law_ghosts.proofs.NewestTelling.{no_haunt_at_home, Gets, nothing, entry, none_there, gets, beat_rises, beat_up, drops_to}
+use Rattle.seam_law_ghosts.proofs.NewestTelling.{Gets, nothing, entry, none_there, gets, beat_rises, beat_up, drops_to}
 
 -- an entry that is not newer does not change the book
 kept_by : (a p : Entry) (t : Bool) → ltb a.0 p.0 ≡ t → p.0 ≤ a.0 → cond t p a ≡ a
@@ -99,14 +100,14 @@ module _ (f : Frame) (e : ℕ) (w v : World) {Moves : ℕ → Has → Option Msg
   -- what comes to a cell is not stray
   abbrev pub IsFresh : Type 0
   IsFresh = (m : Msg) (x : Entry) → i ≡ Some m → g.k < cell_count → brings m ≡ Some x → real_of m ≡ None →
-      is_stray (here_at f g.k) f.tree s.cell.slot m ≡ true → ⊥
+      (tree : Division) → is_stray (here_at f g.k) tree s.cell.slot m ≡ true → ⊥
 
   missed_takes : IsFresh → (m : Msg) (o : Option Entry) → i ≡ Some m → brings m ≡ o → real_of m ≡ None → IsMissed f g.k s m →
       book_entry t ≡ book_entry s → g.k < cell_count → book_entry t ≡ greater_entry (book_entry s) (entry_in brings i)
   missed_takes fresh m o at is none (inl high) book low = absurd (omega (arith, high, low))
   missed_takes fresh m None at is none (inr stray) book low =
       book ∙ sym (ap (greater_entry (book_entry s)) (ap (entry_in brings) at ∙ is))
-  missed_takes fresh m (Some x) at is none (inr stray) book low = absurd (fresh m x at low is none stray)
+  missed_takes fresh m (Some x) at is none (inr stray) book low = absurd (fresh m x at low is none stray.0 stray.1)
 
   -- ---- one cell, of a real r that is q after the step
 
@@ -214,20 +215,18 @@ module _ (f : Frame) (e : ℕ) (w v : World) {Moves : ℕ → Has → Option Msg
     away_here at = subst (λ x. IsAway x r) at told.away
 
     -- and stays
-    module _ (q : RealView) (changed : Bool) (at : p ≡ In g.k) (acts : Executes f r q changed)
+    module _ (q : RealView) (changed : Bool) (haunts : Cells) (own : set.contains haunts g.k ≡ false) (at : p ≡ In g.k)
+        (acts : Executes f r q changed)
         (takes : g.k < cell_count → book_entry t ≡ greater_entry (book_entry s) (entry_in brings i))
-        (z : sent ≡ told_staying f g.k q changed) where
+        (z : sent ≡ told_settling f g.k g.k haunts q changed) where
       abbrev next : RealView
-      next = staying f g.k q changed
+      next = staying f g.k haunts q changed
 
       abbrev ms : List (ℕ × Msg)
-      ms = told_staying f g.k q changed
+      ms = told_settling f g.k g.k haunts q changed
 
       unseen : IsSilent real_of ms
-      unseen = ghosts_silent real_of reals_unseen (here_at f g.k) q g.k (haunts_staying f g.k q) changed
-
-      own : set.contains next.haunts g.k ≡ false
-      own = no_haunt_at_home (here_at f g.k) f.tree q.state.pos g.k q.haunts
+      unseen = ghosts_silent real_of reals_unseen (here_at f g.k) q g.k haunts changed
 
       up : r.beat ≤ next.beat
       up = let same = executes_beat f r q changed acts in let more = beat_up ms q.beat in omega (arith, same, more)
@@ -243,7 +242,7 @@ module _ (f : Frame) (e : ℕ) (w v : World) {Moves : ℕ → Has → Option Msg
           let was : set.contains r.haunts k ≡ false = ap (set.contains r.haunts) is ∙ away_here at in
           let now : set.contains next.haunts k ≡ false = ap (set.contains next.haunts) is ∙ own in
           let out : g.out k ≡ [] = items k ∙ (ap (items_to k) z ∙ (ap (λ x. items_to x ms) is
-          ∙ none_here f g.k q g.k (haunts_staying f g.k q) changed)) in
+          ∙ none_here f g.k q g.k haunts changed)) in
           same_told r next up k (told.cells k low)
           (wanted_by (set.contains r.haunts k) (set.contains next.haunts k) (present f r) (present f next) (now ∙ sym was)
           (λ h. let no_ = sym now ∙ h in cc))
@@ -261,22 +260,23 @@ module _ (f : Frame) (e : ℕ) (w v : World) {Moves : ℕ → Has → Option Msg
                   gets_told r next up k (told.cells k low) (λ x. apart (sym x)) (q.beat + 1) (set.contains q.haunts k) changed
                   (items_to k ms) (items k ∙ ap (items_to k) z) (ap (λ h. set.contains h k) (executes_haunts f r q changed acts))
                   (executes_unseen f r q changed acts) (λ m got. rise k m got)
-                  (gets (here_at f g.k) q g.k (haunts_staying f g.k q) changed k low apart apart)
+                  (gets (here_at f g.k) q g.k haunts changed k low apart apart)
             ];
           })
 
     -- and is handed over to cell j
-    module _ (q : RealView) (changed : Bool) (j : ℕ) (apart : j ≡ g.k → ⊥) (at : p ≡ In g.k) (acts : Executes f r q changed)
-        (book : book_entry t ≡ greater_entry (book_entry s) (Some (left_entry f g.k j q)))
-        (z : sent ≡ told_going f g.k j q changed ++ (j, Hand (going f g.k j q)) ∷ []) where
+    module _ (q : RealView) (changed : Bool) (j : ℕ) (haunts : Cells) (apart : j ≡ g.k → ⊥) (goal : set.contains haunts j ≡ false)
+        (at : p ≡ In g.k) (acts : Executes f r q changed)
+        (book : book_entry t ≡ greater_entry (book_entry s) (Some (left_entry f g.k haunts q)))
+        (z : sent ≡ told_settling f g.k j haunts q changed ++ (j, Hand (going haunts q)) ∷ []) where
       abbrev handed : RealView
-      handed = going f g.k j q
+      handed = going haunts q
 
       abbrev news : List (ℕ × Msg)
-      news = told_going f g.k j q changed
+      news = told_settling f g.k j haunts q changed
 
       news_unseen : IsSilent real_of news
-      news_unseen = ghosts_silent real_of reals_unseen (here_at f g.k) q j (haunts_going f g.k j q) changed
+      news_unseen = ghosts_silent real_of reals_unseen (here_at f g.k) q j haunts changed
 
       sends : SendsOne real_of g.out j handed
       sends = record {
@@ -291,16 +291,13 @@ module _ (f : Frame) (e : ℕ) (w v : World) {Moves : ℕ → Has → Option Msg
       more : r.beat < handed.beat
       more = let same = executes_beat f r q changed acts in omega (arith, same)
 
-      goal : set.contains handed.haunts j ≡ false
-      goal = no_haunt_at_home (here_at f g.k) f.tree q.state.pos j (set.insert q.haunts g.k)
-
       out : (k : ℕ) → g.out k ≡ items_to k news ++ items_to k ((j, Hand handed) ∷ [])
       out k = items k ∙ (ap (items_to k) z ∙ items_to-append k news ((j, Hand handed) ∷ []))
 
       left_told : (k : ℕ) → k < cell_count → k ≡ g.k → NewestIsWanted f e v handed k
       left_told k low is =
           let none_out : g.out k ≡ [] = out k ∙ (ap (λ l. l ++ items_to k ((j, Hand handed) ∷ [])) (ap (λ x. items_to x news) is
-          ∙ none_here f g.k q j (haunts_going f g.k j q) changed) ∙ one_there j k (Hand handed) (λ x. apart (sym x ∙ is))) in
+          ∙ none_here f g.k q j haunts changed) ∙ one_there j k (Hand handed) (λ x. apart (sym x ∙ is))) in
           let now : book_entry (after.slot k) ≡ (handed.beat, wanted f handed k) =
           subst (λ x. book_entry (after.slot x) ≡ (handed.beat, wanted f handed x)) (sym is)
           (book ∙ taken_comes handed.beat (wanted f handed g.k) (book_entry s)
@@ -312,7 +309,7 @@ module _ (f : Frame) (e : ℕ) (w v : World) {Moves : ℕ → Has → Option Msg
       goal_told : (k : ℕ) → k < cell_count → k ≡ j → (k ≡ g.k → ⊥) → NewestIsWanted f e v handed k
       goal_told k low is other =
           let one_out : g.out k ≡ Hand handed ∷ [] = out k ∙ (ap (λ x. items_to x news ++ items_to x ((j, Hand handed) ∷ [])) is
-          ∙ (ap (λ l. l ++ items_to j ((j, Hand handed) ∷ [])) (none_there (here_at f g.k) q j (haunts_going f g.k j q) changed
+          ∙ (ap (λ l. l ++ items_to j ((j, Hand handed) ∷ [])) (none_there (here_at f g.k) q j haunts changed
           (subst (λ x. x < cell_count) is low)) ∙ one_here j (Hand handed))) in
           let none : set.contains handed.haunts k ≡ false = ap (set.contains handed.haunts) is ∙ goal in
           sent_told r handed (omega (arith, more)) k (told.cells k low) (λ x. other (sym x)) more (Hand handed) one_out
@@ -332,7 +329,7 @@ module _ (f : Frame) (e : ℕ) (w v : World) {Moves : ℕ → Has → Option Msg
                     (set.contains q.haunts k) changed (items_to k news)
                     (out k ∙ (ap (λ l. items_to k news ++ l) (one_there j k (Hand handed) n) ∙ append-nil (items_to k news)))
                     (ap (λ h. set.contains h k) (executes_haunts f r q changed acts)) (executes_unseen f r q changed acts)
-                    (λ m got. (refl, more)) (gets (here_at f g.k) q j (haunts_going f g.k j q) changed k low other n)
+                    (λ m got. (refl, more)) (gets (here_at f g.k) q j haunts changed k low other n)
               ]
             ];
           })
@@ -402,13 +399,13 @@ module _ (f : Frame) (e : ℕ) (w v : World) {Moves : ℕ → Has → Option Msg
         let from = sole_came real_in real_of g p r x one carried in
         landed from.0 from.1 (carried ∙ ap Some from.2) (real ∙ ap Some from.2) z
         (λ low. book ∙ sym (ap (greater_entry (book_entry s)) (ap (entry_in brings) h)))
-    after_move (ghost.stays x q changed none has acts real book z) =
+    after_move (ghost.stays x q changed haunts own none has acts real book z) =
         let at = sole_here real_in real_of before p r x g.k one has in
-        stayed q changed at.0 (subst (λ y. Executes f y q changed) at.1 acts)
+        stayed q changed haunts own at.0 (subst (λ y. Executes f y q changed) at.1 acts)
         (λ low. book ∙ sym (ap (greater_entry (book_entry s)) none)) z (has ∙ ap Some at.1) real (none_carried i none)
-    after_move (ghost.goes x q changed j apart none has acts real book z) =
+    after_move (ghost.goes x q changed j haunts apart goal none has acts real book z) =
         let at = sole_here real_in real_of before p r x g.k one has in
-        departed q changed j apart at.0 (subst (λ y. Executes f y q changed) at.1 acts) book z (has ∙ ap Some at.1) real
+        departed q changed j haunts apart goal at.0 (subst (λ y. Executes f y q changed) at.1 acts) book z (has ∙ ap Some at.1) real
         (none_carried i none)
     after_move (ghost.reaped x h has real book z) =
         let at = sole_here real_in real_of before p r x g.k one has in
@@ -437,6 +434,6 @@ module _ (f : Frame) (e : ℕ) (w v : World) {Moves : ℕ → Has → Option Msg
     still_forgotten (ghost.ignores n c x h has real book z) = absurd (never x has)
     still_forgotten (ghost.hears x h none real book z) = forgotten z (λ low. book ∙ sym (ap (greater_entry (book_entry s)) h))
     still_forgotten (ghost.lands x h has real book z) = absurd (none_lands x h)
-    still_forgotten (ghost.stays x q changed none has acts real book z) = absurd (never x has)
-    still_forgotten (ghost.goes x q changed j apart none has acts real book z) = absurd (never x has)
+    still_forgotten (ghost.stays x q changed haunts own none has acts real book z) = absurd (never x has)
+    still_forgotten (ghost.goes x q changed j haunts apart goal none has acts real book z) = absurd (never x has)
     still_forgotten (ghost.reaped x h has real book z) = absurd (never x has)

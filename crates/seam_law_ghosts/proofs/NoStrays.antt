@@ -7,7 +7,8 @@ use Rattle.std.specs.FinMap as table
 use Rattle.std.proofs.lemmas.Bool.{eq-eqb}
 use Rattle.std.proofs.lemmas.Bool.Decides.{nat_tests}
 use Rattle.std.proofs.lemmas.Option.{slice_get-map}
-use Rattle.seam_node_steps.specs.Prelude.{link, total, Event, OrderView, next_item, Call as CallData, Order, Batch, Orders, order_or}
+use Rattle.seam_node_steps.specs.Prelude.{Division, link, total, Event, OrderView, next_item, Call as CallData, Order, Batch, Orders}
+use Rattle.seam_node_steps.specs.Prelude.{order_or}
 use Rattle.seam_node_steps.specs.Prelude.{RealView, Msg, limit, may_rise, cell_count, base_of, order_is_ready, has_ready, ready_order}
 use Rattle.seam_node_steps.specs.Prelude.{may_settle, may_execute, about, is_stray, stray_survey, CellView, slot_of, holders, NodeView}
 use Rattle.seam_node_steps.specs.Prelude.{World, node_has_work, Cell, with_nodes, ordered_at, reap_ordered_at, loaded, reaps_loaded}
@@ -94,8 +95,8 @@ module _ (f : Frame) (w : World) (b : Batch) (begin : MayBegin f w b) (v : World
       link v.rows a k ≡ m ∷ ms → about m ≡ Some e → is_stray c.here c.tree (slot_of c e) m ≡ false
   round_free a k c m ms e node at is =
       let q = frame_then.nodes k (Cell c) node in
-      of_cell (framed f b) v k c e m node q.here q.tree
-      (free_by_place f w b begin v es run a k c m ms e node at is q.low (search_real e (loaded w b)))
+      of_cell (framed f b) v k c e m node q.here
+      (free_by_place f w b begin v es run a k c m ms e node at is q.low q.tree (search_real e (loaded w b)))
 
   room_by : (e k : ℕ) (r : RealView) → real_at e v k ≡ Some r → Somewhere e (loaded w b) ⊎ Nowhere e (loaded w b) →
       real_burden r + 1 < limit
@@ -194,21 +195,21 @@ module _ (f : Frame) (u : World) (between : IsBetweenRounds f u) (w : World) (fr
       calm_leads f between.frame u between e home r here (told e) (small e home r here) w v vs (calm e home r here) run
 
   phase_by : (a k : ℕ) (s : NodeView) (m : Msg) (ms : List Msg) (e : ℕ) → slice_get v.nodes k ≡ Some s → link v.rows a k ≡ m ∷ ms →
-      about m ≡ Some e → k < cell_count → Somewhere e u ⊎ Nowhere e u →
-      is_stray (here_at f k) f.tree ((entity_flow e v).slot k).cell.slot m ≡ false
-  phase_by a k s m ms e node at is lt (inl p) =
+      about m ≡ Some e → k < cell_count → (tree : Division) → Somewhere e u ⊎ Nowhere e u →
+      is_stray (here_at f k) tree ((entity_flow e v).slot k).cell.slot m ≡ false
+  phase_by a k s m ms e node at is lt tree (inl p) =
       calm_free f e p.0 p.1 (low f between.frame u between e p.0 p.1 p.2 (told e) (small e p.0 p.1 p.2))
       (settled f between.frame u between e p.0 p.1 p.2 (told e) (small e p.0 p.1 p.2)).none_held u
       (leads f between.frame u between e p.0 p.1 p.2 (told e) (small e p.0 p.1 p.2)) (told e) (small e p.0 p.1 p.2) v
-      (calm_then e p.0 p.1 p.2) a k s node lt m ms at is
-  phase_by a k s m ms e node at is lt (inr n) =
+      (calm_then e p.0 p.1 p.2) a k s node lt tree m ms at is
+  phase_by a k s m ms e node at is lt tree (inr n) =
       absurd (unknown_gets_none f e v (unknown_leads f e w v vs (unknown e n) run) a k m ms at is)
 
   pub phase_free : (a k : ℕ) (c : CellView) (m : Msg) (ms : List Msg) (e : ℕ) → slice_get v.nodes k ≡ Some (Cell c) →
       link v.rows a k ≡ m ∷ ms → about m ≡ Some e → is_stray c.here c.tree (slot_of c e) m ≡ false
   phase_free a k c m ms e node at is =
       let q = (frame_leads f w v vs frame run).nodes k (Cell c) node in
-      of_cell f v k c e m node q.here q.tree (phase_by a k (Cell c) m ms e node at is q.low (search_real e u))
+      of_cell f v k c e m node q.here (phase_by a k (Cell c) m ms e node at is q.low c.tree (search_real e u))
 
   settles_never : (e k : ℕ) (r : RealView) → 1 ≤ ((entity_flow e v).slot k).cell.survey → real_at e v k ≡ Some r →
       Somewhere e u ⊎ Nowhere e u → may_settle r ≡ true

@@ -1,6 +1,7 @@
 -- Where entities are reaped, and where witnesses look, copies stay what they are, but for those of an entity whose Reap comes.
 use Rattle.std.proofs.Common.{◌≡◌, ℕ, ◌<◌, ◌⊎◌, Bool, true, List, [], ◌∷◌, Option, None, Some, refl, sym, ap, ◌∙◌, subst, arith, inl, inr}
-use Rattle.seam_node_steps.specs.Prelude.{happens, enabled, IsQuiet, Event, RealView, WitnessView, Msg, Hand, GhostSet, GhostDrop, Tick}
+use Rattle.seam_node_steps.specs.Prelude.{Division, happens, enabled, IsQuiet, Event, RealView, WitnessView, Msg, Hand, GhostSet, GhostDrop}
+use Rattle.seam_node_steps.specs.Prelude.{Tick}
 use Rattle.seam_node_steps.specs.Prelude.{Reap, Update, is_small, may_rise, cell_count, is_stray, holders, World, node_steps, node_has_work}
 use Rattle.seam_law_flow.specs.Prelude.{Goes, comes, TokenPlace, In, On}
 use Rattle.seam_law_calls.specs.Prelude.{Frame, here_at, IsInFrame, Has, entity_flow, MovesTo, RealFits, real_in, real_of, IsOne, IsFrame}
@@ -53,13 +54,13 @@ module _ (f : Frame) (frame : IsFrame f) (u : World) (between : IsBetweenRounds 
 
   -- ---- what comes
 
-  fresh_by : (k : ℕ) (s : Has) (m : Msg) (x : Entry) → IsCalmTo is_told home r k m → brings m ≡ Some x →
-      is_stray (here_at f k) f.tree s.cell.slot m ≡ true → ⊥
-  fresh_by k s (GhostDrop y n) x h is stray = not_both (is_small n) (small_to n r.beat h.1 (small h.0)) stray
-  fresh_by k s Tick x h is stray = cc
-  fresh_by k s (Reap y) x h is stray = cc
-  fresh_by k s (Update m) x h is stray = cc
-  fresh_by k s _ x h is stray = h
+  fresh_by : (k : ℕ) (s : Has) (m : Msg) (x : Entry) → IsCalmTo is_told home r k m → brings m ≡ Some x → (tree : Division) →
+      is_stray (here_at f k) tree s.cell.slot m ≡ true → ⊥
+  fresh_by k s (GhostDrop y n) x h is tree stray = not_both (is_small n) (small_to n r.beat h.1 (small h.0)) stray
+  fresh_by k s Tick x h is tree stray = cc
+  fresh_by k s (Reap y) x h is tree stray = cc
+  fresh_by k s (Update m) x h is tree stray = cc
+  fresh_by k s _ x h is tree stray = h
 
   fits_by : (k : ℕ) (q : RealView) → (k ≡ home) × IsSame r q → RealFits f e r.ty k q
   fits_by k q same =
@@ -94,8 +95,8 @@ module _ (f : Frame) (frame : IsFrame f) (u : World) (between : IsBetweenRounds 
     comes_calm m is = (came (λ a k m. IsCalmTo is_told home r k m) g m is calm.mail).1
 
     fresh : (m : Msg) (x : Entry) → comes g.input ≡ Some m → g.k < cell_count → brings m ≡ Some x → real_of m ≡ None →
-        is_stray (here_at f g.k) f.tree ((entity_flow e w).slot g.k).cell.slot m ≡ true → ⊥
-    fresh m x is low brought none stray = fresh_by g.k ((entity_flow e w).slot g.k) m x (comes_calm m is) brought stray
+        (tree : Division) → is_stray (here_at f g.k) tree ((entity_flow e w).slot g.k).cell.slot m ≡ true → ⊥
+    fresh m x is low brought none tree stray = fresh_by g.k ((entity_flow e w).slot g.k) m x (comes_calm m is) brought tree stray
 
     move : GhostMoves f e g.k ((entity_flow e w).slot g.k) (comes g.input) ((entity_flow e next).slot g.k) g.moves.sent
     move =

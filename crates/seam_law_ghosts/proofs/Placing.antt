@@ -2,11 +2,12 @@
 use Rattle.std.proofs.Common.{◌≡◌, ℕ, ◌+◌, ◌≤◌, ◌⊎◌, Bool, true, List, [], ◌∷◌, ◌++◌, Option, None, Some, refl, sym, ap, ◌∙◌, subst, arith}
 use Rattle.std.proofs.Common.{inl, inr}
 use Rattle.std.specs.FinSet as set
-use Rattle.seam_node_steps.specs.Prelude.{Pos, Cells, Place, after, type_of, AreDefs, items_to, Call as CallData, RealView, Msg, Hand}
+use Rattle.seam_node_steps.specs.Prelude.{Pos, Division, Cells, Place, after, type_of, items_to, Call as CallData, RealView, Msg, Hand}
 use Rattle.seam_node_steps.specs.Prelude.{GhostSet, GhostDrop, Tick, Reap, cell_count, may_settle, settled_to, SlotStep, slot_after}
-use Rattle.seam_node_steps.specs.Prelude.{home_after, haunts_at, ghost_messages, beat_after, is_stray, may_come, stray_survey}
+use Rattle.seam_node_steps.specs.Prelude.{home_after, haunts_at, ghost_messages, beat_after, is_stray, stray_survey}
 use Rattle.seam_law_flow.specs.Prelude.{letters_of, carried_in, Handles, still, turns, lands, leaves, relays}
-use Rattle.seam_law_calls.specs.Prelude.{Frame, here_at, Has, AtCell, Does, Acts, surveys, calls, readies, CellMoves, Moves, at_a_cell}
+use Rattle.seam_law_calls.specs.Prelude.{Frame, IsTreeOf, here_at, IsFrame, Has, AtCell, Does, Acts, surveys, calls, readies, CellMoves}
+use Rattle.seam_law_calls.specs.Prelude.{Moves, at_a_cell}
 use Rattle.seam_law_calls.specs.Prelude.{at_a_base, Replays, real_in, real_of}
 use Rattle.seam_law_ghosts.specs.Prelude.{distances_of, place_of}
 use Rattle.seam_haunt.specs.Places.{settled}
@@ -15,9 +16,10 @@ use Rattle.seam_law_flow.proofs.SendLists.{sees_none, sees_after_silent, sees_on
 use Rattle.seam_entity.specs.declared.message.Msg.TheVariants.{Call}
 use Rattle.seam_node_steps.specs.Settle as settle
 use Rattle.seam_law_calls.specs.CellMoves as move
-use Rattle.seam_law_calls.proofs.Handling.{FindsRoom, reals_unseen, handled}
+use Rattle.seam_law_calls.proofs.Handling.{FindsRoom, not_stray, reals_unseen, handled}
 use Rattle.seam_law_calls.proofs.Holds.{not_both}
 use Rattle.seam_law_calls.proofs.OneReal.{came_hand}
+use Rattle.seam_law_calls.proofs.Trees.{first_tree}
 use Rattle.seam_law_calls.proofs.Plain.{ghosts_silent}
 use Rattle.seam_law_calls.proofs.Replaying.{acts_replays}
 
@@ -29,58 +31,66 @@ pub record IsAlike (r q : RealView) : Type 0 where
   pub state : q.state ≡ r.state
   pub haunts : q.haunts ≡ r.haunts
 
--- the real r of cell k settled, as q in cell j: it executed nothing before, or a call
-pub data Settles (f : Frame) (k j : ℕ) (r q : RealView) : Type 0 where
+-- the real r of cell k settled by that tree, as q in cell j: it executed nothing before, or a call
+pub data Settles (f : Frame) (tree : Division) (k j : ℕ) (r q : RealView) : Type 0 where
   by_survey : q.done ≡ r.done → q.state ≡ r.state
-      → place_of j q ≡ settled (distances_of f.settings) f.tree (place_of k r) q.state.pos → Settles f k j r q
+      → place_of j q ≡ settled (distances_of f.settings) tree (place_of k r) q.state.pos → Settles f tree k j r q
   by_call : (c : CallData) → q.done ≡ r.done ++ c ∷ [] → q.state ≡ after (type_of f.defs r.ty) r.state c.deed
-      → place_of j q ≡ settled (distances_of f.settings) f.tree (place_of k r) q.state.pos → Settles f k j r q
+      → place_of j q ≡ settled (distances_of f.settings) tree (place_of k r) q.state.pos → Settles f tree k j r q
 
--- in cell j with the haunts `now`, the real that was in cell k with the haunts `old` is settled at that position
-abbrev AreSettled : Frame → ℕ → Pos → ℕ → Cells → Cells → Type 0
-AreSettled f k p j now old =
-    let place : Place = record { home = j; ghosts = now } in
-    place ≡ settled (distances_of f.settings) f.tree (record { home = k; ghosts = old }) p
-
-module _ (f : Frame) (k : ℕ) (p : Pos) where
-  abbrev haunts_in : ℕ → Cells → Cells
-  haunts_in j old = haunts_at (here_at f k) f.tree p j old
-
-  -- one that stays, and one that goes
-  stays_settled : (old : Cells) → home_after (here_at f k) f.tree p ≡ k → AreSettled f k p k (haunts_in k old) old
-  stays_settled old at =
-      ap (λ s. let place : Place = record { home = k; ghosts = s } in place) (sym (haunts_without_home p k f.tree f.settings.ghost_distance
-      (f.settings.ghost_distance + f.settings.ghost_hysteresis) old))
-      ∙ ap (λ j. let place : Place = record { home = j; ghosts = haunts_in j (set.insert old k) } in place) (sym at)
-
-  goes_settled : (old : Cells) (j : ℕ) → home_after (here_at f k) f.tree p ≡ j → AreSettled f k p j (haunts_in j (set.insert old k)) old
-  goes_settled old j at = ap (λ i. let place : Place = record { home = i; ghosts = haunts_in i (set.insert old k) } in place) (sym at)
-
-module _ (f : Frame) (defs : AreDefs f.defs) (e ty k : ℕ) (s : Has) (i : Option Msg) (t : Has) (sent : List (ℕ × Msg))
-    (out : ℕ → List Msg) (items : (j : ℕ) → out j ≡ items_to j sent) where
-  abbrev pub Does_it : Type 0
-  Does_it = Handles real_in real_of (Replays f) s i t out
-
+-- what cell k, by that tree, does with the place of the real
+module _ (f : Frame) (tree : Division) (k : ℕ) (s : Has) (i : Option Msg) (t : Has) (out : ℕ → List Msg) where
   -- the survey list still has the entity if it had it
   abbrev pub StaysDue : Type 0
   StaysDue = 1 ≤ s.cell.survey → 1 ≤ t.cell.survey
 
-  abbrev pub PlacesBy : Does_it → Type 0
+  abbrev pub PlacesBy : Handles real_in real_of (Replays f) s i t out → Type 0
   PlacesBy (still a b c) = (r : RealView) → real_in s ≡ Some r → StaysDue
-  PlacesBy (turns r q a b c d o) = (IsAlike r q × StaysDue) ⊎ Settles f k k r q
+  PlacesBy (turns r q a b c d o) = (IsAlike r q × StaysDue) ⊎ Settles f tree k k r q
   PlacesBy (lands r q a b c o) = q ≡ r
-  PlacesBy (leaves r q to a b c d o) = Settles f k to r q
+  PlacesBy (leaves r q to a b c d o) = Settles f tree k to r q
   PlacesBy (relays r q to a b c o) = ⊥
 
   abbrev pub Placed : Type 0
-  Placed = (m : Does_it) × PlacesBy m
+  Placed = (m : Handles real_in real_of (Replays f) s i t out) × PlacesBy m
+
+-- in cell j with the haunts `now`, the real that was in cell k with the haunts `old` is settled at that position by that tree
+abbrev AreSettled : Frame → Division → ℕ → Pos → ℕ → Cells → Cells → Type 0
+AreSettled f tree k p j now old =
+    let place : Place = record { home = j; ghosts = now } in
+    place ≡ settled (distances_of f.settings) tree (record { home = k; ghosts = old }) p
+
+module _ (f : Frame) (tree : Division) (k : ℕ) (p : Pos) where
+  abbrev haunts_in : ℕ → Cells → Cells
+  haunts_in j old = haunts_at (here_at f k) tree p j old
+
+  -- one that stays, and one that goes
+  stays_settled : (old : Cells) → home_after (here_at f k) tree p ≡ k → AreSettled f tree k p k (haunts_in k old) old
+  stays_settled old at =
+      ap (λ s. let place : Place = record { home = k; ghosts = s } in place) (sym (haunts_without_home p k tree f.settings.ghost_distance
+      (f.settings.ghost_distance + f.settings.ghost_hysteresis) old))
+      ∙ ap (λ j. let place : Place = record { home = j; ghosts = haunts_in j (set.insert old k) } in place) (sym at)
+
+  goes_settled : (old : Cells) (j : ℕ) → home_after (here_at f k) tree p ≡ j → AreSettled f tree k p j (haunts_in j (set.insert old k)) old
+  goes_settled old j at = ap (λ i. let place : Place = record { home = i; ghosts = haunts_in i (set.insert old k) } in place) (sym at)
+
+module _ (f : Frame) (tree : Division) (e k : ℕ) (s : Has) (i : Option Msg) (t : Has) (sent : List (ℕ × Msg)) (out : ℕ → List Msg)
+    (items : (j : ℕ) → out j ≡ items_to j sent) where
+  abbrev Does_it : Type 0
+  Does_it = Handles real_in real_of (Replays f) s i t out
+
+  abbrev Due : Type 0
+  Due = StaysDue f tree k s i t out
+
+  abbrev Its : Type 0
+  Its = Placed f tree k s i t out
 
   -- ---- the real stays at its place
 
   abbrev StaysAlike : Type 0
   StaysAlike = (r : RealView) → real_in s ≡ Some r → (q : RealView) × (real_in t ≡ Some q) × IsAlike r q
 
-  alike : Does_it → carried_in real_of i ≡ None → StaysAlike → ((r : RealView) → real_in s ≡ Some r → StaysDue) → Placed
+  alike : Does_it → carried_in real_of i ≡ None → StaysAlike → ((r : RealView) → real_in s ≡ Some r → Due) → Its
   alike (still a b c) none stays due = (still a b c, due)
   alike (turns r q a b c d o) none stays due =
       let x = stays r a in
@@ -93,7 +103,7 @@ module _ (f : Frame) (defs : AreDefs f.defs) (e ty k : ℕ) (s : Has) (i : Optio
   alike_one : (r q : RealView) → real_in s ≡ Some r → real_in t ≡ Some q → IsAlike r q → StaysAlike
   alike_one r q has now is x at = let one : r ≡ x = let z = sym has ∙ at in cc in (q, now, subst (λ y. IsAlike y q) one is)
 
-  same : Does_it → carried_in real_of i ≡ None → real_in t ≡ real_in s → ((r : RealView) → real_in s ≡ Some r → StaysDue) → Placed
+  same : Does_it → carried_in real_of i ≡ None → real_in t ≡ real_in s → ((r : RealView) → real_in s ≡ Some r → Due) → Its
   same m none is due = alike m none (λ r has. (r, is ∙ has, record { done = refl; state = refl; haunts = refl })) due
 
   none_of : i ≡ None → carried_in real_of i ≡ None
@@ -104,7 +114,7 @@ module _ (f : Frame) (defs : AreDefs f.defs) (e ty k : ℕ) (s : Has) (i : Optio
 
   -- ---- it lands
 
-  lands_by : Does_it → (r : RealView) → i ≡ Some (Hand r) → real_in s ≡ None → real_in t ≡ Some r → Placed
+  lands_by : Does_it → (r : RealView) → i ≡ Some (Hand r) → real_in s ≡ None → real_in t ≡ Some r → Its
   lands_by (still a b c) r is free at = absurd (let z = sym (ap (carried_in real_of) is) ∙ b in cc)
   lands_by (turns x q a b c d o) r is free at = absurd (let z = sym free ∙ a in cc)
   lands_by (lands x q a b c o) r is free at =
@@ -122,7 +132,8 @@ module _ (f : Frame) (defs : AreDefs f.defs) (e ty k : ℕ) (s : Has) (i : Optio
   acts_none u r q changed (readies o c a b d g) = none_of a
 
   acts_settle : (u : AtCell) (r q : RealView) (changed : Bool) → Acts (here_at f k) e s.cell i r u q changed → (j : ℕ) (haunts : Cells)
-      (beat generation : ℕ) → AreSettled f k q.state.pos j haunts q.haunts → Settles f k j r (settled_to q haunts beat generation)
+      (beat generation : ℕ) → AreSettled f tree k q.state.pos j haunts q.haunts →
+      Settles f tree k j r (settled_to q haunts beat generation)
   acts_settle u r q changed (surveys n a b c) j haunts beat generation is = by_survey refl refl is
   acts_settle u r q changed (calls c a b d g) j haunts beat generation is = by_call c refl refl is
   acts_settle u r q changed (readies o c a b d g) j haunts beat generation is = by_call c refl refl is
@@ -140,34 +151,33 @@ module _ (f : Frame) (defs : AreDefs f.defs) (e ty k : ℕ) (s : Has) (i : Optio
     due_is : t.cell.survey ≡ move.unlisted_if x.unlisted u.survey
     due_is = ap (λ a. a.survey) d.state
 
-  still_due : t.cell.survey ≡ s.cell.survey → (r : RealView) → real_in s ≡ Some r → StaysDue
+  still_due : t.cell.survey ≡ s.cell.survey → (r : RealView) → real_in s ≡ Some r → Due
   still_due is r has some = omega (arith, is, some)
 
   stays_placed : (u : AtCell) (r q : RealView) (changed : Bool) → real_in s ≡ Some r → Acts (here_at f k) e s.cell i r u q changed →
-      home_after (here_at f k) f.tree q.state.pos ≡ k → Does u (settle.stays (here_at f k) f.tree s.cell.slot q changed) t.cell sent →
-      Placed
+      home_after (here_at f k) tree q.state.pos ≡ k → Does u (settle.stays (here_at f k) tree s.cell.slot q changed) t.cell sent → Its
   stays_placed u r q changed has acts at d =
-      let haunts = haunts_at (here_at f k) f.tree q.state.pos k q.haunts in
+      let haunts = haunts_at (here_at f k) tree q.state.pos k q.haunts in
       let told = ghost_messages (here_at f k) q k haunts changed in
       let beat = beat_after told q.beat in (
         turns r (settled_to q haunts beat q.generation) has
-            (real_is (settle.stays (here_at f k) f.tree s.cell.slot q changed) u d)
+            (real_is (settle.stays (here_at f k) tree s.cell.slot q changed) u d)
             (inr (settled_replays u r q changed haunts beat q.generation acts)) (acts_none u r q changed acts)
             (λ j.
             ap (letters_of real_of) (items j ∙ ap (items_to j) d.sends)
             ∙ sees_none real_of j told (ghosts_silent real_of reals_unseen (here_at f k) q k haunts changed)),
-        inr (acts_settle u r q changed acts k haunts beat q.generation (stays_settled f k q.state.pos q.haunts at)),
+        inr (acts_settle u r q changed acts k haunts beat q.generation (stays_settled f tree k q.state.pos q.haunts at)),
       )
 
   goes_placed : (u : AtCell) (r q : RealView) (changed : Bool) (j : ℕ) → real_in s ≡ Some r →
-      Acts (here_at f k) e s.cell i r u q changed → home_after (here_at f k) f.tree q.state.pos ≡ j →
-      Does u (settle.goes (here_at f k) f.tree s.cell.slot q changed j) t.cell sent → Placed
+      Acts (here_at f k) e s.cell i r u q changed → home_after (here_at f k) tree q.state.pos ≡ j →
+      Does u (settle.goes (here_at f k) tree s.cell.slot q changed j) t.cell sent → Its
   goes_placed u r q changed j has acts at d =
-      let haunts = haunts_at (here_at f k) f.tree q.state.pos j (set.insert q.haunts k) in
+      let haunts = haunts_at (here_at f k) tree q.state.pos j (set.insert q.haunts k) in
       let told = ghost_messages (here_at f k) q j haunts changed in
       let gone = settled_to q haunts (q.beat + 1) (q.generation + 1) in
       let silent = ghosts_silent real_of reals_unseen (here_at f k) q j haunts changed in (
-        leaves r gone j has (real_is (settle.goes (here_at f k) f.tree s.cell.slot q changed j) u d)
+        leaves r gone j has (real_is (settle.goes (here_at f k) tree s.cell.slot q changed j) u d)
             (inr (settled_replays u r q changed haunts (q.beat + 1) (q.generation + 1) acts)) (acts_none u r q changed acts)
             (record {
               here =
@@ -177,31 +187,28 @@ module _ (f : Frame) (defs : AreDefs f.defs) (e ty k : ℕ) (s : Has) (i : Optio
                   ap (letters_of real_of) (items x ∙ ap (items_to x) d.sends)
                   ∙ (sees_after_silent real_of x told ((j, Hand gone) ∷ []) silent ∙ sees_one_there real_of j x (Hand gone) n);
             }),
-        acts_settle u r q changed acts j haunts (q.beat + 1) (q.generation + 1) (goes_settled f k q.state.pos q.haunts j at),
+        acts_settle u r q changed acts j haunts (q.beat + 1) (q.generation + 1) (goes_settled f tree k q.state.pos q.haunts j at),
       )
 
   -- ---- every move
 
-  module _ (room : (r : RealView) → i ≡ Some (Hand r) → FindsRoom f k s r)
+  module _ (of : IsTreeOf f tree) (room : (r : RealView) → i ≡ Some (Hand r) → FindsRoom f k s r)
       (spared : (r : RealView) → real_in s ≡ Some r → i ≡ Some (Reap e) → ⊥)
       (may : (r : RealView) → real_in s ≡ Some r → 1 ≤ s.cell.survey → may_settle r ≡ true) where
     -- a hand-over that comes is not stray
-    stray_none : (m : Msg) → i ≡ Some m → is_stray (here_at f k) f.tree s.cell.slot m ≡ true → (o : Option RealView) →
+    stray_none : (m : Msg) → i ≡ Some m → is_stray (here_at f k) tree s.cell.slot m ≡ true → (o : Option RealView) →
         carried_in real_of i ≡ o → carried_in real_of i ≡ None
     stray_none m h b None is = is
     stray_none m h b (Some r) is =
-        let p = room r (came_hand i r is) in
         let same : m ≡ Hand r = let z = sym h ∙ came_hand i r is in cc in
-        absurd (not_both (may_come (here_at f k) f.tree r) p.may
-        (sym (ap (λ o. is_stray (here_at f k) f.tree (record { real = o; next = s.cell.slot.next; ghost = s.cell.slot.ghost }) (Hand r))
-        p.free) ∙ (ap (is_stray (here_at f k) f.tree s.cell.slot) (sym same) ∙ b)))
+        absurd (not_stray f k s r (room r (came_hand i r is)) tree of (ap (is_stray (here_at f k) tree s.cell.slot) (sym same) ∙ b))
 
     -- a real that may settle is not taken off the list unsettled
     not_unlisted : (n : ℕ) → s.cell.survey ≡ n + 1 → stray_survey s.cell.slot.real ≡ true → (r : RealView) → real_in s ≡ Some r → ⊥
     not_unlisted n at b r has =
         not_both (may_settle r) (may r has (omega (arith, at))) (sym (ap stray_survey has) ∙ b)
 
-    cell_placed : Does_it → CellMoves (here_at f k) f.tree e s.cell i t.cell sent → Placed
+    cell_placed : Does_it → CellMoves (here_at f k) tree e s.cell i t.cell sent → Its
     cell_placed m (move.rests n d) = same m (none_of n) (real_is _ s.cell d) (still_due (due_is _ s.cell d))
     cell_placed m (move.strays x n b d) =
         same m (stray_none x n b (carried_in real_of i) refl) (real_is _ s.cell d) (still_due (due_is _ s.cell d))
@@ -238,10 +245,22 @@ module _ (f : Frame) (defs : AreDefs f.defs) (e ty k : ℕ) (s : Has) (i : Optio
     base_none high None is = refl
     base_none high (Some r) is = let low = (room r (came_hand i r is)).cell in absurd (omega (arith, low, high))
 
-    pub placed : Moves f e k s i t sent → Placed
-    placed moves = placed_by moves (handled f defs e ty k s i t sent out items room spared moves).0
-      where
-        placed_by : Moves f e k s i t sent → Does_it → Placed
-        placed_by (at_a_cell low x is) m = cell_placed m x
-        placed_by (at_a_base high x is) m =
-            same m (base_none high (carried_in real_of i) refl) (ap (λ c. c.slot.real) is) (still_due (ap (λ c. c.survey) is))
+    base_placed : Does_it → cell_count ≤ k → t.cell ≡ s.cell → Its
+    base_placed m high is =
+        same m (base_none high (carried_in real_of i) refl) (ap (λ c. c.slot.real) is) (still_due (ap (λ c. c.survey) is))
+
+-- a move does it by one of the trees
+module _ (f : Frame) (frame : IsFrame f) (e ty k : ℕ) (s : Has) (i : Option Msg) (t : Has) (sent : List (ℕ × Msg)) (out : ℕ → List Msg)
+    (items : (j : ℕ) → out j ≡ items_to j sent) (room : (r : RealView) → i ≡ Some (Hand r) → FindsRoom f k s r)
+    (spared : (r : RealView) → real_in s ≡ Some r → i ≡ Some (Reap e) → ⊥)
+    (may : (r : RealView) → real_in s ≡ Some r → 1 ≤ s.cell.survey → may_settle r ≡ true) where
+  abbrev PlacedByOne : Type 0
+  PlacedByOne = (tree : Division) × IsTreeOf f tree × Placed f tree k s i t out
+
+  pub placed : Moves f e k s i t sent → PlacedByOne
+  placed moves = placed_by moves (handled f frame e ty k s i t sent out items room spared moves).0
+    where
+      placed_by : Moves f e k s i t sent → Handles real_in real_of (Replays f) s i t out → PlacedByOne
+      placed_by (at_a_cell tree of low x is) m = (tree, of, cell_placed f tree e k s i t sent out items of room spared may m x)
+      placed_by (at_a_base high x is) m =
+          (f.tree, first_tree f, base_placed f f.tree e k s i t sent out items (first_tree f) room spared may m high is)

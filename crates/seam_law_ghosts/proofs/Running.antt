@@ -1,7 +1,8 @@
 -- Over every list of events the newest entry of each cell is what the real wants.
 use Rattle.std.proofs.Common.{◌≡◌, ℕ, ◌<◌, ◌≤◌, true, ◌&&◌, List, [], ◌∷◌, length, Option, None, Some, refl, sym, ◌∙◌, subst, arith}
 use Rattle.std.specs.List.{AllByRecursion}
-use Rattle.seam_node_steps.specs.Prelude.{happens, enabled, Event, Occurs, GhostCopy, RealView, Msg, Hand, GhostSet, GhostDrop, Reap}
+use Rattle.seam_node_steps.specs.Prelude.{Division, happens, enabled, Event, Occurs, GhostCopy, RealView, Msg, Hand, GhostSet, GhostDrop}
+use Rattle.seam_node_steps.specs.Prelude.{Reap}
 use Rattle.seam_node_steps.specs.Prelude.{is_small, fits_copy, is_stray, World, node_steps, node_has_work, limit}
 use Rattle.seam_law_flow.specs.Prelude.{Goes, comes, letter_in, AllBring, TokenPlace, In}
 use Rattle.seam_law_calls.specs.Prelude.{Frame, here_at, Has, mine, entity_flow, MovesTo, real_in, real_of, IsOne, IsSpared, IsFrame}
@@ -27,11 +28,11 @@ use Rattle.seam_law_ghosts.proofs.Still.{same_one, came_with, told_still, table_
 
 -- what fits is not stray
 pub news_fit : (f : Frame) (k : ℕ) (s : Has) (m : Msg) (x : Entry) → FitsNode f k m → brings m ≡ Some x → real_of m ≡ None →
-    is_stray (here_at f k) f.tree s.cell.slot m ≡ true → ⊥
-news_fit f k s (GhostSet y n c) x fits is none stray =
+    (tree : Division) → is_stray (here_at f k) tree s.cell.slot m ≡ true → ⊥
+news_fit f k s (GhostSet y n c) x fits is none tree stray =
     not_both (is_small n && (is_small c.version && fits_copy (here_at f k) c)) (all_two _ _ fits.0 (all_two _ _ fits.1 fits.2)) stray
-news_fit f k s (GhostDrop y n) x fits is none stray = not_both (is_small n) fits stray
-news_fit f k s _ x fits is none stray = cc
+news_fit f k s (GhostDrop y n) x fits is none tree stray = not_both (is_small n) fits stray
+news_fit f k s _ x fits is none tree stray = cc
 
 module _ (f : Frame) (frame : IsFrame f) (e ty : ℕ) (known : ty < length f.defs) (start : RealView) (low : start.public ≤ start.version)
     (first : ℕ → GhostCopy) where
@@ -76,8 +77,8 @@ module _ (f : Frame) (frame : IsFrame f) (e ty : ℕ) (known : ty < length f.def
     step : After f e w next g g.moves.0.sent g.moves.0.items
     step =
         after_move f e w next g g.moves.0.sent g.moves.0.items has.place has.real has.one x.told
-        (λ m y is cell brought none stray.
-        news_fit f g.k ((entity_flow e w).slot g.k) m y (came (λ a k m. FitsNode f k m) g m is x.fair.letters).1 brought none stray)
+        (λ m y is cell brought none.
+        news_fit f g.k ((entity_flow e w).slot g.k) m y (came (λ a k m. FitsNode f k m) g m is x.fair.letters).1 brought none)
         (λ n c q is at.
         came_with (λ p. p.0 ≤ (book_entry ((entity_flow e w).slot g.k)).0) (entity_flow e w).mail g.k g.input g.rest g.head
         (hushed_where f frame e ty known start first w x.quelled g.k q at) (GhostSet e n c) is)

@@ -4,7 +4,8 @@ use Rattle.std.proofs.Common.{None, Some, refl, sym, subst, arith}
 use Rattle.std.specs.List.{AllByRecursion, filter_map, range_with_len}
 use Rattle.std.specs.FinSet as set
 use Rattle.std.proofs.lemmas.Bool.Decides.{nat_tests}
-use Rattle.seam_node_steps.specs.Prelude.{Cells, AreDefs, GhostCopy, Shown, RealView, Msg, GhostSet, GhostDrop, BaseCall, Current, Update}
+use Rattle.seam_node_steps.specs.Prelude.{Division, Cells, AreDefs, GhostCopy, Shown, RealView, Msg, GhostSet, GhostDrop, BaseCall, Current}
+use Rattle.seam_node_steps.specs.Prelude.{Update}
 use Rattle.seam_node_steps.specs.Prelude.{limit, is_small, may_rise, Here, cell_count, cell_numbers, base_of, properties, fits_copy}
 use Rattle.seam_node_steps.specs.Prelude.{copy_of_real, may_settle, may_execute, fits_cell_part, shows, public_after, may_offer, order_of}
 use Rattle.seam_node_steps.specs.Prelude.{haunts_at, told, told_unless, ghost_message, ghost_messages, drop_if, drop_at, drops, current_to}
@@ -166,15 +167,15 @@ module _ (f : Frame) where
     of : (l : List (ℕ × Msg)) → sent ≡ l → AllByRecursion FitsTo l → AllByRecursion FitsTo sent
     of l is all = subst (AllByRecursion FitsTo) (sym is) all
 
-    cell_sends : CellMoves h f.tree e s.cell i t.cell sent → AllByRecursion FitsTo sent
+    cell_sends : {tree : Division} → CellMoves h tree e s.cell i t.cell sent → AllByRecursion FitsTo sent
     cell_sends (move.rests n d) = of [] d.sends tt
     cell_sends (move.strays m n b d) = of [] d.sends tt
-    cell_sends (move.stays u r q changed has own acts at d) =
+    cell_sends {tree} (move.stays u r q changed has own acts at d) =
         let x = tells u r q changed has acts in
-        of _ d.sends (ghosts_fit h q k (haunts_at h f.tree q.state.pos k q.haunts) changed x.beat x.version x.copy)
-    cell_sends (move.goes u r q changed j has own acts at n d) =
+        of _ d.sends (ghosts_fit h q k (haunts_at h tree q.state.pos k q.haunts) changed x.beat x.version x.copy)
+    cell_sends {tree} (move.goes u r q changed j has own acts at n d) =
         let x = tells u r q changed has acts in
-        let haunts = haunts_at h f.tree q.state.pos j (set.insert q.haunts k) in
+        let haunts = haunts_at h tree q.state.pos j (set.insert q.haunts k) in
         of _ d.sends (all_append FitsTo (ghost_messages h q j haunts changed) _ (ghosts_fit h q j haunts changed x.beat x.version x.copy)
         (tt, tt))
     cell_sends (move.late c r n has may lt d) = of [] d.sends tt
@@ -198,5 +199,5 @@ module _ (f : Frame) where
         (units s.base.orders)).1
 
     pub sends_fit : Moves f e k s i t sent → AllByRecursion FitsTo sent
-    sends_fit (at_a_cell low m same) = cell_sends m
+    sends_fit (at_a_cell tree of low m same) = cell_sends m
     sends_fit (at_a_base high m same) = base_sends _ m

@@ -3,12 +3,15 @@ use Rattle.std.proofs.Common.{◌≡◌, ℕ, ◌+◌, ◌≤◌, Bool, true, fa
 use Rattle.std.proofs.Common.{inl, inr, arith}
 use Rattle.std.specs.List.{range_with_len}
 use Rattle.std.specs.FinMap as table
-use Rattle.seam_node_steps.specs.Prelude.{Ghost, beat_in, copy_in, ghost_after, Part, part_of_deed, is_for, Call as CallData, GhostCopy}
+use Rattle.std.specs.FinSet as set
+use Rattle.seam_node_steps.specs.Prelude.{Division, Ghost, beat_in, copy_in, ghost_after, Part, part_of_deed, is_for, Call as CallData}
+use Rattle.seam_node_steps.specs.Prelude.{GhostCopy}
 use Rattle.seam_node_steps.specs.Prelude.{RealView, Msg, BaseCall, Hand, Current, GhostSet, GhostDrop, Tick, Reap, Update, can_do, Here}
 use Rattle.seam_node_steps.specs.Prelude.{cell_count, base_numbers, base_of, type_at, order_passes, order_is_ready, fits_cell_part}
-use Rattle.seam_node_steps.specs.Prelude.{SlotStep, slot_after, current_to, is_stray, may_come, tick_to}
+use Rattle.seam_node_steps.specs.Prelude.{SlotStep, slot_after, current_to, haunts_at, is_stray, tick_to}
 use Rattle.seam_law_flow.specs.Prelude.{entry_in, greater_entry, IsSilent, carried_in}
-use Rattle.seam_law_calls.specs.Prelude.{Frame, here_at, Has, AtCell, Does, Acts, surveys, calls, readies, CellMoves, BaseMoves, Moves}
+use Rattle.seam_law_calls.specs.Prelude.{Frame, IsTreeOf, here_at, Has, AtCell, Does, Acts, surveys, calls, readies, CellMoves, BaseMoves}
+use Rattle.seam_law_calls.specs.Prelude.{Moves}
 use Rattle.seam_law_calls.specs.Prelude.{at_a_cell, at_a_base, RealFits, real_in, real_of}
 use Rattle.seam_law_ghosts.specs.Prelude.{Entry, brings, book_entry, IsPlacedAlike, Executes, nothing, executes, IsMissed, GhostMoves}
 use Rattle.seam_defs.specs.declared.flags.Part.TheVariants as part
@@ -16,10 +19,11 @@ use Rattle.seam_defs.specs.Tests.{same_part}
 use Rattle.seam_entity.specs.declared.message.Msg.TheVariants.{Call}
 use Rattle.seam_law_calls.specs.CellMoves as move
 use Rattle.seam_law_calls.specs.BaseMoves as base_move
-use Rattle.seam_law_calls.proofs.Handling.{FindsRoom}
-use Rattle.seam_law_calls.proofs.Holds.{both, not_both, picked_passes, item_passes_too}
+use Rattle.seam_law_calls.proofs.Handling.{FindsRoom, not_stray}
+use Rattle.seam_law_calls.proofs.Holds.{both, picked_passes, item_passes_too}
 use Rattle.seam_law_calls.proofs.Plain.{mapped_silent, numbered_silent}
 use Rattle.seam_law_ghosts.specs.GhostMoves as ghost
+use Rattle.seam_law_ghosts.proofs.NewestTelling.{no_haunt_at_home}
 
 -- ---- a book that hears an entry keeps the greater one
 
@@ -96,57 +100,57 @@ module _ (f : Frame) (e ty k : ℕ) (s : Has) (i : Option Msg) (t : Has) (sent :
   leaves_it ps n m none d silent = ghost.rests none (real_is _ _ d) (book_is _ _ d) (silent_of _ _ d silent)
 
   -- stray input at a cell
-  strays_by : ((r : RealView) → i ≡ Some (Hand r) → FindsRoom f k s r) → (m : Msg) → i ≡ Some m →
-      is_stray (here_at f k) f.tree s.cell.slot m ≡ true → real_in t ≡ real_in s → book_entry t ≡ book_entry s → IsSilent brings sent → Its
-  strays_by room (Hand r) h b x y z =
-      let p = room r h in
-      absurd (not_both (may_come (here_at f k) f.tree r) p.may
-      (sym (ap (λ o. is_stray (here_at f k) f.tree (record { real = o; next = s.cell.slot.next; ghost = s.cell.slot.ghost }) (Hand r))
-      p.free) ∙ b))
-  strays_by room (GhostSet q n c) h b x y z = ghost.misses (GhostSet q n c) h refl (inr b) x y z
-  strays_by room (GhostDrop q n) h b x y z = ghost.misses (GhostDrop q n) h refl (inr b) x y z
-  strays_by room m h b x y z = ghost.rests (came_none m h refl) x y z
+  strays_by : ((r : RealView) → i ≡ Some (Hand r) → FindsRoom f k s r) → (tree : Division) → IsTreeOf f tree → (m : Msg) → i ≡ Some m →
+      is_stray (here_at f k) tree s.cell.slot m ≡ true → real_in t ≡ real_in s → book_entry t ≡ book_entry s → IsSilent brings sent → Its
+  strays_by room tree of (Hand r) h b x y z = absurd (not_stray f k s r (room r h) tree of b)
+  strays_by room tree of (GhostSet q n c) h b x y z = ghost.misses (GhostSet q n c) h refl (inr (tree, b)) x y z
+  strays_by room tree of (GhostDrop q n) h b x y z = ghost.misses (GhostDrop q n) h refl (inr (tree, b)) x y z
+  strays_by room tree of m h b x y z = ghost.rests (came_none m h refl) x y z
 
   cell_step : ((r : RealView) → i ≡ Some (Hand r) → FindsRoom f k s r) → ((r : RealView) → real_in s ≡ Some r → RealFits f e ty k r) →
-      CellMoves (here_at f k) f.tree e s.cell i t.cell sent → Its
-  cell_step room fit (move.rests n d) = leaves_it [] _ _ (none_of n) d tt
-  cell_step room fit (move.strays m n b d) =
-      strays_by room m n b (real_is _ s.cell d) (book_is _ s.cell d) (silent_of _ s.cell d tt)
-  cell_step room fit (move.stays u r q changed has own acts at d) =
-      ghost.stays r q changed (acts_none u r q changed acts) has (acts_execute u r q changed acts (fit r has)) (real_is _ u d)
+      (tree : Division) → IsTreeOf f tree → CellMoves (here_at f k) tree e s.cell i t.cell sent → Its
+  cell_step room fit tree of (move.rests n d) = leaves_it [] _ _ (none_of n) d tt
+  cell_step room fit tree of (move.strays m n b d) =
+      strays_by room tree of m n b (real_is _ s.cell d) (book_is _ s.cell d) (silent_of _ s.cell d tt)
+  cell_step room fit tree of (move.stays u r q changed has own acts at d) =
+      ghost.stays r q changed (haunts_at (here_at f k) tree q.state.pos k q.haunts)
+      (no_haunt_at_home (here_at f k) tree q.state.pos k q.haunts) (acts_none u r q changed acts) has
+      (acts_execute u r q changed acts (fit r has)) (real_is _ u d)
       (book_is _ u d) d.sends
-  cell_step room fit (move.goes u r q changed j has own acts at n d) =
-      ghost.goes r q changed j n (acts_none u r q changed acts) has (acts_execute u r q changed acts (fit r has)) (real_is _ u d)
+  cell_step room fit tree of (move.goes u r q changed j has own acts at n d) =
+      ghost.goes r q changed j (haunts_at (here_at f k) tree q.state.pos j (set.insert q.haunts k)) n
+      (no_haunt_at_home (here_at f k) tree q.state.pos j (set.insert q.haunts k)) (acts_none u r q changed acts) has
+      (acts_execute u r q changed acts (fit r has)) (real_is _ u d)
       (book_is _ u d ∙ heard_is s.cell.slot.ghost _ _) d.sends
-  cell_step room fit (move.late c r n has may lt d) = leaves_it [] _ _ (came_none (Call c) n refl) d tt
-  cell_step room fit (move.holds c r n own has mine may lt d) =
+  cell_step room fit tree of (move.late c r n has may lt d) = leaves_it [] _ _ (came_none (Call c) n refl) d tt
+  cell_step room fit tree of (move.holds c r n own has mine may lt d) =
       ghost.touches r _ (came_none (Call c) n refl) has (real_is _ s.cell d)
       (record { entity = refl; type = refl; haunts = refl; beat = refl; generation = refl }) refl (book_is _ s.cell d)
       (silent_of _ s.cell d tt)
-  cell_step room fit (move.passes c p n own has at d) = leaves_it _ _ _ (came_none (Call c) n refl) d (refl, tt)
-  cell_step room fit (move.lands r n own has may d) =
+  cell_step room fit tree of (move.passes c p n own has at d) = leaves_it _ _ _ (came_none (Call c) n refl) d (refl, tt)
+  cell_step room fit tree of (move.lands r n own has may d) =
       ghost.lands r n has (real_is _ s.cell d) (book_is _ s.cell d ∙ heard_is s.cell.slot.ghost r.beat None)
       (silent_of _ s.cell d (mapped_silent brings (current_to (here_at f k) r) (λ b. refl) (base_numbers (here_at f k))))
-  cell_step room fit (move.hears_set n c h has d) =
+  cell_step room fit tree of (move.hears_set n c h has d) =
       ghost.hears (n, Some c) (ap (entry_in brings) h) (ap (carried_in real_of) h) (real_is _ s.cell d)
       (book_is _ s.cell d ∙ heard_is s.cell.slot.ghost n (Some c)) (silent_of _ s.cell d tt)
-  cell_step room fit (move.ignores_set n c r h has d) =
+  cell_step room fit tree of (move.ignores_set n c r h has d) =
       ghost.ignores n c r h has (real_is _ s.cell d) (book_is _ s.cell d) (silent_of _ s.cell d tt)
-  cell_step room fit (move.hears_drop n h d) =
+  cell_step room fit tree of (move.hears_drop n h d) =
       ghost.hears (n, None) (ap (entry_in brings) h) (ap (carried_in real_of) h) (real_is _ s.cell d)
       (book_is _ s.cell d ∙ heard_is s.cell.slot.ghost n None) (silent_of _ s.cell d tt)
-  cell_step room fit (move.reaped r n has own may d) =
+  cell_step room fit tree of (move.reaped r n has own may d) =
       ghost.reaped r n has (real_is _ s.cell d) (book_is _ s.cell d ∙ heard_is s.cell.slot.ghost (r.beat + 1) None) d.sends
-  cell_step room fit (move.ticks n st z) =
+  cell_step room fit tree of (move.ticks n st z) =
       ghost.rests (came_none Tick n refl) (ap (λ a. a.slot.real) st) (ap (λ a. (beat_in a.slot.ghost, copy_in a.slot.ghost)) st)
       (subst (IsSilent brings) (sym z) tt)
-  cell_step room fit (move.unlists n h at b d) = leaves_it [] _ _ (none_of h) d tt
-  cell_step room fit (move.looks n r w known h at has own v small d) =
+  cell_step room fit tree of (move.unlists n h at b d) = leaves_it [] _ _ (none_of h) d tt
+  cell_step room fit tree of (move.looks n r w known h at has own v small d) =
       ghost.touches r _ (none_of h) has (real_is _ _ d)
       (record { entity = refl; type = refl; haunts = refl; beat = refl; generation = refl }) refl (book_is _ _ d)
       (silent_of _ _ d (numbered_silent brings (base_of (here_at f k) r.entity) r.entity w.sent _ (λ u. refl)))
-  cell_step room fit (move.overlooks n known h at b d) = leaves_it [] _ _ (none_of h) d tt
-  cell_step room fit (move.stuck r h has ready may d) = leaves_it [] _ _ (none_of h) d tt
+  cell_step room fit tree of (move.overlooks n known h at b d) = leaves_it [] _ _ (none_of h) d tt
+  cell_step room fit tree of (move.stuck r h has ready may d) = leaves_it [] _ _ (none_of h) d tt
 
   -- ---- a base node
 
@@ -194,5 +198,5 @@ module _ (f : Frame) (e ty k : ℕ) (s : Has) (i : Option Msg) (t : Has) (sent :
 
   pub ghost_moves : ((r : RealView) → i ≡ Some (Hand r) → FindsRoom f k s r) → ((r : RealView) → real_in s ≡ Some r →
       RealFits f e ty k r) → Moves f e k s i t sent → Its
-  ghost_moves room fit (at_a_cell low m same) = cell_step room fit m
+  ghost_moves room fit (at_a_cell tree of low m same) = cell_step room fit tree of m
   ghost_moves room fit (at_a_base high m same) = base_step high same room _ m

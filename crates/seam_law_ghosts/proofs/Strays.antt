@@ -3,11 +3,13 @@ use Rattle.std.proofs.Common.{◌≡◌, ℕ, ◌<◌, ◌⊎◌, Bool, true, fa
 use Rattle.std.proofs.Common.{ap, ◌∙◌, arith, inl, inr}
 use Rattle.std.specs.Prelude.{slice_get}
 use Rattle.std.proofs.lemmas.Bool.{eq-eqb}
-use Rattle.seam_node_steps.specs.Prelude.{link, letter, Occurs, From, Call as CallData, RealView, Msg, BaseCall, Hand, Current, GhostSet}
+use Rattle.seam_node_steps.specs.Prelude.{Division, link, letter, Occurs, From, Call as CallData, RealView, Msg, BaseCall, Hand, Current}
+use Rattle.seam_node_steps.specs.Prelude.{GhostSet}
 use Rattle.seam_node_steps.specs.Prelude.{GhostDrop, Tick, Reap, Update, limit, is_small, cell_count, fits_copy, may_call, NextPlace, about}
 use Rattle.seam_node_steps.specs.Prelude.{is_stray, stray_call, stray_hand, may_come, NodeView, World}
 use Rattle.seam_law_flow.specs.Prelude.{letters_of, more_letter}
-use Rattle.seam_law_calls.specs.Prelude.{Frame, here_at, Has, concerned, kept_if, mine, entity_flow, RealFits, real_burden, real_in}
+use Rattle.seam_law_calls.specs.Prelude.{Frame, IsTreeOf, here_at, IsFrame, Has, concerned, kept_if, mine, entity_flow, RealFits}
+use Rattle.seam_law_calls.specs.Prelude.{real_burden, real_in}
 use Rattle.seam_law_calls.specs.Prelude.{reaped_by, FindsTurn}
 use Rattle.seam_entity.specs.declared.message.Msg.TheVariants.{Call}
 use Rattle.seam_law_calls.proofs.Holds.{all_two}
@@ -42,7 +44,8 @@ not_true : (b : Bool) → b ≡ true → not b ≡ false
 not_true true h = refl
 not_true false h = cc
 
-module _ (f : Frame) (e ty k : ℕ) (known : ty < length f.defs) (low : k < cell_count) (s : Has) where
+module _ (f : Frame) (frame : IsFrame f) (e ty k : ℕ) (known : ty < length f.defs) (low : k < cell_count) (tree : Division)
+    (of : IsTreeOf f tree) (s : Has) where
   call_by : (c : CallData) (r : Option RealView) (n : Option NextPlace) → (is_some r ≡ true) ⊎ (is_some n ≡ true) →
       ((q : RealView) → r ≡ Some q → may_call (here_at f k) q c ≡ true) → stray_call (here_at f k) c r n ≡ false
   call_by c (Some q) n place may = not_true (may_call (here_at f k) q c) (may q refl)
@@ -54,20 +57,20 @@ module _ (f : Frame) (e ty k : ℕ) (known : ty < length f.defs) (low : k < cell
   either true b h = inl refl
   either false b h = inr h
 
-  hand_by : (r : RealView) (o : Option RealView) → o ≡ None → may_come (here_at f k) f.tree r ≡ true →
-      stray_hand (here_at f k) f.tree r o ≡ false
-  hand_by r None is may = not_true (may_come (here_at f k) f.tree r) may
+  hand_by : (r : RealView) (o : Option RealView) → o ≡ None → may_come (here_at f k) tree r ≡ true →
+      stray_hand (here_at f k) tree r o ≡ false
+  hand_by r None is may = not_true (may_come (here_at f k) tree r) may
   hand_by r (Some q) is may = cc
 
   pub kind_fits : (m : Msg) → FitsNode f k m → reaped_by m ≡ None → ((c : CallData) → m ≡ Call c → FindsTurn f k s c) →
       ((r : RealView) → m ≡ Hand r → (real_in s ≡ None) × RealFits f e ty k r × (real_burden r < limit)) →
-      is_stray (here_at f k) f.tree s.cell.slot m ≡ false
+      is_stray (here_at f k) tree s.cell.slot m ≡ false
   kind_fits (Call c) fits spared turn hand =
       let t = turn c refl in
       call_by c s.cell.slot.real s.cell.slot.next (either (is_some s.cell.slot.real) (is_some s.cell.slot.next) t.place) t.may
   kind_fits (Hand r) fits spared turn hand =
       let h = hand r refl in
-      hand_by r s.cell.slot.real h.0 (may_land f e ty k r known h.1 h.2)
+      hand_by r s.cell.slot.real h.0 (may_land f frame e ty k tree of r known h.1 h.2)
   kind_fits (GhostSet x n c) fits spared turn hand =
       not_true (is_small n && (is_small c.version && fits_copy (here_at f k) c)) (all_two _ _ fits.0 (all_two _ _ fits.1 fits.2))
   kind_fits (GhostDrop x n) fits spared turn hand = not_true (is_small n) fits

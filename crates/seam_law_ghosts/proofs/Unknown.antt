@@ -1,7 +1,7 @@
 -- Of an entity that is nowhere, and that no order is about, nothing is on its way but ticks.
 use Rattle.std.proofs.Common.{◌≡◌, ℕ, List, [], Option, None, Some, sym, ap, ◌∙◌, subst}
 use Rattle.std.specs.List.{AllByRecursion}
-use Rattle.seam_node_steps.specs.Prelude.{Event, Order, RealView, Msg, Hand, GhostSet, GhostDrop, Tick, World}
+use Rattle.seam_node_steps.specs.Prelude.{Division, Event, Order, RealView, Msg, Hand, GhostSet, GhostDrop, Tick, World}
 use Rattle.seam_law_calls.specs.Prelude.{Frame, here_at, IsInFrame, Has, AtBase, AtCell, entity_flow, CellMoves, BaseMoves, Moves}
 use Rattle.seam_law_calls.specs.Prelude.{at_a_cell, at_a_base, real_in, RunsTo}
 use Rattle.seam_call.specs.declared.order.Order.TheVariants as order
@@ -37,7 +37,7 @@ module _ (f : Frame) (e k : ℕ) (s : Has) (i : Option Msg) (t : Has) (sent : Li
   never : (r : RealView) → real_in s ≡ Some r → ⊥
   never r has = let z = sym here.real ∙ has in cc
 
-  cell_silent : t.base ≡ s.base → CellMoves (here_at f k) f.tree e s.cell i t.cell sent → Stays
+  cell_silent : t.base ≡ s.base → {tree : Division} → CellMoves (here_at f k) tree e s.cell i t.cell sent → Stays
   cell_silent base (move.rests n d) = silent (ap (λ c. c.slot.real) d.state ∙ here.real) base d.sends
   cell_silent base (move.strays m n b d) = silent (ap (λ c. c.slot.real) d.state ∙ here.real) base d.sends
   cell_silent base (move.stays u r q changed has own acts at d) = absurd (never r has)
@@ -70,7 +70,7 @@ module _ (f : Frame) (e k : ℕ) (s : Has) (i : Option Msg) (t : Has) (sent : Li
       (record { real = real_of_cell cell; orders = b.0 }, b.1)
 
   pub stays_silent : Moves f e k s i t sent → Stays
-  stays_silent (at_a_cell low m same) = cell_silent same m
+  stays_silent (at_a_cell tree of low m same) = cell_silent same m
   stays_silent (at_a_base high m same) = base_silent _ same m
 
 module _ (f : Frame) (e : ℕ) where

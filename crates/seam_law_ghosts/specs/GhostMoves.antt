@@ -1,8 +1,9 @@
 -- What a step does with what ghosts are told: the moves of a node with all else left out.
 use Rattle.std.specs.Prelude.{◌≡◌, ℕ, ◌+◌, ◌≤◌, ◌⊎◌, Bool, true, false, List, [], ◌∷◌, ◌++◌, Option, None, Some}
 use Rattle.std.specs.FinSet as set
-use Rattle.seam_node_steps.specs.Prelude.{Cells, part_of_deed, changes, type_of, Call as CallData, GhostCopy, RealView, Msg, Hand, GhostSet}
-use Rattle.seam_node_steps.specs.Prelude.{Reap, cell_count, copy_of_real, settled_to, haunts_at, ghost_messages, beat_after, copy_if}
+use Rattle.seam_node_steps.specs.Prelude.{Division, Cells, part_of_deed, changes, type_of, Call as CallData, GhostCopy, RealView, Msg, Hand}
+use Rattle.seam_node_steps.specs.Prelude.{GhostSet}
+use Rattle.seam_node_steps.specs.Prelude.{Reap, cell_count, copy_of_real, settled_to, ghost_messages, beat_after, copy_if}
 use Rattle.seam_node_steps.specs.Prelude.{is_stray, drops}
 use Rattle.seam_law_flow.specs.Prelude.{entry_in, greater_entry, IsSilent, carried_in}
 use Rattle.seam_law_calls.specs.Prelude.{Frame, here_at, Has, account_of, after_call, real_in, real_of}
@@ -24,35 +25,25 @@ pub data Executes (f : Frame) (r q : RealView) (changed : Bool) : Type 0 where
       → account_of q ≡ after_call (type_of f.defs r.ty) (account_of r) c
       → changed ≡ changes (type_of f.defs r.ty) r.state c.deed → Executes f r q changed
 
--- the haunts of the real q that settles in cell k, and stays
-abbrev pub haunts_staying : Frame → ℕ → RealView → Cells
-haunts_staying f k q = haunts_at (here_at f k) f.tree q.state.pos k q.haunts
+-- what cells are told of the real q, which settles in cell k with these haunts, and whose home is cell j then
+abbrev pub told_settling : Frame → ℕ → ℕ → Cells → RealView → Bool → List (ℕ × Msg)
+told_settling f k j haunts q changed = ghost_messages (here_at f k) q j haunts changed
 
--- the haunts of the real q that settles in cell k, and goes to cell j
-abbrev pub haunts_going : Frame → ℕ → ℕ → RealView → Cells
-haunts_going f k j q = haunts_at (here_at f k) f.tree q.state.pos j (set.insert q.haunts k)
+-- the real after it, where it stays
+abbrev pub staying : Frame → ℕ → Cells → RealView → Bool → RealView
+staying f k haunts q changed = settled_to q haunts (beat_after (told_settling f k k haunts q changed) q.beat) q.generation
 
--- what cells are told of it
-abbrev pub told_staying : Frame → ℕ → RealView → Bool → List (ℕ × Msg)
-told_staying f k q changed = ghost_messages (here_at f k) q k (haunts_staying f k q) changed
-
-abbrev pub told_going : Frame → ℕ → ℕ → RealView → Bool → List (ℕ × Msg)
-told_going f k j q changed = ghost_messages (here_at f k) q j (haunts_going f k j q) changed
-
--- the real after it
-abbrev pub staying : Frame → ℕ → RealView → Bool → RealView
-staying f k q changed = settled_to q (haunts_staying f k q) (beat_after (told_staying f k q changed) q.beat) q.generation
-
-abbrev pub going : Frame → ℕ → ℕ → RealView → RealView
-going f k j q = settled_to q (haunts_going f k j q) (q.beat + 1) (q.generation + 1)
+-- and where it goes
+abbrev pub going : Cells → RealView → RealView
+going haunts q = settled_to q haunts (q.beat + 1) (q.generation + 1)
 
 -- what the book of the cell that it leaves is told
-abbrev pub left_entry : Frame → ℕ → ℕ → RealView → Entry
-left_entry f k j q = (q.beat + 1, copy_if (set.contains (haunts_going f k j q) k) (copy_of_real (here_at f k) q))
+abbrev pub left_entry : Frame → ℕ → Cells → RealView → Entry
+left_entry f k haunts q = (q.beat + 1, copy_if (set.contains haunts k) (copy_of_real (here_at f k) q))
 
 -- a ghost message that a base node, or a cell where it is stray, does not take
 abbrev pub IsMissed : Frame → ℕ → Has → Msg → Type 0
-IsMissed f k s m = (cell_count ≤ k) ⊎ (is_stray (here_at f k) f.tree s.cell.slot m ≡ true)
+IsMissed f k s m = (cell_count ≤ k) ⊎ ((tree : Division) × (is_stray (here_at f k) tree s.cell.slot m ≡ true))
 
 -- node k, which has s of entity e, is fed i, has t afterwards and sends this about e
 pub data GhostMoves (f : Frame) (e k : ℕ) (s : Has) (i : Option Msg) (t : Has) (sent : List (ℕ × Msg)) : Type 0 where
@@ -74,14 +65,15 @@ pub data GhostMoves (f : Frame) (e k : ℕ) (s : Has) (i : Option Msg) (t : Has)
   -- a hand-over comes
   lands : (r : RealView) → i ≡ Some (Hand r) → real_in s ≡ None → real_in t ≡ Some r
       → book_entry t ≡ greater_entry (book_entry s) (Some (r.beat, None)) → IsSilent brings sent → GhostMoves f e k s i t sent
-  -- the real settles, and stays
-  stays : (r q : RealView) (changed : Bool) → entry_in brings i ≡ None → real_in s ≡ Some r → Executes f r q changed
-      → real_in t ≡ Some (staying f k q changed) → book_entry t ≡ book_entry s → sent ≡ told_staying f k q changed
-      → GhostMoves f e k s i t sent
-  -- the real settles, and goes to cell j
-  goes : (r q : RealView) (changed : Bool) (j : ℕ) → (j ≡ k → ⊥) → entry_in brings i ≡ None → real_in s ≡ Some r
-      → Executes f r q changed → real_in t ≡ None → book_entry t ≡ greater_entry (book_entry s) (Some (left_entry f k j q))
-      → sent ≡ told_going f k j q changed ++ (j, Hand (going f k j q)) ∷ [] → GhostMoves f e k s i t sent
+  -- the real settles, with haunts of which its home is none, and stays
+  stays : (r q : RealView) (changed : Bool) (haunts : Cells) → set.contains haunts k ≡ false → entry_in brings i ≡ None
+      → real_in s ≡ Some r → Executes f r q changed → real_in t ≡ Some (staying f k haunts q changed) → book_entry t ≡ book_entry s
+      → sent ≡ told_settling f k k haunts q changed → GhostMoves f e k s i t sent
+  -- it settles, and goes to cell j
+  goes : (r q : RealView) (changed : Bool) (j : ℕ) (haunts : Cells) → (j ≡ k → ⊥) → set.contains haunts j ≡ false
+      → entry_in brings i ≡ None → real_in s ≡ Some r → Executes f r q changed → real_in t ≡ None
+      → book_entry t ≡ greater_entry (book_entry s) (Some (left_entry f k haunts q))
+      → sent ≡ told_settling f k j haunts q changed ++ (j, Hand (going haunts q)) ∷ [] → GhostMoves f e k s i t sent
   -- the entity leaves the world
   reaped : (r : RealView) → i ≡ Some (Reap e) → real_in s ≡ Some r → real_in t ≡ None
       → book_entry t ≡ greater_entry (book_entry s) (Some (r.beat + 1, None)) → sent ≡ drops r → GhostMoves f e k s i t sent

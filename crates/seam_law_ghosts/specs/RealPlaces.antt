@@ -1,9 +1,10 @@
 -- The place of an entity's real: its home, and the cells that have a ghost of it; on its way through a round, and where a round leaves it.
 use Rattle.std.specs.Prelude.{◌≡◌, ℕ, ◌+◌, ◌≤◌, List, [], ◌∷◌, length, Option, Some}
+use Rattle.std.specs.List.{AllByRecursion}
 use Rattle.std.specs.FinSet as set
 use Rattle.seam_node_steps.specs.Prelude.{Pos, Division, leaf_at, Distances, Place, settled_all, IsPlaceAfter, Settings, State, TypeDef}
 use Rattle.seam_node_steps.specs.Prelude.{after, type_of, IsQuiet, Event, Call, Create, Batch, RealView, WitnessView, created, real_begins}
-use Rattle.seam_node_steps.specs.Prelude.{World, node_has_work, loaded, reaps_loaded, look_loaded}
+use Rattle.seam_node_steps.specs.Prelude.{Msg, Hand, World, node_has_work, loaded, reaps_loaded, look_loaded}
 use Rattle.seam_law_flow.specs.Prelude.{In, On}
 use Rattle.seam_law_calls.specs.Prelude.{Frame, here_at, entity_flow, OneFrom, RunsTo, real_at}
 use Rattle.seam_law_rounds.specs.Prelude.{AreReapable}
@@ -71,6 +72,22 @@ pub record IsPlaced (f : Frame) (e ty home : ℕ) (start : RealView) (w : World)
   pub way : IsOnItsWay (distances_of f.settings) f.tree (place_of home start) start.state.pos (path_of f start one.replays.further)
       (place_of (home_of one.has.place) one.has.real) (IsDue e w one.has.place)
 
+-- ---- at rest
+
+-- the real r of cell k needs no settling by that tree: settling it where it is changes nothing
+abbrev pub IsRestful : Settings → Division → ℕ → RealView → Type 0
+IsRestful g tree k r = settled (distances_of g) tree (place_of k r) r.state.pos ≡ place_of k r
+
+-- nor does the real that a letter to cell k carries, if it carries one
+abbrev pub IsRestfulHand : Settings → Division → ℕ → Msg → Type 0
+IsRestfulHand g tree k m = (r : RealView) → m ≡ Hand r → IsRestful g tree k r
+
+-- the entity's real needs no settling by the frame's first tree where its cell's survey list has it not, nor on its way
+pub record AreRestful (f : Frame) (e : ℕ) (w : World) : Type 0 where
+  pub cells : (k : ℕ) (r : RealView) → real_at e w k ≡ Some r → ((entity_flow e w).slot k).cell.survey ≡ 0 →
+      IsRestful f.settings f.tree k r
+  pub hands : (a k : ℕ) → AllByRecursion (IsRestfulHand f.settings f.tree k) ((entity_flow e w).mail a k)
+
 -- ---- at its end
 
 -- The place of the real q, in cell k, is a right one by the tree t for an entity that was r, of the place `was`, at the round's start: it
@@ -110,5 +127,4 @@ IsOfSpace g t = t.size ≡ g.size
 -- the record of places between rounds: the tree is of the settings' space, and each place is settled where its entity is
 pub record ArePlaced (f : Frame) (w : World) : Type 0 where
   pub space : IsOfSpace f.settings f.tree
-  pub settled : (e k : ℕ) (r : RealView) → real_at e w k ≡ Some r →
-      settled (distances_of f.settings) f.tree (place_of k r) r.state.pos ≡ place_of k r
+  pub settled : (e k : ℕ) (r : RealView) → real_at e w k ≡ Some r → IsRestful f.settings f.tree k r

@@ -35,7 +35,7 @@ pub use newest::{
 pub use places::{
     a_load_begins_at_former_places, a_round_keeps_the_record_of_places,
     a_round_leaves_right_places, places_are_near, places_are_on_their_way, places_are_right,
-    the_last_phases_leave_places, who_may_be_seen_is_known,
+    the_last_phases_leave_places, who_is_not_listed_needs_no_settling, who_may_be_seen_is_known,
 };
 pub use stray_messages::{no_message_to_a_cell_is_stray, no_task_of_a_cell_is_stray};
 pub use truths::{copies_never_grow_older, ghosts_are_true, no_news_comes_to_the_real};

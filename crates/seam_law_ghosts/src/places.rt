@@ -14,10 +14,10 @@ ghost use Rattle.seam_node_steps.specs.Prelude.{distance, distance_to_cell, Ghos
 ghost use Rattle.seam_node_steps.specs.Prelude.{Event, Batch, RealView, World, node_has_work, opened, loaded};
 ghost use Rattle.seam_node_steps.specs.Prelude.{reaps_loaded, look_loaded};
 ghost use Rattle.seam_law_flow.specs.Prelude.{In};
-ghost use Rattle.seam_law_calls.specs.Prelude.{Frame, IsOne, IsSpared, AllFits, IsFrame, RunsTo, real_at};
+ghost use Rattle.seam_law_calls.specs.Prelude.{Frame, HasOneTree, HasOne, IsOne, IsSpared, AllFits, IsFrame, RunsTo, real_at};
 ghost use Rattle.seam_law_rounds.specs.Prelude.{IsBetweenRounds, framed, first_frame, AreReapable, MayBegin};
 ghost use Rattle.seam_law_ghosts.specs.Prelude.{place_of, first_place, made_real, BeginsAt, IsDue, IsPlaced, IsRightPlace, HadSameReal};
-ghost use Rattle.seam_law_ghosts.specs.Prelude.{GoesThroughRound, ArePlaced};
+ghost use Rattle.seam_law_ghosts.specs.Prelude.{GoesThroughRound, ArePlaced, AreRestful};
 
 /// Where a batch is loaded, each real that was there is in the same cell with the same haunts, and each that is created is in its leaf; and
 /// the survey list of each real's cell has its entity.
@@ -31,15 +31,27 @@ pub fn a_load_begins_at_former_places()
         real_at e (loaded w b) k ≡ Some r → IsDue e (loaded w b) (In k) }
 {}
 
-/// Where an entity is in a cell, on that cell's survey list, and no one reaps it, its place is on its way after every list of events. So it
-/// is for each entity of a loaded world, also one that the batch creates.
+/// In a round with one tree, where an entity is in a cell, on that cell's survey list, and no one reaps it, its place is on its way after
+/// every list of events. So it is for each entity of a loaded world, also one that the batch creates.
 pub fn places_are_on_their_way()
     ensures way { (f : Frame) (e ty : ℕ) (w v : World) (es : List Event) → IsFrame f →
-        ty < length f.defs → AllFits f e ty w → IsSpared e w → (home : ℕ) (r : RealView) →
-        IsOne e w (In home) r → IsDue e w (In home) → RunsTo w es v → IsPlaced f e ty home r v }
+        HasOneTree f → ty < length f.defs → AllFits f e ty w → IsSpared e w → (home : ℕ)
+        (r : RealView) → IsOne e w (In home) r → IsDue e w (In home) → RunsTo w es v →
+        IsPlaced f e ty home r v }
     ensures loaded { (f : Frame) (w : World) (b : Batch) → MayBegin f w b →
         (v : World) (es : List Event) → RunsTo (loaded w b) es v → (e home : ℕ) (r : RealView) →
         real_at e (loaded w b) home ≡ Some r → IsPlaced (framed f b) e r.ty home r v }
+{}
+
+/// In a round with one tree, a real that its cell's survey list has not needs no settling, nor does one on its way: settling it where it is
+/// changes nothing. Every list of events keeps that, and it holds of a loaded world, whose cells have each of their entities on the list.
+pub fn who_is_not_listed_needs_no_settling()
+    ensures kept { (f : Frame) (e ty : ℕ) (w v : World) (es : List Event) → IsFrame f →
+        HasOneTree f → ty < length f.defs → HasOne f e ty w → IsSpared e w → AreRestful f e w →
+        RunsTo w es v → AreRestful f e v }
+    ensures loaded { (f : Frame) (w : World) (b : Batch) → MayBegin f w b →
+        (v : World) (es : List Event) → RunsTo (loaded w b) es v → (e home : ℕ) (r : RealView) →
+        real_at e (loaded w b) home ≡ Some r → AreRestful (framed f b) e v }
 {}
 
 /// Where a loaded world is quiet again, the place of each entity is one that the rounds allow for its former place, which for one that the

@@ -5,7 +5,7 @@ use Rattle.std.specs.List.{AllByRecursion, range_with_len}
 use Rattle.std.specs.FinMap as table
 use Rattle.std.specs.FinSet as set
 use Rattle.seam_table.proofs.Found.{found}
-use Rattle.seam_node_steps.specs.Prelude.{total, OrderView, next_item, Call as CallData, Order, Shown, Orders, order_or, RealView}
+use Rattle.seam_node_steps.specs.Prelude.{Division, total, OrderView, next_item, Call as CallData, Order, Shown, Orders, order_or, RealView}
 use Rattle.seam_node_steps.specs.Prelude.{WitnessView, Msg, BaseCall, Hand, GhostSet, GhostDrop, Tick, Reap, Update, may_rise}
 use Rattle.seam_node_steps.specs.Prelude.{cell_count, cell_numbers, base_of, order_is_ready, ready_order, SlotStep, slot_after, is_stray}
 use Rattle.seam_node_steps.specs.Prelude.{drop_at, tick_to, RouteView, numbered, shown_of, looks_with, World, cells_of, Current}
@@ -108,21 +108,22 @@ module _ (f : Frame) (e home : ℕ) (r : RealView) (was : World) (none : (s : �
         let same = (here.real p has).1 in
         none_ready p.orders (subst (λ (x : RealView). (s : ℕ) → (order_or (table.get x.orders s)).held ≡ []) same.1 none) o c d g
 
-    stray_reap : (x : ℕ) → i ≡ Some (Reap x) → is_stray (here_at f k) f.tree s.cell.slot (Reap x) ≡ true → ⊥
-    stray_reap x is stray =
+    stray_reap : (tree : Division) (x : ℕ) → i ≡ Some (Reap x) → is_stray (here_at f k) tree s.cell.slot (Reap x) ≡ true → ⊥
+    stray_reap tree x is stray =
         let q = come.found x is in
         not_yes (may_rise q.0.beat) q.2
-        (sym (ap (λ o. is_stray (here_at f k) f.tree (record { real = o; next = s.cell.slot.next; ghost = s.cell.slot.ghost })
+        (sym (ap (λ o. is_stray (here_at f k) tree (record { real = o; next = s.cell.slot.next; ghost = s.cell.slot.ghost })
         (Reap x)) q.1)
         ∙ stray)
 
-    stray_by : (m : Msg) → i ≡ Some m → is_stray (here_at f k) f.tree s.cell.slot m ≡ true → real_in t ≡ real_in s → t.cell.survey ≡ 0 →
+    stray_by : (tree : Division) (m : Msg) → i ≡ Some m → is_stray (here_at f k) tree s.cell.slot m ≡ true → real_in t ≡ real_in s →
+        t.cell.survey ≡ 0 →
         t.base ≡ s.base → sent ≡ [] → Calmed
-    stray_by (GhostDrop x n) is b same survey base z = unchanged (other_reaps (GhostDrop x n) is (λ h. cc)) same survey base z
-    stray_by Tick is b same survey base z = unchanged (other_reaps Tick is (λ h. cc)) same survey base z
-    stray_by (Reap x) is b same survey base z = absurd (stray_reap x is b)
-    stray_by (Update u) is b same survey base z = unchanged (other_reaps (Update u) is (λ h. cc)) same survey base z
-    stray_by m is b same survey base z = absurd (come.letter m is)
+    stray_by tree (GhostDrop x n) is b same survey base z = unchanged (other_reaps (GhostDrop x n) is (λ h. cc)) same survey base z
+    stray_by tree Tick is b same survey base z = unchanged (other_reaps Tick is (λ h. cc)) same survey base z
+    stray_by tree (Reap x) is b same survey base z = absurd (stray_reap tree x is b)
+    stray_by tree (Update u) is b same survey base z = unchanged (other_reaps (Update u) is (λ h. cc)) same survey base z
+    stray_by tree m is b same survey base z = absurd (come.letter m is)
 
     drop_by : told ≡ true → (q : RealView) (j : ℕ) (b : Bool) (js : List ℕ) → q.beat ≡ r.beat →
         j < cell_count → AllByRecursion To (filter_map (drop_at q) js) × (sent_reaps (filter_map (drop_at q) js) ≡ 0) →
@@ -162,10 +163,10 @@ module _ (f : Frame) (e home : ℕ) (r : RealView) (was : World) (none : (s : �
         let is : record q { witness = x } ≡ p = cc in
         (x, ap (λ (z : RealView). let y : RealView = record z { witness = x } in y) same.1 ∙ is)
 
-    cell_calmed : t.base ≡ s.base → CellMoves (here_at f k) f.tree e s.cell i t.cell sent → Calmed
+    cell_calmed : t.base ≡ s.base → {tree : Division} → CellMoves (here_at f k) tree e s.cell i t.cell sent → Calmed
     cell_calmed base (move.rests n d) = idles (none_reaps n) _ s.cell d base refl here.survey refl
-    cell_calmed base (move.strays m n b d) =
-        stray_by m n b (real_after _ s.cell d refl) (survey_after _ s.cell d here.survey) base d.sends
+    cell_calmed base {tree} (move.strays m n b d) =
+        stray_by tree m n b (real_after _ s.cell d refl) (survey_after _ s.cell d here.survey) base d.sends
     cell_calmed base (move.stays u p q changed has own acts at d) = absurd (acts_never u p q changed has acts)
     cell_calmed base (move.goes u p q changed j has own acts at n d) = absurd (acts_never u p q changed has acts)
     cell_calmed base (move.late c p n has may lt d) = absurd (come.letter (Call c) n)
@@ -294,5 +295,5 @@ module _ (f : Frame) (e home : ℕ) (r : RealView) (was : World) (none : (s : �
     base_calmed low high cells few cell (base_move.stuck_client p n has is may a z) = keeps (none_reaps n) cell s.base a refl refl z
 
     pub calmed : home < cell_count → cells_of f.tree ≤ cell_count → Moves f e k s i t sent → Calmed
-    calmed low few (at_a_cell in_cell m same) = cell_calmed same m
+    calmed low few (at_a_cell tree of in_cell m same) = cell_calmed same m
     calmed low few (at_a_base high m same) = base_calmed low high _ few same m

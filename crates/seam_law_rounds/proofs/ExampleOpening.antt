@@ -20,7 +20,7 @@ one_is_tree = record {
     proper (suc c) h = absurd (omega (arith, h))
 
 opening_is : IsFrame opening
-opening_is = record { defs = frame_is.defs; tree = one_is_tree }
+opening_is = record { defs = frame_is.defs; tree = one_is_tree; later = tt }
 
 pub between : IsBetweenRounds opening empty_world
 between = opened_between builtin standard opening_is (omega arith)

@@ -14,6 +14,7 @@ use Rattle.seam_node_steps.specs.Prelude.{base_round, order_if, ordered_at, load
 use Rattle.seam_law_calls.specs.Prelude.{Frame, here_at, IsBaseAt, IsAt, IsInFrame}
 use Rattle.seam_law_rounds.specs.Prelude.{IsBetweenRounds, framed, each, made, node_loaded, MayBegin}
 use Rattle.seam_tree.proofs.Leaves.{leaf_is_cell}
+use Rattle.seam_law_calls.proofs.Trees.{first_tree}
 use Rattle.seam_law_rounds.proofs.Loading.{each_keeps, Any, any, loaded_is, node_there, set_keeps, get-each_value}
 
 abbrev IsUnder : ℕ → RealView → Type 0
@@ -128,7 +129,7 @@ module _ (f : Frame) (b : Batch) (tree : IsTree b.tree) (k : ℕ) where
       keys = λ e r at.
           same_entity real_begins (λ r. refl) e (table.get c.reals e) (h.is.keys e) r (sym (get-each_value real_begins c.reals e) ∙ at);
     },
-    record { low = h.low; here = h.here; tree = refl },
+    record { low = h.low; here = h.here; tree = first_tree (framed f b) },
   )
   rounds (Base n) h = (h.is, h.at)
 

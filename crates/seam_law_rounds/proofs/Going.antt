@@ -16,7 +16,7 @@ use Rattle.seam_law_rounds.proofs.Turns.{are_calls, calls_in_turn}
 
 module _ (f : Frame) (w : World) (b : Batch) (begin : MayBegin f w b) where
   pub frame_loaded : IsFrame (framed f b)
-  frame_loaded = record { defs = begin.between.frame.defs; tree = begin.fits.tree }
+  frame_loaded = record { defs = begin.between.frame.defs; tree = begin.fits.tree; later = tt }
 
   -- the real that one holder has is at a node
   home_by : (e : ℕ) (p : TokenPlace) (r : RealView) → IsOne e (loaded w b) p r →

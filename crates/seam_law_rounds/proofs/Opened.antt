@@ -16,6 +16,7 @@ use Rattle.seam_law_calls.specs.Prelude.{Frame, IsAt, Has, no_cell, no_base, has
 use Rattle.seam_law_rounds.specs.Prelude.{IsBetweenRounds, first_frame}
 use Rattle.seam_machine.proofs.Quiet.{quiet_from}
 use Rattle.seam_node_steps.proofs.Tables.{entries_empty}
+use Rattle.seam_law_calls.proofs.Trees.{first_tree}
 use Rattle.seam_law_calls.proofs.ExampleMet.{no_link, slots}
 
 -- what is true of each that is made for a range of numbers, and of what comes after
@@ -78,7 +79,7 @@ module _ (defs : List TypeDef) (settings : Settings) (frame : IsFrame (first_fra
       nexts = λ e n at. absurd (none_there e n at);
       keys = λ e r at. absurd (none_there e r at);
     };
-    at = record { low = low; here = refl; tree = refl };
+    at = record { low = low; here = refl; tree = first_tree f };
     peers = refl;
     idle = ap (λ es. is_some (option_map number_of (find real_is_ready es)) || false) entries_empty;
     new = λ e. no_slots _ _ _ (table.get-empty nat_cmp e) (table.get-empty nat_cmp e) (table.get-empty nat_cmp e);

@@ -4,17 +4,19 @@ use Rattle.std.proofs.Common.{Some, refl, sym, ap, ◌∙◌, subst, arith}
 use Rattle.std.specs.Prelude.{option_map}
 use Rattle.std.specs.FinSet as set
 use Rattle.std.proofs.lemmas.Bool.Decides.{nat_tests}
-use Rattle.seam_node_steps.specs.Prelude.{RealView, Msg, Hand, Current, Reap, limit, is_small, cell_count, base_of, SlotStep, slot_after}
-use Rattle.seam_node_steps.specs.Prelude.{haunts_at, ghost_messages, settled_to, currents, is_stray, may_come, shown_of, looks_with}
+use Rattle.seam_node_steps.specs.Prelude.{Division, RealView, Msg, Hand, Current, Reap, limit, is_small, cell_count, base_of, SlotStep}
+use Rattle.seam_node_steps.specs.Prelude.{slot_after}
+use Rattle.seam_node_steps.specs.Prelude.{haunts_at, ghost_messages, settled_to, currents, is_stray, shown_of, looks_with}
 use Rattle.seam_node_steps.specs.Prelude.{RouteView, stray_current}
 use Rattle.seam_law_flow.specs.Prelude.{IsSilent, entry_in, greater_entry}
-use Rattle.seam_law_calls.specs.Prelude.{Frame, here_at, Has, AtCell, AtBase, Does, Acts, surveys, calls, readies, CellMoves, BaseMoves}
+use Rattle.seam_law_calls.specs.Prelude.{Frame, IsTreeOf, here_at, Has, AtCell, AtBase, Does, Acts, surveys, calls, readies, CellMoves}
+use Rattle.seam_law_calls.specs.Prelude.{BaseMoves}
 use Rattle.seam_law_calls.specs.Prelude.{strays_at, Moves, at_a_cell, at_a_base, real_in}
 use Rattle.seam_law_rounds.specs.Prelude.{as_entry, route_entry, sent_route}
 use Rattle.seam_law_calls.specs.CellMoves as move
 use Rattle.seam_law_calls.specs.BaseMoves as base_move
 use Rattle.seam_law_calls.proofs.Plain.{SeesNoGhost, ghosts_silent, numbered_silent}
-use Rattle.seam_law_calls.proofs.Handling.{FindsRoom}
+use Rattle.seam_law_calls.proofs.Handling.{FindsRoom, not_stray}
 use Rattle.seam_law_calls.proofs.BaseSilent.{base_silent}
 
 -- eyes that see hand-overs and routes
@@ -81,55 +83,50 @@ module _ (f : Frame) (e k : ℕ) (s : Has) (i : Option Msg) (t : Has) (sent : Li
   next_of x u d is = ap (λ a. a.slot.next) d.state ∙ is
 
   module _ (room : (r : RealView) → i ≡ Some (Hand r) → FindsRoom f k s r) (spared : i ≡ Some (Reap e) → ⊥) where
-    stray_hand : (r : RealView) → i ≡ Some (Hand r) → is_stray (here_at f k) f.tree s.cell.slot (Hand r) ≡ true → ⊥
-    stray_hand r is b =
-        let p = room r is in
-        not_both (may_come (here_at f k) f.tree r) p.may
-        (sym (ap (λ o. is_stray (here_at f k) f.tree (record { real = o; next = s.cell.slot.next; ghost = s.cell.slot.ghost })
-        (Hand r)) p.free)
-        ∙ b)
-
-    cell_roads : k < cell_count → CellMoves (here_at f k) f.tree e s.cell i t.cell sent → Roads
-    cell_roads low (move.rests n d) = plain (no_hand n) (same _ s.cell d refl) (next_of _ s.cell d refl) (silent_of [] d.sends tt)
-    cell_roads low (move.strays m n b d) =
-        plain (λ r is. stray_hand r is (ap (is_stray (here_at f k) f.tree s.cell.slot) (let z : Hand r ≡ m = let y = sym is
+    cell_roads : k < cell_count → (tree : Division) → IsTreeOf f tree → CellMoves (here_at f k) tree e s.cell i t.cell sent → Roads
+    cell_roads low tree of (move.rests n d) = plain (no_hand n) (same _ s.cell d refl) (next_of _ s.cell d refl) (silent_of [] d.sends tt)
+    cell_roads low tree of (move.strays m n b d) =
+        plain (λ r is. not_stray f k s r (room r is) tree of (ap (is_stray (here_at f k) tree s.cell.slot) (let z : Hand r ≡ m = let y =
+        sym is
         ∙ n in cc in z) ∙ b))
         (same _ s.cell d refl) (next_of _ s.cell d refl) (silent_of [] d.sends tt)
-    cell_roads low (move.stays u r q changed has own acts at d) =
+    cell_roads low tree of (move.stays u r q changed has own acts at d) =
         plain (acts_hand u r q changed acts) (turned _ u r _ d has refl (acts_same u r q changed acts)) (next_of _ u d refl)
         (silent_of _ d.sends (ghosts_silent road_of no_ghosts (here_at f k) q k (haunts_at
-        (here_at f k) f.tree q.state.pos k q.haunts) changed))
-    cell_roads low (move.goes u r q changed j has own acts at n d) =
-        let haunts = haunts_at (here_at f k) f.tree q.state.pos j (set.insert q.haunts k) in
+        (here_at f k) tree q.state.pos k q.haunts) changed))
+    cell_roads low tree of (move.goes u r q changed j has own acts at n d) =
+        let haunts = haunts_at (here_at f k) tree q.state.pos j (set.insert q.haunts k) in
         departs r (settled_to q haunts (q.beat + 1) (q.generation + 1)) j (ghost_messages (here_at f k) q j haunts changed)
         (acts_hand u r q changed acts) has (ap (λ a. a.slot.real) d.state) (ap (λ x. x + 1) (acts_same u r q changed acts))
         (ap (λ a. a.slot.next) d.state)
         (ghosts_silent road_of no_ghosts (here_at f k) q j haunts changed) d.sends
-    cell_roads low (move.late c r n has may lt d) = plain (other _ n (λ x z. cc)) (same _ s.cell d refl) (next_of _ s.cell d refl)
+    cell_roads low tree of (move.late c r n has may lt d) = plain (other _ n (λ x z. cc)) (same _ s.cell d refl) (next_of _ s.cell d refl)
         (silent_of [] d.sends tt)
-    cell_roads low (move.holds c r n own has mine may lt d) =
+    cell_roads low tree of (move.holds c r n own has mine may lt d) =
         plain (other _ n (λ x z. cc)) (turned _ s.cell r _ d has refl refl) (next_of _ s.cell d refl) (silent_of [] d.sends tt)
-    cell_roads low (move.passes c p n own has at d) = plain (other _ n (λ x z. cc)) (same _ s.cell d refl) (next_of _ s.cell d refl)
+    cell_roads low tree of (move.passes c p n own has at d) = plain (other _ n (λ x z. cc)) (same _ s.cell d refl) (next_of _ s.cell d refl)
         (silent_of _ d.sends (refl, tt))
-    cell_roads low (move.lands r n own has may d) = arrives r n low has (ap (λ a. a.slot.real) d.state) (ap
+    cell_roads low tree of (move.lands r n own has may d) = arrives r n low has (ap (λ a. a.slot.real) d.state) (ap
         (λ a. a.slot.next) d.state) d.sends
-    cell_roads low (move.hears_set n c is has d) = plain (other _ is (λ x z. cc)) (same _ s.cell d refl) (next_of _ s.cell d refl)
+    cell_roads low tree of (move.hears_set n c is has d) = plain (other _ is (λ x z. cc)) (same _ s.cell d refl) (next_of _ s.cell d refl)
         (silent_of [] d.sends tt)
-    cell_roads low (move.ignores_set n c r is has d) = plain (other _ is (λ x z. cc)) (same _ s.cell d refl) (next_of _ s.cell d refl)
+    cell_roads low tree of (move.ignores_set n c r is has d) =
+        plain (other _ is (λ x z. cc)) (same _ s.cell d refl) (next_of _ s.cell d refl)
         (silent_of [] d.sends tt)
-    cell_roads low (move.hears_drop n is d) = plain (other _ is (λ x z. cc)) (same _ s.cell d refl) (next_of _ s.cell d refl)
+    cell_roads low tree of (move.hears_drop n is d) = plain (other _ is (λ x z. cc)) (same _ s.cell d refl) (next_of _ s.cell d refl)
         (silent_of [] d.sends tt)
-    cell_roads low (move.reaped r n has own may d) = absurd (spared n)
-    cell_roads low (move.ticks n st z) =
+    cell_roads low tree of (move.reaped r n has own may d) = absurd (spared n)
+    cell_roads low tree of (move.ticks n st z) =
         plain (other _ n (λ x y. cc)) (ap (λ a. option_map generation_of a.slot.real) st) (ap (λ a. a.slot.next) st) (silent_of [] z tt)
-    cell_roads low (move.unlists n is at b d) = plain (no_hand is) (same _ _ d refl) (next_of _ _ d refl) (silent_of [] d.sends tt)
-    cell_roads low (move.looks n r w known is at has own v small d) =
+    cell_roads low tree of (move.unlists n is at b d) = plain (no_hand is) (same _ _ d refl) (next_of _ _ d refl) (silent_of [] d.sends tt)
+    cell_roads low tree of (move.looks n r w known is at has own v small d) =
         plain (no_hand is) (turned (looks_with (here_at f k) s.cell.slot r w known (shown_of
         (here_at f k) r w known)) _ r _ d has refl refl)
         (next_of (looks_with (here_at f k) s.cell.slot r w known (shown_of (here_at f k) r w known)) _ d refl)
         (silent_of _ d.sends (numbered_silent road_of (base_of (here_at f k) r.entity) r.entity w.sent _ (λ u. refl)))
-    cell_roads low (move.overlooks n known is at b d) = plain (no_hand is) (same _ _ d refl) (next_of _ _ d refl) (silent_of [] d.sends tt)
-    cell_roads low (move.stuck r is has ready may d) = plain (no_hand is) (same _ s.cell d refl) (next_of _ s.cell d refl)
+    cell_roads low tree of (move.overlooks n known is at b d) =
+        plain (no_hand is) (same _ _ d refl) (next_of _ _ d refl) (silent_of [] d.sends tt)
+    cell_roads low tree of (move.stuck r is has ready may d) = plain (no_hand is) (same _ s.cell d refl) (next_of _ s.cell d refl)
         (silent_of [] d.sends tt)
 
     hand_at_base : cell_count ≤ k → (r : RealView) → i ≡ Some (Hand r) → ⊥
@@ -142,7 +139,7 @@ module _ (f : Frame) (e k : ℕ) (s : Has) (i : Option Msg) (t : Has) (sent : Li
         (base_silent road_of (record { calls = λ c. refl; base_calls = λ c. refl; ticks = refl; reaps = λ e. refl }) _ cells e _ i _ sent m)
 
     pub roads : Moves f e k s i t sent → Roads
-    roads (at_a_cell low m is) = cell_roads low m
+    roads (at_a_cell tree of low m is) = cell_roads low tree of m
     roads (at_a_base high m is) = base_roads high is _ m
 
 -- ---- the route of a base node takes the newer one
@@ -219,5 +216,5 @@ module _ (f : Frame) (e k : ℕ) (s : Has) (i : Option Msg) (t : Has) (sent : Li
   base_reroutes cells (base_move.stuck_client p n has v may a z) = kept s.base a refl (by_none n)
 
   pub reroutes : Moves f e k s i t sent → Reroutes
-  reroutes (at_a_cell low m is) = absurd (omega (arith, low, high))
+  reroutes (at_a_cell tree of low m is) = absurd (omega (arith, low, high))
   reroutes (at_a_base up m is) = base_reroutes _ m

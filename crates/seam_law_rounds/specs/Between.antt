@@ -21,7 +21,7 @@ pub record IsSettled (f : Frame) (e home : ℕ) (r : RealView) (w : World) : Typ
   pub others : (j : ℕ) → (j ≡ home → ⊥) → real_at e w j ≡ None
   -- its type is one of the definitions
   pub type : r.ty < length f.defs
-  -- it fits its type, the space and the tree
+  -- it fits its type, the space and the trees
   pub fits : RealFits f e r.ty home r
   -- its public version is at most its version
   pub public : r.public ≤ r.version
@@ -35,7 +35,7 @@ pub record IsSettled (f : Frame) (e home : ℕ) (r : RealView) (w : World) : Typ
 
 -- the record between rounds, by the definitions, the settings and the tree of the round that ended
 pub record IsBetweenRounds (f : Frame) (w : World) : Type 0 where
-  -- the definitions and the tree are such
+  -- the definitions and the trees are such
   pub frame : IsFrame f
   -- the nodes go by them
   pub nodes : IsInFrame f w
@@ -148,6 +148,6 @@ pub record MayBegin (f : Frame) (w : World) (b : Batch) : Type 0 where
   pub between : IsBetweenRounds f w
   pub fits : IsFitting f w b
 
--- what the nodes go by once the batch is loaded
+-- what the nodes go by once the batch is loaded: its tree alone
 abbrev pub framed : Frame → Batch → Frame
-framed f b = record f { tree = b.tree }
+framed f b = record f { tree = b.tree; later = [] }

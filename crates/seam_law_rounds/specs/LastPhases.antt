@@ -8,7 +8,7 @@ use Rattle.seam_law_calls.specs.Prelude.{Frame, entity_flow, reaps, as_sender, r
 
 -- what the nodes of a world go by as it is opened: the tree of one cell
 abbrev pub first_frame : List TypeDef → Settings → Frame
-first_frame defs settings = record { defs = defs; settings = settings; tree = one_cell settings.size }
+first_frame defs settings = record { defs = defs; settings = settings; tree = one_cell settings.size; later = [] }
 
 -- entities that a quiet world may be told to reap: each is there, is once in the list, and its beat may rise
 pub record AreReapable (w : World) (es : List ℕ) : Type 0 where

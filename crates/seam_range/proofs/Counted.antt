@@ -4,11 +4,16 @@ use Rattle.std.proofs.Common.{◌∙◌, is_some, unwrap_or, get_or, zero, suc, 
 use Rattle.std.specs.Ordering.{nat_cmp, is_eq, eq_by_cmp}
 use Rattle.std.specs.Cmp.{nat_cmp_total, eq_by_cmp_equiv}
 use Rattle.std.specs.Map.{keys_of, lookup}
-use Rattle.std.specs.BTreeMap as tree
 use Rattle.std.specs.BTreeMap.{is_at}
 use Rattle.std.specs.List.{IsDistinct, AllByRecursion, filter, list_any, count_by}
-use Rattle.std.specs.List.Sorted.{IsPermutation, IsNonDecreasing, IsNonDecreasingBy}
+use Rattle.std.specs.List.Sorted.{IsPermutation, IsNonDecreasing, IsNonDecreasingBy, IsStrictlySortedBy}
 use Rattle.std.specs.FinMap as map
+use Rattle.std.specs.BTreeMap as tree
+use Rattle.std.proofs.Common.{map as each}
+use Rattle.seam_geo.specs.declared.pos.Pos.{Pos}
+use Rattle.seam_range.specs.declared.Keyed.{Keyed}
+use Rattle.seam_range.specs.Locations.{is_within, within}
+use Rattle.seam_range.specs.Indexed.{places_of}
 use Rattle.std.proofs.lemmas.Bool.Decides.{nat_tests}
 use Rattle.std.proofs.lemmas.List.Sums.{sum_by-cons}
 use Rattle.std.proofs.lemmas.List.Sorted.{sum_by-IsPermutation, All-permutation}
@@ -20,9 +25,8 @@ use Rattle.std.proofs.lemmas.Map.Keys.{sorted_from_strictly_increasing}
 use Rattle.std.proofs.lemmas.Map.Made.{is_some-lookup}
 use Rattle.seam_range.specs.declared.Location.{Location}
 use Rattle.seam_range.specs.Found.{count_of, AreInPlace, one_if}
-use Rattle.seam_range.proofs.Moves.{place_of_entry}
-use Rattle.seam_range.proofs.Strips.{same_again}
-use Rattle.seam_range.proofs.Sorted.{same_number, sorted_same, sorted_by_filter, entries_when_sorted}
+use Rattle.seam_range.proofs.Links.{same_again}
+use Rattle.seam_range.proofs.Sorted.{same_number, sorted_same, sorted_by_filter, entries_when_sorted, lookup_of_find}
 
 -- ---- counts of numbers
 
@@ -90,7 +94,7 @@ keys_rise xs up i j d le lt =
 
 -- ---- and in their places
 
-abbrev InPlaces : (ℕ → Option Location) → List (ℕ × Location) → Type 0
+abbrev InPlaces : {X : Type 0} → (ℕ → Option X) → List (ℕ × X) → Type 0
 InPlaces f xs = AllByRecursion (λ x. f x.0 ≡ Some x.1) xs
 
 same_by_keys : (f : ℕ → Option Location) (xs ys : List (ℕ × Location)) → keys_of xs ≡ keys_of ys → InPlaces f xs → InPlaces f ys → xs ≡ ys
@@ -113,14 +117,15 @@ in_filter f t (x ∷ xs) h =
 apart : (x y : ℕ) → is_eq (nat_cmp x y) ≡ false → is_eq (nat_cmp y x) ≡ false
 apart x y h = grind (arith, nat_tests)
 
-found_past : (x : ℕ × Location) (es xs : List (ℕ × Location)) → AllByRecursion (λ y. is_eq (nat_cmp x.0 y) ≡ false) (keys_of xs) →
+found_past : {X : Type 0} (x : ℕ × X) (es xs : List (ℕ × X)) → AllByRecursion (λ y. is_eq (nat_cmp x.0 y) ≡ false) (keys_of xs) →
     InPlaces (λ q. lookup (is_at (nat_cmp q)) es) xs → InPlaces (λ q. lookup (is_at (nat_cmp q)) (x ∷ es)) xs
 found_past x es [] h k = tt
 found_past x es (y ∷ xs) h k =
     (ap (λ b. cond b (Some x.1) (lookup (is_at (nat_cmp y.0)) es)) (apart x.0 y.0 h.0) ∙ k.0, found_past x es xs h.1 k.1)
 
 -- entries are in the places that they give
-each_found : (es : List (ℕ × Location)) → IsDistinct (eq_by_cmp nat_cmp) (keys_of es) → InPlaces (λ q. lookup (is_at (nat_cmp q)) es) es
+each_found : {X : Type 0} (es : List (ℕ × X)) → IsDistinct (eq_by_cmp nat_cmp) (keys_of es) →
+    InPlaces (λ q. lookup (is_at (nat_cmp q)) es) es
 each_found [] u = tt
 each_found (x ∷ es) u = (
   ap (λ b. cond b (Some x.1) (lookup (is_at (nat_cmp x.0)) es)) (same_number x.0),
@@ -128,10 +133,13 @@ each_found (x ∷ es) u = (
       (each_found es (IsDistinct-tail (eq_by_cmp nat_cmp) x.0 (keys_of es) u)),
 )
 
-by_entry : (m : tree.BTreeMap ℕ Location) (xs : List (ℕ × Location)) →
-    AllByRecursion (λ x. map.get (map.from_entries {R = nat_cmp} m.entries) x.0 ≡ Some x.1) xs → InPlaces (tree.get nat_cmp m) xs
-by_entry m [] h = tt
-by_entry m (x ∷ xs) h = (sym (place_of_entry m x.0) ∙ h.0, by_entry m xs h.1)
+entry_at : (es : List (ℕ × Location)) (q : ℕ) → map.get (map.from_entries {R = nat_cmp} es) q ≡ lookup (is_at (nat_cmp q)) es
+entry_at es q = map.get-from_entries nat_cmp_total es q ∙ lookup_of_find q es
+
+by_entry : (es xs : List (ℕ × Location)) → AllByRecursion (λ x. map.get (map.from_entries {R = nat_cmp} es) x.0 ≡ Some x.1) xs →
+    InPlaces (λ q. lookup (is_at (nat_cmp q)) es) xs
+by_entry es [] h = tt
+by_entry es (x ∷ xs) h = (sym (entry_at es x.0) ∙ h.0, by_entry es xs h.1)
 
 -- ---- those near
 
@@ -144,38 +152,52 @@ module _ (test : Location → Bool) where
   passes None = refl
   passes (Some p) = elim (test p) as (λ b. ltb 0 (cond b 1 0) ≡ is_some (cond b (Some p) None)) [ true ↦ refl | false ↦ refl ]
 
-  keys_when_counted : (m : tree.BTreeMap ℕ Location) (rising : List ℕ) → tree.IsOrdered nat_cmp m →
-      ((q : ℕ) → number_count q rising ≡ one_if test (tree.get nat_cmp m q)) → IsNonDecreasing rising →
-      rising ≡ keys_of (filter (λ e. test e.1) m.entries)
-  keys_when_counted m rising o counted up =
+  keys_when_counted : (es : List (ℕ × Location)) (rising : List ℕ) → IsStrictlySortedBy nat_cmp (keys_of es) →
+      ((q : ℕ) → number_count q rising ≡ one_if test (lookup (is_at (nat_cmp q)) es)) → IsNonDecreasing rising →
+      rising ≡ keys_of (filter (λ e. test e.1) es)
+  keys_when_counted es rising o counted up =
       let once =
-      distinct_when_counted rising (λ q. let most = at_most_one (tree.get nat_cmp m q) in let e = counted q in
+      distinct_when_counted rising (λ q. let most = at_most_one (lookup (is_at (nat_cmp q)) es) in let e = counted q in
       omega (arith, most, e)) in
       let rises = sorted_from_strictly_increasing rising (IsStrictlyIncreasing-from_distinct rising up once) in
-      sorted_same rising (keys_of (filter (λ e. test e.1) m.entries)) rises (sorted_by_filter (λ e. test e.1) m.entries o) (λ q.
+      sorted_same rising (keys_of (filter (λ e. test e.1) es)) rises (sorted_by_filter (λ e. test e.1) es o) (λ q.
       any_when_counted q rising
       ∙ (ap (ltb 0) (counted q)
-      ∙ (passes (tree.get nat_cmp m q)
+      ∙ (passes (lookup (is_at (nat_cmp q)) es)
       ∙
       (ap is_some
-      (sym (lookup-filter-values (eq_by_cmp_equiv nat_cmp_total) test q m.entries
-      (IsDistinct-from_sorted nat_cmp (keys_of m.entries) o)))
-      ∙ is_some-lookup (is_at (nat_cmp q)) (filter (λ e. test e.1) m.entries)))))
+      (sym (lookup-filter-values (eq_by_cmp_equiv nat_cmp_total) test q es
+      (IsDistinct-from_sorted nat_cmp (keys_of es) o)))
+      ∙ is_some-lookup (is_at (nat_cmp q)) (filter (λ e. test e.1) es)))))
 
-  pub sorted_when_counted : (m : tree.BTreeMap ℕ Location) (found rising : List (ℕ × Location)) → tree.IsOrdered nat_cmp m →
-      ((q : ℕ) → count_of q found ≡ one_if test (map.get (map.from_entries {R = nat_cmp} m.entries) q)) →
-      AreInPlace (map.from_entries {R = nat_cmp} m.entries) found → IsPermutation found rising → IsNonDecreasingBy (λ x. x.0) rising →
-      rising ≡ filter (λ e. test e.1) (map.entries (map.from_entries {R = nat_cmp} m.entries))
-  sorted_when_counted m found rising o counts places moved up =
-      let counted : (q : ℕ) → number_count q (keys_of rising) ≡ one_if test (tree.get nat_cmp m q) = λ q.
+  pub sorted_when_counted : (es : List (ℕ × Location)) (found rising : List (ℕ × Location)) → IsStrictlySortedBy nat_cmp (keys_of es) →
+      ((q : ℕ) → count_of q found ≡ one_if test (map.get (map.from_entries {R = nat_cmp} es) q)) →
+      AreInPlace (map.from_entries {R = nat_cmp} es) found → IsPermutation found rising → IsNonDecreasingBy (λ x. x.0) rising →
+      rising ≡ filter (λ e. test e.1) (map.entries (map.from_entries {R = nat_cmp} es))
+  sorted_when_counted es found rising o counts places moved up =
+      let counted : (q : ℕ) → number_count q (keys_of rising) ≡ one_if test (lookup (is_at (nat_cmp q)) es) = λ q.
       keys_counted q rising
-      ∙ (sum_by-IsPermutation (λ x. cond (eqb x.0 q) 1 0) found rising moved ∙ (counts q ∙ ap (one_if test) (place_of_entry m q))) in
+      ∙ (sum_by-IsPermutation (λ x. cond (eqb x.0 q) 1 0) found rising moved ∙ (counts q ∙ ap (one_if test) (entry_at es q))) in
       let there =
-      recursion_from_All (λ x. map.get (map.from_entries {R = nat_cmp} m.entries) x.0 ≡ Some x.1) rising
-      (All-permutation (λ x. map.get (map.from_entries {R = nat_cmp} m.entries) x.0 ≡ Some x.1) found rising moved places) in
-      same_by_keys (tree.get nat_cmp m) rising (filter (λ e. test e.1) m.entries)
-      (keys_when_counted m (keys_of rising) o counted (keys_rise rising up))
-      (by_entry m rising there)
-      (in_filter (tree.get nat_cmp m) (λ e. test e.1) m.entries
-      (each_found m.entries (IsDistinct-from_sorted nat_cmp (keys_of m.entries) o)))
-      ∙ ap (λ es. filter (λ e. test e.1) es) (sym (entries_when_sorted m.entries o))
+      recursion_from_All (λ x. map.get (map.from_entries {R = nat_cmp} es) x.0 ≡ Some x.1) rising
+      (All-permutation (λ x. map.get (map.from_entries {R = nat_cmp} es) x.0 ≡ Some x.1) found rising moved places) in
+      same_by_keys (λ q. lookup (is_at (nat_cmp q)) es) rising (filter (λ e. test e.1) es)
+      (keys_when_counted es (keys_of rising) o counted (keys_rise rising up))
+      (by_entry es rising there)
+      (in_filter (λ q. lookup (is_at (nat_cmp q)) es) (λ e. test e.1) es
+      (each_found es (IsDistinct-from_sorted nat_cmp (keys_of es) o)))
+      ∙ ap (λ es. filter (λ e. test e.1) es) (sym (entries_when_sorted es o))
+
+-- ---- all of those that have an entry
+
+keys_placed : (es : List (ℕ × Keyed)) → keys_of (each (λ r. (r.0, r.1.place)) es) ≡ keys_of es
+keys_placed [] = refl
+keys_placed (e ∷ es) = ap (λ l. e.0 ∷ l) (keys_placed es)
+
+pub placed_sorted : (m : tree.BTreeMap ℕ Keyed) → tree.IsOrdered nat_cmp m →
+    IsStrictlySortedBy nat_cmp (keys_of (each (λ r. (r.0, r.1.place)) m.entries))
+placed_sorted m o = subst (IsStrictlySortedBy nat_cmp) (sym (keys_placed m.entries)) o
+
+pub all_within : (m : tree.BTreeMap ℕ Keyed) (p : Pos) (d : ℕ) → tree.IsOrdered nat_cmp m →
+    filter (λ e. is_within p d e.1) (each (λ r. (r.0, r.1.place)) m.entries) ≡ within (places_of m.entries) p d
+all_within m p d o = ap (λ es. filter (λ e. is_within p d e.1) es) (sym (entries_when_sorted _ (placed_sorted m o)))

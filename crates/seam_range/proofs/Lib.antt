@@ -1,4 +1,7 @@
 pub mod Sorted
-pub mod Moves
+pub mod Ranks
+pub mod Links
+pub mod Kept
+pub mod Hits
 pub mod Strips
 pub mod Counted

@@ -104,7 +104,7 @@ sorted_by_filter t (e ∷ es) o =
     elim (t e) as (λ b. IsStrictlySortedBy nat_cmp (keys_of (cond b (e ∷ filter t es) (filter t es))))
     [ true ↦ (below_by_filter e.0 t es o.0, sorted_by_filter t es o.1) | false ↦ sorted_by_filter t es o.1 ]
 
-no_length : {A : Type 0} (xs : List A) → length xs ≡ 0 → xs ≡ []
+pub no_length : {A : Type 0} (xs : List A) → length xs ≡ 0 → xs ≡ []
 no_length [] e = refl
 no_length (x ∷ xs) e = absurd (omega arith)
 

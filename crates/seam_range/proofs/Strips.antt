@@ -1,259 +1,152 @@
--- How often a number is among the near entities of a strip, and of all strips.
-use Rattle.std.proofs.Common.{◌≡◌, ◌≤◌, ◌<◌, ◌-◌, ◌+◌, ◌/◌, ℕ, Bool, true, false, cond, not, ◌&&◌, eqb, ltb, List, [], ◌∷◌, ◌++◌, Option}
-use Rattle.std.proofs.Common.{None, Some, refl, sym, ap, ◌∙◌, subst, is_some, unwrap_or, arith}
+-- How often an entity is among the near entities of a strip, and of all strips.
+use Rattle.std.proofs.Common.{◌≡◌, ◌≤◌, ◌<◌, ◌-◌, ◌+◌, ◌/◌, ℕ, Bool, true, false, cond, not, ◌&&◌, eqb, ltb, List, [], ◌∷◌, ◌++◌}
+use Rattle.std.proofs.Common.{Option}
+use Rattle.std.proofs.Common.{None, Some, refl, sym, ap, ◌∙◌, subst, is_some, option_map, slice_get, arith}
 use Rattle.std.specs.Prelude.{nat_le, nat_lt}
+use Rattle.std.proofs.Common.{Result, Ok, Err, IfOk}
+use Rattle.std.specs.Option.{option_map_or}
 use Rattle.std.specs.Ordering.{nat_cmp, eq_by_cmp, is_eq, is_le, ordering_then}
-use Rattle.std.specs.declared.ops.Bound.TheVariants.{Included, Excluded}
 use Rattle.std.specs.declared.cmp.Ordering.{Ordering}
 use Rattle.std.specs.declared.cmp.Ordering.TheVariants.{Less, Equal, Greater}
+use Rattle.std.specs.Prelude.{Vec}
 use Rattle.std.specs.Map.{lookup, keys_of}
 use Rattle.std.specs.BTreeMap as tree
 use Rattle.std.specs.BTreeMap.{is_at}
-use Rattle.std.specs.BTreeMap.Range.{range_contains}
-use Rattle.std.specs.List.{IsDistinct, AllByRecursion, filter, count_by}
+use Rattle.std.specs.List.{IsDistinct, AllByRecursion, All, filter, cons_option, count_by}
 use Rattle.std.proofs.lemmas.Bool.Decides.{nat_tests}
-use Rattle.std.proofs.lemmas.List.Sums.{sum_by-cons, sum_by_push}
+use Rattle.std.proofs.lemmas.List.Sums.{sum_by-append}
+use Rattle.std.proofs.lemmas.List.Elements.{All-append, All-nil, All-push}
 use Rattle.std.proofs.lemmas.Nat.{le-div}
 use Rattle.std.proofs.Math.Nat.{div-mul-le_self}
 use Rattle.std.proofs.lemmas.Map.Keys.{IsDistinct-from_sorted, IsDistinct-head, IsDistinct-tail}
 use Rattle.seam_geo.specs.declared.pos.Pos.{Pos}
 use Rattle.seam_geo.specs.Pos.{distance}
+use Rattle.slab.specs.Slab.{Slab, get}
 use Rattle.seam_range.specs.declared.Location.{Location}
-use Rattle.seam_range.specs.Locations.{Places, is_within}
-use Rattle.seam_range.specs.Indexed.{spot_of, same_spot, by_spot, at_spot, IsIndexed}
-use Rattle.seam_range.specs.Found.{count_of, one_if, is_in_strip, first_strip, end_strip}
+use Rattle.seam_range.specs.declared.Keyed.{Keyed}
+use Rattle.seam_range.specs.declared.Spot.{Spot}
+use Rattle.seam_range.specs.Locations.{is_within}
+use Rattle.seam_range.specs.Indexed.{bucket_of, same_bucket, by_bucket, seen, places_of, Buckets, keys_in, IsIndexed}
+use Rattle.seam_range.specs.Found.{count_of, AreInPlace, one_if, is_in_strip, first_strip, end_strip, near_at, hits, in_run, Entry, run_of}
+use Rattle.seam_range.specs.Found.{hits_of}
 use Rattle.seam_range.specs.declared.TheConstants.{STRIP_WIDTH, ROW_WIDTH}
 use Rattle.std.specs.FinMap as map
-use Rattle.seam_range.proofs.Moves.{same_key, place_of_entry}
+use Rattle.seam_range.proofs.Ranks.{none_some}
+use Rattle.seam_range.proofs.Links.{bucket_is, bucket_itself, tied}
+use Rattle.seam_range.proofs.Kept.{place_of_entity}
+use Rattle.seam_range.proofs.Hits.{count_cons, count_agree, count_nothing, no_more, and_no, in_bucket, home, count_in_bucket}
+use Rattle.seam_range.proofs.Hits.{spot_of}
 
-abbrev pub Key : Type 0
-Key = (ℕ × ℕ) × ℕ
+-- ---- buckets by strip and row
 
--- ---- counts
+key_is : (a b : ℕ × ℕ) → is_eq (by_bucket a b) ≡ true → b ≡ a
+key_is a b t = bucket_is a b (sym (tied a b) ∙ t)
 
-count_cons : {X : Type 0} (t : X → Bool) (x : X) (xs : List X) → count_by t (x ∷ xs) ≡ cond (t x) 1 0 + count_by t xs
-count_cons t x xs = sum_by-cons (λ y. cond (t y) 1 0) x xs
+key_itself : (a : ℕ × ℕ) → is_eq (by_bucket a a) ≡ true
+key_itself a = tied a a ∙ bucket_itself a
 
-count_agree : {X : Type 0} (t u : X → Bool) (xs : List X) → AllByRecursion (λ x. t x ≡ u x) xs → count_by t xs ≡ count_by u xs
-count_agree t u [] h = refl
-count_agree t u (x ∷ xs) h =
-    count_cons t x xs ∙ ((λ i. cond (h.0 i) 1 0 + count_agree t u xs h.1 i) ∙ sym (count_cons u x xs))
-
-count_nothing : {X : Type 0} (t : X → Bool) (xs : List X) → AllByRecursion (λ x. t x ≡ false) xs → count_by t xs ≡ 0
-count_nothing t [] h = refl
-count_nothing t (x ∷ xs) h = count_cons t x xs ∙ (λ i. cond (h.0 i) 1 0 + count_nothing t xs h.1 i)
-
-no_more : (n : ℕ) → 0 + n ≡ n
-no_more n = omega arith
-
-filtered_by : {X : Type 0} (b f : X → Bool) (x : X) (xs : List X) (v : Bool) → count_by f (filter b xs) ≡ count_by (λ x. b x && f x) xs →
-    count_by f (cond v (x ∷ filter b xs) (filter b xs)) ≡ cond (v && f x) 1 0 + count_by (λ x. b x && f x) xs
-filtered_by b f x xs true rest = count_cons f x (filter b xs) ∙ ap (λ n. cond (f x) 1 0 + n) rest
-filtered_by b f x xs false rest = rest ∙ sym (no_more _)
-
--- of what a filter leaves those count that pass both tests
-pub count_by_filter : {X : Type 0} (b f : X → Bool) (xs : List X) → count_by f (filter b xs) ≡ count_by (λ x. b x && f x) xs
-count_by_filter b f [] = refl
-count_by_filter b f (x ∷ xs) = filtered_by b f x xs (b x) (count_by_filter b f xs) ∙ sym (count_cons (λ x. b x && f x) x xs)
-
--- ---- keys
-
-number_is : (a b : ℕ) → eqb a b ≡ true → a ≡ b
-number_is a b t = grind (arith, nat_tests)
-
-pub same_again : (a : ℕ) → eqb a a ≡ true
-same_again a = grind (arith, nat_tests)
-
-and_parts : (a b : Bool) → (a && b) ≡ true → (a ≡ true) × (b ≡ true)
-and_parts true b h = (refl, h)
-and_parts false b h = cc
-
-spot_is : (a b : ℕ × ℕ) → same_spot a b ≡ true → a ≡ b
-spot_is a b t = let h = and_parts (eqb a.0 b.0) (eqb a.1 b.1) t in λ i. (number_is a.0 b.0 h.0 i, number_is a.1 b.1 h.1 i)
-
-spot_itself : (a : ℕ × ℕ) → same_spot a a ≡ true
-spot_itself a = λ i. same_again a.0 i && same_again a.1 i
-
-key_is : (k l : Key) → is_eq (by_spot k l) ≡ true → k ≡ l
-key_is k l t =
-    let h = and_parts (same_spot k.0 l.0) (eqb k.1 l.1) (sym (same_key k l) ∙ t) in
-    λ i. (spot_is k.0 l.0 h.0 i, number_is k.1 l.1 h.1 i)
-
-key_itself : (k : Key) → is_eq (by_spot k k) ≡ true
-key_itself k = same_key k k ∙ (λ i. spot_itself k.0 i && same_again k.1 i)
-
--- two keys are one, whichever is asked first
-key_other : (k l : Key) → is_eq (by_spot k l) ≡ false → is_eq (by_spot l k) ≡ false
-key_other k l h = elim (is_eq (by_spot l k)) as (λ b. is_eq (by_spot l k) ≡ b → b ≡ false) [
-  | true ↦ λ t. let f : true ≡ false = sym (key_itself l) ∙ (ap (λ x. is_eq (by_spot x l)) (key_is l k t) ∙ h) in cc
+key_other : (a b : ℕ × ℕ) → is_eq (by_bucket a b) ≡ false → is_eq (by_bucket b a) ≡ false
+key_other a b h = elim (is_eq (by_bucket b a)) as (λ t. is_eq (by_bucket b a) ≡ t → t ≡ false) [
+  | true ↦ λ t. let f : true ≡ false = sym (key_itself b) ∙ (ap (λ x. is_eq (by_bucket x b)) (sym (key_is b a t)) ∙ h) in cc
   | false ↦ λ t. refl
 ] refl
 
-absent_keys : (k : Key) (es : List (Key × Location)) → AllByRecursion (λ y. is_eq (by_spot k y) ≡ false) (keys_of es) →
-    AllByRecursion (λ r. is_at (by_spot k) r.0 ≡ false) es
-absent_keys k [] h = tt
-absent_keys k (r ∷ es) h = (h.0, absent_keys k es h.1)
+module _ {X : Type 0} where
+  filtered_by : (b f : X → Bool) (x : X) (xs : List X) (v : Bool) → count_by f (filter b xs) ≡ count_by (λ x. b x && f x) xs →
+      count_by f (cond v (x ∷ filter b xs) (filter b xs)) ≡ cond (v && f x) 1 0 + count_by (λ x. b x && f x) xs
+  filtered_by b f x xs true rest = count_cons f x (filter b xs) ∙ ap (λ n. cond (f x) 1 0 + n) rest
+  filtered_by b f x xs false rest = rest ∙ sym (no_more _)
 
-count_step : (k : Key) (r : Key × Location) (es : List (Key × Location)) (b : Bool) → is_eq (by_spot k r.0) ≡ b →
-    AllByRecursion (λ y. eq_by_cmp by_spot r.0 y ≡ false) (keys_of es) →
-    count_by (λ r. is_at (by_spot k) r.0) es ≡ cond (is_some (lookup (is_at (by_spot k)) es)) 1 0 →
-    cond b 1 0 + count_by (λ r. is_at (by_spot k) r.0) es ≡ cond (is_some (cond b (Some r.1) (lookup (is_at (by_spot k)) es))) 1 0
-count_step k r es true e h rest =
-    let apart = subst (λ l. AllByRecursion (λ y. is_eq (by_spot l y) ≡ false) (keys_of es)) (sym (key_is k r.0 e)) h in
-    ap (λ n. 1 + n) (count_nothing (λ r. is_at (by_spot k) r.0) es (absent_keys k es apart))
-count_step k r es false e h rest = no_more _ ∙ rest
+  -- of what a filter leaves those count that pass both tests
+  count_by_filter : (b f : X → Bool) (xs : List X) → count_by f (filter b xs) ≡ count_by (λ x. b x && f x) xs
+  count_by_filter b f [] = refl
+  count_by_filter b f (x ∷ xs) = filtered_by b f x xs (b x) (count_by_filter b f xs) ∙ sym (count_cons (λ x. b x && f x) x xs)
 
--- of entries whose keys differ at most one has the key
-count_of_key : (k : Key) (es : List (Key × Location)) → IsDistinct (eq_by_cmp by_spot) (keys_of es) →
-    count_by (λ r. is_at (by_spot k) r.0) es ≡ cond (is_some (lookup (is_at (by_spot k)) es)) 1 0
-count_of_key k [] u = refl
-count_of_key k (r ∷ es) u =
-    count_cons (λ r. is_at (by_spot k) r.0) r es
-    ∙ count_step k r es (is_eq (by_spot k r.0)) refl (IsDistinct-head (eq_by_cmp by_spot) r.0 (keys_of es) u)
-    (count_of_key k es (IsDistinct-tail (eq_by_cmp by_spot) r.0 (keys_of es) u))
+  none_of_all : (xs : List X) → AllByRecursion (λ _. false ≡ false) xs
+  none_of_all [] = tt
+  none_of_all (x ∷ xs) = (refl, none_of_all xs)
 
--- ---- entries of the map by spot
+  all_or_none : (b : Bool) (u : X → Bool) (xs : List X) → count_by (λ x. b && u x) xs ≡ cond b (count_by u xs) 0
+  all_or_none true u xs = refl
+  all_or_none false u xs = count_nothing (λ _. false) xs (none_of_all xs)
 
--- an entry has the place of its entity, and is at its spot
-abbrev IsLocated : tree.BTreeMap ℕ Location → Key × Location → Type 0
-IsLocated m r = (tree.get nat_cmp m r.0.1 ≡ Some r.1) × (r.0.0 ≡ spot_of r.1)
+module _ {V : Type 0} where
+  absent_keys : (k : ℕ × ℕ) (es : List ((ℕ × ℕ) × V)) → AllByRecursion (λ y. is_eq (by_bucket k y) ≡ false) (keys_of es) →
+      AllByRecursion (λ r. is_at (by_bucket k) r.0 ≡ false) es
+  absent_keys k [] h = tt
+  absent_keys k (r ∷ es) h = (h.0, absent_keys k es h.1)
 
-abbrev Found : List (Key × Location) → List (Key × Location) → Type 0
-Found es rs = AllByRecursion (λ r. lookup (is_at (by_spot r.0)) es ≡ Some r.1) rs
+  count_step : (k : ℕ × ℕ) (r : (ℕ × ℕ) × V) (es : List ((ℕ × ℕ) × V)) (b : Bool) → is_eq (by_bucket k r.0) ≡ b →
+      AllByRecursion (λ y. eq_by_cmp by_bucket r.0 y ≡ false) (keys_of es) →
+      count_by (λ r. is_at (by_bucket k) r.0) es ≡ cond (is_some (lookup (is_at (by_bucket k)) es)) 1 0 →
+      cond b 1 0 + count_by (λ r. is_at (by_bucket k) r.0) es ≡ cond (is_some (cond b (Some r.1) (lookup (is_at (by_bucket k)) es))) 1 0
+  count_step k r es true e h rest =
+      let apart = subst (λ l. AllByRecursion (λ y. is_eq (by_bucket l y) ≡ false) (keys_of es)) (key_is k r.0 e) h in
+      ap (λ n. 1 + n) (count_nothing (λ r. is_at (by_bucket k) r.0) es (absent_keys k es apart))
+  count_step k r es false e h rest = no_more _ ∙ rest
 
-found_past : (p : Key × Location) (es rs : List (Key × Location)) → AllByRecursion (λ y. is_eq (by_spot p.0 y) ≡ false) (keys_of rs) →
-    Found es rs → Found (p ∷ es) rs
-found_past p es [] h k = tt
-found_past p es (r ∷ rs) h k =
-    (ap (λ b. cond b (Some p.1) (lookup (is_at (by_spot r.0)) es)) (key_other p.0 r.0 h.0) ∙ k.0, found_past p es rs h.1 k.1)
+  -- of entries whose keys differ at most one has the key
+  count_of_key : (k : ℕ × ℕ) (es : List ((ℕ × ℕ) × V)) → IsDistinct (eq_by_cmp by_bucket) (keys_of es) →
+      count_by (λ r. is_at (by_bucket k) r.0) es ≡ cond (is_some (lookup (is_at (by_bucket k)) es)) 1 0
+  count_of_key k [] u = refl
+  count_of_key k (r ∷ es) u =
+      count_cons (λ r. is_at (by_bucket k) r.0) r es
+      ∙ count_step k r es (is_eq (by_bucket k r.0)) refl (IsDistinct-head (eq_by_cmp by_bucket) r.0 (keys_of es) u)
+      (count_of_key k es (IsDistinct-tail (eq_by_cmp by_bucket) r.0 (keys_of es) u))
 
-found_each : (es : List (Key × Location)) → IsDistinct (eq_by_cmp by_spot) (keys_of es) → Found es es
-found_each [] u = tt
-found_each (p ∷ es) u = (
-  ap (λ b. cond b (Some p.1) (lookup (is_at (by_spot p.0)) es)) (key_itself p.0),
-  found_past p es es (IsDistinct-head (eq_by_cmp by_spot) p.0 (keys_of es) u)
-      (found_each es (IsDistinct-tail (eq_by_cmp by_spot) p.0 (keys_of es) u)),
-)
+  abbrev Found : List ((ℕ × ℕ) × V) → List ((ℕ × ℕ) × V) → Type 0
+  Found es rs = AllByRecursion (λ r. lookup (is_at (by_bucket r.0)) es ≡ Some r.1) rs
 
-none_some : {A : Type 0} (x : A) → None ≡ Some x → ⊥
-none_some x e = let f : false ≡ true = ap is_some e in cc
+  found_past : (p : (ℕ × ℕ) × V) (es rs : List ((ℕ × ℕ) × V)) → AllByRecursion (λ y. is_eq (by_bucket p.0 y) ≡ false) (keys_of rs) →
+      Found es rs → Found (p ∷ es) rs
+  found_past p es [] h k = tt
+  found_past p es (r ∷ rs) h k =
+      (ap (λ b. cond b (Some p.1) (lookup (is_at (by_bucket r.0)) es)) (key_other p.0 r.0 h.0) ∙ k.0, found_past p es rs h.1 k.1)
 
-position_is : (o p v : Location) (b : Bool) → same_spot (spot_of p) (spot_of o) ≡ b → cond b (Some p) None ≡ Some v → p ≡ v
-position_is o p v true e h = ap (λ s. unwrap_or s p) h
-position_is o p v false e h = absurd (none_some v h)
+  found_each : (es : List ((ℕ × ℕ) × V)) → IsDistinct (eq_by_cmp by_bucket) (keys_of es) → Found es es
+  found_each [] u = tt
+  found_each (p ∷ es) u = (
+    ap (λ b. cond b (Some p.1) (lookup (is_at (by_bucket p.0)) es)) (key_itself p.0),
+    found_past p es es (IsDistinct-head (eq_by_cmp by_bucket) p.0 (keys_of es) u)
+        (found_each es (IsDistinct-tail (eq_by_cmp by_bucket) p.0 (keys_of es) u)),
+  )
 
-located_by : (s : ℕ × ℕ) (p v : Location) (b : Bool) → same_spot (spot_of p) s ≡ b → cond b (Some p) None ≡ Some v →
-    (Some p ≡ Some v) × (s ≡ spot_of v)
-located_by s p v true e h =
-    let same : p ≡ v = ap (λ o. unwrap_or o p) h in
-    (h, sym (spot_is (spot_of p) s e) ∙ ap spot_of same)
-located_by s p v false e h = absurd (none_some v h)
-
-located_at : (s : ℕ × ℕ) (o : Option Location) (v : Location) → at_spot s o ≡ Some v → (o ≡ Some v) × (s ≡ spot_of v)
-located_at s None v e = absurd (none_some v e)
-located_at s (Some p) v e = located_by s p v (same_spot (spot_of p) s) refl e
-
-located_each : (m : tree.BTreeMap ℕ Location) (s : tree.BTreeMap Key Location) (rs : List (Key × Location)) → IsIndexed m s →
-    Found s.entries rs →
-    AllByRecursion (IsLocated m) rs
-located_each m s [] i h = tt
-located_each m s (r ∷ rs) i h = (located_at r.0.0 (tree.get nat_cmp m r.0.1) r.1 (sym (i.listed r.0) ∙ h.0), located_each m s rs i h.1)
-
-and_no : (a : Bool) → (a && false) ≡ false
-and_no true = refl
-and_no false = refl
-
-none_of_all : {X : Type 0} (xs : List X) → AllByRecursion (λ _. false ≡ false) xs
-none_of_all [] = tt
-none_of_all (x ∷ xs) = (refl, none_of_all xs)
-
-all_or_none : {X : Type 0} (b : Bool) (u : X → Bool) (xs : List X) → count_by (λ x. b && u x) xs ≡ cond b (count_by u xs) 0
-all_or_none true u xs = refl
-all_or_none false u xs = count_nothing (λ _. false) xs (none_of_all xs)
-
-module _ (m : tree.BTreeMap ℕ Location) (q : ℕ) (t : Key × Location → Bool) where
-  hit_by : (r : Key × Location) (o : Location) (b : Bool) → eqb r.0.1 q ≡ b → tree.get nat_cmp m q ≡ Some o → IsLocated m r →
-      (t r && b) ≡ (t ((spot_of o, q), o) && is_eq (by_spot (spot_of o, q) r.0))
-  hit_by r o true e at l =
-      let entity = number_is r.0.1 q e in
-      let same : r.1 ≡ o = ap (λ x. unwrap_or x o) (sym l.0 ∙ (ap (tree.get nat_cmp m) entity ∙ at)) in
-      let spot : r.0.0 ≡ spot_of o = l.1 ∙ ap spot_of same in
-      let key : (spot_of o, q) ≡ r.0 = λ i. (sym spot i, sym entity i) in
-      let here : is_eq (by_spot (spot_of o, q) r.0) ≡ true =
-      ap (λ k. is_eq (by_spot (spot_of o, q) k)) (sym key) ∙ key_itself (spot_of o, q) in
-      λ i. t ((spot i, entity i), same i) && sym here i
-  hit_by r o false e at l =
-      let other : is_eq (by_spot (spot_of o, q) r.0) ≡ false =
-      elim (is_eq (by_spot (spot_of o, q) r.0)) as (λ b. is_eq (by_spot (spot_of o, q) r.0) ≡ b → b ≡ false) [
-        | true ↦ λ h. let f : true ≡ false = sym (same_again q) ∙ (ap (λ k. eqb k.1 q) (key_is (spot_of o, q) r.0 h) ∙ e) in cc
-        | false ↦ λ h. refl
-      ] refl in
-      and_no (t r) ∙ (sym (and_no (t ((spot_of o, q), o))) ∙ ap (λ b. t ((spot_of o, q), o) && b) (sym other))
-
-  hits : (rs : List (Key × Location)) (o : Location) → tree.get nat_cmp m q ≡ Some o → AllByRecursion (IsLocated m) rs →
-      AllByRecursion (λ r. (t r && eqb r.0.1 q) ≡ (t ((spot_of o, q), o) && is_at (by_spot (spot_of o, q)) r.0)) rs
-  hits [] o at l = tt
-  hits (r ∷ rs) o at l = (hit_by r o (eqb r.0.1 q) refl at l.0, hits rs o at l.1)
-
-  miss_by : (r : Key × Location) (b : Bool) → eqb r.0.1 q ≡ b → tree.get nat_cmp m q ≡ None → IsLocated m r → (t r && b) ≡ false
-  miss_by r true e at l = absurd (none_some r.1 (sym at ∙ (ap (tree.get nat_cmp m) (sym (number_is r.0.1 q e)) ∙ l.0)))
-  miss_by r false e at l = and_no (t r)
-
-  misses : (rs : List (Key × Location)) → tree.get nat_cmp m q ≡ None → AllByRecursion (IsLocated m) rs →
-      AllByRecursion (λ r. (t r && eqb r.0.1 q) ≡ false) rs
-  misses [] at l = tt
-  misses (r ∷ rs) at l = (miss_by r (eqb r.0.1 q) refl at l.0, misses rs at l.1)
-
-  counted_by : (s : tree.BTreeMap Key Location) (o : Option Location) → IsIndexed m s → tree.IsOrdered by_spot s →
-      tree.get nat_cmp m q ≡ o →
-      count_by (λ r. t r && eqb r.0.1 q) s.entries ≡ one_if (λ p. t ((spot_of p, q), p)) o
-  counted_by s None i d at =
-      count_nothing _ s.entries
-      (misses s.entries at (located_each m s s.entries i (found_each s.entries (IsDistinct-from_sorted by_spot (keys_of s.entries) d))))
-  counted_by s (Some o) i d at =
-      let apart = IsDistinct-from_sorted by_spot (keys_of s.entries) d in
-      let there : is_some (lookup (is_at (by_spot (spot_of o, q))) s.entries) ≡ true =
-      ap is_some (i.listed (spot_of o, q) ∙ (ap (at_spot (spot_of o)) at ∙ ap (λ b. cond b (Some o) None) (spot_itself (spot_of o)))) in
-      count_agree _ _ s.entries (hits s.entries o at (located_each m s s.entries i (found_each s.entries apart)))
-      ∙ (all_or_none (t ((spot_of o, q), o)) (λ r. is_at (by_spot (spot_of o, q)) r.0) s.entries
-      ∙ ap (λ n. cond (t ((spot_of o, q), o)) n 0) (count_of_key (spot_of o, q) s.entries apart ∙ ap (λ b. cond b 1 0) there))
-
-  -- of the entries that pass a test one or none is of the entity
-  pub counted : (s : tree.BTreeMap Key Location) → IsIndexed m s → tree.IsOrdered by_spot s →
-      count_by (λ r. t r && eqb r.0.1 q) s.entries ≡ one_if (λ p. t ((spot_of p, q), p)) (tree.get nat_cmp m q)
-  counted s i d = counted_by s (tree.get nat_cmp m q) i d refl
+  found_by_filter : (es : List ((ℕ × ℕ) × V)) (t : (ℕ × ℕ) × V → Bool) (rs : List ((ℕ × ℕ) × V)) → Found es rs → Found es (filter t rs)
+  found_by_filter es t [] h = tt
+  found_by_filter es t (r ∷ rs) h =
+      elim (t r) as (λ b. Found es (cond b (r ∷ filter t rs) (filter t rs)))
+      [ true ↦ (h.0, found_by_filter es t rs h.1) | false ↦ found_by_filter es t rs h.1 ]
 
 -- ---- the run of a strip
 
 le_of : (a b : ℕ) → nat_le a b ≡ true → a ≤ b
 le_of a b t = grind (arith, nat_tests)
 
-low_by : (low z q : ℕ) (r s : Ordering) → nat_cmp low z ≡ r → nat_cmp 0 q ≡ s → low ≤ z → is_le (ordering_then r s) ≡ true
-low_by low z q Less s e f le = refl
-low_by low z q Equal Less e f le = refl
-low_by low z q Equal Equal e f le = refl
-low_by low z q Equal Greater e f le = absurd (let lt : q < 0 = grind (arith, nat_tests) in omega (arith, lt))
-low_by low z q Greater s e f le = absurd (let lt : z < low = grind (arith, nat_tests) in omega (arith, lt, le))
+low_by : (low z : ℕ) (r : Ordering) → nat_cmp low z ≡ r → low ≤ z → is_le r ≡ true
+low_by low z Less e le = refl
+low_by low z Equal e le = refl
+low_by low z Greater e le = absurd (let lt : z < low = grind (arith, nat_tests) in omega (arith, lt, le))
 
-high_by : (high z q : ℕ) (r : Ordering) → nat_cmp high z ≡ r → z < high → is_le (ordering_then r (nat_cmp 0 q)) ≡ false
-high_by high z q Less e lt = absurd (let l : high < z = grind (arith, nat_tests) in omega (arith, lt, l))
-high_by high z q Equal e lt = absurd (let l : high ≡ z = grind (arith, nat_tests) in omega (arith, lt, l))
-high_by high z q Greater e lt = refl
+high_by : (high z : ℕ) (r : Ordering) → nat_cmp high z ≡ r → z < high → is_le r ≡ false
+high_by high z Less e lt = absurd (let l : high < z = grind (arith, nat_tests) in omega (arith, lt, l))
+high_by high z Equal e lt = absurd (let l : high ≡ z = grind (arith, nat_tests) in omega (arith, lt, l))
+high_by high z Greater e lt = refl
 
-run_by : (strip x low high z q : ℕ) (r : Ordering) → nat_cmp strip x ≡ r → low ≤ z → z < high →
-    (is_le (ordering_then (ordering_then r (nat_cmp low z)) (nat_cmp 0 q)) && not
-    (is_le (ordering_then (ordering_then r (nat_cmp high z)) (nat_cmp 0 q))))
-    ≡ eqb x strip
-run_by strip x low high z q Less e le lt = let other : eqb x strip ≡ false = grind (arith, nat_tests) in sym other
-run_by strip x low high z q Equal e le lt =
+run_by : (strip x low high z : ℕ) (r : Ordering) → nat_cmp strip x ≡ r → low ≤ z → z < high →
+    (is_le (ordering_then r (nat_cmp low z)) && not (is_le (ordering_then r (nat_cmp high z)))) ≡ eqb x strip
+run_by strip x low high z Less e le lt = let other : eqb x strip ≡ false = grind (arith, nat_tests) in sym other
+run_by strip x low high z Equal e le lt =
     let same : eqb x strip ≡ true = grind (arith, nat_tests) in
-    (λ i. low_by low z q (nat_cmp low z) (nat_cmp 0 q) refl refl le i && not (high_by high z q (nat_cmp high z) refl lt i)) ∙ sym same
-run_by strip x low high z q Greater e le lt = let other : eqb x strip ≡ false = grind (arith, nat_tests) in sym other
+    (λ i. low_by low z (nat_cmp low z) refl le i && not (high_by high z (nat_cmp high z) refl lt i)) ∙ sym same
+run_by strip x low high z Greater e le lt = let other : eqb x strip ≡ false = grind (arith, nat_tests) in sym other
 
--- whether a key is in the run of the strip
-abbrev pub in_run : ℕ → Pos → ℕ → Key → Bool
-in_run strip p d k =
-    range_contains by_spot (Included ((strip, (p.z - d) / ROW_WIDTH), 0)) (Excluded ((strip, (p.z + d) / ROW_WIDTH + 1), 0)) k
+and_and : (a b : Bool) → (a && (b && true)) ≡ ((a && b) && true)
+and_and true b = refl
+and_and false b = refl
+
+all_from_recursion : {X : Type 0} (P : X → Type 0) (xs : List X) → AllByRecursion P xs → All P xs
+all_from_recursion P [] h = All-nil P
+all_from_recursion P (x ∷ xs) h = All-append P (x ∷ []) xs (All-push P [] x (All-nil P) h.0) (all_from_recursion P xs h.1)
 
 -- a greater number is in no lower part of that width
 part_rises : (a b w : ℕ) → 0 < w → a ≤ b → a / w ≤ b / w
@@ -272,77 +165,139 @@ row_within p o d t =
     let high = part_rises o.pos.z (p.z + d) ROW_WIDTH (omega arith) z.1 in
     (low, omega (arith, high))
 
-strip_by : (strip : ℕ) (p : Pos) (o : Location) (d q : ℕ) (w : Bool) → is_within p d o ≡ w →
-    (in_run strip p d (spot_of o, q) && w) ≡ (eqb (o.pos.x / STRIP_WIDTH) strip && w)
-strip_by strip p o d q true e =
+strip_by : (strip : ℕ) (p : Pos) (o : Location) (d : ℕ) (w : Bool) → is_within p d o ≡ w →
+    (in_run strip p d (bucket_of o) && w) ≡ (eqb (o.pos.x / STRIP_WIDTH) strip && w)
+strip_by strip p o d true e =
     let row = row_within p o d e in
     ap (λ b. b && true)
-    (run_by strip (o.pos.x / STRIP_WIDTH) ((p.z - d) / ROW_WIDTH) ((p.z + d) / ROW_WIDTH + 1) (o.pos.z / ROW_WIDTH) q
+    (run_by strip (o.pos.x / STRIP_WIDTH) ((p.z - d) / ROW_WIDTH) ((p.z + d) / ROW_WIDTH + 1) (o.pos.z / ROW_WIDTH)
     (nat_cmp strip (o.pos.x / STRIP_WIDTH)) refl row.0 row.1)
-strip_by strip p o d q false e = and_no (in_run strip p d (spot_of o, q)) ∙ sym (and_no (eqb (o.pos.x / STRIP_WIDTH) strip))
+strip_by strip p o d false e = and_no (in_run strip p d (bucket_of o)) ∙ sym (and_no (eqb (o.pos.x / STRIP_WIDTH) strip))
 
-strip_of : (strip : ℕ) (p : Pos) (d q : ℕ) (o : Option Location) →
-    one_if (λ v. in_run strip p d (spot_of v, q) && is_within p d v) o ≡ one_if (is_in_strip strip p d) o
-strip_of strip p d q None = refl
-strip_of strip p d q (Some o) = ap (λ b. cond b 1 0) (strip_by strip p o d q (is_within p d o) refl)
+-- ---- what is found there
 
-and_of_and : (a b c : Bool) → (a && (b && c)) ≡ ((a && b) && c)
-and_of_and true b c = refl
-and_of_and false b c = refl
+abbrev near_in : {Z : Type 0} → Pos → ℕ → Option Location → Entry Z → Bool
+near_in p d None r = false
+near_in p d (Some v) r = in_bucket p d r.0 v
 
--- how often the entity is among the entries that are near
-abbrev pub count_near : Pos → ℕ → ℕ → List (Key × Location) → ℕ
-count_near p d q rs = count_by (λ r. is_within p d r.1 && eqb r.0.1 q) rs
+near_once : {Z : Type 0} (p : Pos) (d : ℕ) (o : Option Location) (r : Entry Z) → one_if (in_bucket p d r.0) o ≡ cond (near_in p d o r) 1 0
+near_once p d None r = refl
+near_once p d (Some v) r = refl
 
-abbrev pub run_of : ℕ → Pos → ℕ → List (Key × Location) → List (Key × Location)
-run_of strip p d es = filter (λ r. in_run strip p d r.0) es
+swap_by : {Z : Type 0} (strip : ℕ) (p : Pos) (d : ℕ) (v : Location) (r : Entry Z) (t : Bool) → same_bucket (bucket_of v) r.0 ≡ t →
+    (in_run strip p d r.0 && (is_within p d v && t)) ≡ ((in_run strip p d (bucket_of v) && is_within p d v) && t)
+swap_by strip p d v r true e = and_and (in_run strip p d r.0) (is_within p d v) ∙ ap (λ c. (in_run strip p d c && is_within p d v) && true)
+    (bucket_is (bucket_of v) r.0 e)
+swap_by strip p d v r false e =
+    ap (λ b. in_run strip p d r.0 && b) (and_no (is_within p d v))
+    ∙ (and_no (in_run strip p d r.0) ∙ sym (and_no (in_run strip p d (bucket_of v) && is_within p d v)))
 
-pub count_in_run : (m : tree.BTreeMap ℕ Location) (s : tree.BTreeMap Key Location) (strip : ℕ) (p : Pos) (d q : ℕ) → IsIndexed m s →
-    tree.IsOrdered by_spot s →
-    count_near p d q (run_of strip p d s.entries) ≡ one_if (is_in_strip strip p d) (tree.get nat_cmp m q)
-count_in_run m s strip p d q i o =
-    count_by_filter (λ r. in_run strip p d r.0) (λ r. is_within p d r.1 && eqb r.0.1 q) s.entries
-    ∙ (λ j. count_by (λ r. and_of_and (in_run strip p d r.0) (is_within p d r.1) (eqb r.0.1 q) j) s.entries)
-    ∙ counted m q (λ r. in_run strip p d r.0 && is_within p d r.1) s i o
-    ∙ strip_of strip p d q (tree.get nat_cmp m q)
+swapped : {Z : Type 0} (strip : ℕ) (p : Pos) (d : ℕ) (v : Location) (es : List (Entry Z)) →
+    AllByRecursion (λ r. (in_run strip p d r.0 && in_bucket p d r.0 v)
+    ≡ ((in_run strip p d (bucket_of v) && is_within p d v) && is_at (by_bucket (bucket_of v)) r.0)) es
+swapped strip p d v [] = tt
+swapped strip p d v (r ∷ es) = (
+  swap_by strip p d v r (same_bucket (bucket_of v) r.0) refl
+      ∙ ap (λ b. (in_run strip p d (bucket_of v) && is_within p d v) && b) (sym (tied (bucket_of v) r.0)),
+  swapped strip p d v es,
+)
 
--- each of the entries has the place of its entity
-abbrev pub AreListed : Places → List (Key × Location) → Type 0
-AreListed places rs = AllByRecursion (λ r. map.get places r.0.1 ≡ Some r.1) rs
+no_and : {X : Type 0} (b : X → Bool) (xs : List X) → AllByRecursion (λ x. (b x && false) ≡ false) xs
+no_and b [] = tt
+no_and b (x ∷ xs) = (and_no (b x), no_and b xs)
 
-listed_each : (m : tree.BTreeMap ℕ Location) (rs : List (Key × Location)) → AllByRecursion (IsLocated m) rs →
-    AreListed (map.from_entries {R = nat_cmp} m.entries) rs
-listed_each m [] h = tt
-listed_each m (r ∷ rs) h = (place_of_entry m r.0.1 ∙ h.0.0, listed_each m rs h.1)
+module _ {Z : Type 0} (m : tree.BTreeMap ℕ Keyed) (s : Slab Spot) (b : Buckets Z) (i : IsIndexed m s b) (p : Pos) (d q : ℕ) where
+  listed_in : (rs : List (Entry Z)) → Found b.entries rs → count_of q (hits_of p d s rs) ≡ count_by (near_in p d (home m s b i p d q)) rs
+  listed_in [] h = refl
+  listed_in (r ∷ rs) h =
+      sum_by-append (λ x. cond (eqb x.0 q) 1 0) (hits p d s r.1.items) (hits_of p d s rs)
+      ∙ ((λ j. ((ap (λ o. count_of q (hits p d s (option_map_or (λ v. v.items) o []))) (sym h.0)
+      ∙ count_in_bucket m s b i p d q r.0) ∙ near_once p d (home m s b i p d q) r) j + listed_in rs h.1 j)
+      ∙ sym (count_cons (near_in p d (home m s b i p d q)) r rs))
 
-listed_by_filter : (places : Places) (t : Key × Location → Bool) (rs : List (Key × Location)) → AreListed places rs →
-    AreListed places (filter t rs)
-listed_by_filter places t [] h = tt
-listed_by_filter places t (r ∷ rs) h =
-    elim (t r) as (λ b. AreListed places (cond b (r ∷ filter t rs) (filter t rs)))
-    [ true ↦ (h.0, listed_by_filter places t rs h.1) | false ↦ listed_by_filter places t rs h.1 ]
+  there_by : (c : ℕ × ℕ) (o : Option (Vec ℕ Z)) (r k : ℕ) → slice_get (option_map_or (λ v. v.items) o []) r ≡ Some k → is_some o ≡ true
+  there_by c None r k h = absurd (none_some k h)
+  there_by c (Some v) r k h = refl
 
-pub run_listed : (m : tree.BTreeMap ℕ Location) (s : tree.BTreeMap Key Location) (strip : ℕ) (p : Pos) (d : ℕ) → IsIndexed m s →
-    tree.IsOrdered by_spot s → AreListed (map.from_entries {R = nat_cmp} m.entries) (run_of strip p d s.entries)
-run_listed m s strip p d i o =
-    listed_by_filter (map.from_entries {R = nat_cmp} m.entries) (λ r. in_run strip p d r.0) s.entries
-    (listed_each m s.entries
-    (located_each m s s.entries i (found_each s.entries (IsDistinct-from_sorted by_spot (keys_of s.entries) o))))
+  run_by_home : (strip : ℕ) (o : Option Keyed) → tree.get nat_cmp m q ≡ o → tree.IsOrdered by_bucket b →
+      count_by (λ r. in_run strip p d r.0 && near_in p d (option_map (λ x. x.place) o) r) b.entries
+      ≡ one_if (is_in_strip strip p d) (option_map (λ x. x.place) o)
+  run_by_home strip None at ord = count_nothing _ b.entries (no_and (λ r. in_run strip p d r.0) b.entries)
+  run_by_home strip (Some z) at ord =
+      let v = z.place in
+      let x = spot_of (get s z.key) q z.place (i.keyed q z at) in
+      let place : v ≡ x.0.place = sym x.1.1.1 in
+      let there : is_some (lookup (is_at (by_bucket (bucket_of v))) b.entries) ≡ true =
+      there_by (bucket_of v) _ x.0.rank z.key (ap (λ w. slice_get (keys_in b (bucket_of w)) x.0.rank) place
+      ∙ i.linked.ranked z.key x.0 x.1.0) in
+      count_agree _ _ b.entries (swapped strip p d v b.entries)
+      ∙ (all_or_none (in_run strip p d (bucket_of v) && is_within p d v) (λ r. is_at (by_bucket (bucket_of v)) r.0) b.entries
+      ∙ (ap (λ n. cond (in_run strip p d (bucket_of v) && is_within p d v) n 0)
+      (count_of_key (bucket_of v) b.entries (IsDistinct-from_sorted by_bucket (keys_of b.entries) ord) ∙ ap (λ t. cond t 1 0) there)
+      ∙ ap (λ t. cond t 1 0) (strip_by strip p v d (is_within p d v) refl)))
 
--- an entry passed, of an entity that is near or not
-pub count_when_found : (p : Pos) (d q : ℕ) (items : List (ℕ × Location)) (r : Key × Location) (rest : List (Key × Location)) →
-    is_within p d r.1 ≡ true →
-    count_of q (items ++ (r.0.1, r.1) ∷ []) + count_near p d q rest ≡ count_of q items + count_near p d q (r ∷ rest)
-count_when_found p d q items r rest w =
-    let a = sum_by_push (λ x. cond (eqb x.0 q) 1 0) items (r.0.1, r.1) in
-    let b = count_cons (λ r. is_within p d r.1 && eqb r.0.1 q) r rest ∙ ap (λ t. cond (t && eqb r.0.1 q) 1 0 + count_near p d q rest) w in
-    omega (arith, a, b)
+  -- of the near entities of the run one or none is the entity
+  pub count_in_run : (strip : ℕ) → tree.IsOrdered by_bucket b →
+      count_of q (hits_of p d s (run_of strip p d b.entries)) ≡ one_if (is_in_strip strip p d) (map.get (places_of m.entries) q)
+  count_in_run strip ord =
+      let each = found_each b.entries (IsDistinct-from_sorted by_bucket (keys_of b.entries) ord) in
+      listed_in (run_of strip p d b.entries) (found_by_filter b.entries (λ r. in_run strip p d r.0) b.entries each)
+      ∙ (count_by_filter (λ r. in_run strip p d r.0) (near_in p d (home m s b i p d q)) b.entries
+      ∙ (run_by_home strip (tree.get nat_cmp m q) refl ord ∙ ap (one_if (is_in_strip strip p d)) (sym (place_of_entity m q))))
 
-pub count_when_far : (p : Pos) (d q n : ℕ) (r : Key × Location) (rest : List (Key × Location)) → is_within p d r.1 ≡ false →
-    n + count_near p d q rest ≡ n + count_near p d q (r ∷ rest)
-count_when_far p d q n r rest w =
-    let b = count_cons (λ r. is_within p d r.1 && eqb r.0.1 q) r rest ∙ ap (λ t. cond (t && eqb r.0.1 q) 1 0 + count_near p d q rest) w in
-    omega (arith, b)
+-- ---- and in its place
+
+module _ {Z : Type 0} (m : tree.BTreeMap ℕ Keyed) (s : Slab Spot) (b : Buckets Z) (i : IsIndexed m s b) (p : Pos) (d : ℕ) where
+  abbrev IsPlaced : ℕ × Location → Type 0
+  IsPlaced x = map.get (places_of m.entries) x.0 ≡ Some x.1
+
+  placed_spot : (k : ℕ) (x : Spot) → get s k ≡ Some x → IsPlaced (seen x)
+  placed_spot k x at =
+      place_of_entity m x.entity
+      ∙ ap (option_map (λ z. z.place)) (i.known k x.entity x.place (ap (option_map seen) at))
+
+  placed_by : (rest : List (ℕ × Location)) (x : Spot) (w : Bool) → IsPlaced (seen x) → AllByRecursion IsPlaced rest →
+      AllByRecursion IsPlaced (cons_option (cond w (Some (seen x)) None) rest)
+  placed_by rest x true h k = (h, k)
+  placed_by rest x false h k = k
+
+  placed_step : (k : ℕ) (o : Option Spot) (rest : List (ℕ × Location)) → get s k ≡ o → AllByRecursion IsPlaced rest →
+      AllByRecursion IsPlaced (cons_option (near_at p d o) rest)
+  placed_step k None rest at h = h
+  placed_step k (Some x) rest at h = placed_by rest x (is_within p d x.place) (placed_spot k x at) h
+
+  placed_hits : (ks : List ℕ) → AllByRecursion IsPlaced (hits p d s ks)
+  placed_hits [] = tt
+  placed_hits (k ∷ ks) = placed_step k (get s k) (hits p d s ks) refl (placed_hits ks)
+
+  pub placed_in_run : (rs : List (Entry Z)) → AreInPlace (places_of m.entries) (hits_of p d s rs)
+  placed_in_run [] = All-nil IsPlaced
+  placed_in_run (r ∷ rs) =
+      All-append IsPlaced (hits p d s r.1.items) (hits_of p d s rs)
+      (all_from_recursion IsPlaced (hits p d s r.1.items) (placed_hits r.1.items)) (placed_in_run rs)
+
+-- ---- after a strip
+
+module _ {Z : Type 0} (m : tree.BTreeMap ℕ Keyed) (s : Slab Spot) (b : Buckets Z) (i : IsIndexed m s b) (ord : tree.IsOrdered by_bucket b)
+    (p : Pos)
+    (d strip : ℕ) (old new : List (ℕ × Location)) where
+  pub counted_after : {E : Type 0} (r : Result Bool E) →
+      IfOk r (λ w. w ≡ true → new ≡ old ++ hits_of p d s (run_of strip p d b.entries)) →
+      IfOk r (λ w. w ≡ true → (q : ℕ) → count_of q new ≡ count_of q old + one_if (is_in_strip strip p d) (map.get (places_of m.entries) q))
+  counted_after (Err e) h = tt
+  counted_after (Ok w) h = λ whole q.
+      ap (count_of q) (h whole)
+      ∙ (sum_by-append (λ x. cond (eqb x.0 q) 1 0) old (hits_of p d s (run_of strip p d b.entries))
+      ∙ ap (λ n. count_of q old + n) (count_in_run m s b i p d q strip ord))
+
+  pub placed_after : {E : Type 0} (r : Result Bool E) →
+      IfOk r (λ w. w ≡ true → new ≡ old ++ hits_of p d s (run_of strip p d b.entries)) → AreInPlace (places_of m.entries) old →
+      IfOk r (λ w. w ≡ true → AreInPlace (places_of m.entries) new)
+  placed_after (Err e) h k = tt
+  placed_after (Ok w) h k = λ whole.
+      subst (AreInPlace (places_of m.entries)) (sym (h whole))
+      (All-append (λ x. map.get (places_of m.entries) x.0 ≡ Some x.1) old (hits_of p d s (run_of strip p d b.entries)) k
+      (placed_in_run m s b i p d (run_of strip p d b.entries)))
 
 -- ---- all strips
 

@@ -2,21 +2,22 @@
 
 //! Entities by their positions, for queries of those that are near. Each has its version beside the position, which a query gives too.
 //!
-//! Positions are kept a second time in a map ordered by strip of x, row of z and entity. A query reads, of each strip that it meets, the
-//! rows of its z alone, also where all stand on one x; what it found is sorted once. Where there are no more entities than strips, or many
-//! are near, it looks at each entity.
+//! Each entity has a spot in a slab, and each row of z in each strip of x a bucket with the keys of its spots. A query reads, of each strip
+//! that it meets, the buckets of its z alone, also where all stand on one x; what it found is sorted once. Where there are no more entities
+//! than strips, or many are near, it looks at each entity, in rising number. A move within a bucket writes one spot; another moves one key.
 #![tactic(auto)]
 
-ghost use Rattle.std.specs.Prelude.{◌≡◌, ◌≤◌, ℕ, ◌+◌, true, is_some, Some, None, IfOk, IfSome, OnOk, OnErr};
-ghost use Rattle.std.specs.BTreeMap.{BTreeMap as AnyMap, get, IsOrdered, Updates};
+ghost use Rattle.std.specs.Prelude.{◌≡◌, ◌≤◌, ◌<◌, ℕ, ◌+◌, ◌++◌, ◌∷◌, [], length, true, is_some, Some, None, IfOk, IfSome, OnOk, OnErr};
+ghost use Rattle.std.specs.BTreeMap.{IsOrdered};
 ghost use Rattle.std.specs.FinMap as map;
-ghost use Rattle.std.specs.Ordering.{nat_cmp};
-ghost use Rattle.seam_range.specs.declared.Location.{Location as AnyLocation};
-ghost use Rattle.seam_range.specs.Locations.{Places, is_within, within};
-ghost use Rattle.seam_range.specs.Indexed.{spot_of, same_spot, IsIndexed};
-ghost use Rattle.seam_range.specs.Found.{count_of, AreInPlace, one_if, is_in_strip, first_strip, end_strip};
+ghost use Rattle.slab.specs.Slab.{ContainsKey, Updates};
+ghost use Rattle.seam_range.specs.Locations.{is_within, within};
+ghost use Rattle.seam_range.specs.Indexed.{by_bucket, bucket_of, same_bucket, keys_in, IsBucketSet, IsSwapped, IsTaken, AreLinked};
+ghost use Rattle.seam_range.specs.Indexed.{HasSurplus, AreSamePlaces, IsMoved};
+ghost use Rattle.seam_range.specs.Found.{count_of, AreInPlace, one_if, is_in_strip, first_strip, end_strip, hits, hits_of, run_of};
 
 use seam_geo::{Pos, dist};
+use slab::Slab;
 use std::alloc::{AllocError, Global};
 use std::collections::BTreeMap;
 use std::marker::Model;
@@ -37,13 +38,37 @@ pub struct Location {
     pub pos: Pos,
 }
 
+// Where an entity is, and at which key its spot is. The place is in both, so that a walk over all entities reads no spot.
+#[derive(Clone, Copy)]
+struct Keyed {
+    key: usize,
+    place: Location,
+}
+
+// An entity at its place, and at which rank its key is in its bucket.
+#[derive(Clone, Copy)]
+struct Spot {
+    entity: u32,
+    place: Location,
+    rank: usize,
+}
+
+// What is looked for: places at distance at most `d` from `p`, as long as they are no more than `most`.
+#[derive(Clone, Copy)]
+struct Search {
+    p: Pos,
+    d: u32,
+    most: usize,
+}
+
 /// Entities with their places. Contracts see the place of each entity that was put.
 #[derive(Drop)]
 pub struct RangeList {
     alloc: Global,
-    places: BTreeMap<u32, Location>,
-    // The places again, by strip, row and entity, so that a query reads a short run of each strip that it meets.
-    by_spot: BTreeMap<((u64, u64), u32), Location>,
+    places: BTreeMap<u32, Keyed>,
+    spots: Slab<Spot>,
+    // The keys of the spots in each row of each strip, so that a query reads a few short lists.
+    buckets: BTreeMap<(u64, u64), Vec<usize>>,
 }
 
 impl Model for RangeList {
@@ -55,11 +80,11 @@ impl Model for RangeList {
 
     ghost coded = { map.code coded_ℕ place_code };
 
-    ghost use Rattle.seam_range.specs.Indexed.{IsIndexed};
+    ghost use Rattle.seam_range.specs.Indexed.{places_of, IsIndexed};
 
-    ghost view = { λ r. map.from_entries r.places.entries };
+    ghost view = { λ r. places_of r.places.entries };
 
-    ghost invariant = { λ r. IsIndexed r.places r.by_spot };
+    ghost invariant = { λ r. IsIndexed r.places r.spots r.buckets };
 }
 
 impl RangeList {
@@ -70,7 +95,8 @@ impl RangeList {
         RangeList {
             alloc,
             places: BTreeMap::new(alloc),
-            by_spot: BTreeMap::new(alloc),
+            spots: Slab::new(alloc),
+            buckets: BTreeMap::new(alloc),
         }
     }
 
@@ -78,7 +104,10 @@ impl RangeList {
     pub fn get(&self, e: u32) -> Option<Location>
         ensures { result ≡ map.get self.now e }
     {
-        self.places.get(&e).copied()
+        match self.places.get(&e) {
+            Some(keyed) => Some(keyed.place),
+            None => None,
+        }
     }
 
     /// Puts the entity at the place, or moves it there.
@@ -86,14 +115,12 @@ impl RangeList {
         ensures after { OnOk result (self.new ≡ map.insert self.old e p) }
         ensures err { OnErr result (self.new ≡ self.old) }
     {
-        let Some(place) = self.places.get_mut(&e) else {
+        let Some(keyed) = self.places.get_mut(&e) else {
             return self.put_new(e, p);
         };
-        let old = *place;
-        if old != p {
-            move_spot(&mut self.by_spot, e, old, p)?;
-            *place = p;
-        }
+        let key = keyed.key;
+        move_spot(self.alloc, &mut self.spots, &mut self.buckets, key, p)?;
+        *keyed = Keyed { key, place: p };
         Ok(())
     }
 
@@ -103,13 +130,22 @@ impl RangeList {
         ensures after { OnOk result (self.new ≡ map.insert self.old e p) }
         ensures err { OnErr result (self.new ≡ self.old) }
     {
-        let Ok(_) = self.by_spot.insert(key(e, p), p) else {
+        self.spots.reserve(1)?;
+        let key = self.spots.vacant_key();
+        let Ok(_) = self.places.insert(e, Keyed { key, place: p }) else {
             return Err(AllocError);
         };
-        match self.places.insert(e, p) {
-            Ok(_) => Ok(()),
+        match push_key(self.alloc, &mut self.buckets, bucket_of(p), key) {
+            Ok(rank) => {
+                self.spots.insert_reserved(Spot {
+                    entity: e,
+                    place: p,
+                    rank,
+                });
+                Ok(())
+            }
             Err(_) => {
-                self.by_spot.remove(&key(e, p));
+                self.places.remove(&e);
                 Err(AllocError)
             }
         }
@@ -120,13 +156,14 @@ impl RangeList {
         ensures was_there { result ≡ is_some (map.get self.old e) }
         ensures after { self.new ≡ map.remove self.old e }
     {
-        match self.places.remove(&e) {
-            Some(old) => {
-                self.by_spot.remove(&key(e, old));
-                true
-            }
-            None => false,
-        }
+        let Some(keyed) = self.places.remove(&e) else {
+            return false;
+        };
+        let Some(spot) = self.spots.try_remove(keyed.key) else {
+            unreachable!()
+        };
+        unlink(&mut self.spots, &mut self.buckets, spot);
+        true
     }
 
     /// The entities at distance at most d from the position, in rising number, each with its place. How many are expected decides
@@ -140,11 +177,11 @@ impl RangeList {
         ensures { IfOk result (λ v. v.items ≡ within self.now p d) }
     {
         let strips = strip_after(p, d) - strip_from(p, d);
-        let many = self.places.len() / MANY;
-        if self.places.len() as u64 <= strips || expected > many {
+        let most = self.places.len() / MANY;
+        if self.places.len() as u64 <= strips || expected > most {
             return self.near_by_entity(p, d);
         }
-        let Some(mut found) = self.near_by_strip(p, d, many)? else {
+        let Some(mut found) = self.near_by_strip(Search { p, d, most })? else {
             return self.near_by_entity(p, d);
         };
         found.sort_unstable_by_key(|(e, _)| *e);
@@ -156,97 +193,233 @@ impl RangeList {
         ensures { IfOk result (λ v. v.items ≡ within self.now p d) }
     {
         let mut found = Vec::with_capacity(self.alloc, self.places.len())?;
-        for (e, place) in &self.places {
-            if is_near(*place, p, d) {
+        for (e, keyed) in &self.places {
+            if is_near(keyed.place, p, d) {
                 // Taken apart, a place goes through registers; as a whole it would be copied piece by piece through memory.
-                let Location { version, pos } = *place;
+                let Location { version, pos } = keyed.place;
                 found.push((*e, Location { version, pos }))?;
             }
         }
         Ok(found)
     }
 
-    // The near entities, strip after strip; nothing where they are more than `most`.
-    fn near_by_strip(
-        &self,
-        p: Pos,
-        d: u32,
-        most: usize,
-    ) -> Result<Option<Vec<(u32, Location)>>, AllocError>
+    // The near entities, strip after strip; nothing where they are too many.
+    fn near_by_strip(&self, search: Search) -> Result<Option<Vec<(u32, Location)>>, AllocError>
         ensures near { IfOk result (λ o. IfSome o (λ v. (q : ℕ) →
-            count_of q v.items ≡ one_if (is_within p d) (map.get self.now q))) }
+            count_of q v.items ≡ one_if (is_within search.p search.d) (map.get self.now q))) }
         ensures places { IfOk result (λ o. IfSome o (λ v. AreInPlace self.now v.items)) }
     {
         let mut found = Vec::new(self.alloc);
-        for strip in strip_from(p, d)..strip_after(p, d) {
-            if !self.push_near(strip, p, d, most, &mut found)? {
+        for strip in strip_from(search.p, search.d)..strip_after(search.p, search.d) {
+            if !self.push_near(strip, search, &mut found)? {
                 return Ok(None);
             }
         }
         Ok(Some(found))
     }
 
-    // Appends the near entities of the strip, unless there are more than `most` with them; it answers whether it did.
+    // Appends the near entities of the strip, unless there are too many with them; it answers whether it did.
     fn push_near(
         &self,
         strip: u64,
-        p: Pos,
-        d: u32,
-        most: usize,
+        search: Search,
         found: &mut Vec<(u32, Location)>,
     ) -> Result<bool, AllocError>
         requires { AreInPlace self.now found.old.items }
-        ensures near { IfOk result (λ whole. whole ≡ true → (q : ℕ) → count_of q found.new.items
-            ≡ count_of q found.old.items + one_if (is_in_strip strip p d) (map.get self.now q)) }
-        ensures places { OnOk result (AreInPlace self.now found.new.items) }
+        ensures near { IfOk result (λ whole. whole ≡ true → (q : ℕ) →
+            count_of q found.new.items ≡ count_of q found.old.items +
+            one_if (is_in_strip strip search.p search.d) (map.get self.now q)) }
+        ensures places { IfOk result (λ whole. whole ≡ true → AreInPlace self.now found.new.items) }
     {
-        let low = u64::from(p.z.saturating_sub(d)) / ROW_WIDTH;
-        let end = (u64::from(p.z) + u64::from(d)) / ROW_WIDTH + 1;
-        for ((_, e), place) in self.by_spot.range(((strip, low), 0)..((strip, end), 0)) {
-            if is_near(*place, p, d) {
-                if found.len() >= most {
-                    return Ok(false);
-                }
-                found.push((*e, *place))?;
-            }
-        }
-        Ok(true)
+        push_run(&self.spots, &self.buckets, strip, search, found)
     }
 }
 
-// The key of an entity at a place.
-fn key(e: u32, p: Location) -> ((u64, u64), u32)
-    ensures { result ≡ (spot_of p, e) }
+// Appends the near entities of the buckets of the strip, unless there are too many with them; it answers whether it did.
+fn push_run(
+    spots: &Slab<Spot>,
+    buckets: &BTreeMap<(u64, u64), Vec<usize>>,
+    strip: u64,
+    search: Search,
+    found: &mut Vec<(u32, Location)>,
+) -> Result<bool, AllocError>
+    ensures near { IfOk result (λ whole. whole ≡ true →
+        found.new.items ≡ found.old.items ++ hits_of search.p search.d spots.now
+        (run_of strip search.p search.d buckets.now.entries)) }
+    ensures ordered { IsOrdered by_bucket buckets.now }
+{
+    let low = u64::from(search.p.z.saturating_sub(search.d)) / ROW_WIDTH;
+    let end = (u64::from(search.p.z) + u64::from(search.d)) / ROW_WIDTH + 1;
+    for (_, keys) in buckets.range((strip, low)..(strip, end)) {
+        if !push_bucket(spots, keys, search, found)? {
+            return Ok(false);
+        }
+    }
+    Ok(true)
+}
+
+// Appends the near entities of the bucket with these keys, unless there are too many with them; it answers whether it did.
+fn push_bucket(
+    spots: &Slab<Spot>,
+    keys: &[usize],
+    search: Search,
+    found: &mut Vec<(u32, Location)>,
+) -> Result<bool, AllocError>
+    ensures { IfOk result (λ whole. whole ≡ true → found.new.items ≡ found.old.items
+        ++ hits search.p search.d spots.now keys.now) }
+{
+    for key in keys {
+        let Some(spot) = spots.get(*key) else {
+            continue;
+        };
+        if is_near(spot.place, search.p, search.d) {
+            if found.len() >= search.most {
+                return Ok(false);
+            }
+            let Location { version, pos } = spot.place;
+            found.push((spot.entity, Location { version, pos }))?;
+        }
+    }
+    Ok(true)
+}
+
+// The strip and the row of a place.
+fn bucket_of(p: Location) -> (u64, u64)
+    ensures { result ≡ bucket_of p }
 {
     let strip = u64::from(p.pos.x) / STRIP_WIDTH;
     let row = u64::from(p.pos.z) / ROW_WIDTH;
-    ((strip, row), e)
+    (strip, row)
 }
 
-// Moves the entity from its old place. Where it stays at its spot, the place is written over.
+// Appends the key to the bucket, and answers at which rank it is.
+fn push_key(
+    alloc: Global,
+    buckets: &mut BTreeMap<(u64, u64), Vec<usize>>,
+    bucket: (u64, u64),
+    key: usize,
+) -> Result<usize, AllocError>
+    ensures rank { IfOk result (λ rank. rank ≡ length (keys_in buckets.old bucket)) }
+    ensures after { OnOk result (IsBucketSet buckets.old buckets.new bucket
+        (keys_in buckets.old bucket ++ key ∷ [])) }
+    ensures err { OnErr result (IsBucketSet buckets.old buckets.new bucket
+        (keys_in buckets.old bucket)) }
+{
+    if let Some(keys) = buckets.get_mut(&bucket) {
+        let rank = keys.len();
+        keys.push(key)?;
+        return Ok(rank);
+    }
+    let mut keys = Vec::new(alloc);
+    keys.push(key)?;
+    match buckets.insert(bucket, keys) {
+        Ok(_) => Ok(0),
+        Err(_) => Err(AllocError),
+    }
+}
+
+// Takes the key at the rank out of the keys. The last key takes its rank, and is answered.
+fn swap_out(keys: &mut Vec<usize>, rank: usize) -> Option<usize>
+    requires { rank < length keys.old.items }
+    ensures { IsSwapped keys.old.items keys.new.items rank result }
+{
+    let Some(last) = keys.pop() else {
+        unreachable!()
+    };
+    let kept = keys.len();
+    if rank < kept {
+        keys[rank] = last;
+        return Some(last);
+    }
+    None
+}
+
+// Takes the key at the rank out of the bucket. The last key takes its rank, and is answered.
+fn take_key(
+    buckets: &mut BTreeMap<(u64, u64), Vec<usize>>,
+    bucket: (u64, u64),
+    rank: usize,
+) -> Option<usize>
+    requires { rank < length (keys_in buckets.old bucket) }
+    ensures { IsTaken buckets.old buckets.new bucket rank result }
+{
+    let Some(keys) = buckets.get_mut(&bucket) else {
+        unreachable!()
+    };
+    let moved = swap_out(keys, rank);
+    if !keys.is_empty() {
+        return moved;
+    }
+    buckets.remove(&bucket);
+    moved
+}
+
+// Writes the spot at the key.
+fn set_spot(spots: &mut Slab<Spot>, key: usize, spot: Spot)
+    requires { ContainsKey spots.old key }
+    ensures { Updates spots.old spots.new key (Some spot) }
+{
+    let Some(place) = spots.get_mut(key) else {
+        unreachable!()
+    };
+    *place = spot;
+}
+
+// Takes the key of a spot that is there no more out of its bucket, and tells the spot that takes its rank.
+fn unlink(spots: &mut Slab<Spot>, buckets: &mut BTreeMap<(u64, u64), Vec<usize>>, old: Spot)
+    requires { HasSurplus spots.old buckets.old (bucket_of old.place) old.rank }
+    ensures linked { AreLinked spots.new buckets.new }
+    ensures places { AreSamePlaces spots.old spots.new }
+{
+    let Some(moved) = take_key(buckets, bucket_of(old.place), old.rank) else {
+        return;
+    };
+    let Some(spot) = spots.get(moved).copied() else {
+        unreachable!()
+    };
+    let told = Spot {
+        entity: spot.entity,
+        place: spot.place,
+        rank: old.rank,
+    };
+    set_spot(spots, moved, told);
+}
+
+// Moves the spot at the key. Within its bucket the place alone is written.
 fn move_spot(
-    by_spot: &mut BTreeMap<((u64, u64), u32), Location>,
-    e: u32,
-    old: Location,
+    alloc: Global,
+    spots: &mut Slab<Spot>,
+    buckets: &mut BTreeMap<(u64, u64), Vec<usize>>,
+    key: usize,
     p: Location,
 ) -> Result<(), AllocError>
-    ensures ok { OnOk result ((places moved : AnyMap ℕ AnyLocation) → IsIndexed places by_spot.old →
-        get nat_cmp places e ≡ Some old → IsOrdered nat_cmp moved →
-        Updates nat_cmp places moved e (Some p) → IsIndexed moved by_spot.new) }
-    ensures err { OnErr result (by_spot.new.entries ≡ by_spot.old.entries) }
+    requires linked { AreLinked spots.old buckets.old }
+    requires there { ContainsKey spots.old key }
+    ensures linked { AreLinked spots.new buckets.new }
+    ensures ok { OnOk result (IsMoved spots.old spots.new key p) }
+    ensures err { OnErr result (AreSamePlaces spots.old spots.new) }
 {
-    let Ok(_) = by_spot.insert(key(e, p), p) else {
-        return Err(AllocError);
+    let Some(spot) = spots.get(key).copied() else {
+        unreachable!()
     };
-    if !are_at_one_spot(old, p) {
-        by_spot.remove(&key(e, old));
+    let mut moved = Spot {
+        entity: spot.entity,
+        place: p,
+        rank: spot.rank,
+    };
+    if are_in_one_bucket(spot.place, p) {
+        set_spot(spots, key, moved);
+        return Ok(());
     }
+    moved.rank = push_key(alloc, buckets, bucket_of(p), key)?;
+    set_spot(spots, key, moved);
+    unlink(spots, buckets, spot);
     Ok(())
 }
 
 // Whether the places lie in one row of one strip.
-fn are_at_one_spot(a: Location, b: Location) -> bool
-    ensures { result ≡ same_spot (spot_of a) (spot_of b) }
+fn are_in_one_bucket(a: Location, b: Location) -> bool
+    ensures { result ≡ same_bucket (bucket_of a) (bucket_of b) }
 {
     u64::from(a.pos.x) / STRIP_WIDTH == u64::from(b.pos.x) / STRIP_WIDTH
         && u64::from(a.pos.z) / ROW_WIDTH == u64::from(b.pos.z) / ROW_WIDTH

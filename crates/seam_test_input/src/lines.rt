@@ -132,6 +132,17 @@ fn two_lines(
     Ok((first, second, is_b, lines.taken()))
 }
 
+// The first two answers where the line goes on after its 4,097th byte and the next read fails, and how many bytes were taken.
+fn refused_at_once(alloc: Global) -> Result<(Next, Next, u64), AllocError> {
+    let bytes = vec![in alloc; b'a'; 5000]?;
+    let cuts = [4096, 1].to_vec(alloc)?;
+    let mut source = MemSource::new(bytes, cuts, [3].to_vec(alloc)?);
+    let mut lines = Lines::new(alloc, 1 << 40)?;
+    let first = lines.next(&mut source);
+    let second = lines.next(&mut source);
+    Ok((first, second, lines.taken()))
+}
+
 #[test]
 fn a_line_has_4096_bytes_at_most(rt: HostRuntime) -> Result<(), Fail> {
     for (len, tail, first, taken) in [
@@ -144,6 +155,8 @@ fn a_line_has_4096_bytes_at_most(rt: HostRuntime) -> Result<(), Fail> {
         let answers = two_lines(rt.alloc(), len, tail)?;
         assert_eq!(rt; answers, (first, Next::Line, true, taken));
     }
+    let answers = refused_at_once(rt.alloc())?;
+    assert_eq!(rt; answers, (Next::Long, Next::ReadFault, 4097));
     Ok(())
 }
 

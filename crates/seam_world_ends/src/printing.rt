@@ -3,6 +3,7 @@ ghost use Rattle.std.specs.Prelude.{◌≡◌, [], List, ℕ, MatchResult};
 ghost use Rattle.std.specs.Prelude.{OnOk};
 ghost use Rattle.seam_io.specs.States.{SinkState};
 ghost use Rattle.seam_io.specs.Lines.{HasNoFeed};
+ghost use Rattle.seam_io.specs.Reading.{held_on};
 ghost use Rattle.seam_world_ends.specs.Printing.{Printed, FailedWithin, StopsBy, IsPrinted};
 
 use crate::Status;
@@ -19,7 +20,7 @@ pub fn write_before_wait<K: Sink>(
         Printed sink (K.state out.old) pending.old text →
         MatchResult result (λ _. Printed sink (K.state out.new) pending.new text)
         (λ _. FailedWithin sink (K.state out.new) text) }
-    ensures none { OnOk result (HasNoFeed lines.now.held → pending.new ≡ []) }
+    ensures none { OnOk result (HasNoFeed (held_on lines.now) → pending.new ≡ []) }
 {
     if lines.has_line() {
         return Ok(());

@@ -104,6 +104,20 @@ fn header_of<S: Source>(
     }
 }
 
+// The most bytes of text for which memory is kept from one line to the next.
+const MOST_KEPT: usize = 1 << 20;
+
+// Empties the text. What a large round took for it is given back.
+fn empty(alloc: Global, text: &mut Vec<u8>)
+    ensures { text.new.items ≡ [] }
+{
+    if text.capacity() > MOST_KEPT {
+        *text = Vec::new(alloc);
+    } else {
+        text.clear();
+    }
+}
+
 // A run after its header.
 #[derive(Drop)]
 struct Runner {
@@ -199,7 +213,7 @@ impl Runner {
         ensures ready { IfNone result ((h : Headers) × (t : Standing) ×
             ScriptRefines h t self.new.script) }
     {
-        self.text.clear();
+        empty(self.alloc, &mut self.text);
         match self
             .script
             .read_line(rt, playing, self.lines.line(), &mut self.text)
@@ -221,7 +235,7 @@ impl Runner {
         ensures ready { IfNone result ((h : Headers) × (t : Standing) ×
             ScriptRefines h t self.new.script) }
     {
-        self.text.clear();
+        empty(self.alloc, &mut self.text);
         match self.script.read_long(output, &mut self.text) {
             Ok(()) => print(&self.text, &mut self.pending, out),
             Err(_) => Some(stop(Status::NoMemory, &mut self.pending, out)),
@@ -243,7 +257,7 @@ impl Runner {
             self.new.script)) sink (K.state out.new) [] text (W.told watch.old)
             (W.told watch.new) result }
     {
-        self.text.clear();
+        empty(self.alloc, &mut self.text);
         match self.script.finish(rt, playing, &mut self.text) {
             Ok(ended) => self.show_last(&ended, out, watch),
             Err(_) => Some(stop(Status::NoMemory, &mut self.pending, out)),

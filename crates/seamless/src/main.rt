@@ -5,7 +5,7 @@
 
 use seam_advice::{Listener, Speaker, tell_place};
 use seam_args::{refusal_text, usage_text};
-use seam_io::{RealSink, RealSource};
+use seam_io::{Patient, RealSink, RealSource};
 use seam_watch::NoWatch;
 use seam_workers::OpenGate;
 use seam_world::{Status, run_seamless};
@@ -16,8 +16,8 @@ use std::process::ExitCode;
 fn main(rt: HostRuntime) -> ExitCode {
     let alloc = rt.alloc();
     let talks = rt.stdin().is_terminal() && rt.stdout().is_terminal();
-    let mut reader = Listener::new(&rt, alloc, rt.reader(), talks);
-    let mut writer = Speaker::new(std::io::writer(&rt));
+    let mut reader = Listener::new(&rt, alloc, Patient::new(rt.reader(), &rt), talks);
+    let mut writer = Speaker::new(Patient::new(std::io::writer(&rt), &rt));
     let status = run_seamless(
         &rt,
         alloc,

@@ -1,11 +1,18 @@
-use Rattle.std.proofs.Common.{sym, ◌∙◌, subst, Some, None}
-use Rattle.seam_range.proofs.Moves.{Marks, indexed_when_moved}
+use Rattle.std.proofs.Common.{◌++◌, ◌∷◌, [], length, sym, ap, ◌∙◌, subst}
+use Rattle.seam_range.specs.declared.Spot.{Spot}
+use Rattle.seam_range.specs.Indexed.{bucket_of, keys_in, IsBucketSet}
+use Rattle.seam_range.proofs.Links.{surplus_when_moved, apart_when_tested}
 use Rattle.seam_range.proofs.move_spot.Goals as goal
 
-pub returns-then-not-are_at_one_spot-clause-ok : goal.returns-then-not-are_at_one_spot-clause-ok
-returns-then-not-are_at_one_spot-clause-ok c places moved is was ordered writes =
-    let put = subst (λ k. Marks c.args.by_spot.now c.insert.new.self k (Some c.args.p)) c.key.ensures c.in-Ok.ensures.updates.0 in
-    let gone =
-    subst (λ k. Marks c.insert.new.self c.remove.new.self k None) c.key-then-not-are_at_one_spot.ensures c.remove.ensures.updates.0 in
-    indexed_when_moved places moved c.args.by_spot.now c.insert.new.self c.remove.new.self c.args.e c.args.p c.args.old is ordered was
-    (sym c.are_at_one_spot.ensures ∙ c.if-not-are_at_one_spot.true) writes.0 put gone
+pub unlink-requires : goal.unlink-requires
+unlink-requires c =
+    let b = c.args.buckets.now in
+    let d = c.push_key.new.buckets in
+    let old = c.in-Some.spot in
+    let x : Spot = record { entity = old.entity; place = c.args.p; rank = c.in_ok-moved.field-0 } in
+    surplus_when_moved b d c.args.spots.now c.set_spot-2.new.spots c.args.key old x c.requires.linked
+    (sym (c.in-Some.ensures ∙ c.get.ensures))
+    c.set_spot-2.ensures
+    (subst (λ z. IsBucketSet b d z (keys_in b z ++ c.args.key ∷ [])) c.bucket_of.ensures c.in_ok-moved.ensures.after)
+    (c.in_ok-moved.ensures.rank ∙ ap (λ z. length (keys_in b z)) c.bucket_of.ensures)
+    (apart_when_tested (bucket_of old.place) (bucket_of c.args.p) (sym c.if-are_in_one_bucket.ensures))

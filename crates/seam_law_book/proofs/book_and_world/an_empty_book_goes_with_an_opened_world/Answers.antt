@@ -8,7 +8,7 @@ use Rattle.seam_law_book.proofs.book_and_world.an_empty_book_goes_with_an_opened
 
 pub returns : goal.returns
 returns c h legal defs =
-    let frame : IsFrame (first_frame h.defs h.settings) = record { defs = defs; tree = one_cell_tree h legal } in
+    let frame : IsFrame (first_frame h.defs h.settings) = record { defs = defs; tree = one_cell_tree h legal; later = tt } in
     let new = opened_is_new h.defs h.settings frame legal.in_range.some_bases in
     record {
       cells = omega arith;

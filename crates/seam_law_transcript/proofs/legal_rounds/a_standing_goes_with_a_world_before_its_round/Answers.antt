@@ -11,7 +11,7 @@ use Rattle.seam_law_transcript.proofs.legal_rounds.a_standing_goes_with_a_world_
 
 pub returns-clause-opened : goal.returns-clause-opened
 returns-clause-opened c h count legal defs =
-    let frame : IsFrame (first_frame h.defs h.settings) = record { defs = defs; tree = one_cell_tree h legal } in
+    let frame : IsFrame (first_frame h.defs h.settings) = record { defs = defs; tree = one_cell_tree h legal; later = tt } in
     let w = opened h.defs h.settings in
     let new : (e k : ℕ) → (entity_flow e w).slot k ≡ has_none = opened_is_new h.defs h.settings frame legal.in_range.some_bases in
     record {

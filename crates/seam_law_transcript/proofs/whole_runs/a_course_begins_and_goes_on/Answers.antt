@@ -16,7 +16,7 @@ use Rattle.seam_law_transcript.proofs.whole_runs.a_course_begins_and_goes_on.Goa
 
 pub returns-clause-opened : goal.returns-clause-opened
 returns-clause-opened c h count legal defs =
-    let frame : IsFrame (first_frame h.defs h.settings) = record { defs = defs; tree = one_cell_tree h legal } in
+    let frame : IsFrame (first_frame h.defs h.settings) = record { defs = defs; tree = one_cell_tree h legal; later = tt } in
     let bounded = c.a_round_keeps_what_bounds_it.ensures.opened h.defs h.settings frame legal.in_range.some_bases in
     let new : (e k : ℕ) → (entity_flow e (opened h.defs h.settings)).slot k ≡ has_none =
     opened_is_new h.defs h.settings frame legal.in_range.some_bases in

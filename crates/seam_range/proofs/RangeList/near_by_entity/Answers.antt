@@ -1,7 +1,7 @@
-use Rattle.std.proofs.Common.{sym, ap, ◌∙◌, ◌++◌, ◌≡◌, []}
+use Rattle.std.proofs.Common.{ap, ◌∙◌, ◌++◌, ◌≡◌, [], map as each}
 use Rattle.std.specs.List.{filter}
 use Rattle.seam_range.specs.Locations.{is_within, within}
-use Rattle.seam_range.proofs.Sorted.{entries_when_sorted}
+use Rattle.seam_range.proofs.Counted.{all_within}
 use Rattle.seam_range.proofs.RangeList.near_by_entity.Goals as goal
 
 pub loop-e-init : goal.loop-e-init
@@ -10,8 +10,8 @@ loop-e-init c =
     let none : c.in_ok-found.found.items ≡ [] = c.in_ok-found.ensures.items in (
       tt,
       tt,
-      ap (λ items. items ++ filter (λ e. is_within c.args.p c.args.d e.1) c.into_iter-e-iterator.result) none
-          ∙ (ap (λ es. filter (λ e. is_within c.args.p c.args.d e.1) es) (given
-          ∙ sym (entries_when_sorted c.self.inside.places.entries c.self.invariant.ordered))
-          ∙ ap (λ m. within m c.args.p c.args.d) c.self.view_is),
+      ap (λ items. items ++ filter (λ e. is_within c.args.p c.args.d e.1) (each (λ r. (r.0, r.1.place)) c.into_iter-e-iterator.result)) none
+          ∙ (ap (λ es. filter (λ e. is_within c.args.p c.args.d e.1) (each (λ r. (r.0, r.1.place)) es)) given
+          ∙ (all_within c.self.inside.places c.args.p c.args.d c.self.invariant.ordered
+          ∙ ap (λ m. within m c.args.p c.args.d) c.self.view_is)),
     )

@@ -6,6 +6,6 @@ use Rattle.seam_range.proofs.RangeList.near_by_strip.Given as goal
 
 abbrev pub invariant-loop-strip : goal.invariant-loop-strip
 invariant-loop-strip l = record {
-  near : (q : ℕ) → count_of q l.found.items ≡ one_if (is_below_strip l.strip l.p l.d) (map.get l.self q);
+  near : (q : ℕ) → count_of q l.found.items ≡ one_if (is_below_strip l.strip l.search.p l.search.d) (map.get l.self q);
   places : AreInPlace l.self l.found.items;
 }

@@ -1,35 +1,59 @@
-use Rattle.std.proofs.Common.{◌≡◌, true, is_some, sym, ap, ◌∙◌}
+use Rattle.std.proofs.Common.{◌≡◌, true, is_some, option_map, sym, ap, ◌∙◌}
 use Rattle.std.specs.FinMap as map
 use Rattle.std.specs.Ordering.{nat_cmp}
 use Rattle.std.specs.BTreeMap.{get}
-use Rattle.seam_range.proofs.Moves.{places_when_put, places_when_kept, place_of_entry, same_place, on_err}
+use Rattle.seam_range.specs.declared.Keyed.{Keyed}
+use Rattle.seam_range.specs.Indexed.{places_of}
+use Rattle.seam_range.proofs.Kept.{place_of_entity, spot_of_key, same_when_rewritten, places_when_same, places_when_put, on_err}
+use Rattle.seam_range.proofs.Kept.{indexed_when_same, indexed_when_moved}
 use Rattle.seam_range.proofs.RangeList.put.Goals as goal
 
 pub put_new-requires : goal.put_new-requires
 put_new-requires c =
-    ap (λ m. map.get (map.from_entries {R = nat_cmp} m.entries) c.args.e) c.get_mut.follows.holds-at-none
-    ∙ (place_of_entry c.self.inside.places c.args.e ∙ sym c.in_default.ensures.value)
+    ap (λ m. map.get (places_of m.entries) c.args.e) c.get_mut.follows.holds-at-none
+    ∙ (place_of_entity c.self.inside.places c.args.e ∙ ap (option_map (λ x. x.place)) (sym c.in_default.ensures.value))
+
+pub move_spot-requires-clause-there : goal.move_spot-requires-clause-there
+move_spot-requires-clause-there c =
+    ap is_some (spot_of_key c.self.inside.places c.self.inside.spots c.self.inside.buckets c.self.invariant c.args.e c.in-Some.keyed.now
+    (sym c.in-Some.ensures.value)).1
+
+pub invariant_of-self-in_err-move_spot : goal.invariant_of-self-in_err-move_spot
+invariant_of-self-in_err-move_spot c =
+    let x = c.in-Some.keyed.now in
+    let there : is_some (get nat_cmp c.self.inside.places c.args.e) ≡ true = sym (ap is_some c.in-Some.ensures.value) in
+    let n = c.get_mut.follows.lender x in
+    let h = c.get_mut.follows.holds x in
+    indexed_when_same c.self.inside.places n c.self.inside.spots c.move_spot.new.spots c.self.inside.buckets c.move_spot.new.buckets
+    c.self.invariant c.move_spot.ensures.linked h.4
+    (same_when_rewritten c.self.inside.places n c.args.e x (sym c.in-Some.ensures.value) (h.3 there).0)
+    c.in_err-move_spot.ensures.err
 
 pub returns-in_err-move_spot-clause-err : goal.returns-in_err-move_spot-clause-err
 returns-in_err-move_spot-clause-err c =
+    let x = c.in-Some.keyed.now in
     let there : is_some (get nat_cmp c.self.inside.places c.args.e) ≡ true = sym (ap is_some c.in-Some.ensures.value) in
-    let h = c.get_mut.follows.holds c.in-Some.place.now in
+    let n = c.get_mut.follows.lender x in
+    let h = c.get_mut.follows.holds x in
     on_err c.from_residual.result
-    (places_when_kept c.self.inside.places (c.get_mut.follows.lender c.in-Some.place.now) c.args.e c.in-Some.place.now
-    (sym c.in-Some.ensures.value) (h.3 there).0 ∙ c.self.view_is)
+    (places_when_same c.self.inside.places n
+    (same_when_rewritten c.self.inside.places n c.args.e x (sym c.in-Some.ensures.value) (h.3 there).0)
+    ∙ c.self.view_is)
 
-pub returns-in_ok-move_spot-clause-after : goal.returns-in_ok-move_spot-clause-after
-returns-in_ok-move_spot-clause-after c =
+pub invariant_of-self-2 : goal.invariant_of-self-2
+invariant_of-self-2 c =
+    let x = c.in-Some.keyed.now in
+    let w : Keyed = record { key = x.key; place = c.args.p } in
     let there : is_some (get nat_cmp c.self.inside.places c.args.e) ≡ true = sym (ap is_some c.in-Some.ensures.value) in
-    let h = c.get_mut.follows.holds c.args.p in
-    places_when_put c.self.inside.places (c.get_mut.follows.lender c.args.p) c.args.e c.args.p (h.3 there).0
-    ∙ ap (λ m. map.insert m c.args.e c.args.p) c.self.view_is
+    let n = c.get_mut.follows.lender w in
+    let h = c.get_mut.follows.holds w in
+    indexed_when_moved c.self.inside.places n c.self.inside.spots c.move_spot.new.spots c.self.inside.buckets c.move_spot.new.buckets
+    c.self.invariant c.move_spot.ensures.linked h.4 c.args.e x (sym c.in-Some.ensures.value) c.args.p c.in_ok-move_spot.ensures.ok
+    (h.3 there).0
 
-pub returns-else-ne-clause-after : goal.returns-else-ne-clause-after
-returns-else-ne-clause-after c =
+pub returns-clause-after : goal.returns-clause-after
+returns-clause-after c =
+    let w : Keyed = record { key = c.in-Some.keyed.now.key; place = c.args.p } in
     let there : is_some (get nat_cmp c.self.inside.places c.args.e) ≡ true = sym (ap is_some c.in-Some.ensures.value) in
-    let h = c.get_mut.follows.holds c.in-Some.place.now in
-    places_when_put c.self.inside.places (c.get_mut.follows.lender c.in-Some.place.now) c.args.e c.in-Some.place.now (h.3 there).0
-    ∙ ap (λ p. map.insert (map.from_entries {R = nat_cmp} c.self.inside.places.entries) c.args.e p)
-    (same_place c.in-Some.place.now c.args.p c.if-ne.ensures)
+    places_when_put c.self.inside.places (c.get_mut.follows.lender w) c.args.e w ((c.get_mut.follows.holds w).3 there).0
     ∙ ap (λ m. map.insert m c.args.e c.args.p) c.self.view_is

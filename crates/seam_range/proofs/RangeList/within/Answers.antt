@@ -1,10 +1,10 @@
-use Rattle.std.proofs.Common.{◌≡◌, ℕ, sym, subst, ap, ◌∙◌, rules}
+use Rattle.std.proofs.Common.{◌≡◌, ℕ, sym, subst, ap, ◌∙◌, rules, map as each}
 use Rattle.std.specs.FinMap as map
 use Rattle.std.specs.Option.{IfSome}
 use Rattle.std.proofs.lemmas.List.Sorted.{IsNonDecreasingBy-from_sort_by_key}
 use Rattle.seam_range.specs.Locations.{is_within, within}
 use Rattle.seam_range.specs.Found.{count_of, AreInPlace, one_if}
-use Rattle.seam_range.proofs.Counted.{sorted_when_counted}
+use Rattle.seam_range.proofs.Counted.{sorted_when_counted, placed_sorted}
 use Rattle.seam_range.proofs.RangeList.within.Goals as goal
 
 pub returns : goal.returns
@@ -14,8 +14,9 @@ returns c =
     c.in-Some.is
     c.in_ok-found.ensures.near in
     let places = subst (λ o. IfSome o (λ v. AreInPlace c.args.self.now v.items)) c.in-Some.is c.in_ok-found.ensures.places in
-    sorted_when_counted (is_within c.args.p c.args.d) c.self.inside.places c.in-Some.found.items c.sort_unstable_by_key.new.self.items
-    c.self.invariant.ordered
+    sorted_when_counted (is_within c.args.p c.args.d) (each (λ r. (r.0, r.1.place)) c.self.inside.places.entries)
+    c.in-Some.found.items c.sort_unstable_by_key.new.self.items
+    (placed_sorted c.self.inside.places c.self.invariant.ordered)
     (λ q. near q ∙ ap (λ m. one_if (is_within c.args.p c.args.d) (map.get m q)) (sym c.self.view_is))
     (subst (λ m. AreInPlace m c.in-Some.found.items) (sym c.self.view_is) places)
     c.sort_unstable_by_key.ensures.permutation

@@ -17,9 +17,9 @@ invariant_of-self-2 g c =
     let size : length (slice_range c.self.inside.buffer.items c.self.inside.start c.self.inside.end)
     ≡ c.self.inside.end - c.self.inside.start = range_size _ _ _ (omega arith) (omega arith) in
     let short : length (slice_range c.self.inside.buffer.items c.self.inside.start c.self.inside.end) ≤ LONGEST_LINE =
-    subst (λ (r : Reader). length r.held ≤ LONGEST_LINE) (sym c.self.view_is) c.requires.short in
+    subst (λ (r : Reader). length r.held ≤ LONGEST_LINE) (sym c.self.view_is) c.requires.text.short in
     let room : c.self.inside.taken < c.self.inside.limit =
-    subst (λ (r : Reader). r.taken < r.limit) (sym c.self.view_is) c.requires.needs.room in
+    subst (λ (r : Reader). r.taken < r.limit) (sym c.self.view_is) c.requires.room in
     record {
       size = len ∙ is.size;
       start = omega arith;
@@ -29,7 +29,7 @@ invariant_of-self-2 g c =
       line_end = omega arith;
       line_len = omega arith;
       before = no_feed_after_read _ _ _ _ _ c.refill-result.ensures.kept order
-          (subst (λ (r : Reader). HasNoFeed r.held) (sym c.self.view_is) c.requires.needs.whole)
+          (subst (λ (r : Reader). HasNoFeed r.held) (sym c.self.view_is) c.requires.text.whole)
           (rw c.deref.ensures.value at c.feed_between-self-inside.ensures.before);
       found = rw c.deref.ensures.value at c.feed_between-self-inside.ensures.found;
       within = omega arith;
@@ -43,7 +43,7 @@ returns-in_err-count-clause-reads g c = λ start given read r.
     let same =
     same_view c.self.inside.buffer.items c.refill-result.new.buffer.items c.self.inside.start c.self.inside.end c.self.inside.passing
     c.self.inside.ended c.self.inside.taken c.self.inside.limit _ c.refill-result.ensures.kept line in
-    unread start _ _ c.args.self.now _ given read r (same ∙ c.self.view_is) c.requires.needs.going c.in_err-count.ensures.bytes
+    unread start _ _ c.args.self.now _ given read r (same ∙ c.self.view_is) c.requires.going c.in_err-count.ensures.bytes
     c.refill-result.ensures.cause.later c.in_err-count.ensures.end.failed
 
 pub returns-clause-reads : goal.returns-clause-reads
@@ -55,7 +55,7 @@ returns-clause-reads g c = λ start given read r.
     let size : length (slice_range c.self.inside.buffer.items c.self.inside.start c.self.inside.end)
     ≡ c.self.inside.end - c.self.inside.start = range_size _ _ _ (omega arith) (omega arith) in
     let short : length (slice_range c.self.inside.buffer.items c.self.inside.start c.self.inside.end) ≤ LONGEST_LINE =
-    subst (λ (r : Reader). length r.held ≤ LONGEST_LINE) (sym c.self.view_is) c.requires.short in
+    subst (λ (r : Reader). length r.held ≤ LONGEST_LINE) (sym c.self.view_is) c.requires.text.short in
     let held = c.self.inside.end - c.self.inside.start in
     let bytes = drop held c.refill-result.new.buffer.items in
     let bound = c.in_ok-count.ensures.bound in
@@ -70,7 +70,7 @@ returns-clause-reads g c = λ start given read r.
       take c.in_ok-count.count bytes,
       refilled start _ _ c.args.self.now _ given read c.in_ok-count.count bytes r (rw (← c.self.view_is) filled)
           c.in_ok-count.ensures.bytes some c.refill-result.ensures.cause.later c.refill-result.ensures.end.later
-          c.in_ok-count.ensures.end.ended c.in_ok-count.ensures.end.others c.requires.needs refl,
+          c.in_ok-count.ensures.end.ended c.in_ok-count.ensures.end.others c.requires refl,
       rw (← c.self.view_is) filled.held,
       omega (arith, length-take c.in_ok-count.count bytes),
     )

@@ -5,8 +5,8 @@ use Rattle.seam_io.proofs.RangeLemmas.{range_rest, range_size}
 use Rattle.seam_io.proofs.StepLemmas.{same_but_held}
 use Rattle.seam_io.proofs.lines.Lines.give.Goals as goal
 
-pub returns-then-long-clause-rest : goal.returns-then-long-clause-rest
-returns-then-long-clause-rest c =
+pub returns-then-len-gt-LONGEST_LINE-clause-rest : goal.returns-then-len-gt-LONGEST_LINE-clause-rest
+returns-then-len-gt-LONGEST_LINE-clause-rest c =
     let is = c.self.invariant in
     let fits = c.self.inside.buffer.ok.0 in
     let bytes = c.self.inside.buffer.items in

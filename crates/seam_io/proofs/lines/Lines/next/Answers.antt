@@ -1,8 +1,23 @@
-use Rattle.std.proofs.Common.{◌++◌, arith, ap, ◌∙◌, sym, subst, append_assoc}
-use Rattle.seam_io.specs.Lines.{HasNoFeed}
-use Rattle.seam_io.specs.Reading.{Reader, NeedsMore, IsDone}
-use Rattle.seam_io.proofs.ReadLemmas.{answered, faulted, kept, done_by_answer, again_by_answer, not_needed, sparing_more, no_feed_more}
+use Rattle.std.proofs.Common.{[], ◌++◌, arith, refl, ap, ◌∙◌, sym, subst, inl, append_assoc, append-nil}
+use Rattle.seam_io.specs.Reading.{Reader, Reading, NeedsMore, IsDone, IsOpen, held_on}
+use Rattle.seam_io.specs.Steps.{IsWaiting}
+use Rattle.seam_io.proofs.ReadLemmas.{answered, faulted, kept, done_by_answer, again_by_answer, not_needed, sparing_more}
+use Rattle.seam_io.proofs.ReadLemmas.{takes_none, takes_more}
 use Rattle.seam_io.proofs.lines.Lines.next.Goals as goal
+
+pub loop-next-init : goal.loop-next-init
+loop-next-init g c = record {
+  reads = λ start given read r. (
+    [],
+    subst (λ taken. Reading start (g.S.Source.state c.args.source.now) c.args.self.now taken read) (sym (append-nil given)) r,
+    inl refl,
+    takes_none c.args.self.now,
+  );
+  later = omega arith;
+  quiet = λ not. (refl, refl);
+  budget = omega arith;
+  limit = refl;
+}
 
 pub returns-in-Some-clause-reads : goal.returns-in-Some-clause-reads
 returns-in-Some-clause-reads g c = λ start given read r.
@@ -26,19 +41,23 @@ returns-in-Some-clause-again g c = λ done.
 
 pub returns-in-Some-clause-whole : goal.returns-in-Some-clause-whole
 returns-in-Some-clause-whole g c = λ some.
-    let same = (c.loop-next.invariant.quiet (λ (needs : NeedsMore c.args.self.now). some needs.whole)).1 in
-    c.in-Some.ensures.some.whole (subst (λ (r : Reader). ¬ (HasNoFeed r.held)) (sym same) some)
+    let same = (c.loop-next.invariant.quiet (λ (needs : NeedsMore c.args.self.now). some needs.text)).1 in
+    c.in-Some.ensures.some.whole (subst (λ (r : Reader). ¬ (IsOpen (held_on r))) (sym same) some)
 
 pub returns-in-Err-clause-reads : goal.returns-in-Err-clause-reads
 returns-in-Err-clause-reads g c = λ start given read r.
     let before = c.loop-next.invariant.reads start given read r in
     let waits = c.in-None.ensures.none in
     let filled =
-    c.fill.ensures.reads start (given ++ before.0) read (kept start _ _ _ (given ++ before.0) read before.1 waits.lets.moves) in
-    let needs : NeedsMore c.fill.new.self = subst NeedsMore (sym c.in-Err.ensures.same) waits.after in
+    c.fill.ensures.reads start (given ++ before.0) read (kept start _ _ _ (given ++ before.0) read before.1 waits.skips.moves) in
+    let needs : IsWaiting c.fill.new.self = subst IsWaiting (sym c.in-Err.ensures.same) waits.after in
     let both = rw append_assoc at filled.1 in
-    let answer = faulted start _ c.fill.new.self (given ++ (before.0 ++ filled.0)) read both needs in
-    (before.0 ++ filled.0, answer.0, answer.1, sparing_more before.0 filled.0 (before.3 waits.before.whole) filled.3)
+    let answer = faulted start _ c.fill.new.self (given ++ (before.0 ++ filled.0)) read both needs in (
+      before.0 ++ filled.0,
+      answer.0,
+      answer.1,
+      sparing_more c.args.self.now c.loop-next.self before.0 filled.0 before.3 waits.before filled.3,
+    )
 
 pub returns-in-Err-clause-quiet : goal.returns-in-Err-clause-quiet
 returns-in-Err-clause-quiet g c = λ not.
@@ -56,15 +75,15 @@ loop-next-preserved g c =
       reads = λ start given read r.
           let before = c.loop-next.invariant.reads start given read r in
           let filled =
-          c.fill.ensures.reads start (given ++ before.0) read (kept start _ _ _ (given ++ before.0) read before.1 waits.lets.moves) in
-          let whole = before.3 waits.before.whole in (
+          c.fill.ensures.reads start (given ++ before.0) read (kept start _ _ _ (given ++ before.0) read before.1 waits.skips.moves) in (
             before.0 ++ filled.0,
             rw append_assoc at filled.1,
-            sparing_more before.0 filled.0 whole filled.3,
-            λ h. no_feed_more _ before.0 filled.0 _ filled.2 whole h,
+            sparing_more c.args.self.now c.loop-next.self before.0 filled.0 before.3 waits.before filled.3,
+            takes_more c.args.self.now c.loop-next.self _ c.fill.new.self before.0 filled.0 before.3 waits.skips
+                waits.after.going filled.2 c.fill.ensures.passing,
           );
       later = omega (arith, c.fill.ensures.cause.later);
       quiet = λ not. absurd (not (subst NeedsMore (c.loop-next.invariant.quiet not).1 waits.before));
-      budget = let a = c.fill.ensures.budget in let b = waits.lets.moves.spent in let d = c.loop-next.invariant.budget in omega arith;
-      limit = c.fill.ensures.limit ∙ waits.lets.moves.limit ∙ c.loop-next.invariant.limit;
+      budget = let a = c.fill.ensures.budget in let b = waits.skips.moves.spent in let d = c.loop-next.invariant.budget in omega arith;
+      limit = c.fill.ensures.limit ∙ waits.skips.moves.limit ∙ c.loop-next.invariant.limit;
     }

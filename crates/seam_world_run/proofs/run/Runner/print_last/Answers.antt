@@ -11,7 +11,7 @@ returns-in-Ok g c = λ h t sink text refines printed.
     let steps = option_to_list c.in-Ok.ended in
     let output = c.args.playing.now.output in
     let was = c.args.self.now.script in
-    let piece : c.finish.new.out.items ≡ ended.0 = cleared_first _ _ _ ended.0 refl ended.2 c.clear.ensures.items in
+    let piece : c.finish.new.out.items ≡ ended.0 = cleared_first _ _ _ ended.0 refl ended.2 c.empty.ensures in
     gathered_prints _ c.finish.new.out.items steps sink _ _ text _ _ c.show_last.result
     (subst (λ now. InputEnded output h t (Gives output h was now) c.finish.new.out.items steps) (sym c.show_last.ensures.script)
     (subst (λ xs. InputEnded output h t (Gives output h was c.finish.new.self) xs steps) (sym piece) ended.1))

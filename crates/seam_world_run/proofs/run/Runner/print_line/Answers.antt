@@ -14,7 +14,7 @@ returns-in-Ok-clause-prints g c = λ h t sink text refines printed.
     let written = c.read_line.new.out.items in
     let output = c.args.playing.now.output in
     let was = c.args.self.now.script in
-    let piece : written ≡ read.0 = cleared_first _ _ _ read.0 refl read.2 c.clear.ensures.items in
+    let piece : written ≡ read.0 = cleared_first _ _ _ read.0 refl read.2 c.empty.ensures in
     gathered_prints _ written steps sink _ _ text _ _ c.show.result
     (subst (λ now. LineRead output h t (Content c.args.self.now.lines.line) (Refines output h was now) written steps)
     (sym c.show.ensures.script)

@@ -11,7 +11,7 @@ use Rattle.seam_world_run.proofs.run.Runner.print_long.Goals as goal
 pub returns-in-Ok-clause-prints : goal.returns-in-Ok-clause-prints
 returns-in-Ok-clause-prints g c = λ h t sink text told refines printed.
     let read = c.in-Ok.ensures h t refines in
-    let piece : c.deref.result.now ≡ read.0 = cleared_first _ _ _ read.0 c.deref.ensures.value read.2 c.clear.ensures.items in
+    let piece : c.deref.result.now ≡ read.0 = cleared_first _ _ _ read.0 c.deref.ensures.value read.2 c.empty.ensures in
     gathered_prints _ c.deref.result.now [] sink _ _ text told told c.print.result
     (subst (λ xs. LineRead c.args.output h t Long (Refines c.args.output h c.args.self.now.script c.read_long.new.self) xs []) (sym piece)
     read.1)

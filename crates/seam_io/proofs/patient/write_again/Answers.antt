@@ -1,0 +1,15 @@
+use Rattle.std.proofs.KnownBytes.{Keeps-refl, Keeps-trans}
+use Rattle.seam_io.proofs.Again.{appends_then}
+use Rattle.seam_io.proofs.patient.write_again.Goals as goal
+
+pub loop-try-init : goal.loop-try-init
+loop-try-init g c = Keeps-refl _
+
+pub loop-try-preserved : goal.loop-try-preserved
+loop-try-preserved g c = Keeps-trans _ _ _ c.loop-try.invariant c.in-Err.ensures.bytes
+
+pub returns-in-Ok-clause-bytes : goal.returns-in-Ok-clause-bytes
+returns-in-Ok-clause-bytes g c = appends_then _ _ (g.W.Write.contents c.write.new.self) _ c.loop-try.invariant c.in-Ok.ensures.bytes
+
+pub returns-then-not-is_passing-clause-bytes : goal.returns-then-not-is_passing-clause-bytes
+returns-then-not-is_passing-clause-bytes g c = Keeps-trans _ _ _ c.loop-try.invariant c.in-Err.ensures.bytes
