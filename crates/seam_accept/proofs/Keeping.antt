@@ -236,7 +236,7 @@ entity_destroyed b e v w dies was = record {
   whole = was.whole;
   ty = dies.0 ∙ was.ty;
   live = dies.1
-    ∙ ap not (sym (any_with (destroys e) b (entry.Destroyed e) ∙ ap (λ (y : Bool). list_any (destroys e) (entries b) || y) (same e)
+      ∙ ap not (sym (any_with (destroys e) b (entry.Destroyed e) ∙ ap (λ (y : Bool). list_any (destroys e) (entries b) || y) (same e)
       ∙ or_true (list_any (destroys e) (entries b))));
   last = λ lives. absurd (false≢true (sym dies.1 ∙ lives));
 }

@@ -10,4 +10,4 @@ pub loop-turn-preserved : goal.loop-turn-preserved
 loop-turn-preserved g c =
     let one = c.visit.ensures.2 in
     ap (λ (x : ShiftView). x.tries) one.counted ∙ (tries_counted _ one.tried
-      ∙ ap (λ k. k + 1) (c.heed.ensures.tries ∙ c.loop-turn.invariant))
+    ∙ ap (λ k. k + 1) (c.heed.ensures.tries ∙ c.loop-turn.invariant))

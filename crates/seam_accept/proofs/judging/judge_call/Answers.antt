@@ -37,7 +37,7 @@ returns-clause-judged c = λ b was clients.
     (c.part_of-part.ensures ∙ ap (λ (x : TypeDef). part_of_deed x c.in_ok-deed.deed) t)
     (c.in_ok-number.ensures
     ∙ ap (λ (n : ℕ). n + 1)
-      (at.refines.last at.marked c.part_of-part.result who (is_sender h b c.args.words.now.sender_name.now who names)))
+    (at.refines.last at.marked c.part_of-part.result who (is_sender h b c.args.words.now.sender_name.now who names)))
     c.args.words.now.deed (subst (λ (x : TypeDef). Asks h c.args.words.now.deed x c.in_ok-deed.deed) t c.in_ok-deed.ensures.deed)
     (subst (λ (x : TypeDef). MayAsk who c.in-Some.entity x c.in_ok-deed.deed) t c.in_ok-deed.ensures.may) in
     (accepts, accepted_is_next h b c.args.words.now _ accepts)

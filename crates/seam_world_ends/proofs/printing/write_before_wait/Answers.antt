@@ -7,4 +7,4 @@ returns-clause-prints g c = λ sink text p. nothing_pending sink _ _ text _ c.wr
 
 pub returns-then-has_line-clause-none : goal.returns-then-has_line-clause-none
 returns-then-has_line-clause-none g c = λ none.
-  absurd (held_line_is_next c.args.lines.now (rw c.if-has_line.true at c.has_line.ensures) none)
+    absurd (held_line_is_next c.args.lines.now (rw c.if-has_line.true at c.has_line.ensures) none)
