@@ -38,14 +38,10 @@ use seam_logged::{Apart, Ends, Logged, Naming, Try, linked};
 use seam_machine::{Event, Machine, Net, NetParts};
 use std::alloc::{AllocError, Global};
 use std::marker::{Brand, Model};
-use std::sync::atomic::{AtomicBool, Ordering};
 use std::sync::ledger::{Blank, Ledger};
 use std::sync::{Mutex, Wait};
 use std::thread;
-use std::thread::{Builder, Threads};
-
-// How many bytes of stack a worker's thread has, whatever the system's default is. A step takes a small part of it.
-const STACK: usize = 1 << 20;
+use std::thread::Threads;
 
 /// How many workers there are, and how many tries each of them has at most. An even worker visits the nodes in rising order,
 /// an odd one in falling order.
@@ -203,12 +199,11 @@ fn new_claims(alloc: Global, n: usize) -> Result<Vec<Blank>, AllocError>
     Ok(blanks)
 }
 
-// A worker's number, how many tries it has, and whether memory was refused to one of its crew.
+// A worker's number, and how many tries it has.
 #[derive(Clone, Copy)]
-struct Tries<'a> {
+struct Tries {
     number: usize,
     turns: u32,
-    refused: &'a AtomicBool,
 }
 
 // Which of n nodes a worker visits at its turn.
@@ -222,12 +217,12 @@ fn place_at(number: usize, turn: u32, n: usize) -> usize
     if number % 2 == 0 { k } else { n - 1 - k }
 }
 
-// Visits the nodes in turn, until no step was made over as many visits as there are nodes, or memory was refused to one of the crew.
+// Visits the nodes in turn, until no step was made over as many visits as there are nodes, or memory was refused.
 fn work<M: Machine, J: Naming<M, M::Msg> + Claims, G: Gate, R: Threads + Wait + Sync>(
     rt: &R,
     alloc: Global,
     places: &[CachePadded<Mutex<Seat<M, J>>>],
-    tries: Tries<'_>,
+    tries: Tries,
     gate: &G,
 ) -> Shift
     ensures { IsDone tries.turns (length places.now) result }
@@ -235,7 +230,6 @@ fn work<M: Machine, J: Naming<M, M::Msg> + Claims, G: Gate, R: Threads + Wait + 
     let n = places.len();
     let mut shift = Shift::new();
     for turn in 0..tries.turns {
-        shift.heed(tries.refused);
         if shift.is_over(n) {
             return shift;
         }
@@ -246,47 +240,45 @@ fn work<M: Machine, J: Naming<M, M::Msg> + Claims, G: Gate, R: Threads + Wait + 
             gate,
             &mut shift,
         );
-        shift.tell(tries.refused);
     }
     shift
 }
 
-// Each worker's visits, in a thread of its own where one can be made. Answers whether memory was refused to one of them.
+// Each worker's visits, in a thread of its own. For each, whether memory was refused.
 fn visits<
     M: Machine + Send,
     J: Naming<M, M::Msg> + Claims + Send,
     G: Gate + Sync,
     R: Threads + Wait + Sync,
->(rt: &R, alloc: Global, places: &[CachePadded<Mutex<Seat<M, J>>>], crew: Crew, gate: &G) -> bool
+>(
+    rt: &R,
+    alloc: Global,
+    places: &[CachePadded<Mutex<Seat<M, J>>>],
+    crew: Crew,
+    gate: &G,
+) -> Result<Vec<bool>, AllocError>
 where
     M::Msg: Send,
+    ensures { IfOk result (λ v. vec_len v ≡ crew.workers) }
 {
-    let flag = AtomicBool::new(false);
-    let refused = &flag;
-    thread::scope(thread::scope_env(), rt, move |scope| {
-        for number in 1..crew.workers {
-            let tries = Tries {
-                number: number as usize,
-                turns: crew.turns,
-                refused,
-            };
-            let started = Builder::new()
-                .stack_size(STACK)
-                .spawn_scoped(scope, move || {
-                    work(rt, alloc, places, tries, gate);
-                });
-            if started.is_err() {
-                work(rt, alloc, places, tries, gate);
-            }
-        }
-        let tries = Tries {
-            number: 0,
-            turns: crew.turns,
-            refused,
-        };
-        work(rt, alloc, places, tries, gate);
-    });
-    flag.load(Ordering::SeqCst)
+    thread::map_indices(
+        rt,
+        alloc,
+        crew.workers as usize,
+        &|i: usize| {
+            work(
+                rt,
+                alloc,
+                places,
+                Tries {
+                    number: i,
+                    turns: crew.turns,
+                },
+                gate,
+            )
+            .is_refused()
+        },
+    )
 }
 
 // Puts a seat at the place of its number, where no seat is yet.
@@ -387,13 +379,20 @@ struct Start<M: Machine> {
     claims: Vec<Blank>,
 }
 
+// The nodes of a run after it, and of each worker, whether memory was refused.
+#[derive(Drop)]
+struct Joined<M: Machine> {
+    nodes: Vec<Apart<M>>,
+    refused: Vec<bool>,
+}
+
 // Steps the nodes of the run J in threads.
 fn run_named<
     M: Machine + Send,
     J: Naming<M, M::Msg> + Claims + Send,
     G: Gate + Sync,
     R: Threads + Wait + Sync,
->(rt: &R, alloc: Global, start: Start<M>, crew: Crew, gate: &G) -> Result<Vec<Apart<M>>, AllocError>
+>(rt: &R, alloc: Global, start: Start<M>, crew: Crew, gate: &G) -> Result<Joined<M>, AllocError>
 where
     M::Msg: Send,
     requires few { vec_len start.nodes < 256 }
@@ -403,8 +402,10 @@ where
     requires whole { All (λ b. b.parts ≡ 1) start.claims.items }
     requires each { vec_len start.ends ≡ vec_len start.nodes }
     requires each_claim { vec_len start.claims ≡ vec_len start.nodes }
-    ensures many { IfOk result (λ r. vec_len r ≡ vec_len start.nodes) }
-    ensures runs { IfOk result (λ r. AreRuns M.has_work M.steps M.peer_count J.roots r.items) }
+    ensures many { IfOk result (λ r. vec_len r.nodes ≡ vec_len start.nodes) }
+    ensures runs { IfOk result (λ r. AreRuns M.has_work M.steps M.peer_count J.roots
+        r.nodes.items) }
+    ensures crew { IfOk result (λ r. vec_len r.refused ≡ crew.workers) }
 {
     let Start {
         nodes,
@@ -412,12 +413,13 @@ where
         claims,
     } = start;
     let places: Vec<CachePadded<Mutex<Seat<M, J>>>> = seated(alloc, nodes, ends, claims)?;
-    if visits(rt, alloc, places.as_slice(), crew, gate) {
+    let refused = visits(rt, alloc, places.as_slice(), crew, gate)?;
+    if refused.iter().any(|b| *b) {
         return Err(AllocError);
     }
     let found = unlocked(alloc, places)?;
     let nodes = sorted(alloc, found)?;
-    Ok(nodes)
+    Ok(Joined { nodes, refused })
 }
 
 // Steps the nodes of the start in threads. The node given back at each place is the replay of its log from the one at that place.
@@ -427,7 +429,7 @@ fn run_nodes<M: Machine + Send, G: Gate + Sync, R: Threads + Wait + Sync>(
     start: Start<M>,
     crew: Crew,
     gate: &G,
-) -> Result<Vec<Apart<M>>, AllocError>
+) -> Result<Joined<M>, AllocError>
 where
     M::Msg: Send,
     requires few { vec_len start.nodes < 256 }
@@ -435,9 +437,10 @@ where
     requires whole { All (λ b. b.parts ≡ 1) start.claims.items }
     requires each { vec_len start.ends ≡ vec_len start.nodes }
     requires each_claim { vec_len start.claims ≡ vec_len start.nodes }
-    ensures many { IfOk result (λ r. vec_len r ≡ vec_len start.nodes) }
+    ensures many { IfOk result (λ r. vec_len r.nodes ≡ vec_len start.nodes) }
     ensures runs { IfOk result (λ r. AreRuns M.has_work M.steps M.peer_count
-        (roots_of start.nodes.items start.ends.items) r.items) }
+        (roots_of start.nodes.items start.ends.items) r.nodes.items) }
+    ensures crew { IfOk result (λ r. vec_len r.refused ≡ crew.workers) }
 {
     run_named::<M, Brand, G, R>(rt, alloc, start, crew, gate)
 }
@@ -467,7 +470,10 @@ where
         ends,
         claims,
     };
-    let done = run_nodes(rt, alloc, start, crew, gate)?;
+    let Joined {
+        nodes: done,
+        refused: _,
+    } = run_nodes(rt, alloc, start, crew, gate)?;
     rejoin(alloc, done)
 }
 

@@ -12,12 +12,10 @@ use seam_logged::{Naming, Try};
 use seam_machine::Machine;
 use std::alloc::Global;
 use std::marker::Model;
-use std::sync::atomic::{AtomicBool, Ordering};
 use std::sync::{Mutex, Wait};
 use std::thread::Threads;
 
-/// How many tries a worker made, how many of the last ones found nothing to do, and whether memory was refused, at the last one or to
-/// another worker of its crew.
+/// How many tries a worker made, how many of the last ones found nothing to do, and whether memory was refused at the last one.
 #[derive(Drop)]
 pub struct Shift {
     tries: u32,
@@ -56,22 +54,11 @@ impl Shift {
         self.refused || self.idle as usize >= nodes
     }
 
-    /// Ends the shift if memory was refused to one of the crew.
-    pub fn heed(&mut self, refused: &AtomicBool)
-        ensures tries { self.new.tries ≡ self.old.tries }
-        ensures idle { self.new.idle ≡ self.old.idle }
-        ensures stays { self.old.refused ≡ true → self.new.refused ≡ true }
+    /// Whether memory was refused.
+    pub fn is_refused(&self) -> bool
+        ensures { result ≡ self.now.refused }
     {
-        if refused.load(Ordering::SeqCst) {
-            self.refused = true;
-        }
-    }
-
-    /// Tells the crew if memory was refused.
-    pub fn tell(&self, refused: &AtomicBool) {
-        if self.refused {
-            refused.store(true, Ordering::SeqCst);
-        }
+        self.refused
     }
 
     /// Counts a try.
