@@ -28,7 +28,7 @@ use Rattle.seam_rule_lines.proofs.InOrderLemmas.{entries_after_round}
 use Rattle.seam_rule_lines.proofs.OneSender.{same_sender_is}
 use Rattle.seam_accept.specs.Last.{number_of}
 use Rattle.seam_accept.specs.Entities.{last_of, Remembers, EntitiesRefine, EntityRefines, IsUnknown, IsNextCall, ChangesOne, KeepsLast}
-use Rattle.seam_accept.specs.Entities.{Dies, LivesAlone, entity_at, ClientsRefine, is_client}
+use Rattle.seam_accept.specs.Entities.{Dies, LivesWithoutClient, entity_at, ClientsRefine, is_client}
 use Rattle.seam_accept.specs.Batches.{ordered, joined, destroyed}
 use Rattle.seam_accept.specs.BookView.{BookView, counted}
 use Rattle.seam_accept.specs.Refines.{Refines}
@@ -392,7 +392,7 @@ module _ (h : Header) (b : Book) (old : BookView) (was : Refines h b old) where
       })
 
 -- after an entity was given a client
-pub client_kept : (h : Header) (b : Book) (old new : BookView) (e : ℕ) → Refines h b old → LivesAlone b e →
+pub client_kept : (h : Header) (b : Book) (old new : BookView) (e : ℕ) → Refines h b old → LivesWithoutClient b e →
     new.entities ≡ old.entities → SetsClient old.clients new.clients e true → length new.clients ≡ length old.clients + 1 →
     HoldsMore h (entry.Joined e) old new → Refines h (with_entry b (entry.Joined e)) new
 client_kept h b old new e was alone entities sets count more =

@@ -23,7 +23,7 @@ use Rattle.seam_rule_lines.specs.Book.{Book, entries, created_as, live_as, destr
 use Rattle.seam_rule_lines.specs.declared.verdict.Entry.TheVariants as entry
 use Rattle.seam_rule_lines.proofs.BookEntries.{same}
 use Rattle.seam_accept.proofs.Books.{any_with, created_with, or_false, or_none}
-use Rattle.seam_accept.specs.Entities.{EntitiesRefine, EntityRefines, IsUnknown, IsLive, IsPlaceOf, LivesAlone, ChangesOne}
+use Rattle.seam_accept.specs.Entities.{EntitiesRefine, EntityRefines, IsUnknown, IsLive, IsPlaceOf, LivesWithoutClient, ChangesOne}
 use Rattle.seam_accept.specs.Entities.{entity_at}
 use Rattle.seam_accept.specs.declared.entity.Entity.{Entity}
 
@@ -143,7 +143,7 @@ live_is_there b entities e was lives = cases (entity_at entities e) refl (was.ea
     cases (Some v) found here = (v, found)
 
 -- an entity that was given a client has one now
-pub client_now : (b : Book) (e : ℕ) (v : Entity) → EntityRefines b e v → LivesAlone b e →
+pub client_now : (b : Book) (e : ℕ) (v : Entity) → EntityRefines b e v → LivesWithoutClient b e →
     has_client (with_entry b (entry.Joined e)) e ≡ true
 client_now b e v was alone =
     (λ i. is_some (cond (dead i) None (made i)) && joined i) ∙ ap (λ (x : Bool). x && true) alone.lives

@@ -80,7 +80,7 @@ pub record IsLive (b : Book) (e : ℕ) (v : Bor Entity) : Type 0 where
   pub lives : live_as b e ≡ Some refines.made
 
 -- an entity lives without a client
-pub record LivesAlone (b : Book) (e : ℕ) : Type 0 where
+pub record LivesWithoutClient (b : Book) (e : ℕ) : Type 0 where
   pub lives : IsSome (live_as b e)
   pub alone : has_client b e ≡ false
 
@@ -94,7 +94,7 @@ pub record IsNextCall (b : Book) (c : Call) : Type 0 where
 abbrev pub IsNext : Book → Entry → Type 0
 IsNext b (entry.Created c) = created_as b c.entity ≡ None
 IsNext b (entry.Called c) = IsNextCall b c
-IsNext b (entry.Joined e) = LivesAlone b e
+IsNext b (entry.Joined e) = LivesWithoutClient b e
 IsNext b (entry.Destroyed e) = IsSome (live_as b e)
 IsNext b x = ⊤
 

@@ -7,7 +7,7 @@ ghost use Rattle.seam_rule_lines.specs.Book.{Book as Books, empty_book, open_lin
 ghost use Rattle.seam_rule_lines.specs.Book.{created_as, live_as};
 ghost use Rattle.seam_defs.specs.declared.limits.TheConstants.{MOST_BASE_NODES};
 ghost use Rattle.seam_accept.specs.Commands.{command_of};
-ghost use Rattle.seam_accept.specs.Entities.{IsNextCall, IsPlaceOf, LivesAlone};
+ghost use Rattle.seam_accept.specs.Entities.{IsNextCall, IsPlaceOf, LivesWithoutClient};
 ghost use Rattle.seam_accept.specs.Judging.{Refuses};
 ghost use Rattle.seam_accept.specs.Batches.{batch_of, passes_to, node_of as node_of_sender};
 ghost use Rattle.seam_accept.specs.BookView.{counted};
@@ -201,7 +201,7 @@ impl Book {
     // Keeps that a live entity has a client.
     fn add_client(&mut self, entity: u32) -> Result<(), AllocError>
         ensures kept { OnOk result ((h : Headers) (b : Books) → Refines h b self.old →
-            LivesAlone b entity → Refines h (with_entry b (Entry.Joined entity))
+            LivesWithoutClient b entity → Refines h (with_entry b (Entry.Joined entity))
             (counted self.new)) }
         ensures unchanged { OnErr result (self.new ≡ self.old) }
     {

@@ -12,5 +12,5 @@ mod places;
 mod streams;
 
 pub use commands::COMMANDS_TEXT;
-pub use places::tell_place;
+pub use places::print_fault_position;
 pub use streams::{Listener, Speaker};

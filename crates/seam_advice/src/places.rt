@@ -11,7 +11,7 @@ const MOST_DEPTH: usize = 5;
 /// Says on standard error where the header is at fault that the bytes begin with, where that can be told: the line of what looks like a
 /// forgotten `%%`, the line and the column of what is no TOML, or the key of the first value that is at fault in this way. `cause` is the
 /// number of the cause for which the header is refused.
-pub fn tell_place<E: Eprint>(rt: &E, alloc: Global, cause: u8, bytes: &[u8]) {
+pub fn print_fault_position<E: Eprint>(rt: &E, alloc: Global, cause: u8, bytes: &[u8]) {
     let _ = match place(alloc, cause, bytes) {
         Ok(place) if !place.is_empty() => rt.eprintln(format_args!("seamless: {}", place.as_str())),
         _ => Ok(()),

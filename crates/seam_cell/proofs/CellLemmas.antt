@@ -14,7 +14,7 @@ use Rattle.seam_node_steps.specs.CellCases.{call}
 use Rattle.seam_node_steps.proofs.Slots.{set_at-same}
 use Rattle.seam_cell_parts.specs.declared.context.CellContext.{CellContext}
 use Rattle.seam_cell_parts.specs.declared.reals.Reals.{Reals}
-use Rattle.seam_cell_parts.specs.declared.places.Places.{Places}
+use Rattle.seam_cell_parts.specs.declared.remotes.Remotes.{Remotes}
 use Rattle.seam_cell_parts.specs.declared.lists.Lists.{Lists}
 use Rattle.seam_cell_parts.specs.Kept.{marked, AreWhole}
 
@@ -103,7 +103,7 @@ nothing_there : {X : Type 0} (m : Map X) (e : ℕ) (x : X) → m ≡ table.empty
 nothing_there m e x is there = let f : None ≡ Some x = sym (table.get-empty nat_cmp e) ∙ sym (ap (λ n. table.get n e) is) ∙ there in cc
 
 -- a cell without entities is one
-pub empty_whole : (k : CellContext) (r : Reals) (p : Places) (l : Lists) → k.me < cell_count → AreLegal k.settings → IsTree k.tree →
+pub empty_whole : (k : CellContext) (r : Reals) (p : Remotes) (l : Lists) → k.me < cell_count → AreLegal k.settings → IsTree k.tree →
     k.tree.size ≡ k.settings.size → r.items.items ≡ table.empty → p.nexts.items ≡ table.empty → r.ready ≡ [] → r.witnesses ≡ [] →
     AreWhole k r p l
 empty_whole k r p l me legal tree size reals nexts ready witnesses = record {

@@ -12,9 +12,9 @@ use Rattle.seam_entity.specs.WitnessLooks.{with_witness}
 use Rattle.seam_node_steps.proofs.Slots.{get-set_at}
 use Rattle.seam_cell_parts.specs.declared.context.CellContext.{CellContext}
 use Rattle.seam_cell_parts.specs.declared.reals.Reals.{Reals}
-use Rattle.seam_cell_parts.specs.declared.places.Places.{Places}
+use Rattle.seam_cell_parts.specs.declared.remotes.Remotes.{Remotes}
 use Rattle.seam_cell_parts.specs.declared.lists.Lists.{Lists}
-use Rattle.seam_cell_parts.specs.Kept.{here_in, cell_of, AreKept, IsThere, IsKept, AreWhole}
+use Rattle.seam_cell_parts.specs.Kept.{here_in, cell_of, AreKept, IsRealInSpace, IsKept, AreWhole}
 use Rattle.seam_table.proofs.Changed.{got_changed}
 
 no_length : {A : Type 0} (xs : List A) → length xs ≡ 0 → xs ≡ []
@@ -25,17 +25,17 @@ no_entries : {X : Type 0} → table.entries (table.empty {X = X} {R = nat_cmp}) 
 no_entries = no_length _ (sym (table.len-entries table.empty) ∙ table.len-empty nat_cmp _)
 
 -- a real that has done nothing holds no calls
-pub created_there : (h : Here) (t : Division) (e ty : ℕ) (p : Pos) → IsInSpace t p → IsThere h t (created h e ty p)
+pub created_there : (h : Here) (t : Division) (e ty : ℕ) (p : Pos) → IsInSpace t p → IsRealInSpace h t (created h e ty p)
 created_there h t e ty p inside =
     record { inside = inside; held = ap (list_all (order_passes (fits_cell_part h e ty))) no_entries }
 
-pub witness_there : (h : Here) (t : Division) (r : RealView) → IsThere h t r → IsThere h t (with_witness h r)
+pub witness_there : (h : Here) (t : Division) (r : RealView) → IsRealInSpace h t r → IsRealInSpace h t (with_witness h r)
 witness_there h t r is = record { inside = is.inside; held = is.held }
 
 -- ---- a real put in for an entity
 
 abbrev pub Fits : Here → Division → ℕ → Option RealView → Type 0
-Fits h t e o = (r : RealView) → o ≡ Some r → (r.entity ≡ e) × IsThere h t r
+Fits h t e o = (r : RealView) → o ≡ Some r → (r.entity ≡ e) × IsRealInSpace h t r
 
 fits_by : (h : Here) (t : Division) (b : Bool) (q e : ℕ) (o p : Option RealView) → eq_by_cmp nat_cmp q e ≡ b → Fits h t e o →
     Fits h t q p → Fits h t q (cond b o p)
@@ -65,21 +65,21 @@ kept_with c e o is new =
       there = λ q r at. (all q r at).1;
     }
 
-pub whole_with : (k : CellContext) (r s : Reals) (p : Places) (l : Lists) (e : ℕ) (o : Option RealView) → AreWhole k r p l → AreKept s →
+pub whole_with : (k : CellContext) (r s : Reals) (p : Remotes) (l : Lists) (e : ℕ) (o : Option RealView) → AreWhole k r p l → AreKept s →
     s.items.items ≡ set_at r.items.items e o → Fits (here_in k) k.tree e o → AreWhole k s p l
 whole_with k r s p l e o is kept items new = record {
   cell = subst (λ m. IsKept (record (cell_of k r p l) { reals = m })) (sym items) (kept_with (cell_of k r p l) e o is.cell new);
   marks = kept;
 }
 
-pub whole_still : (k : CellContext) (r s : Reals) (p : Places) (l : Lists) → AreWhole k r p l → AreKept s →
+pub whole_still : (k : CellContext) (r s : Reals) (p : Remotes) (l : Lists) → AreWhole k r p l → AreKept s →
     s.items.items ≡ r.items.items → AreWhole k s p l
 whole_still k r s p l is kept items = record {
   cell = subst (λ m. IsKept (record (cell_of k r p l) { reals = m })) (sym items) is.cell;
   marks = kept;
 }
 
-pub whole_or : {A E : Type 0} (k : CellContext) (r s : Reals) (p : Places) (l : Lists) (e : ℕ) (o : Option RealView) (res : Result A E) →
+pub whole_or : {A E : Type 0} (k : CellContext) (r s : Reals) (p : Remotes) (l : Lists) (e : ℕ) (o : Option RealView) (res : Result A E) →
     AreWhole k r p l → AreKept s → OnOk res (s.items.items ≡ set_at r.items.items e o) → OnErr res (s.items.items ≡ r.items.items) →
     Fits (here_in k) k.tree e o → AreWhole k s p l
 whole_or k r s p l e o (Ok a) is kept done failed new = whole_with k r s p l e o is kept done new
@@ -90,14 +90,14 @@ whole_or k r s p l e o (Err x) is kept done failed new = whole_still k r s p l i
 pub created_fits : (h : Here) (t : Division) (e ty : ℕ) (p : Pos) → IsInSpace t p → Fits h t e (Some (created h e ty p))
 created_fits h t e ty p inside r at =
     let same : created h e ty p ≡ r = cc in
-    (sym (ap (λ x. x.entity) same), subst (IsThere h t) same (created_there h t e ty p inside))
+    (sym (ap (λ x. x.entity) same), subst (IsRealInSpace h t) same (created_there h t e ty p inside))
 
 pub witness_fits : (h : Here) (t : Division) (e : ℕ) (o : Option RealView) → Fits h t e o → Fits h t e (option_map (with_witness h) o)
 witness_fits h t e None fits r at = let not : None ≡ Some r = at in cc
 witness_fits h t e (Some x) fits r at =
     let same : with_witness h x ≡ r = cc in
     let fit = fits x refl in
-    (sym (ap (λ y. y.entity) same) ∙ fit.0, subst (IsThere h t) same (witness_there h t x fit.1))
+    (sym (ap (λ y. y.entity) same) ∙ fit.0, subst (IsRealInSpace h t) same (witness_there h t x fit.1))
 
 -- ---- a round begins
 
@@ -114,7 +114,7 @@ space_of_size t u p same is = record { x_inside = subst (λ n. p.x < n) same is.
 no_next : (m : Map NextPlace) → m ≡ table.empty → NextsAreCells m
 no_next m none e n at = let not : None ≡ Some n = sym (table.get-empty nat_cmp e) ∙ (sym (ap (λ w. table.get w e) none) ∙ at) in cc
 
-pub round_whole : (k : CellContext) (t : Division) (r s : Reals) (p q : Places) (l m : Lists) → AreWhole k r p l → AreKept s → IsTree t →
+pub round_whole : (k : CellContext) (t : Division) (r s : Reals) (p q : Remotes) (l m : Lists) → AreWhole k r p l → AreKept s → IsTree t →
     t.size ≡ k.settings.size → s.items.items ≡ each_value real_begins r.items.items → q.nexts.items ≡ table.empty →
     AreWhole (record k { tree = t }) s q m
 round_whole k t r s p q l m is kept tree size items none =
@@ -136,7 +136,7 @@ round_whole k t r s p q l m is kept tree size items none =
             λ e x at.
             let b = begins e x at in
             let old = is.cell.there e b.0 b.1.0 in
-            subst (IsThere (here_in k) t) b.1.1
+            subst (IsRealInSpace (here_in k) t) b.1.1
             (record { inside = space_of_size k.tree t b.0.state.pos (is.cell.size ∙ sym size) old.inside; held = old.held });
       };
       marks = kept;

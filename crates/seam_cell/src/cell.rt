@@ -18,7 +18,7 @@ use seam_cell_cases::{
 };
 use seam_cell_look::look_task;
 use seam_cell_parts::{
-    CellContext, CopyBook, EntityQueue, EntitySet, Lists, Places, RealTable, Reals, first_ready,
+    CellContext, CopyBook, EntityQueue, EntitySet, Lists, RealTable, Reals, Remotes, first_ready,
     put_after, put_in, take_out,
 };
 use seam_cell_told::ToldCopies;
@@ -36,7 +36,7 @@ use std::marker::Model;
 pub struct Cell {
     known: CellContext,
     reals: Reals,
-    places: Places,
+    remotes: Remotes,
     lists: Lists,
     // Forgotten before the reals or the copies change.
     told: ToldCopies,
@@ -49,16 +49,16 @@ impl Model for Cell {
     ghost use Rattle.seam_node_steps.specs.Cells.{CellView};
     ghost use Rattle.seam_node_steps.specs.Knowing.{known_at};
     ghost use Rattle.seam_cell_parts.specs.Kept.{cell_of, AreWhole};
-    ghost use Rattle.seam_cell_told.specs.Told.{AreTold};
+    ghost use Rattle.seam_cell_told.specs.Told.{AreAsKnown};
 
     ghost Value = { CellView };
 
     ghost coded = { Prim.hlevel (codes, table.code, set.code) };
 
-    ghost view = { λ c. cell_of c.known c.reals c.places c.lists };
+    ghost view = { λ c. cell_of c.known c.reals c.remotes c.lists };
 
     ghost invariant = { λ c.
-        AreWhole c.known c.reals c.places c.lists × AreTold (known_at (cell_of c.known c.reals c.places c.lists)) c.told };
+        AreWhole c.known c.reals c.remotes c.lists × AreAsKnown (known_at (cell_of c.known c.reals c.remotes c.lists)) c.told };
 }
 
 // Whether a copy that comes at that beat does not fit, or a number is not small.
@@ -96,7 +96,7 @@ impl Cell {
                 ready: EntitySet::new(alloc),
                 witnesses: EntitySet::new(alloc),
             },
-            places: Places {
+            remotes: Remotes {
                 nexts: Table::new(alloc, key),
                 copies: CopyBook::new(alloc, key),
             },
@@ -142,7 +142,7 @@ impl Cell {
         // `size` is called for its clause that it is a tree.
         let _ = tree.size();
         self.known.tree = tree;
-        self.places.nexts = Table::new(alloc, self.known.defs.hash_key());
+        self.remotes.nexts = Table::new(alloc, self.known.defs.hash_key());
         Ok(())
     }
 
@@ -167,7 +167,7 @@ impl Cell {
             return Ok(());
         }
         self.told.clear();
-        self.places.copies.set(e, beat, copy)
+        self.remotes.copies.set(e, beat, copy)
     }
 
     /// Ghost drop: the cell's book drops the copy at that beat.
@@ -182,7 +182,7 @@ impl Cell {
             return Ok(());
         }
         self.told.clear();
-        self.places.copies.drop_copy(e, beat)
+        self.remotes.copies.drop_copy(e, beat)
     }
 
     /// Tick: all witnesses here are to look.
@@ -251,7 +251,7 @@ impl Cell {
             &self.known,
             call,
             &mut self.reals,
-            &mut self.places,
+            &mut self.remotes,
             &mut self.lists,
             out,
         )
@@ -309,7 +309,7 @@ impl Cell {
     {
         self.told.clear();
         let real = take_out(&mut self.reals, e)?;
-        let tasked = execute_ready(&self.known, real, &mut self.places, out);
+        let tasked = execute_ready(&self.known, real, &mut self.remotes, out);
         put_after(&mut self.reals, &mut self.lists, e, tasked.left);
         tasked.result
     }
@@ -325,7 +325,7 @@ impl Cell {
         ensures err_item { IfErr result (λ r. r.item ≡ parcel) }
     {
         self.told.clear();
-        arrive(&self.known, parcel, &mut self.reals, &mut self.places, out)
+        arrive(&self.known, parcel, &mut self.reals, &mut self.remotes, out)
     }
 
     // Reap.
@@ -338,7 +338,7 @@ impl Cell {
         ensures err_out { OnErr result (out.new.items ≡ out.old.items) }
     {
         self.told.clear();
-        reap(e, &mut self.reals, &mut self.places, &mut self.lists, out)
+        reap(e, &mut self.reals, &mut self.remotes, &mut self.lists, out)
     }
 
     // Look task, where nothing is to settle and no entity has a ready call.
@@ -355,7 +355,7 @@ impl Cell {
             alloc,
             &self.known,
             &mut self.reals,
-            &mut self.places,
+            &mut self.remotes,
             &mut self.lists,
             &mut self.told,
             out,
@@ -375,7 +375,7 @@ impl Cell {
         survey_task(
             &self.known,
             &mut self.reals,
-            &mut self.places,
+            &mut self.remotes,
             &mut self.lists,
             out,
         )
@@ -515,14 +515,14 @@ impl Cell {
         ensures err { OnErr result (out.new.items ≡ out.old.items) }
         ensures err_item { IfErr result (λ r. r.item ≡ call) }
     {
-        pass_on(&self.places.nexts, call, out)
+        pass_on(&self.remotes.nexts, call, out)
     }
 
     /// The copies of entities of other cells.
     pub fn copies(&self) -> &GhostBook<GhostCopy>
         ensures { result.now.ghosts ≡ self.now.ghosts }
     {
-        self.places.copies.book()
+        self.remotes.copies.book()
     }
 }
 

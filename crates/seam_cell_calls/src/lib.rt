@@ -15,7 +15,7 @@ ghost use Rattle.seam_cell_cases.specs.Calling.{is_called, IsTurn};
 
 use seam_call::Call;
 use seam_cell_cases::{Turn, execute_turn};
-use seam_cell_parts::{CellContext, Lists, Next, Places, Reals, put_after, take_out};
+use seam_cell_parts::{CellContext, Lists, Next, Reals, Remotes, put_after, take_out};
 use seam_entity::Msg;
 use seam_machine::Out;
 use seam_table::{NoMemoryFor, Table};
@@ -25,23 +25,23 @@ pub fn execute_here(
     known: &CellContext,
     call: Call,
     reals: &mut Reals,
-    places: &mut Places,
+    remotes: &mut Remotes,
     lists: &mut Lists,
     out: &mut Out<Msg>,
 ) -> Result<(), NoMemoryFor<Call>>
-    requires whole { AreWhole known.now reals.old places.old lists.old }
-    requires may { is_called (cell_of known.now reals.old places.old lists.old) call ≡ true }
-    requires turn { IsTurn (cell_of known.now reals.old places.old lists.old) call }
-    ensures state { let c = cell_of known.now reals.old places.old lists.old in (from : ℕ) →
-        OnOk result (cell_of known.now reals.new places.new lists.new
+    requires whole { AreWhole known.now reals.old remotes.old lists.old }
+    requires may { is_called (cell_of known.now reals.old remotes.old lists.old) call ≡ true }
+    requires turn { IsTurn (cell_of known.now reals.old remotes.old lists.old) call }
+    ensures state { let c = cell_of known.now reals.old remotes.old lists.old in (from : ℕ) →
+        OnOk result (cell_of known.now reals.new remotes.new lists.new
         ≡ (cell_steps c (From from (msg.Call call))).state) }
-    ensures sent { let c = cell_of known.now reals.old places.old lists.old in (from : ℕ) →
+    ensures sent { let c = cell_of known.now reals.old remotes.old lists.old in (from : ℕ) →
         OnOk result (out.new.items ≡ out.old.items
         ++ (cell_steps c (From from (msg.Call call))).sent) }
 
     // If allocation fails, the call comes back and nothing has changed.
-    ensures err { OnErr result (cell_of known.now reals.new places.new lists.new
-        ≡ cell_of known.now reals.old places.old lists.old) }
+    ensures err { OnErr result (cell_of known.now reals.new remotes.new lists.new
+        ≡ cell_of known.now reals.old remotes.old lists.old) }
     ensures err_out { OnErr result (out.new.items ≡ out.old.items) }
     ensures err_item { IfErr result (λ r. r.item ≡ call) }
     ensures marks { AreKept reals.new }
@@ -51,7 +51,7 @@ pub fn execute_here(
         return Err(NoMemoryFor { item: call });
     };
     let turn = Turn { real, call };
-    let called = execute_turn(known, turn, places, out);
+    let called = execute_turn(known, turn, remotes, out);
     put_after(reals, lists, e, called.left);
     called.result
 }

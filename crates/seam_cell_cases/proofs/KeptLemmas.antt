@@ -25,7 +25,7 @@ use Rattle.seam_node_steps.specs.CellLooks
 use Rattle.seam_node_steps.proofs.Slots.{get-set_at}
 use Rattle.seam_node_steps.proofs.Peers.{cell_frame}
 use Rattle.seam_node_steps.proofs.ValidCells.{cell_stays_valid}
-use Rattle.seam_cell_parts.specs.Kept.{IsThere, AreThere, IsKept}
+use Rattle.seam_cell_parts.specs.Kept.{IsRealInSpace, AreRealsInSpace, IsKept}
 use Rattle.seam_entity.proofs.HeldLemmas.{both, item_passes_too, held_offered, held_taken, got_passes, same_value}
 
 not_false : (a : Bool) → not a ≡ false → a ≡ true
@@ -64,7 +64,7 @@ module _ (h : Here) (t : Division) (size : t.size ≡ h.settings.size) where
 
   -- ---- calls of a real
 
-  pub offered_there : (r : RealView) (k : CallData) → may_call h r k ≡ true → IsThere h t r → IsThere h t (with_offer r k)
+  pub offered_there : (r : RealView) (k : CallData) → may_call h r k ≡ true → IsRealInSpace h t r → IsRealInSpace h t (with_offer r k)
   offered_there r k may is = record {
     inside = is.inside;
     held =
@@ -72,7 +72,7 @@ module _ (h : Here) (t : Division) (size : t.size ≡ h.settings.size) where
         (fits_of r k may);
   }
 
-  pub executed_there : (r : RealView) (k : CallData) → may_call h r k ≡ true → IsThere h t r → IsThere h t (executed h r k)
+  pub executed_there : (r : RealView) (k : CallData) → may_call h r k ≡ true → IsRealInSpace h t r → IsRealInSpace h t (executed h r k)
   executed_there r k may is =
       let offer = offered_there r k may is in
       record {
@@ -82,14 +82,14 @@ module _ (h : Here) (t : Division) (size : t.size ≡ h.settings.size) where
 
   -- the ready call of an order is one that is held
   ready_fits : (r : RealView) (o : ℕ × OrderView CallData) (k : CallData) → ready_order r.orders ≡ Some o → next_item o.1 ≡ Some k →
-      IsThere h t r → fits_cell_part h r.entity r.ty k ≡ true
+      IsRealInSpace h t r → fits_cell_part h r.entity r.ty k ≡ true
   ready_fits r o k at next is =
       let there = found order_is_ready r.orders o at in
       let test = fits_cell_part h r.entity r.ty in
       item_passes_too test o.1.next k o.1.held (got_passes _ (same_value test) r.orders o.0 o.1 is.held there.0) next
 
   pub ready_there : (r : RealView) (o : ℕ × OrderView CallData) (k : CallData) → ready_order r.orders ≡ Some o → next_item o.1 ≡ Some k →
-      IsThere h t r → IsThere h t (executed_ready h r o k)
+      IsRealInSpace h t r → IsRealInSpace h t (executed_ready h r o k)
   ready_there r o k at next is =
       let there = found order_is_ready r.orders o at in
       let test = fits_cell_part h r.entity r.ty in
@@ -101,14 +101,14 @@ module _ (h : Here) (t : Division) (size : t.size ≡ h.settings.size) where
   -- ---- what a step leaves
 
   abbrev pub IsRealThere : Option RealView → Type 0
-  IsRealThere o = (r : RealView) → o ≡ Some r → IsThere h t r
+  IsRealThere o = (r : RealView) → o ≡ Some r → IsRealInSpace h t r
 
   abbrev pub IsStepThere : Option Slot → Type 0
   IsStepThere None = Unit {0}
   IsStepThere (Some s) = IsRealThere s.real
 
-  some_there : (x : RealView) → IsThere h t x → IsRealThere (Some x)
-  some_there x is r e = let same : x ≡ r = cc in subst (IsThere h t) same is
+  some_there : (x : RealView) → IsRealInSpace h t x → IsRealThere (Some x)
+  some_there x is r e = let same : x ≡ r = cc in subst (IsRealInSpace h t) same is
 
   none_there : IsRealThere None
   none_there r e = cc
@@ -117,15 +117,15 @@ module _ (h : Here) (t : Division) (size : t.size ≡ h.settings.size) where
   unless_there true s is = tt
   unless_there false s is = is refl
 
-  by_there : (b : Bool) (s : Slot) (r : RealView) (changed : Bool) (j : ℕ) → IsThere h t r →
+  by_there : (b : Bool) (s : Slot) (r : RealView) (changed : Bool) (j : ℕ) → IsRealInSpace h t r →
       IsStepThere (settled_by b h t s r changed j).slot
   by_there true s r changed j is = some_there _ (record { inside = is.inside; held = is.held })
   by_there false s r changed j is = none_there
 
-  settled_there : (s : Slot) (r : RealView) (changed : Bool) → IsThere h t r → IsStepThere (settled h t s r changed).slot
+  settled_there : (s : Slot) (r : RealView) (changed : Bool) → IsRealInSpace h t r → IsStepThere (settled h t s r changed).slot
   settled_there s r changed is = by_there _ s r changed (home_after h t r.state.pos) is
 
-  call_offered : (s : Slot) (r : RealView) (k : CallData) (o : Ordering) → may_call h r k ≡ true → IsThere h t r →
+  call_offered : (s : Slot) (r : RealView) (k : CallData) (o : Ordering) → may_call h r k ≡ true → IsRealInSpace h t r →
       IsStepThere (CellCases.offered h t s r k o).slot
   call_offered s r k Less may is = tt
   call_offered s r k Equal may is = settled_there s (executed h r k) (shows h r k) (executed_there r k may is)
@@ -141,7 +141,7 @@ module _ (h : Here) (t : Division) (size : t.size ≡ h.settings.size) where
       call_offered s r k (nat_cmp k.number (order_of r.orders k.sender).next) (not_false (may_call h r k) right) (is r refl)
   call_there s k None is right = call_passed k s.next
 
-  hand_there : (r : RealView) (o : Option RealView) → CellCases.stray_hand h t r o ≡ false → IsThere h t r
+  hand_there : (r : RealView) (o : Option RealView) → CellCases.stray_hand h t r o ≡ false → IsRealInSpace h t r
   hand_there r None right =
       let may = both (fits_real h r) (CellCases.is_in_tree h t r && CellCases.has_small_numbers r)
       (not_false (CellCases.may_come h t r) right) in
@@ -182,11 +182,11 @@ module _ (h : Here) (t : Division) (size : t.size ≡ h.settings.size) where
   survey_there s None is = tt
 
   executes_there : (s : Slot) (r : RealView) (o : ℕ × OrderView CallData) (k : Option CallData) → ready_order r.orders ≡ Some o →
-      next_item o.1 ≡ k → IsThere h t r → IsStepThere (CellCases.executes_ready h t s r o k).slot
+      next_item o.1 ≡ k → IsRealInSpace h t r → IsStepThere (CellCases.executes_ready h t s r o k).slot
   executes_there s r o (Some k) at next is = settled_there s (executed_ready h r o k) (shows h r k) (ready_there r o k at next is)
   executes_there s r o None at next is = tt
 
-  ready_in_there : (s : Slot) (r : RealView) (o : Option (ℕ × OrderView CallData)) → ready_order r.orders ≡ o → IsThere h t r →
+  ready_in_there : (s : Slot) (r : RealView) (o : Option (ℕ × OrderView CallData)) → ready_order r.orders ≡ o → IsRealInSpace h t r →
       IsStepThere (CellCases.ready_in h t s r o).slot
   ready_in_there s r (Some o) at is = executes_there s r o (next_item o.1) at refl is
   ready_in_there s r None at is = tt
@@ -195,7 +195,7 @@ module _ (h : Here) (t : Division) (size : t.size ≡ h.settings.size) where
   ready_task_there s (Some r) is = ready_in_there s r (ready_order r.orders) refl (is r refl)
   ready_task_there s None is = tt
 
-  look_by_there : (s : Slot) (r : RealView) (o : Option WitnessView) (known : List Known) → IsThere h t r →
+  look_by_there : (s : Slot) (r : RealView) (o : Option WitnessView) (known : List Known) → IsRealInSpace h t r →
       IsStepThere (look_by h s r o known).slot
   look_by_there s r (Some w) known is = some_there _ (record { inside = is.inside; held = is.held })
   look_by_there s r None known is = tt
@@ -210,52 +210,53 @@ module _ (h : Here) (t : Division) (size : t.size ≡ h.settings.size) where
   either_there true o p is also = is
   either_there false o p is also = also
 
-  pub set_at_there : (m : Map RealView) (e : ℕ) (o : Option RealView) → AreThere h t m → IsRealThere o → AreThere h t (set_at m e o)
+  pub set_at_there : (m : Map RealView) (e : ℕ) (o : Option RealView) → AreRealsInSpace h t m → IsRealThere o →
+      AreRealsInSpace h t (set_at m e o)
   set_at_there m e o are is q r at =
       either_there (eq_by_cmp nat_cmp q e) o (table.get m q) is (are q) r (sym (get-set_at m e q o) ∙ at)
 
 -- ---- the cell
 
 module _ (c : CellView) (size : c.tree.size ≡ c.here.settings.size) where
-  after_there : (e : ℕ) (b : Bool) (o : Option Slot) → AreThere c.here c.tree c.reals → IsStepThere c.here c.tree size o →
-      AreThere c.here c.tree (unlisted_by b (after_slot c e o) e).reals
+  after_there : (e : ℕ) (b : Bool) (o : Option Slot) → AreRealsInSpace c.here c.tree c.reals → IsStepThere c.here c.tree size o →
+      AreRealsInSpace c.here c.tree (unlisted_by b (after_slot c e o) e).reals
   after_there e true None are is = are
   after_there e false None are is = are
   after_there e true (Some s) are is = set_at_there c.here c.tree size c.reals e s.real are is
   after_there e false (Some s) are is = set_at_there c.here c.tree size c.reals e s.real are is
 
-  step_there : (e : ℕ) (s : SlotStep) → AreThere c.here c.tree c.reals → IsStepThere c.here c.tree size s.slot →
-      AreThere c.here c.tree (stepped c e s).state.reals
+  step_there : (e : ℕ) (s : SlotStep) → AreRealsInSpace c.here c.tree c.reals → IsStepThere c.here c.tree size s.slot →
+      AreRealsInSpace c.here c.tree (stepped c e s).state.reals
   step_there e s are is = after_there e s.unlisted s.slot are is
 
-module _ (c : CellView) (size : c.tree.size ≡ c.here.settings.size) (are : AreThere c.here c.tree c.reals) where
-  looks_there : (es : List ℕ) → AreThere c.here c.tree (look_next c es).state.reals
+module _ (c : CellView) (size : c.tree.size ≡ c.here.settings.size) (are : AreRealsInSpace c.here c.tree c.reals) where
+  looks_there : (es : List ℕ) → AreRealsInSpace c.here c.tree (look_next c es).state.reals
   looks_there [] = are
   looks_there (e ∷ es) = step_there (record c { looks = es }) size e (looks_around c e (table.get c.reals e) (known_to c e)) are
       (unless_there c.here c.tree size (CellLooks.stray_look c.here (table.get c.reals e) (known_to c e))
       (look_task c.here (slot_of c e) (table.get c.reals e) (known_to c e))
       (λ right. look_there c.here c.tree size (slot_of c e) (table.get c.reals e) (known_to c e) (are e)))
 
-  readies_there : (o : Option ℕ) → AreThere c.here c.tree (ready_next c o).state.reals
+  readies_there : (o : Option ℕ) → AreRealsInSpace c.here c.tree (ready_next c o).state.reals
   readies_there (Some e) = step_there c size e (calls_ready c e (table.get c.reals e)) are
       (unless_there c.here c.tree size (CellCases.stray_ready_call (table.get c.reals e))
       (CellCases.ready_call_task c.here c.tree (slot_of c e) (table.get c.reals e))
       (λ right. ready_task_there c.here c.tree size (slot_of c e) (table.get c.reals e) (are e)))
   readies_there None = looks_there c.looks
 
-  task_there : (es : List ℕ) → AreThere c.here c.tree (cell_task c es).state.reals
+  task_there : (es : List ℕ) → AreRealsInSpace c.here c.tree (cell_task c es).state.reals
   task_there (e ∷ es) = step_there (record c { survey = es }) size e (surveys c e (table.get c.reals e)) are
       (unless_there c.here c.tree size (CellCases.stray_survey (table.get c.reals e))
       (CellCases.survey_task c.here c.tree (slot_of c e) (table.get c.reals e))
       (λ right. survey_there c.here c.tree size (slot_of c e) (table.get c.reals e) (are e)))
   task_there [] = readies_there (ready_entity c)
 
-  hears_there : (m : Msg) (o : Option ℕ) → AreThere c.here c.tree (cell_hears c m o).state.reals
+  hears_there : (m : Msg) (o : Option ℕ) → AreRealsInSpace c.here c.tree (cell_hears c m o).state.reals
   hears_there m (Some e) =
       step_there c size e (slot_steps c.here c.tree (slot_of c e) m) are (slot_there c.here c.tree size (slot_of c e) m (are e))
   hears_there m None = are
 
-  all_there : (i : Input Msg) → AreThere c.here c.tree (cell_steps c i).state.reals
+  all_there : (i : Input Msg) → AreRealsInSpace c.here c.tree (cell_steps c i).state.reals
   all_there Task = task_there c.survey
   all_there (From a m) = hears_there m (about m)
 
@@ -268,6 +269,6 @@ step_kept c i is =
       legal = subst (λ h. AreLegal h.settings) (sym frame.here) is.legal;
       size = ap (λ t. t.size) frame.tree ∙ (is.size ∙ ap (λ h. h.settings.size) (sym frame.here));
       there =
-          λ e r at. subst (λ h. IsThere h (cell_steps c i).state.tree r) (sym frame.here)
-          (subst (λ t. IsThere c.here t r) (sym frame.tree) (all_there c is.size is.there i e r at));
+          λ e r at. subst (λ h. IsRealInSpace h (cell_steps c i).state.tree r) (sym frame.here)
+          (subst (λ t. IsRealInSpace c.here t r) (sym frame.tree) (all_there c is.size is.there i e r at));
     }

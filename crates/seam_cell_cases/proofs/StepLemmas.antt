@@ -17,7 +17,7 @@ use Rattle.seam_node_steps.specs.CellCases
 use Rattle.seam_node_steps.proofs.Slots.{set_at-same}
 use Rattle.seam_cell_parts.specs.declared.context.CellContext.{CellContext}
 use Rattle.seam_cell_parts.specs.declared.reals.Reals.{Reals}
-use Rattle.seam_cell_parts.specs.declared.places.Places.{Places}
+use Rattle.seam_cell_parts.specs.declared.remotes.Remotes.{Remotes}
 use Rattle.seam_cell_parts.specs.declared.lists.Lists.{Lists}
 use Rattle.seam_entity.specs.Preparing.{offered as held_or}
 use Rattle.seam_cell_parts.specs.Kept.{here_in, cell_of, AreKept, IsKept, AreWhole}
@@ -41,7 +41,7 @@ unlisted_is : (b : Bool) (c : CellView) (e : ℕ) → unlisted_by b c e
 unlisted_is true c e = refl
 unlisted_is false c e = refl
 
-module _ (k : CellContext) (r s : Reals) (p q : Places) (l m : Lists) (o n : OutView Msg) (e : ℕ) (t : SlotStep) (x : RealView)
+module _ (k : CellContext) (r s : Reals) (p q : Remotes) (l m : Lists) (o n : OutView Msg) (e : ℕ) (t : SlotStep) (x : RealView)
     (left : Option RealView) (at : table.get r.items.items e ≡ Some x) (done : IsDone t e x left (parts_of p o) (parts_of q n)) where
   same_slot : slot_in (parts_of p o) e x ≡ slot_of (cell_of k r p l) e
   same_slot = λ i. record { real = sym at i; next = table.get p.nexts.items e; ghost = table.get p.copies.ghosts e }
@@ -110,12 +110,12 @@ both_err P Q (Ok a) p q = tt
 both_err P Q (Err e) p q = (p, q)
 
 -- a cell that is what a step leaves is whole, and so is one that is as it was
-pub whole_after : (k : CellContext) (r s : Reals) (p q : Places) (l m : Lists) (i : Input Msg) → AreWhole k r p l → AreKept s →
+pub whole_after : (k : CellContext) (r s : Reals) (p q : Remotes) (l m : Lists) (i : Input Msg) → AreWhole k r p l → AreKept s →
     cell_of k s q m ≡ (cell_steps (cell_of k r p l) i).state → AreWhole k s q m
 whole_after k r s p q l m i is kept same =
     record { cell = subst IsKept (sym same) (step_kept (cell_of k r p l) i is.cell); marks = kept }
 
-pub whole_again : (k : CellContext) (r s : Reals) (p q : Places) (l m : Lists) → AreWhole k r p l → AreKept s →
+pub whole_again : (k : CellContext) (r s : Reals) (p q : Remotes) (l m : Lists) → AreWhole k r p l → AreKept s →
     cell_of k s q m ≡ cell_of k r p l → AreWhole k s q m
 whole_again k r s p q l m is kept same = record { cell = subst IsKept (sym same) is.cell; marks = kept }
 
@@ -129,7 +129,7 @@ pub record CallLeaves (c d : CellView) (k : CallData) (before after : List (ℕ 
   pub sent : (from : ℕ) → after ≡ before ++ (cell_steps c (From from (Call k))).sent
 
 -- after want of memory the cell is as it was
-pub undone : (k : CellContext) (r s : Reals) (p q : Places) (l m : Lists) (o n : OutView Msg) (e : ℕ) (x : RealView)
+pub undone : (k : CellContext) (r s : Reals) (p q : Remotes) (l m : Lists) (o n : OutView Msg) (e : ℕ) (x : RealView)
     (left : Option RealView) →
     table.get r.items.items e ≡ Some x → s.items.items ≡ set_at (table.remove r.items.items e) e left →
     m.survey ≡ list_after (is_none left) e l.survey → m.looks ≡ list_after (is_none left) e l.looks → left ≡ Some x →
@@ -150,7 +150,7 @@ undone k r s p q l m o n e x left at items survey looks same parts =
       looks = away i;
     }
 
-module _ (k : CellContext) (r s : Reals) (p q : Places) (l m : Lists) (o n : OutView Msg) (call : CallData) (x : RealView)
+module _ (k : CellContext) (r s : Reals) (p q : Remotes) (l m : Lists) (o n : OutView Msg) (call : CallData) (x : RealView)
     (left : Option RealView) (at : table.get r.items.items call.entity ≡ Some x)
     (items : s.items.items ≡ set_at (table.remove r.items.items call.entity) call.entity left)
     (survey : m.survey ≡ list_after (is_none left) call.entity l.survey) (looks : m.looks ≡ list_after (is_none left) call.entity l.looks)
@@ -231,7 +231,7 @@ held_sends c call may not_turn from = by (table.get c.reals call.entity) refl
     by (Some x) at = held_sent c call x at may not_turn from
 
 -- the cell with a real that was taken out and put in as it is after the call
-pub held_left : (k : CellContext) (r s : Reals) (p : Places) (l : Lists) (call : CallData) (x y : RealView) →
+pub held_left : (k : CellContext) (r s : Reals) (p : Remotes) (l : Lists) (call : CallData) (x y : RealView) →
     table.get r.items.items call.entity ≡ Some x → s.items.items ≡ table.insert (table.remove r.items.items call.entity) call.entity y →
     is_called (cell_of k r p l) call ≡ true → (IsTurn (cell_of k r p l) call → ⊥) → y ≡ held_or (here_in k) x call → (from : ℕ) →
     cell_of k s p l ≡ (cell_steps (cell_of k r p l) (From from (Call call))).state
@@ -240,7 +240,7 @@ held_left k r s p l call x y at items may not_turn is from =
     (λ i. record (cell_of k r p l) { reals = reals i }) ∙ held_state (cell_of k r p l) call x at may not_turn from
 
 -- and as it was
-pub held_not : (k : CellContext) (r s : Reals) (p : Places) (l : Lists) (e : ℕ) (x y : RealView) → table.get r.items.items e ≡ Some x →
+pub held_not : (k : CellContext) (r s : Reals) (p : Remotes) (l : Lists) (e : ℕ) (x y : RealView) → table.get r.items.items e ≡ Some x →
     s.items.items ≡ table.insert (table.remove r.items.items e) e y → y ≡ x → cell_of k s p l ≡ cell_of k r p l
 held_not k r s p l e x y at items is =
     let reals = items ∙ (ap (table.insert (table.remove r.items.items e) e) is ∙ put_back r.items.items e x at) in
@@ -303,7 +303,7 @@ pub record TaskLeaves (c d : CellView) (before after : List (ℕ × Msg)) : Type
   pub state : d ≡ (cell_steps c Task).state
   pub sent : after ≡ before ++ (cell_steps c Task).sent
 
-pub ready_left : (k : CellContext) (r s : Reals) (p q : Places) (l m : Lists) (o n : OutView Msg) (e : ℕ) (x : RealView)
+pub ready_left : (k : CellContext) (r s : Reals) (p q : Remotes) (l m : Lists) (o n : OutView Msg) (e : ℕ) (x : RealView)
     (left : Option RealView) → table.get r.items.items e ≡ Some x → s.items.items ≡ set_at (table.remove r.items.items e) e left →
     m.survey ≡ list_after (is_none left) e l.survey → m.looks ≡ list_after (is_none left) e l.looks → AreWhole k r p l →
     (cell_of k r p l).survey ≡ [] → ready_entity (cell_of k r p l) ≡ Some e → may_execute x ≡ true →
@@ -323,7 +323,7 @@ ready_left k r s p q l m o n e x left at items survey looks is surveyed ready ma
 
 -- ---- a cell after a step, whether there was memory for it or not
 
-pub whole_either : {A E : Type 0} (k : CellContext) (r s : Reals) (p q : Places) (l m : Lists) (i : Input Msg) (res : Result A E) →
+pub whole_either : {A E : Type 0} (k : CellContext) (r s : Reals) (p q : Remotes) (l m : Lists) (i : Input Msg) (res : Result A E) →
     AreWhole k r p l → AreKept s → OnOk res (cell_of k s q m ≡ (cell_steps (cell_of k r p l) i).state) →
     OnErr res (cell_of k s q m ≡ cell_of k r p l) → AreWhole k s q m
 whole_either k r s p q l m i (Ok a) is kept done failed = whole_after k r s p q l m i is kept done

@@ -6,7 +6,7 @@ use Rattle.seam_node_steps.specs.Prelude.{OutView, may_rise, RealView, may_settl
 use Rattle.seam_node_steps.specs.Prelude.{stray_survey, survey_task as survey_step, CellView, slot_of, stepped, cell_task}
 use Rattle.seam_cell_parts.specs.declared.context.CellContext.{CellContext}
 use Rattle.seam_cell_parts.specs.declared.reals.Reals.{Reals}
-use Rattle.seam_cell_parts.specs.declared.places.Places.{Places}
+use Rattle.seam_cell_parts.specs.declared.remotes.Remotes.{Remotes}
 use Rattle.seam_cell_parts.specs.declared.lists.Lists.{Lists}
 use Rattle.seam_cell_parts.specs.Kept.{here_in, cell_of}
 use Rattle.seam_cell_parts.specs.Stepping.{parts_of, slot_in, IsDone, list_after}
@@ -55,7 +55,7 @@ not_due c e es is stays =
     by true h = refl
     by false h = cc
 
-module _ (k : CellContext) (r s : Reals) (p q : Places) (l m : Lists) (o n : OutView Msg) (e : ℕ) (es : List ℕ) (x : RealView)
+module _ (k : CellContext) (r s : Reals) (p q : Remotes) (l m : Lists) (o n : OutView Msg) (e : ℕ) (es : List ℕ) (x : RealView)
     (left : Option RealView) (at : table.get r.items.items e ≡ Some x) (due : true ≡ not (stray_survey (table.get r.items.items e)))
     (entity : x.entity ≡ e) (is : l.survey ≡ e ∷ es) where
   abbrev before : CellView
@@ -91,7 +91,7 @@ module _ (k : CellContext) (r s : Reals) (p q : Places) (l m : Lists) (o n : Out
       survey_told = here.sent ∙ ap (λ t. o.items ++ t.sent) (sym survey_is)
 
 -- where there is nothing to do, the entry alone goes
-module _ (k : CellContext) (r : Reals) (p : Places) (l m : Lists) (o : OutView Msg) (e : ℕ) (es : List ℕ)
+module _ (k : CellContext) (r : Reals) (p : Remotes) (l m : Lists) (o : OutView Msg) (e : ℕ) (es : List ℕ)
     (moot : IsMoot (here_in k) k.tree (table.get r.items.items e))
     (keys : (x : RealView) → table.get r.items.items e ≡ Some x → x.entity ≡ e) (is : l.survey ≡ e ∷ es) (survey : m.survey ≡ es)
     (looks : m.looks ≡ l.looks) where
@@ -133,7 +133,7 @@ module _ (k : CellContext) (r : Reals) (p : Places) (l m : Lists) (o : OutView M
   pub moot_done : Leaves
   moot_done = by_real (table.get r.items.items e) refl
 
-module _ (k : CellContext) (r s : Reals) (p q : Places) (l m : Lists) (o n : OutView Msg) (e : ℕ) (x : RealView) (left : Option RealView)
+module _ (k : CellContext) (r s : Reals) (p q : Remotes) (l m : Lists) (o n : OutView Msg) (e : ℕ) (x : RealView) (left : Option RealView)
     (at : table.get r.items.items e ≡ Some x) where
   -- where allocation failed, all is as it was
   pub survey_undone : left ≡ Some x → parts_of q n ≡ parts_of p o → s.items.items ≡ set_at (table.remove r.items.items e) e left →

@@ -12,7 +12,7 @@ ghost use Rattle.seam_cell_parts.specs.Kept.{here_in, cell_of, AreKept, IsOpen};
 ghost use Rattle.seam_cell_cases.specs.Arriving.{current_of, is_cell_in};
 ghost use Rattle.seam_cell_parts.specs.declared.lists.Lists.{Lists as AnyLists};
 
-use seam_cell_parts::{CellContext, CopyBook, Next, Places, Reals, close, make_place, put_in};
+use seam_cell_parts::{CellContext, CopyBook, Next, Reals, Remotes, close, make_room, put_in};
 use seam_entity::{Msg, Parcel, Real, is_small};
 use seam_machine::Out;
 use seam_table::{NoMemoryFor, Table};
@@ -70,7 +70,7 @@ fn make_way(
 {
     let e = real.entity();
     out.reserve(known.settings.bases as usize)?;
-    make_place(reals, e, real.has_witness())?;
+    make_room(reals, e, real.has_witness())?;
     if let Err(error) = copies.drop_copy(e, real.beat()) {
         close(reals, e);
         return Err(error);
@@ -119,19 +119,19 @@ pub fn arrive(
     known: &CellContext,
     parcel: Parcel,
     reals: &mut Reals,
-    places: &mut Places,
+    remotes: &mut Remotes,
     out: &mut Out<Msg>,
 ) -> Result<(), NoMemoryFor<Parcel>>
     requires marks { AreKept reals.old }
     requires most { known.now.settings.bases ≤ MOST_BASE_NODES }
     ensures state { (l : AnyLists) (from : ℕ) → OnOk result
-        (cell_of known.now reals.new places.new l ≡ (cell_steps
-        (cell_of known.now reals.old places.old l) (From from (msg.Hand parcel))).state) }
+        (cell_of known.now reals.new remotes.new l ≡ (cell_steps
+        (cell_of known.now reals.old remotes.old l) (From from (msg.Hand parcel))).state) }
     ensures sent { (l : AnyLists) (from : ℕ) → OnOk result (out.new.items ≡ out.old.items
-        ++ (cell_steps (cell_of known.now reals.old places.old l)
+        ++ (cell_steps (cell_of known.now reals.old remotes.old l)
         (From from (msg.Hand parcel))).sent) }
-    ensures err { (l : AnyLists) → OnErr result (cell_of known.now reals.new places.new l
-        ≡ cell_of known.now reals.old places.old l) }
+    ensures err { (l : AnyLists) → OnErr result (cell_of known.now reals.new remotes.new l
+        ≡ cell_of known.now reals.old remotes.old l) }
     ensures err_out { OnErr result (out.new.items ≡ out.old.items) }
     ensures err_item { IfErr result (λ r. r.item ≡ parcel) }
     ensures marks { AreKept reals.new }
@@ -142,10 +142,10 @@ pub fn arrive(
     if !may_come(known, &parcel.real) {
         return Ok(());
     }
-    if make_way(known, &parcel.real, reals, &mut places.copies, out).is_err() {
+    if make_way(known, &parcel.real, reals, &mut remotes.copies, out).is_err() {
         return Err(NoMemoryFor { item: parcel });
     }
     let Parcel { real } = parcel;
-    settle_in(known, real, reals, &mut places.nexts, out);
+    settle_in(known, real, reals, &mut remotes.nexts, out);
     Ok(())
 }

@@ -6,12 +6,12 @@ ghost use Rattle.seam_node_steps.specs.Prelude.{may_settle as real_may_settle, m
 ghost use Rattle.seam_node_steps.specs.Prelude.{executed, shows, settled};
 ghost use Rattle.seam_entity.specs.Executing.{with_deed};
 ghost use Rattle.seam_entity.specs.Preparing.{HasRoom, offered};
-ghost use Rattle.seam_cell_parts.specs.Kept.{here_in, IsThere};
+ghost use Rattle.seam_cell_parts.specs.Kept.{here_in, IsRealInSpace};
 ghost use Rattle.seam_cell_parts.specs.Settling.{HasRoomFor};
 ghost use Rattle.seam_cell_parts.specs.Stepping.{HasBegun, IsDone, parts_of, slot_in, core_of};
 
 use seam_call::Call;
-use seam_cell_parts::{Begun, CellContext, Places, Subject, begin, settle_real};
+use seam_cell_parts::{Begun, CellContext, Remotes, Subject, begin, settle_real};
 use seam_defs::Later;
 use seam_entity::{Msg, Real, fits_cell_part, may_rise};
 use seam_machine::Out;
@@ -74,13 +74,13 @@ fn begin_call(
     known: &CellContext,
     real: &mut Real,
     call: &Call,
-    places: &mut Places,
+    remotes: &mut Remotes,
     out: &mut Out<Msg>,
 ) -> Result<Made, AllocError>
     requires me { known.now.me < cell_count }
     requires legal { AreLegal known.now.settings }
     requires size { known.now.tree.size ≡ known.now.settings.size }
-    requires there { IsThere (here_in known.now) known.now.tree real.old.core }
+    requires there { IsRealInSpace (here_in known.now) known.now.tree real.old.core }
     requires may { real_may_call (here_in known.now) real.old.core call.now ≡ true }
     ensures same { real.new.core ≡ real.old.core }
     ensures room { OnOk result (HasRoom real.new call.now) }
@@ -90,11 +90,11 @@ fn begin_call(
         call.now) }
     ensures begun { let h = here_in known.now in let r = real.old.core in
         IfOk result (λ m. HasBegun h known.now.tree
-        (executed h r call.now) (shows h r call.now) (parts_of places.old out.old)
-        (parts_of places.new out.new) m.begun) }
-    ensures places { IfOk result (λ m. HasRoomFor places.new.nexts.room out.new.spare
+        (executed h r call.now) (shows h r call.now) (parts_of remotes.old out.old)
+        (parts_of remotes.new out.new) m.begun) }
+    ensures remotes { IfOk result (λ m. HasRoomFor remotes.new.nexts.room out.new.spare
         m.begun.telling) }
-    ensures err { OnErr result (parts_of places.new out.new ≡ parts_of places.old out.old) }
+    ensures err { OnErr result (parts_of remotes.new out.new ≡ parts_of remotes.old out.old) }
 {
     let after = real.prepare(&known.defs, call)?;
     let of = Subject {
@@ -104,7 +104,7 @@ fn begin_call(
         pos: after.pos,
         props: after.props_over(real.state()),
     };
-    let begun = begin(known, real, &of, after.changed, places, out)?;
+    let begun = begin(known, real, &of, after.changed, remotes, out)?;
     Ok(Made { after, begun })
 }
 
@@ -123,37 +123,37 @@ fn refused(real: Real, call: Call) -> Called
 pub fn execute_turn(
     known: &CellContext,
     turn: Turn,
-    places: &mut Places,
+    remotes: &mut Remotes,
     out: &mut Out<Msg>,
 ) -> Called
     requires me { known.now.me < cell_count }
     requires legal { AreLegal known.now.settings }
     requires size { known.now.tree.size ≡ known.now.settings.size }
-    requires there { IsThere (here_in known.now) known.now.tree turn.real.core }
+    requires there { IsRealInSpace (here_in known.now) known.now.tree turn.real.core }
     requires may { real_may_call (here_in known.now) turn.real.core turn.call ≡ true }
     requires in_turn { turn.call.number ≡ (order_of turn.real.core.orders turn.call.sender).next }
     ensures done { let h = here_in known.now in let r = turn.real.core in let before =
-        parts_of places.old out.old in
+        parts_of remotes.old out.old in
         OnOk result.result (IsDone
         (settled h known.now.tree (slot_in before r.entity r) (executed h r turn.call)
         (shows h r turn.call)) r.entity r
-        (option_map core_of result.left) before (parts_of places.new out.new)) }
+        (option_map core_of result.left) before (parts_of remotes.new out.new)) }
     ensures witness { IfSome result.left (λ q. q.core.witness ≡ turn.real.core.witness) }
 
     // If allocation fails, the call and the real come back and nothing has changed.
     ensures err { OnErr result.result (option_map core_of result.left ≡ Some turn.real.core) }
-    ensures err_parts { OnErr result.result (parts_of places.new out.new
-        ≡ parts_of places.old out.old) }
+    ensures err_parts { OnErr result.result (parts_of remotes.new out.new
+        ≡ parts_of remotes.old out.old) }
     ensures err_item { IfErr result.result (λ e. e.item ≡ turn.call) }
 {
     let Turn { mut real, call } = turn;
-    let Ok(made) = begin_call(known, &mut real, &call, places, out) else {
+    let Ok(made) = begin_call(known, &mut real, &call, remotes, out) else {
         return refused(real, call);
     };
     let Made { after, begun } = made;
     real.execute_after(call, after);
     Called {
-        left: settle_real(real, begun, places, out),
+        left: settle_real(real, begun, remotes, out),
         result: Ok(()),
     }
 }

@@ -9,7 +9,7 @@ ghost use Rattle.seam_cell_cases.specs.Beginning.{changed_at};
 
 use seam_call::Create;
 use seam_cell_parts::{
-    CellContext, EntityQueue, EntityRow, RealTable, Reals, make_place, put_in, take_out,
+    CellContext, EntityQueue, EntityRow, RealTable, Reals, make_room, put_in, take_out,
 };
 use seam_entity::{Real, Witness};
 use std::alloc::{AllocError, Global};
@@ -30,7 +30,7 @@ pub fn make_real(
 {
     let e = create.entity;
     let real = Real::create(alloc, &known.defs, e, create.ty, create.pos)?;
-    make_place(reals, e, false)?;
+    make_room(reals, e, false)?;
     put_in(reals, e, real);
     Ok(())
 }

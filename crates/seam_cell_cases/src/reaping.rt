@@ -8,7 +8,7 @@ ghost use Rattle.seam_cell_parts.specs.News.{listed};
 ghost use Rattle.seam_cell_parts.specs.Kept.{cell_of, AreKept};
 ghost use Rattle.seam_cell_parts.specs.declared.context.CellContext.{CellContext as AnyCellContext};
 
-use seam_cell_parts::{Lists, Places, Reals, close, put_in, take_out, unlist};
+use seam_cell_parts::{Lists, Reals, Remotes, close, put_in, take_out, unlist};
 use seam_entity::{Msg, Real, may_rise};
 use seam_machine::Out;
 use seam_tree::MOST_CELLS;
@@ -51,18 +51,18 @@ fn may_go(reals: &Reals, e: u32) -> bool
 pub fn reap(
     e: u32,
     reals: &mut Reals,
-    places: &mut Places,
+    remotes: &mut Remotes,
     lists: &mut Lists,
     out: &mut Out<Msg>,
 ) -> Result<(), AllocError>
     requires marks { AreKept reals.old }
     ensures state { (k : AnyCellContext) (from : ℕ) → OnOk result
-        (cell_of k reals.new places.new lists.new ≡ (cell_steps
-        (cell_of k reals.old places.old lists.old) (From from (msg.Reap e))).state) }
+        (cell_of k reals.new remotes.new lists.new ≡ (cell_steps
+        (cell_of k reals.old remotes.old lists.old) (From from (msg.Reap e))).state) }
     ensures sent { (k : AnyCellContext) (from : ℕ) → OnOk result (out.new.items ≡ out.old.items
-        ++ (cell_steps (cell_of k reals.old places.old lists.old) (From from (msg.Reap e))).sent) }
-    ensures err { (k : AnyCellContext) → OnErr result (cell_of k reals.new places.new lists.new
-        ≡ cell_of k reals.old places.old lists.old) }
+        ++ (cell_steps (cell_of k reals.old remotes.old lists.old) (From from (msg.Reap e))).sent) }
+    ensures err { (k : AnyCellContext) → OnErr result (cell_of k reals.new remotes.new lists.new
+        ≡ cell_of k reals.old remotes.old lists.old) }
     ensures err_out { OnErr result (out.new.items ≡ out.old.items) }
     ensures marks { AreKept reals.new }
 {
@@ -71,7 +71,7 @@ pub fn reap(
     }
     out.reserve(MOST_CELLS)?;
     let real = take_out(reals, e)?;
-    if let Err(error) = places.copies.drop_copy(e, real.beat() + 1) {
+    if let Err(error) = remotes.copies.drop_copy(e, real.beat() + 1) {
         put_in(reals, e, real);
         return Err(error);
     }

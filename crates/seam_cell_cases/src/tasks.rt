@@ -5,12 +5,12 @@ ghost use Rattle.seam_node_steps.specs.Prelude.{with_later, AreLegal, OrderView,
 ghost use Rattle.seam_node_steps.specs.Prelude.{may_execute, executed_ready, shows, HasReady, survey_task, ready_call_task};
 ghost use Rattle.seam_entity.specs.Executing.{with_deed};
 ghost use Rattle.seam_entity.specs.Preparing.{HasSpare};
-ghost use Rattle.seam_cell_parts.specs.Kept.{here_in, IsThere};
+ghost use Rattle.seam_cell_parts.specs.Kept.{here_in, IsRealInSpace};
 ghost use Rattle.seam_cell_parts.specs.Settling.{HasRoomFor};
 ghost use Rattle.seam_cell_parts.specs.Stepping.{HasBegun, IsDone, parts_of, slot_in, core_of};
 
 use crate::calls::Made;
-use seam_cell_parts::{CellContext, Places, Subject, begin, settle_real};
+use seam_cell_parts::{CellContext, Remotes, Subject, begin, settle_real};
 use seam_entity::{Msg, Real};
 use seam_machine::Out;
 use std::alloc::AllocError;
@@ -26,13 +26,13 @@ pub struct Tasked {
 fn begin_ready(
     known: &CellContext,
     real: &mut Real,
-    places: &mut Places,
+    remotes: &mut Remotes,
     out: &mut Out<Msg>,
 ) -> Result<Made, AllocError>
     requires me { known.now.me < cell_count }
     requires legal { AreLegal known.now.settings }
     requires size { known.now.tree.size ≡ known.now.settings.size }
-    requires there { IsThere (here_in known.now) known.now.tree real.old.core }
+    requires there { IsRealInSpace (here_in known.now) known.now.tree real.old.core }
     requires ready { has_ready real.old.core.orders ≡ true }
     requires may { may_execute real.old.core ≡ true }
     ensures same { real.new.core ≡ real.old.core }
@@ -45,12 +45,12 @@ fn begin_ready(
     ensures begun { (o : ℕ × OrderView AnyCall) (k : AnyCall) → HasReady real.old.core o k →
         let h = here_in known.now in let r = real.old.core in
         IfOk result (λ m. HasBegun h known.now.tree
-        (executed_ready h r o k) (shows h r k) (parts_of places.old out.old)
-        (parts_of places.new out.new) m.begun) }
+        (executed_ready h r o k) (shows h r k) (parts_of remotes.old out.old)
+        (parts_of remotes.new out.new) m.begun) }
     ensures entity { IfOk result (λ m. m.begun.telling.entity ≡ real.old.core.entity) }
-    ensures places { IfOk result (λ m. HasRoomFor places.new.nexts.room out.new.spare
+    ensures remotes { IfOk result (λ m. HasRoomFor remotes.new.nexts.room out.new.spare
         m.begun.telling) }
-    ensures err { OnErr result (parts_of places.new out.new ≡ parts_of places.old out.old) }
+    ensures err { OnErr result (parts_of remotes.new out.new ≡ parts_of remotes.old out.old) }
 {
     let after = real.prepare_ready(&known.defs)?;
     let of = Subject {
@@ -60,7 +60,7 @@ fn begin_ready(
         pos: after.pos,
         props: after.props_over(real.state()),
     };
-    let begun = begin(known, real, &of, after.changed, places, out)?;
+    let begun = begin(known, real, &of, after.changed, remotes, out)?;
     Ok(Made { after, begun })
 }
 
@@ -68,28 +68,28 @@ fn begin_ready(
 pub fn execute_ready(
     known: &CellContext,
     mut real: Real,
-    places: &mut Places,
+    remotes: &mut Remotes,
     out: &mut Out<Msg>,
 ) -> Tasked
     requires me { known.now.me < cell_count }
     requires legal { AreLegal known.now.settings }
     requires size { known.now.tree.size ≡ known.now.settings.size }
-    requires there { IsThere (here_in known.now) known.now.tree real.core }
+    requires there { IsRealInSpace (here_in known.now) known.now.tree real.core }
     requires ready { has_ready real.core.orders ≡ true }
     requires may { may_execute real.core ≡ true }
-    ensures done { let r = real.core in let before = parts_of places.old out.old in
+    ensures done { let r = real.core in let before = parts_of remotes.old out.old in
         OnOk result.result (IsDone
         (ready_call_task (here_in known.now) known.now.tree (slot_in before r.entity r) (Some r))
         r.entity r
-        (option_map core_of result.left) before (parts_of places.new out.new)) }
+        (option_map core_of result.left) before (parts_of remotes.new out.new)) }
     ensures witness { IfSome result.left (λ q. q.core.witness ≡ real.core.witness) }
 
     // If allocation fails, the real comes back and nothing has changed.
     ensures err { OnErr result.result (option_map core_of result.left ≡ Some real.core) }
-    ensures err_parts { OnErr result.result (parts_of places.new out.new
-        ≡ parts_of places.old out.old) }
+    ensures err_parts { OnErr result.result (parts_of remotes.new out.new
+        ≡ parts_of remotes.old out.old) }
 {
-    let Ok(made) = begin_ready(known, &mut real, places, out) else {
+    let Ok(made) = begin_ready(known, &mut real, remotes, out) else {
         return Tasked {
             left: Some(real),
             result: Err(AllocError),
@@ -98,7 +98,7 @@ pub fn execute_ready(
     let Made { after, begun } = made;
     real.execute_ready_after(after);
     Tasked {
-        left: settle_real(real, begun, places, out),
+        left: settle_real(real, begun, remotes, out),
         result: Ok(()),
     }
 }

@@ -8,7 +8,7 @@ use Rattle.std.proofs.lemmas.Bool.Decides.{nat_tests}
 use Rattle.seam_node_steps.specs.Prelude.{Ghost, copy_in, GhostCopy, Here, RealView, Map, known_by}
 use Rattle.seam_entity.specs.WitnessLooks.{other_of_real}
 use Rattle.seam_cell_seen.specs.Known.{known_with}
-use Rattle.seam_cell_told.specs.Told.{Told, told_of, AreTold, AreToldBut, AreStillTold}
+use Rattle.seam_cell_told.specs.Told.{Told, told_of, AreAsKnown, AreAsKnownBut, AreStillAsKnown}
 
 -- ---- a look, in which the real of the own entity is not among the others
 
@@ -17,8 +17,8 @@ module _ (h : Here) (reals : Map RealView) (ghosts : Map (Ghost GhostCopy)) (own
   apart e other = grind (arith, nat_tests, other)
 
   -- what is told of others is known without the own real
-  pub told_of_others : AreTold (known_with h reals ghosts) told →
-      (m : Map RealView) → m ≡ table.remove reals own → AreToldBut own (known_with h m ghosts) told
+  pub told_of_others : AreAsKnown (known_with h reals ghosts) told →
+      (m : Map RealView) → m ≡ table.remove reals own → AreAsKnownBut own (known_with h m ghosts) told
   told_of_others are m out e c other at =
       ap (λ o. known_by h o (copy_in (table.get ghosts e)))
       (ap (λ n. table.get n e) out ∙ (table.get-remove nat_cmp_total reals own e
@@ -26,7 +26,7 @@ module _ (h : Here) (reals : Map RealView) (ghosts : Map (Ghost GhostCopy)) (own
       ∙ are e c at
 
   module _ (now : Told) (m : Map RealView) (out : m ≡ table.remove reals own)
-      (are : AreTold (known_with h reals ghosts) told) (still : AreStillTold own (known_with h m ghosts) told now)
+      (are : AreAsKnown (known_with h reals ghosts) told) (still : AreStillAsKnown own (known_with h m ghosts) told now)
       (r q : RealView) (at : table.get reals own ≡ Some r) (alike : other_of_real h q ≡ other_of_real h r)
       (after : Map RealView) (put : after ≡ table.insert m own q) where
     by_entity : (t : Bool) (e : ℕ) (c : GhostCopy) → eqb e own ≡ t → told_of e now ≡ Some c → known_with h after ghosts e ≡ Some c
@@ -47,5 +47,5 @@ module _ (h : Here) (reals : Map RealView) (ghosts : Map (Ghost GhostCopy)) (own
         ∙ still.0 e c other told_it
 
     -- it is put back, and others see it as before
-    pub told_after_look : AreTold (known_with h after ghosts) now
+    pub told_after_look : AreAsKnown (known_with h after ghosts) now
     told_after_look e c told_it = by_entity (eqb e own) e c refl told_it

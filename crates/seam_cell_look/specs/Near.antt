@@ -1,4 +1,4 @@
--- What is near a witness, as the lists of places give it, and what it decides.
+-- What is near a witness, as the lists of locations give it, and what it decides.
 use Rattle.std.specs.Prelude.{◌≡◌, ℕ, Bool, true, false, not, nat_eq, nat_lt, List, filter, Option, None, Some}
 use Rattle.std.specs.Prelude.{T, if◌then◌else◌}
 use Rattle.std.specs.Ordering.{nat_cmp}
@@ -21,17 +21,17 @@ known_entity e g = (e, g)
 abbrev pub seen_of_entity : ℕ → GhostCopy → Seen
 seen_of_entity e g = seen_as (known_entity e g)
 
--- ---- lists of places
+-- ---- lists of locations
 
--- the place, if it is at distance at most d from a position
-abbrev pub place_within : Pos → ℕ → Option Location → Option Location
-place_within p d None = None
-place_within p d (Some x) = if is_within p d x then Some x else None
+-- the location, if it is at distance at most d from a position
+abbrev pub location_within : Pos → ℕ → Option Location → Option Location
+location_within p d None = None
+location_within p d (Some x) = if is_within p d x then Some x else None
 
--- a list, in rising number, of just the places at distance at most d from a position; of entity `own` it says nothing
-pub record AreNear (p : Pos) (d own : ℕ) (place : ℕ → Option Location) (xs : List (ℕ × Location)) : Type 0 where
+-- a list, in rising number, of just the locations at distance at most d from a position; of entity `own` it says nothing
+pub record AreNear (p : Pos) (d own : ℕ) (location : ℕ → Option Location) (xs : List (ℕ × Location)) : Type 0 where
   pub rising : T (is_sorted nat_cmp xs)
-  pub others : (q : ℕ) → nat_eq own q ≡ false → table.find nat_cmp q xs ≡ place_within p d (place q)
+  pub others : (q : ℕ) → nat_eq own q ≡ false → table.find nat_cmp q xs ≡ location_within p d (location q)
 
 -- ---- what it decides
 

@@ -15,10 +15,10 @@ ghost use Rattle.seam_cell_look.specs.Looking.{seeing, looked, told_at_look, own
 ghost use Rattle.seam_cell_look.specs.Near.{HasNear};
 ghost use Rattle.seam_cell_told.specs.Updates.{with_shown, updates_of};
 ghost use Rattle.seam_cell_seen.specs.Known.{known_with};
-ghost use Rattle.seam_cell_told.specs.Told.{AreTold, AreToldBut, AreStillTold};
+ghost use Rattle.seam_cell_told.specs.Told.{AreAsKnown, AreAsKnownBut, AreStillAsKnown};
 
 use seam_call::{GhostCopy, Shown};
-use seam_cell_parts::{CellContext, CopyBook, Lists, Places, RealTable, Reals, put_in, take_out};
+use seam_cell_parts::{CellContext, CopyBook, Lists, RealTable, Reals, Remotes, put_in, take_out};
 use seam_cell_seen::known_copy;
 use seam_cell_told::{ToldCopies, Updates};
 use seam_entity::{Msg, Real, Witness, is_small};
@@ -101,14 +101,14 @@ impl Sight<'_> {
         told: &mut ToldCopies,
     ) -> Result<Option<Shared<GhostCopy>>, AllocError>
         requires told { let h = here_in self.now.known.now in
-            AreToldBut self.now.own
+            AreAsKnownBut self.now.own
             (known_with h self.now.reals.now.items self.now.copies.now.ghosts) told.old }
         ensures copy { (c : CellView) →
             let d = seeing c (here_in self.now.known.now) self.now.reals.now.items
             self.now.copies.now.ghosts in
             IfOk result (λ o. o ≡ known_of e (known_to d self.now.own)) }
         ensures told { let h = here_in self.now.known.now in
-            AreStillTold self.now.own
+            AreStillAsKnown self.now.own
             (known_with h self.now.reals.now.items self.now.copies.now.ghosts) told.old told.new }
     {
         if e == self.own {
@@ -128,14 +128,14 @@ impl Sight<'_> {
     // What is shown for a look, if anything is.
     fn shown_for(&self, look: &Look, told: &mut ToldCopies) -> Result<Option<Shown>, AllocError>
         requires told { let h = here_in self.now.known.now in
-            AreToldBut self.now.own
+            AreAsKnownBut self.now.own
             (known_with h self.now.reals.now.items self.now.copies.now.ghosts) told.old }
         ensures shown { (c : CellView) →
             let d = seeing c (here_in self.now.known.now) self.now.reals.now.items
             self.now.copies.now.ghosts in
             IfOk result (λ o. o ≡ shown_for (known_to d self.now.own) look.now) }
         ensures told { let h = here_in self.now.known.now in
-            AreStillTold self.now.own
+            AreStillAsKnown self.now.own
             (known_with h self.now.reals.now.items self.now.copies.now.ghosts) told.old told.new }
     {
         let (e, enters) = match look {
@@ -155,7 +155,7 @@ impl Sight<'_> {
         shown: &mut Updates,
     ) -> Result<(), AllocError>
         requires told { let h = here_in self.now.known.now in
-            AreToldBut self.now.own
+            AreAsKnownBut self.now.own
             (known_with h self.now.reals.now.items self.now.copies.now.ghosts) told.old }
         ensures shown { (c : CellView) →
             let d = seeing c (here_in self.now.known.now) self.now.reals.now.items
@@ -163,7 +163,7 @@ impl Sight<'_> {
             OnOk result (shown.new
             ≡ with_shown shown.old (filter_map (shown_for (known_to d self.now.own)) looks.now)) }
         ensures told { let h = here_in self.now.known.now in
-            AreStillTold self.now.own
+            AreStillAsKnown self.now.own
             (known_with h self.now.reals.now.items self.now.copies.now.ghosts) told.old told.new }
     {
         for look in looks {
@@ -201,7 +201,7 @@ impl Sight<'_> {
         requires most { self.now.known.now.settings.bases ≤ MOST_BASE_NODES }
         requires small { witness.now.sent < 2 ^ 62 }
         requires told { let h = here_in self.now.known.now in
-            AreToldBut self.now.own
+            AreAsKnownBut self.now.own
             (known_with h self.now.reals.now.items self.now.copies.now.ghosts) told.old }
         ensures shown { (c : CellView) → let h = here_in self.now.known.now in
             let d = seeing c h self.now.reals.now.items self.now.copies.now.ghosts in
@@ -209,7 +209,7 @@ impl Sight<'_> {
             (all_shown h real.now.core (witness_of witness.now) (known_to d self.now.own)
             looks.now)) }
         ensures told { let h = here_in self.now.known.now in
-            AreStillTold self.now.own
+            AreStillAsKnown self.now.own
             (known_with h self.now.reals.now.items self.now.copies.now.ghosts) told.old told.new }
     {
         // Besides the looks there is the own state.
@@ -235,7 +235,7 @@ impl Sight<'_> {
         requires most { self.now.known.now.settings.bases ≤ MOST_BASE_NODES }
         requires small { witness.old.sent < 2 ^ 62 }
         requires told { let h = here_in self.now.known.now in
-            AreToldBut self.now.own
+            AreAsKnownBut self.now.own
             (known_with h self.now.reals.now.items self.now.copies.now.ghosts) told.old }
         ensures same { witness_of witness.new ≡ witness_of witness.old }
         ensures rising { IfOk result (λ g. IsStrictlySortedBy nat_cmp
@@ -255,7 +255,7 @@ impl Sight<'_> {
             (shown_of h real.now.core (witness_of witness.old) (known_to d self.now.own))) }
         ensures room { IfOk result (λ g. HasRoom witness.new.view g.looks.items) }
         ensures told { let h = here_in self.now.known.now in
-            AreStillTold self.now.own
+            AreStillAsKnown self.now.own
             (known_with h self.now.reals.now.items self.now.copies.now.ghosts) told.old told.new }
     {
         let own = real.state().pos;
@@ -277,7 +277,7 @@ impl Sight<'_> {
         requires bases { 1 ≤ self.now.known.now.settings.bases }
         requires most { self.now.known.now.settings.bases ≤ MOST_BASE_NODES }
         requires told { let h = here_in self.now.known.now in
-            AreToldBut self.now.own
+            AreAsKnownBut self.now.own
             (known_with h self.now.reals.now.items self.now.copies.now.ghosts) told.old }
         ensures witness { (c : CellView) → let h = here_in self.now.known.now in
             let d = seeing c h self.now.reals.now.items self.now.copies.now.ghosts in
@@ -291,7 +291,7 @@ impl Sight<'_> {
         ensures err { OnErr result (witness_of witness.new ≡ witness_of witness.old) }
         ensures err_out { OnErr result (out.new.items ≡ out.old.items) }
         ensures told { let h = here_in self.now.known.now in
-            AreStillTold self.now.own
+            AreStillAsKnown self.now.own
             (known_with h self.now.reals.now.items self.now.copies.now.ghosts) told.old told.new }
     {
         if !is_small(witness.sent) {
@@ -367,7 +367,8 @@ fn look_around(
     requires marks { AreKept reals.old }
     requires bases { 1 ≤ known.now.settings.bases }
     requires most { known.now.settings.bases ≤ MOST_BASE_NODES }
-    requires told { AreTold (known_with (here_in known.now) reals.old.items.items copies.now.ghosts)
+    requires told { AreAsKnown
+        (known_with (here_in known.now) reals.old.items.items copies.now.ghosts)
         told.old }
     ensures reals { (c : CellView) →
         let d = seeing c (here_in known.now) reals.old.items.items copies.now.ghosts in
@@ -380,7 +381,8 @@ fn look_around(
     ensures err { OnErr result (reals.new.items.items ≡ reals.old.items.items) }
     ensures err_out { OnErr result (out.new.items ≡ out.old.items) }
     ensures marks { AreKept reals.new }
-    ensures told { AreTold (known_with (here_in known.now) reals.new.items.items copies.now.ghosts)
+    ensures told { AreAsKnown
+        (known_with (here_in known.now) reals.new.items.items copies.now.ghosts)
         told.new }
 {
     if !has_witness(reals, e) {
@@ -409,7 +411,7 @@ pub fn look_task(
     alloc: Global,
     known: &CellContext,
     reals: &mut Reals,
-    places: &mut Places,
+    remotes: &mut Remotes,
     lists: &mut Lists,
     told: &mut ToldCopies,
     out: &mut Out<Msg>,
@@ -417,24 +419,26 @@ pub fn look_task(
     requires marks { AreKept reals.old }
     requires bases { 1 ≤ known.now.settings.bases }
     requires most { known.now.settings.bases ≤ MOST_BASE_NODES }
-    requires told { AreTold (known_at (cell_of known.now reals.old places.old lists.old)) told.old }
-    ensures state { let c = cell_of known.now reals.old places.old lists.old in
-        OnOk result (cell_of known.now reals.new places.new lists.new
+    requires told { AreAsKnown
+        (known_at (cell_of known.now reals.old remotes.old lists.old)) told.old }
+    ensures state { let c = cell_of known.now reals.old remotes.old lists.old in
+        OnOk result (cell_of known.now reals.new remotes.new lists.new
         ≡ (look_next c lists.old.looks).state) }
-    ensures sent { let c = cell_of known.now reals.old places.old lists.old in
+    ensures sent { let c = cell_of known.now reals.old remotes.old lists.old in
         OnOk result (out.new.items ≡ out.old.items ++ (look_next c lists.old.looks).sent) }
-    ensures err { OnErr result (cell_of known.now reals.new places.new lists.new
-        ≡ cell_of known.now reals.old places.old lists.old) }
+    ensures err { OnErr result (cell_of known.now reals.new remotes.new lists.new
+        ≡ cell_of known.now reals.old remotes.old lists.old) }
     ensures err_out { OnErr result (out.new.items ≡ out.old.items) }
     ensures marks { AreKept reals.new }
-    ensures told { AreTold (known_at (cell_of known.now reals.new places.new lists.new)) told.new }
+    ensures told { AreAsKnown
+        (known_at (cell_of known.now reals.new remotes.new lists.new)) told.new }
 {
     let Some(e) = lists.looks.first() else {
         return Ok(());
     };
     reals.items.locate(alloc);
-    places.copies.locate(alloc);
-    look_around(alloc, known, e, reals, &places.copies, told, out)?;
+    remotes.copies.locate(alloc);
+    look_around(alloc, known, e, reals, &remotes.copies, told, out)?;
     let _ = lists.looks.take_first();
     Ok(())
 }

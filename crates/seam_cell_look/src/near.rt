@@ -1,4 +1,4 @@
-//! What a cell knows of others that are near, by the lists of places that are kept beside its reals and copies.
+//! What a cell knows of others that are near, by the lists of locations that are kept beside its reals and copies.
 
 ghost use Rattle.std.specs.Prelude.{◌≡◌, ◌<◌, ◌+◌, ◌++◌, [], ◌∷◌, length, map, filter, not, IfOk, OnOk, IfSome, IfNone, option_map};
 ghost use Rattle.std.specs.Prelude.{if◌then◌else◌};
@@ -12,7 +12,7 @@ ghost use Rattle.seam_cell_parts.specs.Kept.{here_in};
 ghost use Rattle.seam_cell_look.specs.Looking.{seeing};
 ghost use Rattle.seam_cell_look.specs.Near.{is_near, HasNear, was_newer, is_early, seen_of_entity, AreNear};
 ghost use Rattle.seam_range.specs.Locations.{is_within};
-ghost use Rattle.seam_cell_parts.specs.Spots.{real_places, copy_places};
+ghost use Rattle.seam_cell_parts.specs.Spots.{real_locations, copy_locations};
 
 use crate::looking::{Sight, seen_copy, seen_real};
 use seam_cell_seen::joined;
@@ -22,11 +22,11 @@ use seam_view::{Look, Seen, View};
 use std::alloc::{AllocError, Global};
 
 // Those at distance at most d from the position.
-fn those_within(mut places: Vec<(u32, Location)>, p: Pos, d: u32) -> Vec<(u32, Location)>
-    ensures { result.items ≡ filter (λ e. is_within p d e.1) places.items }
+fn those_within(mut locations: Vec<(u32, Location)>, p: Pos, d: u32) -> Vec<(u32, Location)>
+    ensures { result.items ≡ filter (λ e. is_within p d e.1) locations.items }
 {
-    places.retain(|(_, place)| dist(p, place.pos) <= d);
-    places
+    locations.retain(|(_, location)| dist(p, location.pos) <= d);
+    locations
 }
 
 // Whether a greater version was shown than is known.
@@ -60,8 +60,8 @@ impl Sight<'_> {
             self.now.copies.now.ghosts in
             IfOk result (λ v. v.items ≡ map seen_as (known_to d self.now.own)) }
     {
-        let reals = self.reals.places(self.alloc)?;
-        let copies = self.copies.places(self.alloc)?;
+        let reals = self.reals.locations(self.alloc)?;
+        let copies = self.copies.locations(self.alloc)?;
         let seen = joined(self.alloc, self.own, self.reals, &reals, copies)?;
         Ok(seen)
     }
@@ -74,10 +74,10 @@ impl Sight<'_> {
         expected: usize,
     ) -> Result<Vec<(u32, Location)>, AllocError>
         ensures { IfOk result (λ v. AreNear own reach self.now.own
-            (real_places self.now.reals.now.items) v.items) }
+            (real_locations self.now.reals.now.items) v.items) }
     {
         let Some(list) = self.reals.spots_beside(self.own) else {
-            let all = self.reals.places(self.alloc)?;
+            let all = self.reals.locations(self.alloc)?;
             return Ok(those_within(all, own, reach));
         };
         let near = list.within(own, reach, expected)?;
@@ -92,10 +92,10 @@ impl Sight<'_> {
         expected: usize,
     ) -> Result<Vec<(u32, Location)>, AllocError>
         ensures { IfOk result (λ v. AreNear own reach self.now.own
-            (copy_places self.now.copies.now.ghosts) v.items) }
+            (copy_locations self.now.copies.now.ghosts) v.items) }
     {
         let Some(list) = self.copies.spots_beside(self.own) else {
-            let all = self.copies.places(self.alloc)?;
+            let all = self.copies.locations(self.alloc)?;
             return Ok(those_within(all, own, reach));
         };
         let near = list.within(own, reach, expected)?;

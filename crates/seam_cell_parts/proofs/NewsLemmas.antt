@@ -11,7 +11,7 @@ use Rattle.std.proofs.lemmas.List.Elements.{filter_map-append}
 use Rattle.seam_node_steps.specs.Prelude.{Cells, GhostCopy, RealView, Here, cell_numbers, told, told_unless, ghost_message, ghost_messages}
 use Rattle.seam_node_steps.specs.Prelude.{Telling, Nothing, word}
 use Rattle.seam_haunt.specs.Telling.{word_at}
-use Rattle.seam_cell_parts.specs.News.{said, listed, told_by, news, Tells}
+use Rattle.seam_cell_parts.specs.News.{message_for, listed, told_by, news, IsTellingOf}
 
 pub range_more : (a n : ℕ) → range_with_len a (suc n) ≡ range_with_len a n ++ (a + n) ∷ []
 range_more a zero = ap (λ k. k ∷ []) (let e : a ≡ a + zero = omega arith in e)
@@ -32,7 +32,7 @@ told_more f n =
     ∙ (ap (filter_map f) (range_more 0 n ∙ ap (λ k. range_with_len 0 n ++ k ∷ []) (let z : 0 + n ≡ n = omega arith in z))
     ∙ (filter_map-append f (range_with_len 0 n) (n ∷ []) ∙ ap (λ l. filter_map f (range_with_len 0 n) ++ l) (one_listed (f n))))
 
-pub news_more : (t : Telling) (g : GhostCopy) (n : ℕ) → news t g (n + 1) ≡ news t g n ++ listed (said t g n (word t n))
+pub news_more : (t : Telling) (g : GhostCopy) (n : ℕ) → news t g (n + 1) ≡ news t g n ++ listed (message_for t g n (word t n))
 news_more t g n = told_more (told_by t g) n
 
 unless_here : (b changed : Bool) → cond b Nothing (word_at false false changed) ≡ Nothing
@@ -44,7 +44,7 @@ pub news_same : (t : Telling) (g : GhostCopy) (n : ℕ) → set.contains t.haunt
     news t g (n + 1) ≡ news t g n
 news_same t g n away was =
     let nothing : word t n ≡ Nothing = rw (away, was) (unless_here (eqb n t.me || eqb n t.home) t.changed) in
-    news_more t g n ∙ (ap (λ w. news t g n ++ listed (said t g n w)) nothing ∙ append-nil (news t g n))
+    news_more t g n ∙ (ap (λ w. news t g n ++ listed (message_for t g n w)) nothing ∙ append-nil (news t g n))
 
 -- no cell from n on is a haunt or was one
 abbrev pub NoneFrom : Telling → ℕ → Type 0
@@ -86,26 +86,26 @@ left_none haunts old t n left none was k low =
     )
 
 module _ (t : Telling) (g : GhostCopy) (k : ℕ) where
-  word_told : (a b c : Bool) → said t g k (word_at a b c) ≡ told_unless false k (told t.entity t.beat g a b c)
+  word_told : (a b c : Bool) → message_for t g k (word_at a b c) ≡ told_unless false k (told t.entity t.beat g a b c)
   word_told true true true = refl
   word_told true true false = refl
   word_told true false c = refl
   word_told false true c = refl
   word_told false false c = refl
 
-  said_told : (b : Bool) → said t g k (cond b Nothing (word_at (set.contains t.haunts k) (set.contains t.old k) t.changed))
+  said_told : (b : Bool) → message_for t g k (cond b Nothing (word_at (set.contains t.haunts k) (set.contains t.old k) t.changed))
       ≡ told_unless b k (told t.entity t.beat g (set.contains t.haunts k) (set.contains t.old k) t.changed)
   said_told true = refl
   said_told false = word_told (set.contains t.haunts k) (set.contains t.old k) t.changed
 
 -- the same for the real of which is told
-one_told : (h : Here) (r : RealView) (t : Telling) (g : GhostCopy) → Tells h r t g → (k : ℕ) →
+one_told : (h : Here) (r : RealView) (t : Telling) (g : GhostCopy) → IsTellingOf h r t g → (k : ℕ) →
     told_by t g k ≡ ghost_message h r t.home t.haunts t.changed k
 one_told h r t g is k =
     said_told t g k (eqb k t.me || eqb k t.home)
     ∙ λ i. told_unless (eqb k (is.me i) || eqb k t.home) k
     (told (is.entity i) (is.beat i) (is.copy i) (set.contains t.haunts k) (set.contains (is.old i) k) t.changed)
 
-pub all_told : (h : Here) (r : RealView) (t : Telling) (g : GhostCopy) → Tells h r t g →
+pub all_told : (h : Here) (r : RealView) (t : Telling) (g : GhostCopy) → IsTellingOf h r t g →
     news t g 16 ≡ ghost_messages h r t.home t.haunts t.changed
 all_told h r t g is = ap (λ f. filter_map f cell_numbers) (λ i k. one_told h r t g is k i)

@@ -14,7 +14,7 @@ use Rattle.seam_node_steps.specs.Prelude.{ghost_message, ghost_messages, copy_if
 use Rattle.seam_node_steps.specs.Settle.{stayed}
 use Rattle.seam_node_steps.proofs.Slots.{set_at-same}
 use Rattle.seam_cell_parts.specs.declared.settle.Begun.{Begun}
-use Rattle.seam_cell_parts.specs.News.{Tells, news}
+use Rattle.seam_cell_parts.specs.News.{IsTellingOf, news}
 use Rattle.seam_cell_parts.specs.Settling.{former, staying, going, IsGone, IsAtRest}
 use Rattle.seam_cell_parts.specs.Stepping.{telling_at, IsLater, heard, told_of, HasBegun, PartsView, slot_in, IsDone}
 use Rattle.seam_cell_parts.proofs.NewsLemmas.{all_told}
@@ -89,7 +89,7 @@ module _ (h : Here) (t : Division) (r later : RealView) (changed : Bool) (is : I
     told_later : told ≡ telling_at h t later later.state.pos changed
     told_later = is_told ∙ same_telling later.state.pos
 
-    tells : Tells h later told g
+    tells : IsTellingOf h later told g
     tells = record {
       me = ap (λ x. x.me) told_later;
       entity = ap (λ x. x.entity) told_later;

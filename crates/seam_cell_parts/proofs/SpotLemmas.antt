@@ -16,7 +16,7 @@ use Rattle.std.proofs.lemmas.Bool.Decides.{nat_tests}
 use Rattle.seam_table.specs.Tables.{TableView, with_each}
 use Rattle.seam_table.proofs.Changed.{got_changed}
 use Rattle.seam_range.specs.declared.Location.{Location}
-use Rattle.seam_range.specs.Locations.{Places}
+use Rattle.seam_range.specs.Locations.{Locations}
 use Rattle.seam_node_steps.specs.Prelude.{Ghost, BookView, copy_in, copied, beat_of, with_ghost, after_message, GhostCopy, RealView}
 use Rattle.seam_node_steps.specs.Prelude.{real_begins, Map, set_at, or_else}
 use Rattle.seam_ghosts.specs.declared.Kept.TheVariants.{Taken, Ignored}
@@ -24,12 +24,13 @@ use Rattle.seam_ghosts.specs.Book.{answer}
 use Rattle.seam_node_steps.proofs.Slots.{get-set_at}
 use Rattle.seam_node_steps.proofs.Sorted.{first, second, find_append, find_mapped, sorted_mapped}
 use Rattle.seam_node_steps.proofs.Knowing.{find_copied, copies_rise}
-use Rattle.seam_cell_parts.specs.Spots.{is_out, is_none_else_out, still_out, AreNoted, AreListed, IsNoted, IsChanged, place_of_real}
-use Rattle.seam_cell_parts.specs.Spots.{place_of_copy, real_places, copy_places, placed_reals, placed_copies}
+use Rattle.seam_cell_parts.specs.Spots.{is_out, is_none_else_out, still_out, AreNoted, AreListed, IsNoted, IsChanged, location_of_real}
+use Rattle.seam_cell_parts.specs.Spots.{location_of_copy, real_locations, copy_locations, located_reals, located_copies}
 
 -- ---- a list that is kept
 
-noted_by : (l : Places) (out left : Option ℕ) (e : ℕ) (o : Option Location) (before after : ℕ → Option Location) → AreNoted l out before →
+noted_by : (l : Locations) (out left : Option ℕ) (e : ℕ) (o : Option Location) (before after : ℕ → Option Location) →
+    AreNoted l out before →
     IsChanged before after e o → ((q : ℕ) → is_out left q ≡ false → eq_by_cmp nat_cmp q e ≡ false → is_out out q ≡ false) →
     AreNoted (set_at l e o) left after
 noted_by l out left e o before after are changed others q not =
@@ -39,8 +40,8 @@ noted_by l out left e o before after are changed others q not =
     by true same = refl
     by false apart = are q (others q not apart)
 
--- after the place of one entity changed
-noted_in : (old new : Option Places) (out left : Option ℕ) (e : ℕ) (o : Option Location) (before after : ℕ → Option Location) →
+-- after the location of one entity changed
+noted_in : (old new : Option Locations) (out left : Option ℕ) (e : ℕ) (o : Option Location) (before after : ℕ → Option Location) →
     IsNoted old new e o →
     AreListed old out before → IsChanged before after e o →
     ((q : ℕ) → is_out left q ≡ false → eq_by_cmp nat_cmp q e ≡ false → is_out out q ≡ false) → AreListed new left after
@@ -59,20 +60,20 @@ others_in (Some x) e q not apart = by (eqb x e) refl not
     by false other h = h
 
 -- and the entity is not out from then on
-pub noted_after : (old new : Option Places) (out left : Option ℕ) (e : ℕ) (o : Option Location) (before after : ℕ → Option Location) →
+pub noted_after : (old new : Option Locations) (out left : Option ℕ) (e : ℕ) (o : Option Location) (before after : ℕ → Option Location) →
     left ≡ still_out out e → IsNoted old new e o → AreListed old out before → IsChanged before after e o → AreListed new left after
 noted_after old new out left e o before after is noted are changed =
     noted_in old new out left e o before after noted are changed
     (λ q not apart. others_in out e q (ap (λ x. is_out x q) (sym is) ∙ not) apart)
 
 -- and the one that is out stays so
-pub noted_beside : (old new : Option Places) (out : Option ℕ) (e : ℕ) (o : Option Location) (before after : ℕ → Option Location) →
+pub noted_beside : (old new : Option Locations) (out : Option ℕ) (e : ℕ) (o : Option Location) (before after : ℕ → Option Location) →
     IsNoted old new e o → AreListed old out before → IsChanged before after e o → AreListed new out after
 noted_beside old new out e o before after noted are changed = noted_in old new out out e o before after noted are changed
     (λ q not apart. not)
 
 -- where the entity is out from then on, and no other one was
-pub noted_out : (s : Option Places) (out : Option ℕ) (e : ℕ) (before after : ℕ → Option Location) →
+pub noted_out : (s : Option Locations) (out : Option ℕ) (e : ℕ) (before after : ℕ → Option Location) →
     ((q : ℕ) → eqb e q ≡ false → is_out out q ≡ false) → AreListed s out before → IsChanged before after e None → AreListed s (Some e) after
 noted_out None out e before after others are changed = tt
 noted_out (Some l) out e before after others are changed = λ q not.
@@ -84,54 +85,55 @@ none_else None e is q not = refl
 none_else (Some x) e is q not = grind (arith, nat_tests, is, not)
 
 -- of entities other than e, where none but e is out
-pub noted_others : (s : Option Places) (out : Option ℕ) (e : ℕ) (place : ℕ → Option Location) →
-    ((q : ℕ) → eqb e q ≡ false → is_out out q ≡ false) → AreListed s out place → IfSome s (λ l. AreNoted l (Some e) place)
-noted_others None out e place others are = tt
-noted_others (Some l) out e place others are = λ q not. are q (others q not)
+pub noted_others : (s : Option Locations) (out : Option ℕ) (e : ℕ) (location : ℕ → Option Location) →
+    ((q : ℕ) → eqb e q ≡ false → is_out out q ≡ false) → AreListed s out location → IfSome s (λ l. AreNoted l (Some e) location)
+noted_others None out e location others are = tt
+noted_others (Some l) out e location others are = λ q not. are q (others q not)
 
-pub copied_has : (o : Option (Bor Places)) (s : Option Places) (P : Places → Type 0) → option_copied o ≡ s → IfSome s P →
+pub copied_has : (o : Option (Bor Locations)) (s : Option Locations) (P : Locations → Type 0) → option_copied o ≡ s → IfSome s P →
     IfSome o (λ l. P l.now)
 copied_has None s P is h = tt
 copied_has (Some l) s P is h = subst (λ x. IfSome x P) (sym is) h
 
 -- where no list is kept
-pub none_kept : (s : Option Places) (out : Option ℕ) (place : ℕ → Option Location) → is_some s ≡ false → AreListed s out place
-none_kept None out place is = tt
-none_kept (Some l) out place is = cc
+pub none_kept : (s : Option Locations) (out : Option ℕ) (location : ℕ → Option Location) → is_some s ≡ false → AreListed s out location
+none_kept None out location is = tt
+none_kept (Some l) out location is = cc
 
--- ---- places of reals and copies after a change
+-- ---- locations of reals and copies after a change
 
 map_cond : {X Y : Type 0} (f : X → Y) (b : Bool) (o p : Option X) → option_map f (cond b o p) ≡ cond b (option_map f o) (option_map f p)
 map_cond f true o p = refl
 map_cond f false o p = refl
 
 pub real_set : (m : Map RealView) (e : ℕ) (o : Option RealView) (q : ℕ) →
-    real_places (set_at m e o) q ≡ cond (eq_by_cmp nat_cmp q e) (option_map place_of_real o) (real_places m q)
+    real_locations (set_at m e o) q ≡ cond (eq_by_cmp nat_cmp q e) (option_map location_of_real o) (real_locations m q)
 real_set m e o q =
-    ap (option_map place_of_real) (get-set_at m e q o) ∙ map_cond place_of_real (eq_by_cmp nat_cmp q e) o (map.get m q)
+    ap (option_map location_of_real) (get-set_at m e q o) ∙ map_cond location_of_real (eq_by_cmp nat_cmp q e) o (map.get m q)
 
 -- a round that begins moves no real
-pub reals_stay : (w : TableView RealView) → real_places (with_each real_begins w).items ≡ real_places w.items
-reals_stay w = λ i q. (ap (option_map place_of_real) (got_changed real_begins w.items q) ∙ by (map.get w.items q)) i
+pub reals_stay : (w : TableView RealView) → real_locations (with_each real_begins w).items ≡ real_locations w.items
+reals_stay w = λ i q. (ap (option_map location_of_real) (got_changed real_begins w.items q) ∙ by (map.get w.items q)) i
   where
-    by : (o : Option RealView) → option_map place_of_real (option_map real_begins o) ≡ option_map place_of_real o
+    by : (o : Option RealView) → option_map location_of_real (option_map real_begins o) ≡ option_map location_of_real o
     by None = refl
     by (Some r) = refl
 
--- the places of copies after a message about the entity that is taken
+-- the locations of copies after a message about the entity that is taken
 pub copy_changed : (w : BookView GhostCopy) (e : ℕ) (g : Ghost GhostCopy) → Taken ≡ answer (beat_of w e) g.beat → (q : ℕ) →
-    copy_places (after_message w e g).ghosts q
-    ≡ cond (eq_by_cmp nat_cmp q e) (option_map place_of_copy g.copy) (copy_places w.ghosts q)
+    copy_locations (after_message w e g).ghosts q
+    ≡ cond (eq_by_cmp nat_cmp q e) (option_map location_of_copy g.copy) (copy_locations w.ghosts q)
 copy_changed w e g is q =
-    ap (λ b. option_map place_of_copy (copy_in (map.get (cond b (with_ghost w e g) w).ghosts q))) (later (nat_lt (beat_of w e) g.beat) is)
-    ∙ (ap (λ x. option_map place_of_copy (copy_in x)) (get-set_at w.ghosts e q (Some g)) ∙ at (eq_by_cmp nat_cmp q e))
+    ap (λ b. option_map location_of_copy (copy_in (map.get (cond b (with_ghost w e g) w).ghosts q)))
+    (later (nat_lt (beat_of w e) g.beat) is)
+    ∙ (ap (λ x. option_map location_of_copy (copy_in x)) (get-set_at w.ghosts e q (Some g)) ∙ at (eq_by_cmp nat_cmp q e))
   where
     later : (b : Bool) → Taken ≡ cond b Taken Ignored → b ≡ true
     later true h = refl
     later false h = cc
 
-    at : (b : Bool) → option_map place_of_copy (copy_in (cond b (Some g) (map.get w.ghosts q)))
-        ≡ cond b (option_map place_of_copy g.copy) (copy_places w.ghosts q)
+    at : (b : Bool) → option_map location_of_copy (copy_in (cond b (Some g) (map.get w.ghosts q)))
+        ≡ cond b (option_map location_of_copy g.copy) (copy_locations w.ghosts q)
     at true = refl
     at false = refl
 
@@ -181,7 +183,7 @@ module _ {X : Type 0} (es : List (ℕ × X)) (sorted : T (is_sorted nat_cmp es))
       ∙ ap (λ b. cond b (Some entry.1) (map.find nat_cmp entry.0 later)) (itself entry.0)))
 
 -- an entry more in a list that has those before it
-pub listed_more : (es : List (ℕ × Location)) (i : ℕ) (d : ℕ × Location) (l now : Places) → T (is_sorted nat_cmp es) → i < length es →
+pub listed_more : (es : List (ℕ × Location)) (i : ℕ) (d : ℕ × Location) (l now : Locations) → T (is_sorted nat_cmp es) → i < length es →
     now ≡ map.insert l (get_or es i d).0 (get_or es i d).1 → ((q : ℕ) → map.get l q ≡ map.find nat_cmp q (take i es)) → (q : ℕ) →
     map.get now q ≡ map.find nat_cmp q (take (i + 1) es)
 listed_more es i d l now sorted lt put so_far q =
@@ -192,28 +194,28 @@ listed_more es i d l now sorted lt put so_far q =
     ∙ sym (ap (map.find nat_cmp q) (take_more es i d lt)
     ∙ find-append nat_cmp nat_cmp_total (take i es) y.0 y.1 q (new_entry es sorted i d lt))))
 
-pub all_listed : (es : List (ℕ × Location)) (l : Places) → T (is_sorted nat_cmp es) → ((q : ℕ) → map.get l q ≡ map.find nat_cmp q es) →
+pub all_listed : (es : List (ℕ × Location)) (l : Locations) → T (is_sorted nat_cmp es) → ((q : ℕ) → map.get l q ≡ map.find nat_cmp q es) →
     l ≡ map.from_sorted es
 all_listed es l sorted are =
     map.same_map nat_cmp_total map.nat_cmp-IsAntisymmetric l (map.from_sorted es)
     (λ q. are q ∙ sym (map.get-from_sorted nat_cmp es q sorted))
 
 -- what such a list is kept for
-pub kept_noted : (list : Option Places) (out : Option ℕ) (es : List (ℕ × Location)) (place : ℕ → Option Location) →
+pub kept_noted : (list : Option Locations) (out : Option ℕ) (es : List (ℕ × Location)) (location : ℕ → Option Location) →
     T (is_sorted nat_cmp es) →
-    list ≡ Some (map.from_sorted es) → out ≡ None → ((q : ℕ) → map.find nat_cmp q es ≡ place q) → AreListed list out place
-kept_noted list out es place sorted is none are =
-    subst (λ l. AreListed l out place) (sym is) (λ q not. map.get-from_sorted nat_cmp es q sorted ∙ are q)
+    list ≡ Some (map.from_sorted es) → out ≡ None → ((q : ℕ) → map.find nat_cmp q es ≡ location q) → AreListed list out location
+kept_noted list out es location sorted is none are =
+    subst (λ l. AreListed l out location) (sym is) (λ q not. map.get-from_sorted nat_cmp es q sorted ∙ are q)
 
--- ---- the places of entries, by their numbers
+-- ---- the locations of entries, by their numbers
 
 module _ {X : Type 0} (f : X → Location) (es : List (ℕ × X)) (sorted : T (is_sorted nat_cmp es)) (ns : List ℕ) (are : ns ≡ keys_of es)
     (i : ℕ) where
   abbrev number : ℕ
   number = get_or ns i 0
 
-  abbrev placed : List (ℕ × X) → List (ℕ × Location)
-  placed xs = each (λ x. (x.0, f x.1)) xs
+  abbrev located : List (ℕ × X) → List (ℕ × Location)
+  located xs = each (λ x. (x.0, f x.1)) xs
 
   module _ (lt : i < length ns) where
     in_keys : i < length (keys_of es)
@@ -231,9 +233,9 @@ module _ {X : Type 0} (f : X → Location) (es : List (ℕ × X)) (sorted : T (i
         let missing = ap is_some none in
         cc
 
-    pub placed_more : (x : X) (old new : List (ℕ × Location)) → Some x ≡ map.find nat_cmp number es → old ≡ placed (take i es) →
-        new ≡ old ++ (number, f x) ∷ [] → new ≡ placed (take (i + 1) es)
-    placed_more x old new found so_far more =
+    pub located_more : (x : X) (old new : List (ℕ × Location)) → Some x ≡ map.find nat_cmp number es → old ≡ located (take i es) →
+        new ≡ old ++ (number, f x) ∷ [] → new ≡ located (take (i + 1) es)
+    located_more x old new found so_far more =
         let d : ℕ × X = (0, x) in
         let key : number ≡ (get_or es i d).0 = ap (λ l. get_or l i 0) are ∙ get_or-map (λ e. e.0) es i d 0 in_entries in
         let value : Some x ≡ Some (get_or es i d).1 = found ∙ (ap (λ n. map.find nat_cmp n es) key ∙ entry_found es sorted i d in_entries)
@@ -241,14 +243,14 @@ module _ {X : Type 0} (f : X → Location) (es : List (ℕ × X)) (sorted : T (i
         let inner : x ≡ (get_or es i d).1 = cc in
         more
         ∙ (ap (λ l. l ++ (number, f x) ∷ []) so_far
-        ∙ ((λ j. placed (take i es) ++ (key j, f (inner j)) ∷ [])
-        ∙ sym (ap placed (take_more es i d in_entries) ∙ map-append (λ x. (x.0, f x.1)) (take i es) (get_or es i d ∷ []))))
+        ∙ ((λ j. located (take i es) ++ (key j, f (inner j)) ∷ [])
+        ∙ sym (ap located (take_more es i d in_entries) ∙ map-append (λ x. (x.0, f x.1)) (take i es) (get_or es i d ∷ []))))
 
-  pub all_placed : (old : List (ℕ × Location)) → length ns ≤ i → old ≡ placed (take i es) → old ≡ placed es
-  all_placed old end so_far =
-      so_far ∙ ap placed (take_all i es (subst (λ n. n ≤ i) (ap length are ∙ length-map es (λ e. e.0)) end))
+  pub all_located : (old : List (ℕ × Location)) → length ns ≤ i → old ≡ located (take i es) → old ≡ located es
+  all_located old end so_far =
+      so_far ∙ ap located (take_all i es (subst (λ n. n ≤ i) (ap length are ∙ length-map es (λ e. e.0)) end))
 
--- ---- the places of all reals, and of all copies
+-- ---- the locations of all reals, and of all copies
 
 pub find_real : (m : Map RealView) (e : ℕ) → map.get m e ≡ map.find nat_cmp e (map.entries m)
 find_real m e = map.get-entries m e
@@ -256,18 +258,18 @@ find_real m e = map.get-entries m e
 pub find_copy : (m : Map (Ghost GhostCopy)) (e : ℕ) → copy_in (map.get m e) ≡ map.find nat_cmp e (copied (map.entries m))
 find_copy m e = ap copy_in (map.get-entries m e) ∙ sym (find_copied e (map.entries m) (map.entries_sorted m))
 
-pub real_list : (m : Map RealView) (q : ℕ) → map.find nat_cmp q (placed_reals m) ≡ real_places m q
-real_list m q = find_mapped (λ e. place_of_real) q (map.entries m) ∙ ap (option_map place_of_real) (sym (find_real m q))
+pub real_list : (m : Map RealView) (q : ℕ) → map.find nat_cmp q (located_reals m) ≡ real_locations m q
+real_list m q = find_mapped (λ e. location_of_real) q (map.entries m) ∙ ap (option_map location_of_real) (sym (find_real m q))
 
-pub reals_rise : (m : Map RealView) → T (is_sorted nat_cmp (placed_reals m))
-reals_rise m = sorted_mapped (λ e. place_of_real) (map.entries m) (map.entries_sorted m)
+pub reals_rise : (m : Map RealView) → T (is_sorted nat_cmp (located_reals m))
+reals_rise m = sorted_mapped (λ e. location_of_real) (map.entries m) (map.entries_sorted m)
 
-pub copy_list : (m : Map (Ghost GhostCopy)) (q : ℕ) → map.find nat_cmp q (placed_copies m) ≡ copy_places m q
+pub copy_list : (m : Map (Ghost GhostCopy)) (q : ℕ) → map.find nat_cmp q (located_copies m) ≡ copy_locations m q
 copy_list m q =
-    find_mapped (λ e. place_of_copy) q (copied (map.entries m)) ∙ ap (option_map place_of_copy) (sym (find_copy m q))
+    find_mapped (λ e. location_of_copy) q (copied (map.entries m)) ∙ ap (option_map location_of_copy) (sym (find_copy m q))
 
 pub copied_rise : (m : Map (Ghost GhostCopy)) → T (is_sorted nat_cmp (copied (map.entries m)))
 copied_rise m = copies_rise (map.entries m) (map.entries_sorted m)
 
-pub copies_list_rise : (m : Map (Ghost GhostCopy)) → T (is_sorted nat_cmp (placed_copies m))
-copies_list_rise m = sorted_mapped (λ e. place_of_copy) (copied (map.entries m)) (copied_rise m)
+pub copies_list_rise : (m : Map (Ghost GhostCopy)) → T (is_sorted nat_cmp (located_copies m))
+copies_list_rise m = sorted_mapped (λ e. location_of_copy) (copied (map.entries m)) (copied_rise m)

@@ -7,7 +7,7 @@ use Rattle.seam_node_steps.specs.Prelude.{number_of, CellView, real_is_ready, ha
 use Rattle.seam_cell_parts.specs.Sets.{with_entity}
 use Rattle.seam_cell_parts.specs.declared.context.CellContext.{CellContext}
 use Rattle.seam_cell_parts.specs.declared.reals.Reals.{Reals}
-use Rattle.seam_cell_parts.specs.declared.places.Places.{Places}
+use Rattle.seam_cell_parts.specs.declared.remotes.Remotes.{Remotes}
 use Rattle.seam_cell_parts.specs.declared.lists.Lists.{Lists}
 
 -- ---- marks
@@ -44,7 +44,7 @@ abbrev pub here_in : CellContext → Here
 here_in k = node_with k.defs k.me k.settings
 
 -- the cell of these parts
-abbrev pub cell_of : CellContext → Reals → Places → Lists → CellView
+abbrev pub cell_of : CellContext → Reals → Remotes → Lists → CellView
 cell_of k r p l = record {
   here = here_in k;
   tree = k.tree;
@@ -56,21 +56,21 @@ cell_of k r p l = record {
 }
 
 -- the real is in the space, and so are the places to which calls that it holds move it
-pub record IsThere (h : Here) (t : Division) (r : RealView) : Type 0 where
+pub record IsRealInSpace (h : Here) (t : Division) (r : RealView) : Type 0 where
   pub inside : IsInSpace t r.state.pos
   pub held : all_held (fits_cell_part h r.entity r.ty) r.orders ≡ true
 
-abbrev pub AreThere : Here → Division → Map RealView → Type 0
-AreThere h t m = (e : ℕ) (r : RealView) → table.get m e ≡ Some r → IsThere h t r
+abbrev pub AreRealsInSpace : Here → Division → Map RealView → Type 0
+AreRealsInSpace h t m = (e : ℕ) (r : RealView) → table.get m e ≡ Some r → IsRealInSpace h t r
 
 -- it is a cell, its settings are ones that a header may set, and its tree and its reals are in the space of that size
 pub record IsKept (c : CellView) : Type 0 where
   pub cell : IsCell c
   pub legal : AreLegal c.here.settings
   pub size : c.tree.size ≡ c.here.settings.size
-  pub there : AreThere c.here c.tree c.reals
+  pub there : AreRealsInSpace c.here c.tree c.reals
 
 -- the cell is kept, and so are the marks of its reals
-pub record AreWhole (k : CellContext) (r : Reals) (p : Places) (l : Lists) : Type 0 where
+pub record AreWhole (k : CellContext) (r : Reals) (p : Remotes) (l : Lists) : Type 0 where
   pub cell : IsKept (cell_of k r p l)
   pub marks : AreKept r

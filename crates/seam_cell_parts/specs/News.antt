@@ -10,24 +10,24 @@ use Rattle.seam_haunt.specs.declared.telling.Told.TheVariants.{Set, Drop}
 abbrev pub state_of : Subject → State
 state_of of = record { pos = of.pos; props = of.props.now }
 
-abbrev pub said : Telling → GhostCopy → ℕ → Told → Option (ℕ × Msg)
-said t g k Nothing = None
-said t g k Set = Some (k, GhostSet t.entity t.beat g)
-said t g k Drop = Some (k, GhostDrop t.entity t.beat)
+abbrev pub message_for : Telling → GhostCopy → ℕ → Told → Option (ℕ × Msg)
+message_for t g k Nothing = None
+message_for t g k Set = Some (k, GhostSet t.entity t.beat g)
+message_for t g k Drop = Some (k, GhostDrop t.entity t.beat)
 
 abbrev pub listed : {A : Type 0} → Option A → List A
 listed None = []
 listed (Some x) = x ∷ []
 
 abbrev pub told_by : Telling → GhostCopy → ℕ → Option (ℕ × Msg)
-told_by t g k = said t g k (word t k)
+told_by t g k = message_for t g k (word t k)
 
 -- what the cells below n are told, in rising number
 abbrev pub news : Telling → GhostCopy → ℕ → List (ℕ × Msg)
 news t g n = filter_map (told_by t g) (range_with_len 0 n)
 
--- this is told by cell h of the real r, of which the copy is g, under the next beat
-pub record Tells (h : Here) (r : RealView) (t : Telling) (g : GhostCopy) : Type 0 where
+-- the telling is that of cell h about its real r, of which the copy is g, under the next beat
+pub record IsTellingOf (h : Here) (r : RealView) (t : Telling) (g : GhostCopy) : Type 0 where
   pub me : t.me ≡ h.me
   pub entity : t.entity ≡ r.entity
   pub beat : t.beat ≡ r.beat + 1

@@ -6,7 +6,7 @@ use Rattle.seam_node_steps.specs.Prelude.{Division, Pos, Ghost, ghost_after, Gho
 use Rattle.seam_node_steps.specs.Prelude.{set_at, has_any, Slot, NextPlace, SlotStep, slot_after, home_after, haunts_at, ghost_messages}
 use Rattle.seam_node_steps.specs.Prelude.{copy_if, without, Telling}
 use Rattle.seam_entity.specs.Reals.{RoomyReal}
-use Rattle.seam_cell_parts.specs.declared.places.Places.{Places}
+use Rattle.seam_cell_parts.specs.declared.remotes.Remotes.{Remotes}
 use Rattle.seam_cell_parts.specs.declared.settle.Begun.{Begun}
 use Rattle.seam_cell_parts.specs.Settling.{former}
 
@@ -40,7 +40,7 @@ pub record PartsView : Type 0 where
   pub ghosts : Map (Ghost GhostCopy)
   pub sent : List (ℕ × Msg)
 
-abbrev pub parts_of : Places → OutView Msg → PartsView
+abbrev pub parts_of : Remotes → OutView Msg → PartsView
 parts_of p o = record { nexts = p.nexts.items; ghosts = p.copies.ghosts; sent = o.items }
 
 -- the slot of entity e in these parts, with that real

@@ -5,7 +5,7 @@ ghost use Rattle.std.specs.Prelude.{option_copied};
 ghost use Rattle.std.specs.FinMap as map;
 ghost use Rattle.seam_ghosts.specs.Book.{copy_of, ghost_after};
 ghost use Rattle.seam_node_steps.specs.Maps.{set_at};
-ghost use Rattle.seam_cell_parts.specs.Spots.{AreNoted, AreKeptNoted, place_of_copy, copy_places, placed_copies};
+ghost use Rattle.seam_cell_parts.specs.Spots.{AreNoted, AreKeptNoted, location_of_copy, copy_locations, located_copies};
 
 use crate::spots::{Spots, beside, forget, note};
 use seam_call::GhostCopy;
@@ -27,7 +27,7 @@ impl Model for CopyBook {
     ghost use Rattle.std.specs.FinMap as map;
     ghost use Rattle.seam_ghosts.specs.Book.{BookView};
     ghost use Rattle.seam_call.specs.declared.shown.GhostCopy.{GhostCopy};
-    ghost use Rattle.seam_cell_parts.specs.Spots.{AreKeptNoted, copy_places};
+    ghost use Rattle.seam_cell_parts.specs.Spots.{AreKeptNoted, copy_locations};
 
     ghost Value = { BookView GhostCopy };
 
@@ -35,12 +35,12 @@ impl Model for CopyBook {
 
     ghost view = { λ b. b.book };
 
-    ghost invariant = { λ b. AreKeptNoted b.spots (copy_places b.book.ghosts) };
+    ghost invariant = { λ b. AreKeptNoted b.spots (copy_locations b.book.ghosts) };
 }
 
 // Where the copy is.
-fn place_of(copy: &GhostCopy) -> Location
-    ensures { result ≡ place_of_copy copy.now }
+fn location_of(copy: &GhostCopy) -> Location
+    ensures { result ≡ location_of_copy copy.now }
 {
     Location {
         version: copy.version,
@@ -49,26 +49,29 @@ fn place_of(copy: &GhostCopy) -> Location
 }
 
 // Where the copies are, in rising number.
-fn places_of(alloc: Global, book: &GhostBook<GhostCopy>) -> Result<Vec<(u32, Location)>, AllocError>
-    ensures { IfOk result (λ v. v.items ≡ placed_copies book.now.ghosts) }
+fn locations_of(
+    alloc: Global,
+    book: &GhostBook<GhostCopy>,
+) -> Result<Vec<(u32, Location)>, AllocError>
+    ensures { IfOk result (λ v. v.items ≡ located_copies book.now.ghosts) }
 {
     let entities = book.entities(alloc)?;
-    let mut places = Vec::with_capacity(alloc, entities.len())?;
+    let mut locations = Vec::with_capacity(alloc, entities.len())?;
     for e in &entities {
         let Some(copy) = book.get(*e) else {
             unreachable!()
         };
-        places.push((*e, place_of(copy)))?;
+        locations.push((*e, location_of(copy)))?;
     }
-    Ok(places)
+    Ok(locations)
 }
 
 // Where the copies are, to be kept.
 fn spots_of(alloc: Global, book: &GhostBook<GhostCopy>) -> Result<Spots, AllocError>
-    ensures { IfOk result (λ s. AreKeptNoted s (copy_places book.now.ghosts)) }
+    ensures { IfOk result (λ s. AreKeptNoted s (copy_locations book.now.ghosts)) }
 {
-    let places = places_of(alloc, book)?;
-    let spots = Spots::of(alloc, &places)?;
+    let locations = locations_of(alloc, book)?;
+    let spots = Spots::of(alloc, &locations)?;
     Ok(spots)
 }
 
@@ -107,10 +110,10 @@ impl CopyBook {
         ensures err { OnErr result (self.new.ghosts ≡ self.old.ghosts) }
         ensures err_item { IfErr result (λ r. r.item ≡ copy) }
     {
-        let place = place_of(&copy);
+        let location = location_of(&copy);
         match self.book.set(e, beat, copy) {
             Ok(Kept::Taken) => {
-                note(&mut self.spots, e, place);
+                note(&mut self.spots, e, location);
                 Ok(())
             }
             Ok(Kept::Ignored) => Ok(()),
@@ -135,10 +138,10 @@ impl CopyBook {
     }
 
     /// Where the copies are, in rising number.
-    pub fn places(&self, alloc: Global) -> Result<Vec<(u32, Location)>, AllocError>
-        ensures { IfOk result (λ v. v.items ≡ placed_copies self.now.ghosts) }
+    pub fn locations(&self, alloc: Global) -> Result<Vec<(u32, Location)>, AllocError>
+        ensures { IfOk result (λ v. v.items ≡ located_copies self.now.ghosts) }
     {
-        places_of(alloc, &self.book)
+        locations_of(alloc, &self.book)
     }
 
     /// It is asked where the copies are. Once it was asked several times this is kept, where there is memory for that, and as long as
@@ -155,7 +158,7 @@ impl CopyBook {
 
     /// Where the copies of other entities are, and at which version; or none, as no contract says whether it is kept.
     pub fn spots_beside(&self, e: u32) -> Option<&RangeList>
-        ensures { IfSome result (λ l. AreNoted l.now (Some e) (copy_places self.now.ghosts)) }
+        ensures { IfSome result (λ l. AreNoted l.now (Some e) (copy_locations self.now.ghosts)) }
     {
         beside(&self.spots, e)
     }

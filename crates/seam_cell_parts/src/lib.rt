@@ -14,7 +14,7 @@
 //! the real's new home is sent its ghost.
 //!
 //! For callers, of `proofs/`: `SetLemmas` (ordered sets), `MarkLemmas` and `RealLemmas` (what the marks of reals are after a change),
-//! `NewsLemmas` (what haunts are told), `SettleLemmas` (what settling leaves) and `SpotLemmas` (lists of all places).
+//! `NewsLemmas` (what haunts are told), `SettleLemmas` (what settling leaves) and `SpotLemmas` (lists of all locations).
 #![tactic(auto)]
 
 mod context;
@@ -24,9 +24,9 @@ mod entity_set;
 mod lists;
 mod news;
 mod next;
-mod places;
 mod real_table;
 mod reals;
+mod remotes;
 mod settle;
 mod spots;
 
@@ -37,7 +37,7 @@ pub use entity_set::EntitySet;
 pub use lists::{Lists, unlist};
 pub use news::Subject;
 pub use next::Next;
-pub use places::Places;
 pub use real_table::RealTable;
-pub use reals::{Reals, close, first_ready, make_place, put_after, put_in, take_out};
+pub use reals::{Reals, close, first_ready, make_room, put_after, put_in, take_out};
+pub use remotes::Remotes;
 pub use settle::{Begun, Plan, begin, is_at_rest, make_plan, settle_real};

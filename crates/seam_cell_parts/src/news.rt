@@ -3,7 +3,7 @@
 ghost use Rattle.std.specs.Prelude.{◌≡◌, ℕ, ◌++◌, ◌↔◌, length, take, IsTrue, IfOk, OnOk, OnErr};
 ghost use Rattle.std.specs.FinSet as set;
 ghost use Rattle.seam_node_steps.specs.Prelude.{Settings as AllSettings, copy_with, node_with, word};
-ghost use Rattle.seam_cell_parts.specs.News.{state_of, said, listed, news};
+ghost use Rattle.seam_cell_parts.specs.News.{state_of, message_for, listed, news};
 
 use seam_call::GhostCopy;
 use seam_defs::{Defs, Props};
@@ -40,7 +40,8 @@ fn tell_cell(t: &Telling, of: &Subject<'_>, k: u8, out: &mut Out<Msg>) -> Result
     ensures ok { (me : ℕ) (settings : AllSettings) →
         let copy = copy_with (node_with of.now.defs.now me settings) of.now.ty of.now.version
         (state_of of.now) in
-        OnOk result (out.new.items ≡ out.old.items ++ listed (said t.now copy k (word t.now k))) }
+        OnOk result (out.new.items ≡ out.old.items
+        ++ listed (message_for t.now copy k (word t.now k))) }
     ensures err { OnErr result (out.new.items ≡ out.old.items) }
 {
     match word(t, k) {

@@ -5,19 +5,21 @@ ghost use Rattle.std.specs.FinMap as map;
 ghost use Rattle.std.specs.FinSet as set;
 ghost use Rattle.seam_table.specs.Tables.{with_item, without_item, without_room, with_each};
 ghost use Rattle.seam_entity.specs.Executing.{real_begins};
-ghost use Rattle.seam_cell_parts.specs.Spots.{AreNoted, AreKeptNoted, place_of_real, real_places, placed_reals};
+ghost use Rattle.seam_cell_parts.specs.Spots.{AreNoted, AreKeptNoted, location_of_real, real_locations, located_reals};
 
 use crate::spots::{Spots, beside, forget, let_out, note};
 use seam_entity::{Parcel, Real};
 use seam_range::{Location, RangeList};
-use seam_table::{HashKey, Table};
+use seam_slab::SlabTable;
+use seam_table::HashKey;
 use std::alloc::{AllocError, Global};
 use std::marker::Model;
 
-/// The reals by entity. Contracts see them as a table; where they are is kept beside it as long as that pays.
+/// The reals by entity, in a slab. A real that is taken out for a step leaves its slot open. Contracts see a table; where the reals are is
+/// kept beside it as long as that pays.
 #[derive(Drop)]
 pub struct RealTable {
-    items: Table<Parcel>,
+    items: SlabTable<Parcel>,
     spots: Spots,
 }
 
@@ -27,7 +29,7 @@ impl Model for RealTable {
     ghost use Rattle.std.specs.FinSet as set;
     ghost use Rattle.seam_table.specs.Tables.{TableView};
     ghost use Rattle.seam_entity.specs.Reals.{RealView};
-    ghost use Rattle.seam_cell_parts.specs.Spots.{AreKeptNoted, real_places};
+    ghost use Rattle.seam_cell_parts.specs.Spots.{AreKeptNoted, real_locations};
 
     ghost Value = { TableView RealView };
 
@@ -35,12 +37,12 @@ impl Model for RealTable {
 
     ghost view = { λ t. t.items };
 
-    ghost invariant = { λ t. AreKeptNoted t.spots (real_places t.items.items) };
+    ghost invariant = { λ t. AreKeptNoted t.spots (real_locations t.items.items) };
 }
 
 // Where the real is.
-fn place_of(real: &Real) -> Location
-    ensures { result ≡ place_of_real real.now.core }
+fn location_of(real: &Real) -> Location
+    ensures { result ≡ location_of_real real.now.core }
 {
     Location {
         version: real.public_version(),
@@ -58,26 +60,29 @@ fn begin(parcel: &mut Parcel)
 }
 
 // Where the reals are, in rising number.
-fn places_of(alloc: Global, items: &Table<Parcel>) -> Result<Vec<(u32, Location)>, AllocError>
-    ensures { IfOk result (λ v. v.items ≡ placed_reals items.now.items) }
+fn locations_of(
+    alloc: Global,
+    items: &SlabTable<Parcel>,
+) -> Result<Vec<(u32, Location)>, AllocError>
+    ensures { IfOk result (λ v. v.items ≡ located_reals items.now.items) }
 {
     let entities = items.numbers(alloc)?;
-    let mut places = Vec::with_capacity(alloc, entities.len())?;
+    let mut locations = Vec::with_capacity(alloc, entities.len())?;
     for e in &entities {
         let Some(parcel) = items.get(*e) else {
             unreachable!()
         };
-        places.push((*e, place_of(&parcel.real)))?;
+        locations.push((*e, location_of(&parcel.real)))?;
     }
-    Ok(places)
+    Ok(locations)
 }
 
 // Where the reals are, to be kept.
-fn spots_of(alloc: Global, items: &Table<Parcel>) -> Result<Spots, AllocError>
-    ensures { IfOk result (λ s. AreKeptNoted s (real_places items.now.items)) }
+fn spots_of(alloc: Global, items: &SlabTable<Parcel>) -> Result<Spots, AllocError>
+    ensures { IfOk result (λ s. AreKeptNoted s (real_locations items.now.items)) }
 {
-    let places = places_of(alloc, items)?;
-    let spots = Spots::of(alloc, &places)?;
+    let locations = locations_of(alloc, items)?;
+    let spots = Spots::of(alloc, &locations)?;
     Ok(spots)
 }
 
@@ -87,7 +92,7 @@ impl RealTable {
         ensures { result ≡ record { items = map.empty; room = set.empty } }
     {
         RealTable {
-            items: Table::new(alloc, key),
+            items: SlabTable::new(alloc, key),
             spots: Spots::none(),
         }
     }
@@ -118,7 +123,7 @@ impl RealTable {
         ensures after { self.new ≡ with_item self.old e parcel }
         ensures room { self.new.room ≡ self.old.room }
     {
-        note(&mut self.spots, e, place_of(&parcel.real));
+        note(&mut self.spots, e, location_of(&parcel.real));
         self.items.put_reserved(e, parcel)
     }
 
@@ -156,10 +161,10 @@ impl RealTable {
     }
 
     /// Where the reals are, in rising number.
-    pub fn places(&self, alloc: Global) -> Result<Vec<(u32, Location)>, AllocError>
-        ensures { IfOk result (λ v. v.items ≡ placed_reals self.now.items) }
+    pub fn locations(&self, alloc: Global) -> Result<Vec<(u32, Location)>, AllocError>
+        ensures { IfOk result (λ v. v.items ≡ located_reals self.now.items) }
     {
-        places_of(alloc, &self.items)
+        locations_of(alloc, &self.items)
     }
 
     /// It is asked where the reals are. Once it was asked several times this is kept, where there is memory for that, and as long as
@@ -176,7 +181,7 @@ impl RealTable {
 
     /// Where the reals of other entities are, and at which public version; or none, as no contract says whether it is kept.
     pub fn spots_beside(&self, e: u32) -> Option<&RangeList>
-        ensures { IfSome result (λ l. AreNoted l.now (Some e) (real_places self.now.items)) }
+        ensures { IfSome result (λ l. AreNoted l.now (Some e) (real_locations self.now.items)) }
     {
         beside(&self.spots, e)
     }

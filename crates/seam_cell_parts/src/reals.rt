@@ -39,7 +39,7 @@ pub fn take_out(reals: &mut Reals, e: u32) -> Result<Real, AllocError>
 }
 
 /// Makes room for a real of an entity of which none is here.
-pub fn make_place(reals: &mut Reals, e: u32, has_witness: bool) -> Result<(), AllocError>
+pub fn make_room(reals: &mut Reals, e: u32, has_witness: bool) -> Result<(), AllocError>
     requires gone { table.get reals.old.items.items e ≡ None }
     requires kept { AreKept reals.old }
     ensures items { reals.new.items.items ≡ reals.old.items.items }

@@ -17,7 +17,7 @@ use crate::context::CellContext;
 use crate::copy_book::CopyBook;
 use crate::news::{Subject, tell};
 use crate::next::Next;
-use crate::places::Places;
+use crate::remotes::Remotes;
 use seam_call::GhostCopy;
 use seam_defs::Settings;
 use seam_entity::{Msg, Parcel, Real};
@@ -180,30 +180,30 @@ fn tell_from(known: &CellContext, real: &Real, pos: Pos, changed: bool) -> Telli
 fn tell_all(
     t: &Telling,
     of: &Subject<'_>,
-    places: &mut Places,
+    remotes: &mut Remotes,
     out: &mut Out<Msg>,
 ) -> Result<(), AllocError>
     ensures sent { (me : ℕ) (settings : AllSettings) → OnOk result (out.new.items ≡ out.old.items
         ++ news t.now (copy_with (node_with of.now.defs.now me settings) of.now.ty
         of.now.version (state_of of.now)) 16) }
     ensures ghosts { (me : ℕ) (settings : AllSettings) →
-        OnOk result (places.new.copies.ghosts ≡ heard t.now
+        OnOk result (remotes.new.copies.ghosts ≡ heard t.now
         (copy_with (node_with of.now.defs.now me settings) of.now.ty of.now.version
-        (state_of of.now)) places.old.copies.ghosts) }
-    ensures room { OnOk result (HasRoomFor places.new.nexts.room out.new.spare t.now) }
+        (state_of of.now)) remotes.old.copies.ghosts) }
+    ensures room { OnOk result (HasRoomFor remotes.new.nexts.room out.new.spare t.now) }
     ensures kept { take (length out.old.items) out.new.items ≡ out.old.items }
-    ensures nexts { places.new.nexts.items ≡ places.old.nexts.items }
-    ensures err { OnErr result (places.new.copies.ghosts ≡ places.old.copies.ghosts) }
+    ensures nexts { remotes.new.nexts.items ≡ remotes.old.nexts.items }
+    ensures err { OnErr result (remotes.new.copies.ghosts ≡ remotes.old.copies.ghosts) }
 {
     tell(t, of, out)?;
     if t.home == t.me {
         return Ok(());
     }
     out.reserve(1)?;
-    places.nexts.reserve(t.entity)?;
+    remotes.nexts.reserve(t.entity)?;
     // The book hears last, so that no room has to be made in it: most often it has no copy, and notes a beat alone.
     let own = own_copy(t, of)?;
-    tell_own(&mut places.copies, t.entity, t.beat, own)
+    tell_own(&mut remotes.copies, t.entity, t.beat, own)
 }
 
 /// Begins to settle: the haunts are told what the real is after a call, or what it is, and where it goes the own book; room is made for
@@ -213,7 +213,7 @@ pub fn begin(
     real: &Real,
     of: &Subject<'_>,
     changed: bool,
-    places: &mut Places,
+    remotes: &mut Remotes,
     out: &mut Out<Msg>,
 ) -> Result<Begun, AllocError>
     requires me { known.now.me < cell_count }
@@ -224,14 +224,14 @@ pub fn begin(
     ensures begun { (later : RealView) → IsLater real.now.core later → later.ty ≡ of.now.ty →
         later.public ≡ of.now.version → later.state ≡ state_of of.now →
         IfOk result (HasBegun (here_in known.now) known.now.tree later changed
-        (parts_of places.old out.old) (parts_of places.new out.new)) }
+        (parts_of remotes.old out.old) (parts_of remotes.new out.new)) }
     ensures entity { IfOk result (λ b. b.telling.entity ≡ real.now.core.entity) }
-    ensures room { IfOk result (λ b. HasRoomFor places.new.nexts.room out.new.spare b.telling) }
-    ensures err { OnErr result (parts_of places.new out.new ≡ parts_of places.old out.old) }
+    ensures room { IfOk result (λ b. HasRoomFor remotes.new.nexts.room out.new.spare b.telling) }
+    ensures err { OnErr result (parts_of remotes.new out.new ≡ parts_of remotes.old out.old) }
 {
     let telling = tell_from(known, real, of.pos, changed);
     let start = out.len();
-    match tell_all(&telling, of, places, out) {
+    match tell_all(&telling, of, remotes, out) {
         Ok(()) => Ok(Begun {
             telling,
             has_told: out.len() > start,
@@ -265,23 +265,23 @@ pub fn is_at_rest(known: &CellContext, real: &Real) -> bool
 pub fn settle_real(
     mut real: Real,
     begun: Begun,
-    places: &mut Places,
+    remotes: &mut Remotes,
     out: &mut Out<Msg>,
 ) -> Option<Real>
     requires beat { real.core.beat < 2 ^ 62 }
     requires generation { real.core.generation < 2 ^ 62 }
     requires entity { begun.telling.entity ≡ real.core.entity }
-    requires room { HasRoomFor places.old.nexts.room out.old.spare begun.telling }
+    requires room { HasRoomFor remotes.old.nexts.room out.old.spare begun.telling }
     ensures done { (h : Here) (t : Division) (changed : Bool) (was : RealView) (before : PartsView)
-        → HasBegun h t real.core changed before (parts_of places.old out.old) begun →
+        → HasBegun h t real.core changed before (parts_of remotes.old out.old) begun →
         IsDone (settled h t (slot_in before real.core.entity was) real.core changed)
-        real.core.entity was (option_map core_of result) before (parts_of places.new out.new) }
+        real.core.entity was (option_map core_of result) before (parts_of remotes.new out.new) }
     ensures witness { IfSome result (λ q. q.core.witness ≡ real.core.witness) }
 {
     if begun.telling.home == begun.telling.me {
         stay(&mut real, &begun);
         return Some(real);
     }
-    leave(real, &begun, &mut places.nexts, out);
+    leave(real, &begun, &mut remotes.nexts, out);
     None
 }

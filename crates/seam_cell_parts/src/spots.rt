@@ -4,16 +4,16 @@ ghost use Rattle.std.specs.Prelude.{◌≡◌, ℕ, ◌&&◌, T, Option, IfSome,
 ghost use Rattle.std.specs.Ordering.{nat_cmp};
 ghost use Rattle.std.specs.FinMap as map;
 ghost use Rattle.std.specs.FinMap.Entries.{is_sorted};
-ghost use Rattle.seam_range.specs.declared.Location.{Location as AnyPlace};
+ghost use Rattle.seam_range.specs.declared.Location.{Location as AnyLocation};
 ghost use Rattle.seam_cell_parts.specs.Spots.{is_none_else_out, still_out, AreNoted, AreKeptNoted, IsNoted, IsChanged};
 
 use seam_range::{Location, RangeList};
 use std::alloc::{AllocError, Global};
 
-// To make a list, and to keep it for as many changes as it has entities, takes about as much as so many walks over all.
+// To make a list takes about as much as so many walks over all: one that is never used has cost no more than the walks before it.
 const WALKS: usize = 8;
 
-/// A list of entities with their places, if it is kept. An entity that is taken out to change is still in the list: it is out.
+/// A list of entities with their locations, if it is kept. An entity that is taken out to change is still in the list: it is out.
 ///
 /// A list is made once it was asked for several times. One that changed much more often, since it was asked for last, than it has
 /// entities is given up: it takes less to make it anew. When that is so is a matter of speed alone, and no contract tells it.
@@ -43,21 +43,21 @@ impl Spots {
         }
     }
 
-    /// A list of these entities at their places, none of which is out.
-    pub fn of(alloc: Global, places: &[(u32, Location)]) -> Result<Spots, AllocError>
-        requires { T (is_sorted nat_cmp places.now) }
-        ensures list { IfOk result (λ s. s.list ≡ Some (map.from_sorted places.now)) }
+    /// A list of these entities at their locations, none of which is out.
+    pub fn of(alloc: Global, locations: &[(u32, Location)]) -> Result<Spots, AllocError>
+        requires { T (is_sorted nat_cmp locations.now) }
+        ensures list { IfOk result (λ s. s.list ≡ Some (map.from_sorted locations.now)) }
         ensures out { IfOk result (λ s. s.out ≡ None) }
     {
         let mut list = RangeList::new(alloc);
-        for (e, place) in places {
-            list.put(*e, *place)?;
+        for (e, location) in locations {
+            list.put(*e, *location)?;
         }
         Ok(Spots {
             list: Some(list),
             out: None,
-            size: places.len(),
-            left: places.len().saturating_mul(2),
+            size: locations.len(),
+            left: locations.len().saturating_mul(2),
             asked: 0,
         })
     }
@@ -80,7 +80,7 @@ impl Spots {
     }
 }
 
-// The list with the entity at the place. Without memory for that the list is given up, and after its last change.
+// The list with the entity at the location. Without memory for that the list is given up, and after its last change.
 fn set(list: &mut Option<RangeList>, left: &mut usize, e: u32, p: Location)
     ensures { IsNoted list.old list.new e (Some p) }
 {
@@ -131,9 +131,9 @@ fn still_out(out: Option<u32>, e: u32) -> Option<u32>
     }
 }
 
-/// Notes that the entity is at the place, where a list is kept. Without memory for that the list is given up.
+/// Notes that the entity is at the location, where a list is kept. Without memory for that the list is given up.
 pub fn note(spots: &mut Spots, e: u32, p: Location)
-    ensures { (before after : ℕ → Option AnyPlace) → AreKeptNoted spots.old before →
+    ensures { (before after : ℕ → Option AnyLocation) → AreKeptNoted spots.old before →
         IsChanged before after e (Some p) → AreKeptNoted spots.new after }
 {
     // In a cell in which nobody looks, as in most, none is kept.
@@ -145,7 +145,7 @@ pub fn note(spots: &mut Spots, e: u32, p: Location)
 // The same where a list is kept.
 #[inline(never)]
 fn note_kept(spots: &mut Spots, e: u32, p: Location)
-    ensures { (before after : ℕ → Option AnyPlace) → AreKeptNoted spots.old before →
+    ensures { (before after : ℕ → Option AnyLocation) → AreKeptNoted spots.old before →
         IsChanged before after e (Some p) → AreKeptNoted spots.new after }
 {
     set(&mut spots.list, &mut spots.left, e, p);
@@ -154,7 +154,7 @@ fn note_kept(spots: &mut Spots, e: u32, p: Location)
 
 /// Notes that the entity is nowhere, where a list is kept.
 pub fn forget(spots: &mut Spots, e: u32)
-    ensures { (before after : ℕ → Option AnyPlace) → AreKeptNoted spots.old before →
+    ensures { (before after : ℕ → Option AnyLocation) → AreKeptNoted spots.old before →
         IsChanged before after e None → AreKeptNoted spots.new after }
 {
     if spots.list.is_some() {
@@ -165,7 +165,7 @@ pub fn forget(spots: &mut Spots, e: u32)
 // The same where a list is kept.
 #[inline(never)]
 fn forget_kept(spots: &mut Spots, e: u32)
-    ensures { (before after : ℕ → Option AnyPlace) → AreKeptNoted spots.old before →
+    ensures { (before after : ℕ → Option AnyLocation) → AreKeptNoted spots.old before →
         IsChanged before after e None → AreKeptNoted spots.new after }
 {
     remove(&mut spots.list, &mut spots.left, e);
@@ -174,7 +174,7 @@ fn forget_kept(spots: &mut Spots, e: u32)
 
 /// Notes that the entity is taken out, to be put back. One alone is kept in the list meanwhile.
 pub fn let_out(spots: &mut Spots, e: u32)
-    ensures { (before after : ℕ → Option AnyPlace) → AreKeptNoted spots.old before →
+    ensures { (before after : ℕ → Option AnyLocation) → AreKeptNoted spots.old before →
         IsChanged before after e None → AreKeptNoted spots.new after }
 {
     if spots.list.is_none() {
@@ -187,11 +187,11 @@ pub fn let_out(spots: &mut Spots, e: u32)
     remove(&mut spots.list, &mut spots.left, e);
 }
 
-/// The places of all entities other than e, if they are kept.
+/// The locations of all entities other than e, if they are kept.
 pub fn beside(spots: &Spots, e: u32) -> Option<&RangeList>
     ensures kept { is_some result ≡ (is_some spots.now.list && is_none_else_out spots.now.out e) }
-    ensures places { (place : ℕ → Option AnyPlace) → AreKeptNoted spots.now place →
-        IfSome result (λ l. AreNoted l.now (Some e) place) }
+    ensures locations { (location : ℕ → Option AnyLocation) → AreKeptNoted spots.now location →
+        IfSome result (λ l. AreNoted l.now (Some e) location) }
 {
     if !is_none_else_out(spots.out, e) {
         return None;

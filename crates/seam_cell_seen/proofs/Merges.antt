@@ -8,7 +8,7 @@ use Rattle.std.specs.FinMap as table
 use Rattle.std.specs.FinMap.Entries.{is_sorted, below_all}
 use Rattle.std.proofs.lemmas.Bool.Decides.{nat_tests}
 use Rattle.seam_range.specs.declared.Location.{Location}
-use Rattle.seam_range.specs.Locations.{Places}
+use Rattle.seam_range.specs.Locations.{Locations}
 use Rattle.seam_node_steps.specs.Knowing.{or_else}
 use Rattle.seam_node_steps.proofs.Sorted.{both, first, second, tied_same, none_below}
 use Rattle.seam_cell_seen.specs.Merging.{merged, merged_with}
@@ -152,11 +152,11 @@ find_merged q (x ∷ xs) ys h = find_merged_with q x xs (first _ _ h) (λ zs. fi
 
 -- ---- lists in rising number with the same at each number
 
-pub same_places : (es fs : List (ℕ × Location)) → T (is_sorted nat_cmp es) → T (is_sorted nat_cmp fs) →
+pub same_locations : (es fs : List (ℕ × Location)) → T (is_sorted nat_cmp es) → T (is_sorted nat_cmp fs) →
     ((q : ℕ) → table.find nat_cmp q es ≡ table.find nat_cmp q fs) → es ≡ fs
-same_places es fs he hf same =
-    let m : Places = table.from_sorted es in
-    let n : Places = table.from_sorted fs in
+same_locations es fs he hf same =
+    let m : Locations = table.from_sorted es in
+    let n : Locations = table.from_sorted fs in
     let maps : m ≡ n = table.same_map nat_cmp_total table.nat_cmp-IsAntisymmetric m n
     (λ q. table.get-from_sorted nat_cmp es q he ∙ (same q ∙ sym (table.get-from_sorted nat_cmp fs q hf))) in
     sym (table.entries-from_sorted nat_cmp es he) ∙ (ap table.entries maps ∙ table.entries-from_sorted nat_cmp fs hf)

@@ -9,7 +9,7 @@ use Rattle.seam_entity.specs.WitnessLooks.{other_of_real, other_of_copy}
 use Rattle.seam_range.specs.declared.Location.{Location}
 use Rattle.seam_view.specs.declared.Seen.{Seen}
 use Rattle.seam_cell_seen.specs.Known.{known_with}
-use Rattle.seam_cell_seen.specs.Merging.{seen_if, seen_at_place, is_other}
+use Rattle.seam_cell_seen.specs.Merging.{seen_if, seen_at_location, is_other}
 
 -- ---- what is known of an entity
 
@@ -22,16 +22,16 @@ module _ (h : Here) (reals : Map RealView) (ghosts : Map (Ghost GhostCopy)) (e :
   copy_is_known o none at = λ i. known_by h (none i) (at i)
 
 -- one more that is seen, if it is another one, and what is left after it
-pub merged_more : (own : ℕ) (x : ℕ × Location) (left all : List (ℕ × Location)) (v w : List Seen) (s : Seen) → s ≡ seen_at_place x →
+pub merged_more : (own : ℕ) (x : ℕ × Location) (left all : List (ℕ × Location)) (v w : List Seen) (s : Seen) → s ≡ seen_at_location x →
     all ≡ x ∷ left →
     w ≡ v ++ seen_if (is_another own s.entity) s →
-    w ++ map seen_at_place (filter (is_other own) left) ≡ v ++ map seen_at_place (filter (is_other own) all)
+    w ++ map seen_at_location (filter (is_other own) left) ≡ v ++ map seen_at_location (filter (is_other own) all)
 merged_more own x left all v w s seen is more =
-    ap (λ l. l ++ map seen_at_place (filter (is_other own) left)) (more ∙ ap (λ y. v ++ seen_if (is_another own y.entity) y) seen)
-    ∙ (append_assoc v (seen_if (is_other own x) (seen_at_place x)) (map seen_at_place (filter (is_other own) left))
-    ∙ ap (λ l. v ++ l) (by (is_other own x) ∙ sym (ap (λ l. map seen_at_place (filter (is_other own) l)) is)))
+    ap (λ l. l ++ map seen_at_location (filter (is_other own) left)) (more ∙ ap (λ y. v ++ seen_if (is_another own y.entity) y) seen)
+    ∙ (append_assoc v (seen_if (is_other own x) (seen_at_location x)) (map seen_at_location (filter (is_other own) left))
+    ∙ ap (λ l. v ++ l) (by (is_other own x) ∙ sym (ap (λ l. map seen_at_location (filter (is_other own) l)) is)))
   where
-    by : (b : Bool) → seen_if b (seen_at_place x) ++ map seen_at_place (filter (is_other own) left)
-        ≡ map seen_at_place (cond b (x ∷ filter (is_other own) left) (filter (is_other own) left))
+    by : (b : Bool) → seen_if b (seen_at_location x) ++ map seen_at_location (filter (is_other own) left)
+        ≡ map seen_at_location (cond b (x ∷ filter (is_other own) left) (filter (is_other own) left))
     by true = refl
     by false = refl

@@ -1,4 +1,4 @@
--- Lists of the places of reals and copies as one list of what is seen.
+-- Lists of the locations of reals and copies as one list of what is seen.
 use Rattle.std.specs.Prelude.{ℕ, Bool, true, false, not, is_some, List, [], ◌∷◌, filter}
 use Rattle.std.specs.Ordering.{nat_cmp, match_ordering}
 use Rattle.std.specs.FinMap as table
@@ -11,9 +11,9 @@ abbrev pub seen_if : Bool → Seen → List Seen
 seen_if true s = s ∷ []
 seen_if false s = []
 
--- an entity as it is seen at its place
-abbrev pub seen_at_place : ℕ × Location → Seen
-seen_at_place x = record { entity = x.0; version = x.1.version; pos = x.1.pos }
+-- an entity as it is seen at its location
+abbrev pub seen_at_location : ℕ × Location → Seen
+seen_at_location x = record { entity = x.0; version = x.1.version; pos = x.1.pos }
 
 abbrev pub is_other : ℕ → ℕ × Location → Bool
 is_other own x = is_another own x.0
@@ -27,7 +27,7 @@ abbrev pub merged_with : ℕ × Location → (List (ℕ × Location) → List (�
 merged_with x rest [] = x ∷ rest []
 merged_with x rest (y ∷ ys) = match_ordering (nat_cmp x.0 y.0) (x ∷ rest (y ∷ ys)) (x ∷ rest ys) (y ∷ merged_with x rest ys)
 
--- two lists in rising number as one; where both have an entity, the first one's place of it
+-- two lists in rising number as one; where both have an entity, the first one's location of it
 abbrev pub merged : List (ℕ × Location) → List (ℕ × Location) → List (ℕ × Location)
 merged [] ys = ys
 merged (x ∷ xs) ys = merged_with x (merged xs) ys

@@ -2,7 +2,7 @@
 
 ghost use Rattle.std.specs.Prelude.{◌≡◌, ◌<◌, ◌+◌, ◌++◌, [], ◌∷◌, length, map, filter, IfOk, OnOk, IfSome, IfNone};
 ghost use Rattle.seam_node_steps.specs.Prelude.{is_another};
-ghost use Rattle.seam_cell_seen.specs.Merging.{seen_if, seen_at_place, is_other, without_reals, merged};
+ghost use Rattle.seam_cell_seen.specs.Merging.{seen_if, seen_at_location, is_other, without_reals, merged};
 
 use seam_cell_parts::RealTable;
 use seam_range::Location;
@@ -23,33 +23,33 @@ pub fn see(seen: &mut Vec<Seen>, next: Seen, own: u32) -> Result<(), AllocError>
     }
 }
 
-// An entity of two lists, each in rising number and with places, and what is left of them after it.
+// An entity of two lists, each in rising number and with locations, and what is left of them after it.
 #[derive(Clone, Copy)]
 struct Step<'a> {
     entity: u32,
-    place: Location,
+    location: Location,
     first: &'a [(u32, Location)],
     second: &'a [(u32, Location)],
 }
 
-// The next entity of both lists, with the first one's place where both have it.
+// The next entity of both lists, with the first one's location where both have it.
 fn next_of<'a>(first: &'a [(u32, Location)], second: &'a [(u32, Location)]) -> Option<Step<'a>>
-    ensures some { IfSome result (λ s. merged first.now second.now ≡ (s.entity, s.place) ∷
+    ensures some { IfSome result (λ s. merged first.now second.now ≡ (s.entity, s.location) ∷
         merged s.first.now s.second.now) }
     ensures fewer { IfSome result (λ s. length s.first.now + length s.second.now
         < length first.now + length second.now) }
     ensures none { IfNone result (merged first.now second.now ≡ []) }
 {
-    let Some(((entity, place), rest)) = first.split_first() else {
+    let Some(((entity, location), rest)) = first.split_first() else {
         return next_of_second(first, second);
     };
     let one = Step {
         entity: *entity,
-        place: *place,
+        location: *location,
         first: rest,
         second,
     };
-    let Some(((entity, place), others)) = second.split_first() else {
+    let Some(((entity, location), others)) = second.split_first() else {
         return Some(one);
     };
     if one.entity < *entity {
@@ -58,7 +58,7 @@ fn next_of<'a>(first: &'a [(u32, Location)], second: &'a [(u32, Location)]) -> O
     if *entity < one.entity {
         return Some(Step {
             entity: *entity,
-            place: *place,
+            location: *location,
             first,
             second: others,
         });
@@ -75,16 +75,16 @@ fn next_of_second<'a>(
     second: &'a [(u32, Location)],
 ) -> Option<Step<'a>>
     requires { first.now ≡ [] }
-    ensures some { IfSome result (λ s. merged first.now second.now ≡ (s.entity, s.place) ∷
+    ensures some { IfSome result (λ s. merged first.now second.now ≡ (s.entity, s.location) ∷
         merged s.first.now s.second.now) }
     ensures fewer { IfSome result (λ s. length s.first.now + length s.second.now
         < length first.now + length second.now) }
     ensures none { IfNone result (merged first.now second.now ≡ []) }
 {
     match second.split_first() {
-        Some(((entity, place), others)) => Some(Step {
+        Some(((entity, location), others)) => Some(Step {
             entity: *entity,
-            place: *place,
+            location: *location,
             first,
             second: others,
         }),
@@ -92,14 +92,14 @@ fn next_of_second<'a>(
     }
 }
 
-// An entity as it is seen at its place.
-fn seen_at(entity: u32, place: Location) -> Seen
-    ensures { result ≡ seen_at_place (entity, place) }
+// An entity as it is seen at its location.
+fn seen_at(entity: u32, location: Location) -> Seen
+    ensures { result ≡ seen_at_location (entity, location) }
 {
     Seen {
         entity,
-        version: place.version,
-        pos: place.pos,
+        version: location.version,
+        pos: location.pos,
     }
 }
 
@@ -119,14 +119,14 @@ fn merged(
     copies: &[(u32, Location)],
 ) -> Result<Vec<Seen>, AllocError>
     ensures { let others = filter (is_other own) (merged reals.now copies.now) in
-        IfOk result (λ v. v.items ≡ map seen_at_place others) }
+        IfOk result (λ v. v.items ≡ map seen_at_location others) }
 {
     let most = reals.len().saturating_add(copies.len());
     let mut seen = Vec::with_capacity(alloc, most)?;
     let mut first = reals;
     let mut second = copies;
     while let Some(next) = next_of(first, second) {
-        see(&mut seen, seen_at(next.entity, next.place), own)?;
+        see(&mut seen, seen_at(next.entity, next.location), own)?;
         first = next.first;
         second = next.second;
     }
@@ -144,7 +144,7 @@ pub fn joined(
 ) -> Result<Vec<Seen>, AllocError>
     ensures { let only_copies = without_reals here.now.items copies.items in
         let others = filter (is_other own) (merged reals.now only_copies) in
-        IfOk result (λ v. v.items ≡ map seen_at_place others) }
+        IfOk result (λ v. v.items ≡ map seen_at_location others) }
 {
     let only_copies = without_reals(here, copies);
     let seen = merged(alloc, own, reals, &only_copies)?;

@@ -12,13 +12,13 @@ abbrev pub told_of : ℕ → Told → Option GhostCopy
 told_of e told = lookup (nat_eq e) told
 
 -- what was told of an entity is what is known of it
-abbrev pub AreTold : (ℕ → Option GhostCopy) → Told → Type 0
-AreTold known told = (e : ℕ) (c : GhostCopy) → told_of e told ≡ Some c → known e ≡ Some c
+abbrev pub AreAsKnown : (ℕ → Option GhostCopy) → Told → Type 0
+AreAsKnown known told = (e : ℕ) (c : GhostCopy) → told_of e told ≡ Some c → known e ≡ Some c
 
 -- the same of others than the own entity
-abbrev pub AreToldBut : ℕ → (ℕ → Option GhostCopy) → Told → Type 0
-AreToldBut own known told = (e : ℕ) (c : GhostCopy) → e ≢ own → told_of e told ≡ Some c → known e ≡ Some c
+abbrev pub AreAsKnownBut : ℕ → (ℕ → Option GhostCopy) → Told → Type 0
+AreAsKnownBut own known told = (e : ℕ) (c : GhostCopy) → e ≢ own → told_of e told ≡ Some c → known e ≡ Some c
 
 -- it is so of others after a look of the own entity, and what was told of that is as it was
-abbrev pub AreStillTold : ℕ → (ℕ → Option GhostCopy) → Told → Told → Type 0
-AreStillTold own known old new = AreToldBut own known new × (told_of own new ≡ told_of own old)
+abbrev pub AreStillAsKnown : ℕ → (ℕ → Option GhostCopy) → Told → Told → Type 0
+AreStillAsKnown own known old new = AreAsKnownBut own known new × (told_of own new ≡ told_of own old)

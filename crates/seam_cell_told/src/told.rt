@@ -2,7 +2,7 @@
 
 ghost use Rattle.std.specs.Prelude.{◌≡◌, ◌≢◌, ℕ, [], IfOk, OnOk, Option, Some, option_map};
 ghost use Rattle.seam_call.specs.declared.shown.GhostCopy.{GhostCopy as AnyCopy};
-ghost use Rattle.seam_cell_told.specs.Told.{told_of, AreToldBut, AreStillTold};
+ghost use Rattle.seam_cell_told.specs.Told.{told_of, AreAsKnownBut, AreStillAsKnown};
 
 use indexmap::IndexMap;
 use seam_call::GhostCopy;
@@ -82,7 +82,7 @@ impl ToldCopies {
     pub fn keep(&mut self, e: u32, copy: &Shared<GhostCopy>) -> Result<(), AllocError>
         ensures kept { OnOk result (told_of e self.new ≡ Some copy.now) }
         ensures told { (own : ℕ) (known : ℕ → Option AnyCopy) → e ≢ own → known e ≡ Some copy.now →
-            AreToldBut own known self.old → AreStillTold own known self.old self.new }
+            AreAsKnownBut own known self.old → AreStillAsKnown own known self.old self.new }
     {
         let kept = copy.share()?;
         match self.copies.insert(e, kept) {

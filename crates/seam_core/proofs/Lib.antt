@@ -2,5 +2,4 @@ pub mod Worlds
 pub mod Nodes
 pub mod Loading
 pub mod Fitting
-pub mod Counts
 pub mod Opened

@@ -17,7 +17,6 @@
 //! (what the load of a batch makes of a node).
 #![tactic(auto)]
 
-mod holders;
 mod laws;
 mod loads;
 mod node;

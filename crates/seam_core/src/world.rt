@@ -1,20 +1,19 @@
 //! A world, and its events.
 //!
-//! `opened`, `loaded`, `happens` and `count` bind the code: they say which world a call makes, and what it answers. `laws` binds none. It
-//! is what `every_world_obeys_the_laws` says of every net of nodes: wherever it comes from, by a load and events, it obeys the laws of
-//! that phase. A step that made another world would keep `laws` too, of that world, and break `happens`.
+//! `opened`, `loaded` and `happens` bind the code: they say which world a call makes. `laws` binds none. It is what
+//! `every_world_obeys_the_laws` says of every net of nodes: wherever it comes from, by a load and events, it obeys the laws of that phase.
+//! A step that made another world would keep `laws` too, of that world, and break `happens`.
 
-ghost use Rattle.std.specs.Prelude.{◌≡◌, ◌<◌, ◌++◌, ◌∷◌, ◌-◌, ◌^◌, [], ℕ, List, length, min, true, OnOk, OnErr, IfOk};
+ghost use Rattle.std.specs.Prelude.{◌≡◌, ◌<◌, ◌++◌, ◌∷◌, [], ℕ, List, length, true, OnOk, OnErr, IfOk};
 ghost use Rattle.std.specs.Prelude.{option_copied, slice_get};
 ghost use Rattle.seam_node_steps.specs.Prelude.{AreLegal, enabled, happens, Event as AnyEvent, World as AnyWorld, node_steps};
-ghost use Rattle.seam_node_steps.specs.Prelude.{node_has_work, opened, loaded, reaps_loaded, look_loaded, holders};
+ghost use Rattle.seam_node_steps.specs.Prelude.{node_has_work, opened, loaded, reaps_loaded, look_loaded};
 ghost use Rattle.seam_law_rounds.specs.Prelude.{first_frame};
 ghost use Rattle.seam_law_all.specs.Prelude.{KeepsRecords};
 ghost use Rattle.seam_rule_clients.specs.Clients.{ClientReplica};
-ghost use Rattle.seam_core.specs.Worlds.{IsWorld, Leads, Lives, KeepsLaws};
+ghost use Rattle.seam_core.specs.Worlds.{IsWorld, Leads, KeepsLaws};
 ghost use Rattle.seam_core.specs.Loads.{MayLoad};
 
-use crate::holders::count_holders;
 use crate::laws::every_world_obeys_the_laws;
 use crate::loads::{begin_all, give, give_all, reap_all};
 use crate::node::Node;
@@ -113,17 +112,6 @@ impl World {
         let World { mut net } = self;
         give(&mut net, MOST_CELLS as u8, Order::Tick)?;
         Ok(World { net })
-    }
-
-    /// In how many places the entity's real is: cells that have it, and hand-overs that carry it; the greatest `u32` if there are more.
-    ///
-    /// Of an entity that lives it is 1 at every moment of a round.
-    pub fn holders(&self, e: u32) -> u32
-        ensures count { result ≡ min (holders self.now e) (2 ^ 32 - 1) }
-        ensures one { Lives e self.now → result ≡ 1 }
-    {
-        every_world_obeys_the_laws();
-        count_holders(&self.net, e)
     }
 
     /// Does nothing. Its clause says what holds of every world (*IsWorld*).

@@ -6,6 +6,5 @@ pub mod Deeds
 pub mod Marks
 pub mod Remaining
 pub mod Builtin
-pub mod Rows
 pub mod Fitting
 pub mod Tests

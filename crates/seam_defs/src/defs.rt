@@ -4,7 +4,7 @@ ghost use Rattle.std.specs.Cmp.Lexicographic.{slice_cmp};
 ghost use Rattle.seam_defs.specs.Types.{AreDefs, IsType, type_of, names_of_types};
 
 use crate::{Listed, TypeDef};
-use seam_table::HashKey;
+use seam_hash::HashKey;
 use seam_value::ShortText;
 use std::alloc::Global;
 use std::cmp::Ordering;

@@ -16,7 +16,6 @@
 //! their relations).
 #![tactic(auto)]
 
-mod builtin;
 mod copying;
 mod deeds;
 mod defs;

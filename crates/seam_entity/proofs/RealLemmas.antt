@@ -12,7 +12,7 @@ use Rattle.seam_entity.specs.Orders.{order_of}
 use Rattle.seam_entity.specs.Reals.{RealView}
 use Rattle.seam_entity.specs.Here.{Here}
 use Rattle.seam_entity.specs.Executing.{public_after, with_deed, with_offer, with_order, executed, executed_ready, shows}
-use Rattle.seam_entity.specs.Preparing.{with_after, met, offered}
+use Rattle.seam_entity.specs.Preparing.{with_after, outcome_of, offered}
 use Rattle.seam_entity.specs.declared.real.Did.{Did}
 use Rattle.seam_entity.specs.declared.real.Did.TheVariants.{Done, Held, Stale}
 
@@ -39,7 +39,7 @@ module _ (h : Here) (r : RealView) (k : Call) (t : Bool) (is : t ≡ eqb k.numbe
   equal : nat_cmp k.number (order_of r.orders k.sender).next ≡ Equal
   equal = turn_is k.number (order_of r.orders k.sender).next (sym is ∙ turn)
 
-  pub met_turn : {E : Type 0} (a : Result Did E) → IfOk a (λ d. d ≡ Done (shows h r k)) → IfOk a (λ d. d ≡ met h r k)
+  pub met_turn : {E : Type 0} (a : Result Did E) → IfOk a (λ d. d ≡ Done (shows h r k)) → IfOk a (λ d. d ≡ outcome_of h r k)
   met_turn a f = subst (λ o. IfOk a (λ d. d ≡ match_ordering o (Stale k) (Done (shows h r k)) Held)) (sym equal) f
 
   pub offered_turn : {E : Type 0} (a : Result Did E) (n : RealView) → OnOk a (n ≡ executed h r k) → OnOk a (n ≡ offered h r k)

@@ -32,8 +32,8 @@ abbrev pub with_after : RealView → Later → Call → RealView
 with_after r a k = record (advanced r a) { done = r.done ++ k ∷ [] }
 
 -- the call comes back, is executed or is held, as its number is below the one whose turn it is, that number or above it
-abbrev pub met : Here → RealView → Call → Did
-met h r k = match_ordering (nat_cmp k.number (order_of r.orders k.sender).next) (Stale k) (Done (shows h r k)) Held
+abbrev pub outcome_of : Here → RealView → Call → Did
+outcome_of h r k = match_ordering (nat_cmp k.number (order_of r.orders k.sender).next) (Stale k) (Done (shows h r k)) Held
 
 -- the real after a call
 abbrev pub offered : Here → RealView → Call → RealView

@@ -13,7 +13,8 @@ ghost use Rattle.seam_entity.specs.Here.{Here, properties};
 ghost use Rattle.seam_entity.specs.Executing.{real_begins};
 ghost use Rattle.seam_entity.specs.Executing.{created, copy_with, copy_of_real, with_deed, with_offer, executed, public_after, shows};
 ghost use Rattle.seam_entity.specs.Executing.{settled_to};
-ghost use Rattle.seam_entity.specs.Preparing.{node_with, advanced, with_after, met, offered as after_call, HasRoom, HasSpare, HasReady};
+ghost use Rattle.seam_entity.specs.Preparing.{node_with, advanced, with_after, outcome_of, offered as after_call, HasRoom, HasSpare};
+ghost use Rattle.seam_entity.specs.Preparing.{HasReady};
 ghost use Rattle.seam_entity.specs.ReadyCalls.{has_ready};
 ghost use Rattle.seam_entity.specs.Executing.{executed_ready, with_order, fits_real};
 ghost use Rattle.seam_defs.specs.declared.flags.Group.TheVariants as group;
@@ -434,7 +435,7 @@ impl Real {
         requires not_held { is_some (item_at call.number
             (order_of self.old.core.orders call.sender).held) ≡ false }
         ensures answer { (me : ℕ) (settings : AllSettings) →
-            IfOk result (λ d. d ≡ met (node_with defs.now me settings) self.old.core call) }
+            IfOk result (λ d. d ≡ outcome_of (node_with defs.now me settings) self.old.core call) }
         ensures after { (me : ℕ) (settings : AllSettings) →
             OnOk result (self.new.core ≡ after_call (node_with defs.now me settings) self.old.core
             call) }
@@ -490,7 +491,7 @@ impl Real {
             (order_of self.old.core.orders call.sender).held) ≡ false }
         requires not_turn { (call.number == (order_of self.old.core.orders call.sender).next)
             ≡ false }
-        ensures answer { (h : Here) → IfOk result (λ d. d ≡ met h self.old.core call) }
+        ensures answer { (h : Here) → IfOk result (λ d. d ≡ outcome_of h self.old.core call) }
         ensures after { (h : Here) → OnOk result (self.new.core ≡ after_call h self.old.core call) }
         ensures err { OnErr result (self.new.core ≡ self.old.core) }
         ensures err_item { IfErr result (λ e. e.item ≡ call) }

@@ -12,7 +12,7 @@ use Rattle.seam_call.specs.declared.shown.Line.{Line}
 use Rattle.seam_call.specs.declared.shown.ClientText.TheVariants as text
 use Rattle.seam_judge_data.specs.Standings.{standing_of}
 use Rattle.seam_judge_data.specs.declared.standing.Standing as plain
-use Rattle.seam_judge_rounds.specs.RoundClients.{client_as, IsTold}
+use Rattle.seam_judge_rounds.specs.RoundClients.{client_as, AddsLines}
 use Rattle.seam_judge_rounds.proofs.ClientLists.{each_client, told_each}
 use Rattle.seam_judge_rounds.proofs.Told.{all_now}
 
@@ -107,7 +107,7 @@ module _ (s t : plain.Standing) (r : RoundData) (before after shown : List Clien
     (after_is : after ≡ t.told.items) (shown_is : shown ≡ r.shown)
   where
     abbrev pub Told : ℕ → Type 0
-    Told e = IsTold (standing_of s) r (standing_of t) e
+    Told e = AddsLines (standing_of s) r (standing_of t) e
 
     none_told : (e : ℕ) → filter (λ (l : ClientLine). l.entity == e) before ≡ [] → filter (λ (l : ClientLine). l.entity == e) after ≡ [] →
         filter (λ (l : ClientLine). l.entity == e) shown ≡ [] → Told e
@@ -132,7 +132,7 @@ module _ (h : Header) (s : Standing) (r : RoundData) (t : Standing) (clients : L
   where
     pub shown_decided : (rise only each told first second all : Bool) → (IsTrue rise ↔ IsNonDecreasing (map (λ l. l.entity) r.shown)) →
         (IsTrue only ↔ All (λ (l : ClientLine). IsTrue (is_shown s.book l.entity)) r.shown) →
-        (IsTrue each ↔ All (ShowsClient h s r t) clients) → (IsTrue told ↔ ((e : ℕ) → IsTold s r t e)) →
+        (IsTrue each ↔ All (ShowsClient h s r t) clients) → (IsTrue told ↔ ((e : ℕ) → AddsLines s r t e)) →
         (IsTrue first ↔ (IsTrue rise × IsTrue only)) → (IsTrue second ↔ (IsTrue each × IsTrue told)) →
         (IsTrue all ↔ (IsTrue first × IsTrue second)) → (IsTrue all ↔ HasShown h s r t)
     shown_decided rise only each told first second all at_rise at_only at_each at_told at_first at_second at_all = (

@@ -7,5 +7,5 @@ abbrev pub client_as : Book → ℕ → Option Create
 client_as b e = if is_shown b e then created_as b e else None
 
 -- the lines that a client was told up to the round's end are those before the round, and then those of the round
-abbrev pub IsTold : Standing → RoundData → Standing → ℕ → Type 0
-IsTold s r t e = t.told e ≡ s.told e ++ told_in r e
+abbrev pub AddsLines : Standing → RoundData → Standing → ℕ → Type 0
+AddsLines s r t e = t.told e ≡ s.told e ++ told_in r e

@@ -4,7 +4,7 @@ ghost use Rattle.std.specs.List.{All, range_with_len};
 ghost use Rattle.std.specs.List.Sorted.{IsNonDecreasing};
 ghost use Rattle.seam_rule_rounds.specs.Prelude.{is_shown, Lists, is_base, base_shown, base_versions, ShowsClient, HasShown};
 ghost use Rattle.seam_judge_data.specs.Standings.{standing_of};
-ghost use Rattle.seam_judge_rounds.specs.RoundClients.{client_as, IsTold};
+ghost use Rattle.seam_judge_rounds.specs.RoundClients.{client_as, AddsLines};
 
 use crate::calls::both;
 use crate::case::{Case, is_shown, lines_to, texts_of, told_by};
@@ -204,7 +204,7 @@ fn copies_of_lines(alloc: Global, lines: &[&Line]) -> Result<Vec<Line>, AllocErr
 
 // Whether a client was told, up to the round's end, what it was told before the round and in it.
 fn is_told(alloc: Global, case: &Case<'_>, entity: u32) -> Result<bool, AllocError>
-    ensures { IfOk result (λ r. IsTrue r ↔ IsTold (standing_of case.now.before.now)
+    ensures { IfOk result (λ r. IsTrue r ↔ AddsLines (standing_of case.now.before.now)
         case.now.round.now (standing_of case.now.after.now) entity) }
 {
     let now = copies_of_lines(alloc, &case.after.told_to(alloc, entity)?)?;
@@ -217,7 +217,7 @@ fn is_told(alloc: Global, case: &Case<'_>, entity: u32) -> Result<bool, AllocErr
 
 // Whether that is so of the client of each of these lines.
 fn are_told(alloc: Global, case: &Case<'_>, lines: &[ClientLine]) -> Result<bool, AllocError>
-    ensures { IfOk result (λ r. IsTrue r ↔ All (λ l. IsTold (standing_of case.now.before.now)
+    ensures { IfOk result (λ r. IsTrue r ↔ All (λ l. AddsLines (standing_of case.now.before.now)
         case.now.round.now (standing_of case.now.after.now) l.entity) lines.now) }
 {
     for line in lines {
@@ -231,7 +231,7 @@ fn are_told(alloc: Global, case: &Case<'_>, lines: &[ClientLine]) -> Result<bool
 
 // Whether it is so of every client: of one without a line it is.
 fn is_each_told(alloc: Global, case: &Case<'_>) -> Result<bool, AllocError>
-    ensures { IfOk result (λ r. IsTrue r ↔ ((e : ℕ) → IsTold (standing_of case.now.before.now)
+    ensures { IfOk result (λ r. IsTrue r ↔ ((e : ℕ) → AddsLines (standing_of case.now.before.now)
         case.now.round.now (standing_of case.now.after.now) e)) }
 {
     let (before, after, round) = (case.before, case.after, case.round);

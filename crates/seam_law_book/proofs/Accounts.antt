@@ -1,17 +1,11 @@
 -- What calls make of a real's account is what the flat table has of its entity.
-use Rattle.std.proofs.Common.{◌≡◌, ℕ, zero, suc, ◌+◌, ◌-◌, ◌≤◌, Bool, true, false, cond, List, [], ◌∷◌, ◌++◌, length, fold, refl, sym, ap}
-use Rattle.std.proofs.Common.{◌∙◌, subst, arith, length-append, append-nil, append_assoc}
-use Rattle.std.specs.Prelude.{not}
-use Rattle.std.specs.List.{AllByRecursion}
+use Rattle.seam_law_book.proofs.Prelude.{◌≡◌, ℕ, zero, suc, ◌+◌, ◌-◌, ◌≤◌, Bool, true, false, cond, List, [], ◌∷◌, ◌++◌, length, fold, refl}
+use Rattle.seam_law_book.proofs.Prelude.{sym, ap, ◌∙◌, subst, arith, length-append, append-nil, append_assoc, not, AllByRecursion}
+use Rattle.seam_law_book.proofs.Prelude.{fold-append, after, same_shown, changes, type_of, Part, State, TypeDef, Call as CallData, Create}
+use Rattle.seam_law_book.proofs.Prelude.{public_after, RealView, Header, first_state, flat, properties, has_changed_at, public_at, Account}
+use Rattle.seam_law_book.proofs.Prelude.{account_of, after_call, after_calls, IsDoneOn, IsInTable, public_more}
 use Rattle.std.proofs.lemmas.List.{take_all, take-append-le}
-use Rattle.std.proofs.lemmas.List.Sums.{fold-append}
-use Rattle.seam_node_steps.specs.Prelude.{after, same_shown, changes, type_of, Part, State, TypeDef, Call as CallData, Create, public_after}
-use Rattle.seam_node_steps.specs.Prelude.{RealView}
-use Rattle.seam_rule_rounds.specs.Prelude.{Header, first_state, flat, properties, has_changed_at, public_at}
-use Rattle.seam_law_calls.specs.Prelude.{Account, account_of, after_call, after_calls}
-use Rattle.seam_law_book.specs.Prelude.{IsDoneOn, IsInTable}
 use Rattle.seam_defs.specs.declared.flags.Part.TheVariants as part
-use Rattle.seam_rule_rounds.proofs.Public.{public_more}
 
 module _ (t : TypeDef) where
   abbrev pub done_deed : State → CallData → State

@@ -1,11 +1,8 @@
 -- What one more entry adds to the open round.
-use Rattle.std.proofs.Common.{◌≡◌, ℕ, ◌+◌, false, List, [], ◌∷◌, ◌++◌, length, sym, ap, ◌∙◌, arith, append-nil, length-append, Option}
-use Rattle.std.specs.Prelude.{eqb}
-use Rattle.std.specs.List.{AllByRecursion, IsDistinct, filter_map}
-use Rattle.std.proofs.lemmas.List.Elements.{filter-append, filter_map-append}
-use Rattle.seam_node_steps.specs.Prelude.{Part, Call}
-use Rattle.seam_rule_rounds.specs.Prelude.{Book, called, calls_of, with_entry, Entry}
-use Rattle.seam_law_book.specs.Prelude.{as_begun, calls_from, last_number, AreNumberedFrom}
+use Rattle.seam_law_book.proofs.Prelude.{◌≡◌, ℕ, ◌+◌, false, List, [], ◌∷◌, ◌++◌, length, sym, ap, ◌∙◌, arith, append-nil, length-append}
+use Rattle.seam_law_book.proofs.Prelude.{Option, eqb, AllByRecursion, filter_map, filter-append, filter_map-append, Part, Call, Book}
+use Rattle.seam_law_book.proofs.Prelude.{called, calls_of, with_entry, Entry, as_begun, calls_from, last_number, AreNumberedFrom}
+use Rattle.std.specs.List.{IsDistinct}
 
 -- ---- lists
 

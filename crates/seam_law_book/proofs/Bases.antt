@@ -1,22 +1,13 @@
 -- What a base part became over a list of events in which its entity is not reaped, with or without a client.
-use Rattle.std.proofs.Common.{◌≡◌, ℕ, ◌+◌, true, List, [], ◌∷◌, ◌++◌, length, Option, Some, refl, sym, ap, ◌∙◌, subst, arith, append-nil}
-use Rattle.std.proofs.Common.{append_assoc, length-append}
-use Rattle.std.proofs.lemmas.List.Sums.{fold-append}
-use Rattle.seam_node_steps.specs.Prelude.{happens, enabled, Event, after_taking, Call as CallData, Order, Msg, Here, PartView, with_order}
-use Rattle.seam_node_steps.specs.Prelude.{World, node_steps, node_has_work}
-use Rattle.seam_law_flow.specs.Prelude.{comes}
-use Rattle.seam_law_calls.specs.Prelude.{Frame, here_at, IsInFrame, AtBase, entity_flow, IsSpared, Offered, now, early, late, PartMoves}
-use Rattle.seam_law_calls.specs.Prelude.{rests, refuses, offers, sends, serves, executes, misses, updates, shows, ends, RunsTo}
-use Rattle.seam_law_clients.specs.Prelude.{state_with, state_after}
-use Rattle.seam_machine.proofs.Occurring.{occurs}
-use Rattle.seam_net_runs.proofs.Runs.{leads_keeps}
-use Rattle.seam_law_flow.proofs.Following.{slots_kept}
+use Rattle.seam_law_book.proofs.Prelude.{◌≡◌, ℕ, ◌+◌, true, List, [], ◌∷◌, ◌++◌, length, Option, Some, refl, sym, ap, ◌∙◌, subst, arith}
+use Rattle.seam_law_book.proofs.Prelude.{append-nil, append_assoc, length-append, fold-append, happens, enabled, Event, after_taking}
+use Rattle.seam_law_book.proofs.Prelude.{Call as CallData, Order, Msg, Here, PartView, with_order, World, node_steps, node_has_work, comes}
+use Rattle.seam_law_book.proofs.Prelude.{Frame, here_at, IsInFrame, AtBase, entity_flow, IsSpared, Offered, now, early, late, PartMoves}
+use Rattle.seam_law_book.proofs.Prelude.{rests, refuses, offers, sends, serves, executes, misses, updates, shows, RunsTo, state_with}
+use Rattle.seam_law_book.proofs.Prelude.{state_after, occurs, leads_keeps, slots_kept, executed, with_offer, event_moves, frame_happens}
+use Rattle.seam_law_book.proofs.Prelude.{spared_happens, part_moves, unordered}
+use Rattle.seam_law_calls.specs.Prelude.{ends}
 use Rattle.seam_call.specs.declared.order.Order.TheVariants as order
-use Rattle.seam_node_steps.specs.BaseCases.{executed, with_offer}
-use Rattle.seam_law_calls.proofs.Classify.{event_moves, frame_happens}
-use Rattle.seam_law_calls.proofs.OneReal.{spared_happens}
-use Rattle.seam_law_calls.proofs.PartSteps.{part_moves}
-use Rattle.seam_law_calls.proofs.BaseRuns.{unordered}
 
 -- the part that was p is o, which executed further calls
 pub record Became (h : Here) (p : PartView) (o : Option PartView) : Type 0 where

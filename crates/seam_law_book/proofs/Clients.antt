@@ -1,13 +1,9 @@
 -- Which base parts of a loaded world have a client.
-use Rattle.std.proofs.Common.{◌≡◌, ℕ, ◌≤◌, Bool, true, false, Some, None, refl, sym, ap, ◌∙◌}
-use Rattle.std.specs.Prelude.{is_some, ◌&&◌, ◌||◌}
-use Rattle.std.specs.List.{list_any}
-use Rattle.seam_node_steps.specs.Prelude.{Division, Create, Batch, RealView, PartView, holders, loaded, World}
-use Rattle.seam_rule_rounds.specs.Prelude.{Header, Book, entries, created_as, live_as, has_client, joins, ClientReplica}
-use Rattle.seam_law_calls.specs.Prelude.{entity_flow}
-use Rattle.seam_law_all.specs.Prelude.{KeepsRecords, MayBeGiven}
-use Rattle.seam_law_book.specs.Prelude.{as_begun, IsPresent, HasFitRound, IsUntouched, frame_of, base_node, GoesWith, HasRoomForCalls}
-use Rattle.seam_accept.specs.Batches.{batch_of}
+use Rattle.seam_law_book.proofs.Prelude.{◌≡◌, ℕ, ◌≤◌, Bool, true, false, Some, None, refl, sym, ap, ◌∙◌, is_some, ◌&&◌, ◌||◌, list_any}
+use Rattle.seam_law_book.proofs.Prelude.{Division, Create, Batch, RealView, PartView, holders, loaded, World, Header, Book, entries}
+use Rattle.seam_law_book.proofs.Prelude.{created_as, live_as, has_client, joins, ClientReplica, entity_flow, KeepsRecords, MayBeGiven}
+use Rattle.seam_law_book.proofs.Prelude.{as_begun, IsPresent, HasFitRound, IsUntouched, frame_of, base_node, GoesWith, HasRoomForCalls}
+use Rattle.seam_law_book.proofs.Prelude.{batch_of}
 use Rattle.seam_law_book.proofs.Present.{any_split, any_begun}
 use Rattle.seam_law_book.proofs.Fitting.{new_number}
 use Rattle.seam_law_book.proofs.Origins.{RealFrom, was, made}

@@ -1,34 +1,20 @@
 -- What a round leaves executed is what its lines brought, part by part.
-use Rattle.std.proofs.Common.{◌≡◌, ℕ, ◌≤◌, List, [], ◌∷◌, Some, None, refl, sym, ap, ◌∙◌, subst, arith, inl, inr, ◌⊎◌, Bool, true, false}
-use Rattle.std.proofs.Common.{cond}
-use Rattle.std.specs.Prelude.{◌==◌, ◌&&◌, slice_get}
-use Rattle.std.specs.List.{AllByRecursion}
-use Rattle.std.proofs.lemmas.Bool.{eqb-true}
-use Rattle.seam_node_steps.specs.Prelude.{part_of_deed, type_of, is_for, same_part, rank_of, Event, Division, Part, Call as CallData}
-use Rattle.seam_node_steps.specs.Prelude.{Create, Batch, cell_count, RealView, holders, World, node_has_work, loaded}
-use Rattle.seam_rule_rounds.specs.Prelude.{Header, Book, calls_of, created_as, accepted, Orders, IsFull, ClientReplica}
-use Rattle.seam_law_flow.specs.Prelude.{letters_of}
-use Rattle.seam_law_calls.specs.Prelude.{mine, entity_flow, real_of, from_sender, RunsTo, real_at, real_in}
-use Rattle.seam_law_all.specs.Prelude.{ObeysLaws, EndsRightly, KeepsRecords, KeepsRecordsWithin, MayBeGiven, may_begin}
-use Rattle.seam_law_book.specs.Prelude.{as_begun, IsPresent, IsFitCall, calls_from, HasFitRound, IsUntouched, frame_of, base_node}
-use Rattle.seam_law_book.specs.Prelude.{GoesWith, HasRoomForCalls, done_by_real, done_by_part, done_in, with_done, IsDoneOn, real_here}
-use Rattle.seam_machine.proofs.Quiet.{quiet_links}
+use Rattle.seam_law_book.proofs.Prelude.{◌≡◌, ℕ, ◌≤◌, List, [], ◌∷◌, Some, None, refl, sym, ap, ◌∙◌, subst, arith, inl, inr, ◌⊎◌, Bool}
+use Rattle.seam_law_book.proofs.Prelude.{true, false, cond, ◌==◌, ◌&&◌, slice_get, AllByRecursion, eqb-true, part_of_deed, type_of, is_for}
+use Rattle.seam_law_book.proofs.Prelude.{same_part, rank_of, Event, Division, Part, Call as CallData, Create, Batch, cell_count, RealView}
+use Rattle.seam_law_book.proofs.Prelude.{holders, World, node_has_work, loaded, Header, Book, calls_of, created_as, accepted, Orders}
+use Rattle.seam_law_book.proofs.Prelude.{IsFull, ClientReplica, letters_of, mine, entity_flow, real_of, from_sender, RunsTo, real_at}
+use Rattle.seam_law_book.proofs.Prelude.{real_in, ObeysLaws, EndsRightly, KeepsRecords, KeepsRecordsWithin, MayBeGiven, may_begin, as_begun}
+use Rattle.seam_law_book.proofs.Prelude.{IsPresent, IsFitCall, calls_from, HasFitRound, IsUntouched, frame_of, base_node, GoesWith}
+use Rattle.seam_law_book.proofs.Prelude.{HasRoomForCalls, done_by_real, done_by_part, done_in, with_done, IsDoneOn, real_here, quiet_links}
+use Rattle.seam_law_book.proofs.Prelude.{differ, batch_of, counted_none, none_counts, both, in_frame, no_mail, one_holder, settled_loaded}
+use Rattle.seam_law_book.proofs.Prelude.{Somewhere, Nowhere, search_real, part_stays_gone}
 use Rattle.seam_defs.specs.declared.flags.Part.TheVariants as part
-use Rattle.seam_rule_lines.proofs.BookEntries.{differ}
-use Rattle.seam_accept.specs.Batches.{batch_of}
 use Rattle.seam_law_book.proofs.Adding.{all_turn}
 use Rattle.seam_law_book.proofs.Untouched.{IsFromSender, known_is_sender}
-use Rattle.seam_law_calls.proofs.Counting.{counted_none, none_counts}
-use Rattle.seam_law_calls.proofs.Holds.{both}
-use Rattle.seam_law_rounds.proofs.Framing.{in_frame}
-use Rattle.seam_law_rounds.proofs.Loaded.{no_mail}
-use Rattle.seam_law_rounds.proofs.Ready.{one_holder}
-use Rattle.seam_law_rounds.proofs.Going.{settled_loaded}
-use Rattle.seam_law_rounds.proofs.Shape.{Somewhere, Nowhere, search_real}
 use Rattle.seam_law_book.proofs.Numbering.{cell_calls, base_calls}
 use Rattle.seam_law_book.proofs.Fitting.{type_by}
 use Rattle.seam_law_book.proofs.Started.{nobody, no_part_there, real_comes}
-use Rattle.seam_law_calls.proofs.Reaped.{part_stays_gone}
 use Rattle.seam_law_book.proofs.Found.{real_is, part_is}
 use Rattle.seam_law_book.proofs.Executed.{letters_are_of_place, all_by_place, one_in, none_in, executes_all}
 
@@ -140,7 +126,7 @@ module _ (h : Header) (some : 1 ≤ h.settings.bases) (b : Book) (t : Division) 
   executed part.Base e n = executed_base e (search_real e v) n
 
   -- what an entity's part executed was done on it
-  module _ (e k : ℕ) (q : RealView) (at : real_at e v k ≡ Some q) (c : Create) (is_there : IsPresent b e c) (p : Part) where
+  module _ (e k : ℕ) (q : RealView) (at : real_at e v k ≡ Some q) (c : Create) (is_present : IsPresent b e c) (p : Part) where
     abbrev Its : CallData → Type 0
     Its = IsDoneOn p (type_of h.defs c.ty)
 
@@ -149,7 +135,7 @@ module _ (h : Header) (some : 1 ≤ h.settings.bases) (b : Book) (t : Division) 
         let was = began_by e k q at (search_real e (loaded w B)) in
         let type = type_by h b t w keeps.reals goes R untouched e was.0 was.1
         (real_comes h some b t clients w keeps may goes R untouched few present e was.0 was.1 was.2) in
-        sym (type m also) ∙ type c is_there
+        sym (type m also) ∙ type c is_present
 
     is_done_on : (x : CallData) → IsFitCall h b x → is_for p e x ≡ true → Its x
     is_done_on x fit is =

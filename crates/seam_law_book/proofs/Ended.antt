@@ -1,42 +1,25 @@
 -- Where a world went through the round of a book's open lines, the book with its round ended goes with it.
-use Rattle.std.proofs.Common.{◌≡◌, ℕ, ◌+◌, ◌≤◌, Bool, true, false, cond, eqb, List, [], ◌∷◌, length, Some, None, refl, sym, ap, ◌∙◌, subst}
-use Rattle.std.proofs.Common.{arith, inl, inr, append-nil, ◌⊎◌}
-use Rattle.std.specs.Prelude.{is_some, ◌==◌, ◌||◌, ◌&&◌}
-use Rattle.std.specs.List.{AllByRecursion, list_any, filter_map}
-use Rattle.std.specs.Option.{option_or}
-use Rattle.std.proofs.lemmas.Bool.{eq-eqb, eqb-true}
-use Rattle.std.proofs.lemmas.Option.{none-some}
-use Rattle.seam_node_steps.specs.Prelude.{IsQuiet, Division, Part, Create, Batch, RealView, PartView, holders, World, node_has_work, loaded}
-use Rattle.seam_node_steps.specs.Prelude.{reaps_loaded, look_loaded, reap_ordered_at}
-use Rattle.seam_rule_rounds.specs.Prelude.{Header, Book, entries, creates_of, calls_of, created_as, live_as, destroys, joins, has_client}
-use Rattle.seam_rule_rounds.specs.Prelude.{with_round_ended, Entry, ClientReplica}
-use Rattle.seam_law_calls.specs.Prelude.{IsInFrame, order_about, entity_flow, real_in, real_at}
-use Rattle.seam_law_rounds.specs.Prelude.{IsNew, next_from, HasSettledPart, next_to}
-use Rattle.seam_law_ghosts.specs.Prelude.{GoesThroughRound}
-use Rattle.seam_law_all.specs.Prelude.{KeepsRecords, MayBeGiven, may_begin}
-use Rattle.seam_law_book.specs.Prelude.{as_begun, made_among, IsPresent, calls_from, last_number, HasFitRound, IsUntouched, frame_of}
-use Rattle.seam_law_book.specs.Prelude.{base_node}
-use Rattle.seam_law_book.specs.Prelude.{IsHeld, Lives, GoesWith, HasRoomForCalls}
+use Rattle.seam_law_book.proofs.Prelude.{◌≡◌, ℕ, ◌+◌, ◌≤◌, Bool, true, false, cond, eqb, List, [], ◌∷◌, length, Some, None, refl, sym, ap}
+use Rattle.seam_law_book.proofs.Prelude.{◌∙◌, subst, arith, inl, inr, append-nil, ◌⊎◌, is_some, ◌==◌, ◌||◌, ◌&&◌, AllByRecursion, list_any}
+use Rattle.seam_law_book.proofs.Prelude.{filter_map, option_or, eq-eqb, eqb-true, none-some, IsQuiet, Division, Part, Create, Batch}
+use Rattle.seam_law_book.proofs.Prelude.{RealView, PartView, holders, World, node_has_work, loaded, reaps_loaded, look_loaded}
+use Rattle.seam_law_book.proofs.Prelude.{reap_ordered_at, Header, Book, entries, creates_of, calls_of, created_as, live_as, destroys, joins}
+use Rattle.seam_law_book.proofs.Prelude.{has_client, with_round_ended, Entry, ClientReplica, IsInFrame, order_about, entity_flow, real_in}
+use Rattle.seam_law_book.proofs.Prelude.{real_at, IsNew, next_from, HasSettledPart, next_to, GoesThroughRound, KeepsRecords, MayBeGiven}
+use Rattle.seam_law_book.proofs.Prelude.{may_begin, as_begun, made_among, IsPresent, calls_from, last_number, HasFitRound, IsUntouched}
+use Rattle.seam_law_book.proofs.Prelude.{frame_of, base_node, IsHeld, Lives, GoesWith, HasRoomForCalls, live_is_created, batch_of}
+use Rattle.seam_law_book.proofs.Prelude.{destroyed, counted_none, nodes_after, in_frame, AreOthers, Home, reaps_framed, look_framed}
+use Rattle.seam_law_book.proofs.Prelude.{Somewhere, Nowhere, search_real, part_stays_gone}
 use Rattle.seam_defs.specs.declared.flags.Part.TheVariants as part
 use Rattle.seam_rule_lines.specs.declared.verdict.Entry.TheVariants as entry
-use Rattle.seam_rule_lines.proofs.BookEntries.{live_is_created}
-use Rattle.seam_accept.specs.Batches.{batch_of, destroyed}
 use Rattle.seam_law_book.proofs.Adding.{all_turn, counted}
 use Rattle.seam_law_book.proofs.Present.{any_split, any_begun, created_split, created_begun, live_is_present, uncreated, undestroyed, alive}
 use Rattle.seam_law_book.proofs.Present.{undestroyed_apart}
-use Rattle.seam_law_calls.proofs.Counting.{counted_none}
-use Rattle.seam_law_rounds.proofs.Loading.{nodes_after}
-use Rattle.seam_law_rounds.proofs.Framing.{in_frame}
-use Rattle.seam_law_rounds.proofs.Making.{AreOthers}
-use Rattle.seam_law_rounds.proofs.Ready.{Home}
-use Rattle.seam_law_rounds.proofs.Giving.{reaps_framed, look_framed}
-use Rattle.seam_law_rounds.proofs.Shape.{Somewhere, Nowhere, search_real}
 use Rattle.seam_law_book.proofs.Origins.{RealFrom, was, made}
 use Rattle.seam_law_book.proofs.Numbering.{cell_calls, base_calls}
 use Rattle.seam_law_book.proofs.Fitting.{new_number, type_by, next_by, next_to_by}
 use Rattle.seam_law_book.proofs.Started.{real_comes, part_comes, made_now, nobody, no_part_there}
 use Rattle.seam_law_book.proofs.Nowhere.{new_after_calls, new_after_reaps, new_after_looks}
-use Rattle.seam_law_calls.proofs.Reaped.{part_stays_gone}
 use Rattle.seam_law_book.proofs.Parts.{tick, looked_parts, reaped_parts}
 use Rattle.seam_law_book.proofs.Clients.{client_given}
 use Rattle.seam_law_book.proofs.Playing.{Obeyed, loaded_home, one_at_end, end_home, was_reaped, was_called, type_at_end, next_at_end}

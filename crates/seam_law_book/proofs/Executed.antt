@@ -1,19 +1,13 @@
 -- What a part executed is what was accepted for it: the first calls of each sender at each moment, and all where the calls leave the world
 -- quiet.
-use Rattle.std.proofs.Common.{◌≡◌, ℕ, zero, suc, ◌+◌, ◌<◌, ◌≤◌, Bool, true, false, cond, List, [], ◌∷◌, ◌++◌, refl, sym, ap, ◌∙◌, subst}
-use Rattle.std.proofs.Common.{arith, inl, inr, append-nil, append_assoc, ◌⊎◌}
-use Rattle.std.specs.Prelude.{◌==◌, ◌&&◌, filter}
-use Rattle.std.specs.List.{AllByRecursion, flat_map, range_with_len}
-use Rattle.std.proofs.lemmas.Bool.{cases_eq, cases_lt, eq-eqb}
-use Rattle.std.proofs.lemmas.List.Elements.{filter-append, filter_map-append}
-use Rattle.seam_node_steps.specs.Prelude.{Part, MOST_BASE_NODES, is_for, is_from, IsSender, same_sender, rank_of, Sender, Call as CallData}
+use Rattle.seam_law_book.proofs.Prelude.{◌≡◌, ℕ, zero, suc, ◌+◌, ◌<◌, ◌≤◌, Bool, true, false, cond, List, [], ◌∷◌, ◌++◌, refl, sym, ap, ◌∙◌}
+use Rattle.seam_law_book.proofs.Prelude.{subst, arith, inl, inr, append-nil, append_assoc, ◌⊎◌, ◌==◌, ◌&&◌, filter, AllByRecursion}
+use Rattle.seam_law_book.proofs.Prelude.{flat_map, range_with_len, cases_eq, cases_lt, eq-eqb, filter-append, filter_map-append, Part}
+use Rattle.seam_law_book.proofs.Prelude.{MOST_BASE_NODES, is_for, is_from, IsSender, same_sender, rank_of, Sender, Call as CallData, Book}
+use Rattle.seam_law_book.proofs.Prelude.{called, calls_of, accepted, of_sender, IsFull, letters_of, more_letter, kept_if, from_sender}
+use Rattle.seam_law_book.proofs.Prelude.{as_begun, calls_from, differ}
 use Rattle.seam_rule_lines.specs.Orders.{IsLegal}
-use Rattle.seam_rule_rounds.specs.Prelude.{Book, called, calls_of, accepted, of_sender, IsFull}
-use Rattle.seam_law_flow.specs.Prelude.{letters_of, more_letter}
-use Rattle.seam_law_calls.specs.Prelude.{kept_if, from_sender}
-use Rattle.seam_law_book.specs.Prelude.{as_begun, calls_from}
 use Rattle.seam_call.specs.declared.sender.Sender.TheVariants as sender
-use Rattle.seam_rule_lines.proofs.BookEntries.{differ}
 use Rattle.seam_law_book.proofs.Untouched.{IsFromSender, accepted_by_place, same_place}
 
 -- ---- a list by its senders

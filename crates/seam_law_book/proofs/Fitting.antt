@@ -1,25 +1,15 @@
 -- What the open round of a book brings may be given to a world that goes with the book as the round began.
-use Rattle.std.proofs.Common.{◌≡◌, ℕ, ◌+◌, ◌<◌, Bool, true, false, cond, List, [], ◌∷◌, ◌++◌, length, Option, Some, None, refl, sym, ap}
-use Rattle.std.proofs.Common.{◌∙◌, subst, arith, inl, inr}
-use Rattle.std.specs.Prelude.{◌&&◌, nat_lt, is_some}
-use Rattle.std.specs.List.{AllByRecursion}
-use Rattle.std.specs.Ordering.{nat_cmp}
+use Rattle.seam_law_book.proofs.Prelude.{◌≡◌, ℕ, ◌+◌, ◌<◌, Bool, true, false, cond, List, [], ◌∷◌, ◌++◌, length, Option, Some, None, refl}
+use Rattle.seam_law_book.proofs.Prelude.{sym, ap, ◌∙◌, subst, arith, inl, inr, ◌&&◌, nat_lt, is_some, AllByRecursion, nat_cmp, cases_eq}
+use Rattle.seam_law_book.proofs.Prelude.{eq-eqb, nat_tests, none-some, Division, Pos, FitsDeed, part_of_deed, method_of, fits_deed}
+use Rattle.seam_law_book.proofs.Prelude.{fit_values, Part, TypeDef, Deed, same_part, Create, order_or, RealView, is_inside, stays_inside}
+use Rattle.seam_law_book.proofs.Prelude.{can_do, PartView, World, Header, Book, creates_of, created_as, live_as, has_client, entity_flow}
+use Rattle.seam_law_book.proofs.Prelude.{real_at, next_from, IsBetweenRounds, MayBeMade, next_to, as_begun, made_among, IsPresent, IsInside}
+use Rattle.seam_law_book.proofs.Prelude.{IsNewEntity, StaysInside, last_number, HasFitRound, IsUntouched, frame_of, base_node, IsHeld}
+use Rattle.seam_law_book.proofs.Prelude.{GoesWith, fit-Decides, live_is_created, differ, AreOthers, middle}
 use Rattle.std.specs.FinMap as table
-use Rattle.std.proofs.lemmas.Bool.{cases_eq, eq-eqb}
-use Rattle.std.proofs.lemmas.Bool.Decides.{nat_tests}
-use Rattle.std.proofs.lemmas.Option.{none-some}
-use Rattle.seam_node_steps.specs.Prelude.{Division, Pos, FitsDeed, part_of_deed, method_of, fits_deed, fit_values, Part, TypeDef, Deed}
-use Rattle.seam_node_steps.specs.Prelude.{same_part, Create, order_or, RealView, is_inside, stays_inside, can_do, PartView, World}
-use Rattle.seam_rule_rounds.specs.Prelude.{Header, Book, creates_of, created_as, live_as, has_client}
-use Rattle.seam_law_calls.specs.Prelude.{entity_flow, real_at}
-use Rattle.seam_law_rounds.specs.Prelude.{next_from, IsBetweenRounds, MayBeMade, next_to}
-use Rattle.seam_law_book.specs.Prelude.{as_begun, made_among, IsPresent, IsInside, IsNewEntity, StaysInside, last_number, HasFitRound}
-use Rattle.seam_law_book.specs.Prelude.{IsUntouched, frame_of, base_node, IsHeld, GoesWith}
 use Rattle.seam_defs.specs.declared.flags.Part.TheVariants as part
 use Rattle.seam_defs.specs.declared.states.Deed.TheVariants as deed
-use Rattle.seam_defs.proofs.TestLemmas.{fit-Decides}
-use Rattle.seam_rule_lines.proofs.BookEntries.{live_is_created, differ}
-use Rattle.seam_law_rounds.proofs.Making.{AreOthers, middle}
 use Rattle.seam_law_book.proofs.Origins.{IsCreate, RealFrom, was, made, PartFrom, had, comes}
 
 -- ---- tests

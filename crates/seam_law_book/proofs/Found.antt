@@ -1,12 +1,6 @@
 -- What is looked up at a node is what the entity's flow has there.
-use Rattle.std.proofs.Common.{◌≡◌, ℕ, Option, None, Some, refl}
-use Rattle.std.specs.Prelude.{slice_get}
-use Rattle.seam_node_steps.specs.Prelude.{NodeView, Cell, Base, World}
-use Rattle.seam_law_flow.specs.Flows.{slot_at}
-use Rattle.seam_law_calls.specs.Prelude.{entity_flow, has_of, has_none, real_in, real_at}
-use Rattle.seam_law_ghosts.specs.Prelude.{copy_at}
-use Rattle.seam_law_ghosts.specs.Entries.{book_entry}
-use Rattle.seam_law_book.specs.LookUps.{real_here, copy_here, part_here}
+use Rattle.seam_law_book.proofs.Prelude.{◌≡◌, ℕ, Option, None, Some, refl, slice_get, NodeView, Cell, Base, World, slot_at, entity_flow}
+use Rattle.seam_law_book.proofs.Prelude.{has_of, has_none, real_in, real_at, copy_at, book_entry, real_here, copy_here, part_here}
 
 real_by : (e : ℕ) (n : Option NodeView) → real_here e n ≡ real_in (slot_at (has_of e) has_none n)
 real_by e None = refl

@@ -1,15 +1,8 @@
 -- A client of a round has a witness at the round's end, and had it before the look.
-use Rattle.std.proofs.Common.{◌≡◌, ℕ, List, true, Option, None, Some, refl, sym, ap, ◌∙◌, inl, inr}
-use Rattle.std.specs.Prelude.{is_some, IsTrue, not, ◌&&◌}
-use Rattle.std.specs.List.{list_any}
-use Rattle.std.proofs.lemmas.Bool.{cases_eq}
-use Rattle.seam_node_steps.specs.Prelude.{Division, Event, RealView, WitnessView, World, look_loaded}
-use Rattle.seam_rule_rounds.specs.Prelude.{Header, Book, entries, created_as, joins, was_dead, is_shown, with_round_ended}
-use Rattle.seam_law_calls.specs.Prelude.{Frame, RunsTo, real_at}
-use Rattle.seam_law_rounds.specs.Prelude.{IsBetweenRounds, HasPartsBetweenRounds}
-use Rattle.seam_law_ghosts.specs.Prelude.{HadSameReal}
-use Rattle.seam_law_book.specs.Prelude.{frame_of, GoesWith}
-use Rattle.seam_law_calls.proofs.Holds.{both}
+use Rattle.seam_law_book.proofs.Prelude.{◌≡◌, ℕ, List, true, Option, None, Some, refl, sym, ap, ◌∙◌, inl, inr, is_some, IsTrue, not, ◌&&◌}
+use Rattle.seam_law_book.proofs.Prelude.{list_any, cases_eq, Division, Event, RealView, WitnessView, World, look_loaded, Header, Book}
+use Rattle.seam_law_book.proofs.Prelude.{entries, created_as, joins, was_dead, is_shown, with_round_ended, Frame, RunsTo, real_at}
+use Rattle.seam_law_book.proofs.Prelude.{IsBetweenRounds, HasPartsBetweenRounds, HadSameReal, frame_of, GoesWith, both}
 use Rattle.seam_law_book.proofs.Ended.{client_of, live_ended}
 use Rattle.seam_law_book.proofs.Parts.{both_seen, looks_leave_part}
 

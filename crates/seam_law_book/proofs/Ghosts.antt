@@ -1,14 +1,10 @@
 -- The ghost lines that are read off a world are those of the rules.
-use Rattle.std.proofs.Common.{◌≡◌, ℕ, zero, suc, ◌+◌, ◌<◌, ◌≤◌, Bool, true, false, cond, List, [], ◌∷◌, ◌++◌, map, length, refl, sym, ap}
-use Rattle.std.proofs.Common.{◌∙◌, arith}
-use Rattle.std.specs.Prelude.{filter, slice_get}
+use Rattle.seam_law_book.proofs.Prelude.{◌≡◌, ℕ, zero, suc, ◌+◌, ◌<◌, ◌≤◌, Bool, true, false, cond, List, [], ◌∷◌, ◌++◌, map, length, refl}
+use Rattle.seam_law_book.proofs.Prelude.{sym, ap, ◌∙◌, arith, filter, slice_get, flat_map, range_with_len, Division, cells_of, Create}
+use Rattle.seam_law_book.proofs.Prelude.{GhostCopy, cell_count, RealView, World, copy_if, Header, public_at, GhostLine, ghost_cells}
+use Rattle.seam_law_book.proofs.Prelude.{ghost_lines, Standing, RealFits, place_of, present, AreSettled, frame_of, IsInTable, ghost_read}
+use Rattle.seam_law_book.proofs.Prelude.{ghosts_read, copy_here}
 use Rattle.std.specs.FinSet as set
-use Rattle.std.specs.List.{flat_map, range_with_len}
-use Rattle.seam_node_steps.specs.Prelude.{Division, cells_of, Create, GhostCopy, cell_count, RealView, World, copy_if}
-use Rattle.seam_rule_rounds.specs.Prelude.{Header, public_at, GhostLine, ghost_cells, ghost_lines, Standing}
-use Rattle.seam_law_calls.specs.Prelude.{RealFits}
-use Rattle.seam_law_ghosts.specs.Prelude.{place_of, present, AreSettled}
-use Rattle.seam_law_book.specs.Prelude.{frame_of, IsInTable, ghost_read, ghosts_read, copy_here}
 use Rattle.seam_defs.specs.declared.flags.Part.TheVariants as part
 use Rattle.seam_law_book.proofs.Found.{copy_is}
 

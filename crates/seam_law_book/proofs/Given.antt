@@ -1,28 +1,19 @@
 -- The batch of a book's open round may be given to a world that goes with the book as the round began.
-use Rattle.std.proofs.Common.{◌≡◌, ℕ, ◌<◌, ◌≤◌, Bool, true, false, cond, eqb, List, [], ◌∷◌, length, Option, suc, Some, None, refl, sym, ap}
-use Rattle.std.proofs.Common.{◌∙◌, subst, arith, inl, inr}
-use Rattle.std.specs.Prelude.{◌==◌, ◌&&◌}
-use Rattle.std.specs.List.{AllByRecursion, IsDistinct, filter_map, cons_option}
-use Rattle.std.proofs.lemmas.Bool.{eqb-true, eq-eqb}
-use Rattle.seam_machine.proofs.Quiet.{quiet_links}
-use Rattle.seam_node_steps.specs.Prelude.{type_of, Division, Part, is_for, same_part, Call as CallData, Create, Order, Batch, RealView}
-use Rattle.seam_node_steps.specs.Prelude.{cell_count, can_do, limit, PartView, holders, World, node_has_work, loaded}
-use Rattle.seam_rule_rounds.specs.Prelude.{Header, Book, calls_of, created_as, Entry}
-use Rattle.seam_law_flow.specs.Prelude.{letters_of}
-use Rattle.seam_law_calls.specs.Prelude.{mine, order_about, entity_flow, reaped_by_order, most_entities, real_at}
-use Rattle.seam_law_rounds.specs.Prelude.{next_from, IsBetweenRounds, MayBeMade, HasNoWitness, IsFitOrder, IsForReal, IsFitting, next_to}
-use Rattle.seam_law_rounds.specs.Prelude.{IsFitBaseOrder, IsForPart}
-use Rattle.seam_law_all.specs.Prelude.{MayBeGiven}
-use Rattle.seam_law_book.specs.Prelude.{as_begun, made_among, IsPresent, GetsClient, HasEntity, IsNewEntity, IsFitCall, HasFitRound}
-use Rattle.seam_law_book.specs.Prelude.{IsUntouched}
-use Rattle.seam_law_book.specs.Prelude.{frame_of, base_node, GoesWith, HasRoomForCalls, HasRoomForRound}
+use Rattle.seam_law_book.proofs.Prelude.{◌≡◌, ℕ, ◌<◌, ◌≤◌, Bool, true, false, cond, eqb, List, [], ◌∷◌, length, Option, suc, Some, None}
+use Rattle.seam_law_book.proofs.Prelude.{refl, sym, ap, ◌∙◌, subst, arith, inl, inr, ◌==◌, ◌&&◌, AllByRecursion, filter_map, cons_option}
+use Rattle.seam_law_book.proofs.Prelude.{eqb-true, eq-eqb, quiet_links, type_of, Division, Part, is_for, same_part, Call as CallData}
+use Rattle.seam_law_book.proofs.Prelude.{Create, Order, Batch, RealView, cell_count, can_do, limit, PartView, holders, World, node_has_work}
+use Rattle.seam_law_book.proofs.Prelude.{loaded, Header, Book, calls_of, created_as, Entry, letters_of, mine, order_about, entity_flow}
+use Rattle.seam_law_book.proofs.Prelude.{reaped_by_order, most_entities, real_at, next_from, IsBetweenRounds, MayBeMade, HasNoWitness}
+use Rattle.seam_law_book.proofs.Prelude.{IsFitOrder, IsForReal, IsFitting, next_to, IsFitBaseOrder, IsForPart, MayBeGiven, as_begun}
+use Rattle.seam_law_book.proofs.Prelude.{made_among, IsPresent, GetsClient, HasEntity, IsNewEntity, IsFitCall, HasFitRound, IsUntouched}
+use Rattle.seam_law_book.proofs.Prelude.{frame_of, base_node, GoesWith, HasRoomForCalls, HasRoomForRound, passes_to, ordered, batch_of}
+use Rattle.seam_law_book.proofs.Prelude.{one_holder, holds_kept, holds_made}
+use Rattle.std.specs.List.{IsDistinct}
 use Rattle.seam_defs.specs.declared.flags.Part.TheVariants as part
 use Rattle.seam_call.specs.declared.order.Order.TheVariants as order
 use Rattle.seam_rule_lines.specs.declared.verdict.Entry.TheVariants as entry
-use Rattle.seam_accept.specs.Batches.{passes_to, ordered, batch_of}
 use Rattle.seam_law_book.proofs.Adding.{all_turn}
-use Rattle.seam_law_rounds.proofs.Ready.{one_holder}
-use Rattle.seam_law_rounds.proofs.Loaded.{holds_kept, holds_made}
 use Rattle.seam_law_book.proofs.Holding.{same_holders}
 use Rattle.seam_law_book.proofs.Origins.{RealFrom, real_from, part_from}
 use Rattle.seam_law_book.proofs.Numbering.{cell_numbered, base_numbered}
@@ -106,7 +97,7 @@ module _ (h : Header) (some : 1 ≤ h.settings.bases) (b : Book) (t : Division) 
           numbered = λ s. record {
             node = cell_count;
             is_base = omega arith;
-            is_there = omega (arith, some);
+            in_net = omega (arith, some);
             calls = refl;
             others = λ j n. refl;
             room = let low = next_low e k r from s in omega (arith, low);

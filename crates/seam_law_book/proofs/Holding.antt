@@ -1,16 +1,11 @@
 -- Of a batch the creates alone say who holds a real in the loaded world.
-use Rattle.std.proofs.Common.{◌≡◌, ℕ, ◌+◌, Bool, true, false, cond, List, [], ◌∷◌, map, Option, Some, None, refl, sym, ap, ◌∙◌, arith}
-use Rattle.std.specs.Prelude.{option_map}
-use Rattle.std.specs.Ordering.{nat_cmp, eq_by_cmp}
+use Rattle.seam_law_book.proofs.Prelude.{◌≡◌, ℕ, ◌+◌, Bool, true, false, cond, List, [], ◌∷◌, map, Option, Some, None, refl, sym, ap, ◌∙◌}
+use Rattle.seam_law_book.proofs.Prelude.{arith, option_map, nat_cmp, eq_by_cmp, nat_tests, Division, cells_of, total, Order, Batch}
+use Rattle.seam_law_book.proofs.Prelude.{RealView, real_begins, one_if_real, held_at, carried, holders, NodeView, World, Cell, Base}
+use Rattle.seam_law_book.proofs.Prelude.{created_at, with_witness, attached, cell_round, base_round, ordered_at, loaded, each, node_loaded}
+use Rattle.seam_law_book.proofs.Prelude.{get-set_at, each_keeps, Any, any, loaded_is, get-each_value}
 use Rattle.std.specs.FinMap as table
-use Rattle.std.proofs.lemmas.Bool.Decides.{nat_tests}
-use Rattle.seam_node_steps.specs.Prelude.{Division, cells_of, total, Order, Batch, RealView, real_begins, one_if_real, held_at, carried}
-use Rattle.seam_node_steps.specs.Prelude.{holders, NodeView, World, Cell, Base, created_at, with_witness, attached, cell_round, base_round}
-use Rattle.seam_node_steps.specs.Prelude.{ordered_at, loaded}
-use Rattle.seam_law_rounds.specs.Prelude.{each, node_loaded}
 use Rattle.seam_net_runs.specs.Weights.{links_weight}
-use Rattle.seam_node_steps.proofs.Slots.{get-set_at}
-use Rattle.seam_law_rounds.proofs.Loading.{each_keeps, Any, any, loaded_is, get-each_value}
 
 same_one : (g : RealView → RealView) (o : Option RealView) → one_if_real (option_map g o) ≡ one_if_real o
 same_one g None = refl

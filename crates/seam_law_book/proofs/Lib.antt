@@ -1,3 +1,4 @@
+pub mod Prelude
 pub mod Proper
 pub mod Adding
 pub mod Present

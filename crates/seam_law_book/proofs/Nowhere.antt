@@ -1,37 +1,22 @@
 -- A number of which no node has anything stays so, over every list of events of a round that has nothing about it.
-use Rattle.std.proofs.Common.{◌≡◌, ℕ, Bool, true, false, cond, List, [], ◌∷◌, map, Option, None, Some, refl, sym, ap, ◌∙◌, subst, arith}
-use Rattle.std.specs.Prelude.{eqb, option_map, slice_get, ◌||◌, is_some}
-use Rattle.std.proofs.lemmas.Bool.{eqb-true}
-use Rattle.std.specs.List.{AllByRecursion, range_with_len}
-use Rattle.std.specs.Ordering.{nat_cmp, eq_by_cmp}
+use Rattle.seam_law_book.proofs.Prelude.{◌≡◌, ℕ, Bool, true, false, cond, List, [], ◌∷◌, map, Option, None, Some, refl, sym, ap, ◌∙◌, subst}
+use Rattle.seam_law_book.proofs.Prelude.{arith, eqb, option_map, slice_get, ◌||◌, is_some, eqb-true, AllByRecursion, range_with_len}
+use Rattle.seam_law_book.proofs.Prelude.{nat_cmp, eq_by_cmp, nat_tests, filter-append, slice_get-map, Division, leaf_at, cells_of, IsSquare}
+use Rattle.seam_law_book.proofs.Prelude.{IsQuiet, Event, Create, Order, Batch, cell_count, base_of, RealView, created, real_begins, Msg}
+use Rattle.seam_law_book.proofs.Prelude.{Hand, Current, GhostSet, GhostDrop, Tick, Update, Map, set_at, has_any, Slot, CellView, slot_of}
+use Rattle.seam_law_book.proofs.Prelude.{ready_entity, BaseView, PartView, tick_to, NodeView, World, node_has_work, Cell, Base, with_nodes}
+use Rattle.seam_law_book.proofs.Prelude.{real_if, part_if, with_route, new_part, created_at, with_witness, with_proxy, attached, cell_round}
+use Rattle.seam_law_book.proofs.Prelude.{base_round, part_begins, order_if, ordered_at, reap_ordered_at, loaded, reaps_loaded, look_loaded}
+use Rattle.seam_law_book.proofs.Prelude.{letters_of, slot_at, Frame, here_at, IsInFrame, Has, AtCell, order_about, order_concerns}
+use Rattle.seam_law_book.proofs.Prelude.{orders_of, times, no_cell, no_base, has_of, has_none, mine, entity_flow, CellMoves, BaseMoves}
+use Rattle.seam_law_book.proofs.Prelude.{Moves, at_a_cell, at_a_base, RunsTo, IsNew, each, node_loaded, quiet_links, quiet_tasks}
+use Rattle.seam_law_book.proofs.Prelude.{all_append, get-set_at, slots, each_keeps, Any, any, nodes_after, loaded_is, get-each_value}
+use Rattle.seam_law_book.proofs.Prelude.{neither, none_left, other_set, AreOthers, all_lead}
 use Rattle.std.specs.FinMap as table
-use Rattle.std.proofs.lemmas.Bool.Decides.{nat_tests}
-use Rattle.std.proofs.lemmas.List.Elements.{filter-append}
-use Rattle.std.proofs.lemmas.Option.{slice_get-map}
-use Rattle.seam_node_steps.specs.Prelude.{Division, leaf_at, cells_of, IsSquare, IsQuiet, Event, Create, Order, Batch, cell_count, base_of}
-use Rattle.seam_node_steps.specs.Prelude.{RealView, created, real_begins, Msg, Hand, Current, GhostSet, GhostDrop, Tick, Update, Map}
-use Rattle.seam_node_steps.specs.Prelude.{set_at, has_any, Slot, CellView, slot_of, ready_entity, BaseView, PartView, tick_to, NodeView}
-use Rattle.seam_node_steps.specs.Prelude.{World, node_has_work, Cell, Base, with_nodes, real_if, part_if, with_route, new_part, created_at}
-use Rattle.seam_node_steps.specs.Prelude.{with_witness, with_proxy, attached, cell_round, base_round, part_begins, order_if, ordered_at}
-use Rattle.seam_node_steps.specs.Prelude.{reap_ordered_at, loaded, reaps_loaded, look_loaded}
-use Rattle.seam_law_flow.specs.Prelude.{letters_of, slot_at}
-use Rattle.seam_law_calls.specs.Prelude.{Frame, here_at, IsInFrame, Has, AtCell, order_about, order_concerns, orders_of, times, no_cell}
-use Rattle.seam_law_calls.specs.Prelude.{no_base, has_of, has_none, mine, entity_flow, CellMoves, BaseMoves, Moves, at_a_cell, at_a_base}
-use Rattle.seam_law_calls.specs.Prelude.{RunsTo}
-use Rattle.seam_law_rounds.specs.Prelude.{IsNew, each, node_loaded}
-use Rattle.seam_machine.proofs.Quiet.{quiet_links, quiet_tasks}
-use Rattle.seam_law_flow.proofs.Following.{all_append}
 use Rattle.seam_call.specs.declared.order.Order.TheVariants as order
 use Rattle.seam_entity.specs.declared.message.Msg.TheVariants.{Call}
-use Rattle.seam_node_steps.proofs.Slots.{get-set_at}
 use Rattle.seam_law_calls.specs.CellMoves as move
 use Rattle.seam_law_calls.specs.BaseMoves as base_move
-use Rattle.seam_law_calls.proofs.ExampleMet.{slots}
-use Rattle.seam_law_rounds.proofs.Loading.{each_keeps, Any, any, nodes_after, loaded_is, get-each_value}
-use Rattle.seam_law_calls.proofs.Quieting.{neither, none_left}
-use Rattle.seam_law_rounds.proofs.Staying.{other_set}
-use Rattle.seam_law_rounds.proofs.Making.{AreOthers}
-use Rattle.seam_law_calls.proofs.Keeping.{all_lead}
 
 -- ---- nothing but ticks
 

@@ -1,25 +1,16 @@
 -- Each sender's calls of the open round are at one base node, under the numbers that are next.
-use Rattle.std.proofs.Common.{◌≡◌, ℕ, ◌+◌, ◌%◌, ◌<◌, ◌≤◌, Bool, true, false, cond, List, [], ◌∷◌, map, length, Option, suc, Some, None}
-use Rattle.std.proofs.Common.{refl, sym, ap, ◌∙◌, subst, arith, inl, inr, append-nil, length-append}
-use Rattle.std.specs.Prelude.{◌==◌, ◌&&◌}
-use Rattle.std.specs.List.{AllByRecursion}
-use Rattle.std.proofs.lemmas.Bool.{cases_eq, eq-eqb, ne_eqb}
-use Rattle.std.proofs.lemmas.List.{map-id}
-use Rattle.std.proofs.Math.Nat.{mod-lt}
-use Rattle.seam_node_steps.specs.Prelude.{items_to, Part, Division, is_for, same_part, rank_of, Sender, Call as CallData, Order, cell_count}
-use Rattle.seam_node_steps.specs.Prelude.{limit}
-use Rattle.seam_rule_rounds.specs.Prelude.{Header, Book, entries, calls_of, Entry}
-use Rattle.seam_law_flow.specs.Prelude.{letters_of, more_letter, number_from}
-use Rattle.seam_law_calls.specs.Prelude.{kept_if, orders_of, from_sender, numbered_from, cell_order_from, base_call_of}
-use Rattle.seam_law_rounds.specs.Prelude.{order_in, cell_call_from, AreNumbered, base_calls_of, AreBaseNumbered}
-use Rattle.seam_law_book.specs.Prelude.{as_begun, IsSenderOf, IsFitCall, calls_from, last_number, AreNumberedFrom, HasFitRound}
-use Rattle.seam_law_book.specs.Prelude.{frame_of}
-use Rattle.seam_law_book.specs.Prelude.{HasRoomForCalls}
+use Rattle.seam_law_book.proofs.Prelude.{◌≡◌, ℕ, ◌+◌, ◌%◌, ◌<◌, ◌≤◌, Bool, true, false, cond, List, [], ◌∷◌, map, length, Option, suc, Some}
+use Rattle.seam_law_book.proofs.Prelude.{None, refl, sym, ap, ◌∙◌, subst, arith, inl, inr, append-nil, length-append, ◌==◌, ◌&&◌}
+use Rattle.seam_law_book.proofs.Prelude.{AllByRecursion, cases_eq, eq-eqb, ne_eqb, map-id, mod-lt, items_to, Part, Division, is_for}
+use Rattle.seam_law_book.proofs.Prelude.{same_part, rank_of, Sender, Call as CallData, Order, cell_count, limit, Header, Book, entries}
+use Rattle.seam_law_book.proofs.Prelude.{calls_of, Entry, letters_of, more_letter, number_from, kept_if, orders_of, from_sender}
+use Rattle.seam_law_book.proofs.Prelude.{numbered_from, cell_order_from, base_call_of, order_in, cell_call_from, AreNumbered, base_calls_of}
+use Rattle.seam_law_book.proofs.Prelude.{AreBaseNumbered, as_begun, IsSenderOf, IsFitCall, calls_from, last_number, AreNumberedFrom}
+use Rattle.seam_law_book.proofs.Prelude.{HasFitRound, frame_of, HasRoomForCalls, node_of, passes_to, batch_of}
 use Rattle.seam_defs.specs.declared.flags.Part.TheVariants as part
 use Rattle.seam_call.specs.declared.sender.Sender.TheVariants as sender
 use Rattle.seam_call.specs.declared.order.Order.TheVariants as order
 use Rattle.seam_rule_lines.specs.declared.verdict.Entry.TheVariants as entry
-use Rattle.seam_accept.specs.Batches.{node_of, passes_to, batch_of}
 use Rattle.seam_law_rounds.specs.Between as core
 use Rattle.seam_law_book.proofs.Orders.{all_picked, picked_at}
 
@@ -47,7 +38,7 @@ same_node h (sender.Client d) (sender.Base n) k l same = let most = l.node.most 
 pub record HasOneNode (h : Header) (s : ℕ) (cs : List CallData) : Type 0 where
   pub node : ℕ
   pub is_base : cell_count ≤ node
-  pub is_there : node < cell_count + h.settings.bases
+  pub in_net : node < cell_count + h.settings.bases
   pub all : AllByRecursion (λ c. rank_of c.sender ≡ s → node_of h c.sender ≡ node) cs
 
 abbrev IsKnown : Header → CallData → Type 0
@@ -60,19 +51,19 @@ all_like h s u k is (c ∷ cs) known =
     ((λ same. same_node h c.sender u known.0 k (same ∙ sym is)), all_like h s u k is cs known.1)
 
 one_node : (h : Header) → 1 ≤ h.settings.bases → (s : ℕ) (cs : List CallData) → AllByRecursion (IsKnown h) cs → HasOneNode h s cs
-one_node h some s [] known = record { node = cell_count; is_base = omega arith; is_there = omega (arith, some); all = tt }
+one_node h some s [] known = record { node = cell_count; is_base = omega arith; in_net = omega (arith, some); all = tt }
 one_node h some s (c ∷ cs) known = elim (cases_eq (rank_of c.sender) s) [
   | inl is ↦
       let two = node_bounds h some c.sender known.0 in
       record {
         node = node_of h c.sender;
         is_base = two.0;
-        is_there = two.1;
+        in_net = two.1;
         all = ((λ same. refl), all_like h s c.sender known.0 is cs known.1);
       }
   | inr n ↦
       let rest = one_node h some s cs known.1 in
-      record { node = rest.node; is_base = rest.is_base; is_there = rest.is_there; all = ((λ same. absurd (n same)), rest.all) }
+      record { node = rest.node; is_base = rest.is_base; in_net = rest.in_net; all = ((λ same. absurd (n same)), rest.all) }
 ]
 
 -- ---- lists
@@ -182,7 +173,7 @@ module _ (h : Header) (some : 1 ≤ h.settings.bases) (b : Book) (R : HasFitRoun
     cell_numbered first is = subst (AreNumbered (frame_of h t) (batch_of h b) e s) (sym is) (record {
       node = (its part.Cell e s).node;
       is_base = (its part.Cell e s).is_base;
-      is_there = (its part.Cell e s).is_there;
+      in_net = (its part.Cell e s).in_net;
       calls =
           given_are part.Cell e s (cell_call_from s) (cell_order_from s) cell_picks cell_picks_numbered refl refl
           ∙ sym (ap (number_from (next part.Cell e s)) cell_calls);
@@ -223,7 +214,7 @@ module _ (h : Header) (some : 1 ≤ h.settings.bases) (b : Book) (R : HasFitRoun
     base_numbered first is = subst (AreBaseNumbered (frame_of h t) (batch_of h b) e s) (sym is) (record {
       node = (its part.Base e s).node;
       is_base = (its part.Base e s).is_base;
-      is_there = (its part.Base e s).is_there;
+      in_net = (its part.Base e s).in_net;
       calls =
           letters_then base_call_of (numbered_from s) (orders_of e (items_to (its part.Base e s).node (batch_of h b).orders))
           ∙ given_are part.Base e s base_pick base_pick_numbered base_picks base_picks_numbered no_tick no_tick_numbered

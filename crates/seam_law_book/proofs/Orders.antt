@@ -1,18 +1,11 @@
 -- The calls of a batch, as the core sees them, are those of the book's open round.
-use Rattle.std.proofs.Common.{◌≡◌, ℕ, Bool, true, false, cond, List, [], ◌∷◌, map, Option, None, refl, ap, ◌∙◌}
-use Rattle.std.specs.Prelude.{◌==◌, ◌&&◌}
-use Rattle.std.specs.List.{AllByRecursion, filter_map}
-use Rattle.std.proofs.lemmas.Bool.{eqb-true}
-use Rattle.seam_node_steps.specs.Prelude.{items_to, Part, MOST_CELLS, is_for, same_part, rank_of, Call as CallData, Order}
-use Rattle.seam_rule_rounds.specs.Prelude.{Header, calls_of, Entry}
-use Rattle.seam_law_flow.specs.Prelude.{letters_of, more_letter}
-use Rattle.seam_law_calls.specs.Prelude.{kept_if, order_concerns, orders_of}
-use Rattle.seam_law_rounds.specs.Prelude.{order_in}
-use Rattle.seam_law_book.specs.Prelude.{calls_from}
+use Rattle.seam_law_book.proofs.Prelude.{◌≡◌, ℕ, Bool, true, false, cond, List, [], ◌∷◌, map, Option, None, refl, ap, ◌∙◌, ◌==◌, ◌&&◌}
+use Rattle.seam_law_book.proofs.Prelude.{AllByRecursion, filter_map, eqb-true, items_to, Part, MOST_CELLS, is_for, same_part, rank_of}
+use Rattle.seam_law_book.proofs.Prelude.{Call as CallData, Order, Header, calls_of, Entry, letters_of, more_letter, kept_if, order_concerns}
+use Rattle.seam_law_book.proofs.Prelude.{orders_of, order_in, calls_from, node_of, passes_to, ordered}
 use Rattle.seam_defs.specs.declared.flags.Part.TheVariants as part
 use Rattle.seam_call.specs.declared.order.Order.TheVariants as order
 use Rattle.seam_rule_lines.specs.declared.verdict.Entry.TheVariants as entry
-use Rattle.seam_accept.specs.Batches.{node_of, passes_to, ordered}
 use Rattle.seam_accept.proofs.Books.{both}
 
 -- the call is one of the sender of that place to the part

@@ -1,17 +1,12 @@
 -- Where the reals and the base parts of a loaded world come from: they were there, or the batch creates them.
-use Rattle.std.proofs.Common.{◌≡◌, ℕ, Bool, true, false, cond, eqb, List, ◌∷◌, ◌++◌, map, Option, Some, None, refl, sym, ap, ◌∙◌, subst}
-use Rattle.std.specs.Prelude.{option_map, slice_get}
-use Rattle.std.specs.List.{AllByRecursion, IsDistinct}
+use Rattle.seam_law_book.proofs.Prelude.{◌≡◌, ℕ, Bool, true, false, cond, eqb, List, ◌∷◌, ◌++◌, map, Option, Some, None, refl, sym, ap, ◌∙◌}
+use Rattle.seam_law_book.proofs.Prelude.{subst, option_map, slice_get, AllByRecursion, IsDistinct, leaf_at, IsTree, Create, Batch, RealView}
+use Rattle.seam_law_book.proofs.Prelude.{WitnessView, created, real_begins, PartView, ProxyView, NodeView, World, new_part, part_begins}
+use Rattle.seam_law_book.proofs.Prelude.{loaded, slot_at, Frame, here_at, has_of, has_none, entity_flow, real_in, reaped_by_order, home_of}
+use Rattle.seam_law_book.proofs.Prelude.{real_at, created_entity, MayBeMade, IsBetweenRounds, node_loaded, Kept, AreOthers, Creation}
+use Rattle.seam_law_book.proofs.Prelude.{nowhere, once, creation_of, middle, until, node_made, node_after, slot_is, real_was, SamePart}
+use Rattle.seam_law_book.proofs.Prelude.{part_stays, part_comes}
 use Rattle.std.specs.FinMap as table
-use Rattle.seam_node_steps.specs.Prelude.{leaf_at, IsTree, Create, Batch, RealView, WitnessView, created, real_begins, PartView, ProxyView}
-use Rattle.seam_node_steps.specs.Prelude.{NodeView, World, new_part, part_begins, loaded}
-use Rattle.seam_law_flow.specs.Prelude.{slot_at}
-use Rattle.seam_law_calls.specs.Prelude.{Frame, here_at, has_of, has_none, entity_flow, real_in, reaped_by_order, home_of, real_at}
-use Rattle.seam_law_rounds.specs.Prelude.{created_entity, MayBeMade, IsBetweenRounds, node_loaded}
-use Rattle.seam_law_rounds.proofs.Staying.{Kept}
-use Rattle.seam_law_rounds.proofs.Making.{AreOthers, Creation, nowhere, once, creation_of, middle, until, node_made, node_after}
-use Rattle.seam_law_rounds.proofs.Loaded.{slot_is, real_was}
-use Rattle.seam_law_rounds.proofs.PartLoads.{SamePart, part_stays, part_comes}
 
 -- entity e is the create x of the list, and no other of it
 pub record IsCreate (e : ℕ) (xs : List Create) (x : Create) : Type 0 where

@@ -1,31 +1,17 @@
 -- Base parts and their clients along a round.
-use Rattle.std.proofs.Common.{◌≡◌, ℕ, Bool, true, false, List, [], ◌∷◌, Option, Some, None, refl, sym, ap, ◌∙◌, inl, inr}
-use Rattle.std.specs.Prelude.{is_some, option_map, slice_get, ◌||◌, ◌==◌}
-use Rattle.std.specs.List.{list_any, filter_map}
-use Rattle.std.proofs.lemmas.Bool.{cases_eq}
-use Rattle.std.proofs.lemmas.Option.{slice_get-map}
-use Rattle.seam_node_steps.specs.Prelude.{Event, Order, Batch, Here, cell_count, WitnessView, PartView, ProxyView, NodeView, World}
-use Rattle.seam_node_steps.specs.Prelude.{node_has_work, with_nodes, proxy_begins, part_begins, with_proxy, ordered_at, reap_ordered_at}
-use Rattle.seam_node_steps.specs.Prelude.{loaded, reaps_loaded, look_loaded}
-use Rattle.seam_rule_rounds.specs.Prelude.{joins, Entry}
-use Rattle.seam_law_flow.specs.Prelude.{slot_at}
-use Rattle.seam_law_calls.specs.Prelude.{Frame, here_at, IsInFrame, has_of, has_none, entity_flow, IsSpared, home_of, RunsTo}
-use Rattle.seam_law_rounds.specs.Prelude.{IsBetweenRounds, each, node_loaded, HasSettledPart, AreFor}
-use Rattle.seam_law_clients.specs.Prelude.{ShowsItsPart}
-use Rattle.seam_machine.proofs.Quiet.{quiet_tasks}
+use Rattle.seam_law_book.proofs.Prelude.{◌≡◌, ℕ, Bool, true, false, List, [], ◌∷◌, Option, Some, None, refl, sym, ap, ◌∙◌, inl, inr}
+use Rattle.seam_law_book.proofs.Prelude.{is_some, option_map, slice_get, ◌||◌, ◌==◌, list_any, filter_map, cases_eq, slice_get-map, Event}
+use Rattle.seam_law_book.proofs.Prelude.{Order, Batch, Here, cell_count, WitnessView, PartView, ProxyView, NodeView, World, node_has_work}
+use Rattle.seam_law_book.proofs.Prelude.{with_nodes, proxy_begins, part_begins, with_proxy, ordered_at, reap_ordered_at, loaded}
+use Rattle.seam_law_book.proofs.Prelude.{reaps_loaded, look_loaded, joins, Entry, slot_at, Frame, here_at, IsInFrame, has_of, has_none}
+use Rattle.seam_law_book.proofs.Prelude.{entity_flow, IsSpared, home_of, RunsTo, IsBetweenRounds, each, node_loaded, HasSettledPart, AreFor}
+use Rattle.seam_law_book.proofs.Prelude.{ShowsItsPart, quiet_tasks, joined, nodes_after, AreOthers, slot_is, look_framed, look_given}
+use Rattle.seam_law_book.proofs.Prelude.{bare_leads, SamePart, part_at, parts_ordered, reaps_part, is_among, part_peopled, bare_peopled}
 use Rattle.seam_call.specs.declared.order.Order.TheVariants as order
 use Rattle.seam_rule_lines.specs.declared.verdict.Entry.TheVariants as entry
-use Rattle.seam_accept.specs.Batches.{joined}
-use Rattle.seam_law_rounds.proofs.Loading.{nodes_after}
-use Rattle.seam_law_rounds.proofs.Making.{AreOthers}
-use Rattle.seam_law_rounds.proofs.Loaded.{slot_is}
-use Rattle.seam_law_rounds.proofs.Giving.{look_framed, look_given}
-use Rattle.seam_law_calls.proofs.AloneRuns.{bare_leads}
-use Rattle.seam_law_rounds.proofs.PartLoads.{SamePart, part_at, parts_ordered}
 use Rattle.seam_law_rounds.proofs.PartsLoaded.{same_some}
 use Rattle.seam_law_rounds.proofs.Still.{is_still, still_leads}
-use Rattle.seam_law_rounds.proofs.Calms.{reaps_part}
-use Rattle.seam_law_rounds.proofs.Joining.{is_among, joined_if, peopled, part_joined, part_peopled, bare_peopled}
+use Rattle.seam_law_rounds.proofs.Joining.{joined_if, peopled, part_joined}
 use Rattle.seam_law_clients.proofs.BaseLines.{shows_its_part}
 
 abbrev pub tick : ℕ × Order

@@ -1,21 +1,14 @@
 -- After a round each base part is what the flat table has of it.
-use Rattle.std.proofs.Common.{◌≡◌, ℕ, ◌≤◌, List, [], ◌∷◌, ◌++◌, length, fold, Some, None, sym, ap, ◌∙◌, subst, arith, inl, inr}
-use Rattle.std.proofs.Common.{length-append, ◌⊎◌}
-use Rattle.std.specs.List.{AllByRecursion}
-use Rattle.std.proofs.lemmas.Option.{none-some}
-use Rattle.seam_node_steps.specs.Prelude.{Division, Value, after, type_of, Part, State, Deed, TypeDef, Call as CallData, Create, Batch}
-use Rattle.seam_node_steps.specs.Prelude.{PartView, holders, loaded, World}
-use Rattle.seam_rule_rounds.specs.Prelude.{Header, Book, entries, calls_of, created_as, accepted, flat, Orders, IsFull, ClientReplica}
-use Rattle.seam_law_calls.specs.Prelude.{here_at, entity_flow}
-use Rattle.seam_law_all.specs.Prelude.{KeepsRecords, MayBeGiven}
-use Rattle.seam_law_book.specs.Prelude.{as_begun, IsPresent, HasFitRound, IsUntouched, frame_of, base_node, GoesWith, HasRoomForCalls}
-use Rattle.seam_law_book.specs.Prelude.{IsPartInTable, ArePartsInTable, BeginsPart}
+use Rattle.seam_law_book.proofs.Prelude.{◌≡◌, ℕ, ◌≤◌, List, [], ◌∷◌, ◌++◌, length, fold, Some, None, sym, ap, ◌∙◌, subst, arith, inl, inr}
+use Rattle.seam_law_book.proofs.Prelude.{length-append, ◌⊎◌, AllByRecursion, none-some, Division, Value, after, type_of, Part, State, Deed}
+use Rattle.seam_law_book.proofs.Prelude.{TypeDef, Call as CallData, Create, Batch, PartView, holders, loaded, World, Header, Book, entries}
+use Rattle.seam_law_book.proofs.Prelude.{calls_of, created_as, accepted, flat, Orders, IsFull, ClientReplica, here_at, entity_flow}
+use Rattle.seam_law_book.proofs.Prelude.{KeepsRecords, MayBeGiven, as_begun, IsPresent, HasFitRound, IsUntouched, frame_of, base_node}
+use Rattle.seam_law_book.proofs.Prelude.{GoesWith, HasRoomForCalls, IsPartInTable, ArePartsInTable, BeginsPart, live_is_created, batch_of}
+use Rattle.seam_law_book.proofs.Prelude.{Somewhere, Nowhere}
 use Rattle.seam_defs.specs.declared.flags.Part.TheVariants as part
 use Rattle.seam_defs.specs.declared.states.Deed.TheVariants as deed
-use Rattle.seam_rule_lines.proofs.BookEntries.{live_is_created}
-use Rattle.seam_accept.specs.Batches.{batch_of}
 use Rattle.seam_law_book.proofs.Untouched.{IsFromSender}
-use Rattle.seam_law_rounds.proofs.Shape.{Somewhere, Nowhere}
 use Rattle.seam_law_book.proofs.Origins.{PartFrom, had, comes}
 use Rattle.seam_law_book.proofs.Fitting.{others_none, made_is, new_number, part_type_by}
 use Rattle.seam_law_book.proofs.Started.{part_comes, no_one}

@@ -1,25 +1,16 @@
 -- The places that a round leaves, by the flat table.
-use Rattle.std.proofs.Common.{◌≡◌, ℕ, ◌+◌, ◌-◌, ◌≤◌, Bool, true, false, cond, List, [], ◌∷◌, ◌++◌, map, length, fold, Option, Some, None}
-use Rattle.std.proofs.Common.{refl, sym, ap, ◌∙◌, subst, arith, inl, inr, length-append, append_assoc}
-use Rattle.std.specs.Prelude.{◌==◌, ◌||◌}
-use Rattle.std.specs.List.{AllByRecursion, list_any, range_with_len}
+use Rattle.seam_law_book.proofs.Prelude.{◌≡◌, ℕ, ◌+◌, ◌-◌, ◌≤◌, Bool, true, false, cond, List, [], ◌∷◌, ◌++◌, map, length, fold, Option}
+use Rattle.seam_law_book.proofs.Prelude.{Some, None, refl, sym, ap, ◌∙◌, subst, arith, inl, inr, length-append, append_assoc, ◌==◌, ◌||◌}
+use Rattle.seam_law_book.proofs.Prelude.{AllByRecursion, list_any, range_with_len, Division, Place, IsPlaceAfter, type_of, State}
+use Rattle.seam_law_book.proofs.Prelude.{Call as CallData, Create, Part, Batch, RealView, holders, World, loaded, Header, creates_of, makes}
+use Rattle.seam_law_book.proofs.Prelude.{tree_of, first_state, flat, Entry, entries, calls_of, created_as, live_as, accepted, IsFull}
+use Rattle.seam_law_book.proofs.Prelude.{ClientReplica, Standing, distances, place_before, HasPlace, position_at, positions_past, real_at}
+use Rattle.seam_law_book.proofs.Prelude.{positions_after, path_of, place_of, first_place, made_real, IsRightPlace, KeepsRecords, MayBeGiven}
+use Rattle.seam_law_book.proofs.Prelude.{as_begun, made_among, IsPresent, HasFitRound, IsUntouched, frame_of, GoesWith, HasRoomForCalls}
+use Rattle.seam_law_book.proofs.Prelude.{AreInTable, AreInPlace, differ, live_is_created, AreOthers, middle, none-some, batch_of}
 use Rattle.std.proofs.Math.Seq.{take-length, take-append_seam}
-use Rattle.seam_node_steps.specs.Prelude.{Division, Place, IsPlaceAfter, type_of, State, Call as CallData, Create, Part, Batch, RealView}
-use Rattle.seam_node_steps.specs.Prelude.{holders, World, loaded}
-use Rattle.seam_rule_rounds.specs.Prelude.{Header, creates_of, makes, tree_of, first_state, flat, Entry, entries, calls_of, created_as}
-use Rattle.seam_rule_rounds.specs.Prelude.{live_as, accepted, IsFull, ClientReplica, Standing, distances, place_before, HasPlace}
-use Rattle.seam_rule_rounds.specs.Prelude.{position_at, positions_past}
-use Rattle.seam_law_calls.specs.Prelude.{real_at}
-use Rattle.seam_law_ghosts.specs.Prelude.{positions_after, path_of, place_of, first_place, made_real, IsRightPlace}
-use Rattle.seam_law_all.specs.Prelude.{KeepsRecords, MayBeGiven}
-use Rattle.seam_law_book.specs.Prelude.{as_begun, made_among, IsPresent, HasFitRound, IsUntouched, frame_of, GoesWith, HasRoomForCalls}
-use Rattle.seam_law_book.specs.Prelude.{AreInTable, AreInPlace}
 use Rattle.seam_defs.specs.declared.flags.Part.TheVariants as part
 use Rattle.seam_rule_lines.specs.declared.verdict.Entry.TheVariants as entry
-use Rattle.seam_rule_lines.proofs.BookEntries.{differ, live_is_created}
-use Rattle.seam_law_rounds.proofs.Making.{AreOthers, middle}
-use Rattle.std.proofs.lemmas.Option.{none-some}
-use Rattle.seam_accept.specs.Batches.{batch_of}
 use Rattle.seam_law_book.proofs.Untouched.{IsFromSender}
 use Rattle.seam_law_book.proofs.Origins.{RealFrom, was, made}
 use Rattle.seam_law_book.proofs.Fitting.{others_none, made_is, new_number, type_by}

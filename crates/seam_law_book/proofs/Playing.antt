@@ -1,24 +1,13 @@
 -- What a round leaves of an entity: its real and its base part executed what the batch brought, and nothing else of them changed.
-use Rattle.std.proofs.Common.{◌≡◌, ℕ, ◌+◌, length, Some, sym, ap, ◌∙◌}
-use Rattle.std.specs.Prelude.{is_some}
-use Rattle.std.specs.List.{AllByRecursion}
+use Rattle.seam_law_book.proofs.Prelude.{◌≡◌, ℕ, ◌+◌, length, Some, sym, ap, ◌∙◌, is_some, AllByRecursion, Call as CallData, Batch}
+use Rattle.seam_law_book.proofs.Prelude.{order_or, RealView, holders, World, loaded, ClientReplica, letters_of, TokenPlace, In, On, Desk}
+use Rattle.seam_law_book.proofs.Prelude.{desk_of, parcel_of, Frame, entity_flow, real_in, real_of, IsOne, desk_for, as_sender, real_desk}
+use Rattle.seam_law_book.proofs.Prelude.{home_of, as_base_sender, part_desk, real_at, framed, next_from, next_to, base_calls_of}
+use Rattle.seam_law_book.proofs.Prelude.{HasSettledPart, HadSameReal, GoesThroughRound, ObeysLaws, EndsRightly, ObeysLawsOfLooks}
+use Rattle.seam_law_book.proofs.Prelude.{ObeysLawsOfReaps, AreGone, KeepsRecords, KeepsRecordsWithin, MayBeGiven, may_begin, sole_here}
+use Rattle.seam_law_book.proofs.Prelude.{counted_one, in_frame, spared_loaded, no_mail, Home, quiet_home, looks_leave, reaps_leave}
 use Rattle.std.specs.FinMap as table
-use Rattle.seam_node_steps.specs.Prelude.{Call as CallData, Batch, order_or, RealView, holders, World, loaded}
-use Rattle.seam_rule_rounds.specs.Prelude.{ClientReplica}
-use Rattle.seam_law_flow.specs.Prelude.{letters_of, TokenPlace, In, On, Desk, desk_of, parcel_of}
-use Rattle.seam_law_calls.specs.Prelude.{Frame, entity_flow, real_in, real_of, IsOne, desk_for, as_sender, real_desk, home_of}
-use Rattle.seam_law_calls.specs.Prelude.{as_base_sender, part_desk, real_at}
-use Rattle.seam_law_rounds.specs.Prelude.{framed, calls_of, next_from, next_to, base_calls_of, HasSettledPart}
-use Rattle.seam_law_ghosts.specs.Prelude.{HadSameReal, GoesThroughRound}
-use Rattle.seam_law_all.specs.Prelude.{ObeysLaws, EndsRightly, ObeysLawsOfLooks, ObeysLawsOfReaps, AreGone, KeepsRecords}
-use Rattle.seam_law_all.specs.Prelude.{KeepsRecordsWithin, MayBeGiven, may_begin}
-use Rattle.seam_law_flow.proofs.TokenLemmas.{sole_here}
-use Rattle.seam_law_calls.proofs.Counting.{counted_one}
-use Rattle.seam_law_rounds.proofs.Framing.{in_frame}
-use Rattle.seam_law_rounds.proofs.Going.{spared_loaded}
-use Rattle.seam_law_rounds.proofs.Loaded.{no_mail}
-use Rattle.seam_law_rounds.proofs.Ready.{Home, quiet_home}
-use Rattle.seam_law_ghosts.proofs.Ends.{looks_leave, reaps_leave}
+use Rattle.seam_law_rounds.specs.Prelude.{calls_of}
 use Rattle.seam_law_book.proofs.Parts.{IsButClient, looks_leave_part, client_stays, both_seen}
 
 -- what the laws of the three phases say of a round

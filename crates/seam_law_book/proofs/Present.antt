@@ -1,18 +1,12 @@
 -- Who is there in the open round, and what the book knows of it by then.
-use Rattle.std.proofs.Common.{◌≡◌, ℕ, Bool, true, false, cond, List, [], ◌∷◌, map, Option, Some, None, refl, sym, ap, ◌∙◌, append-nil, inl}
-use Rattle.std.proofs.Common.{inr, ◌⊎◌}
-use Rattle.std.specs.Prelude.{eqb, find, ◌==◌, ◌||◌, ◌&&◌, is_some}
-use Rattle.std.specs.List.{AllByRecursion, list_any, filter_map}
-use Rattle.std.specs.Option.{option_or}
-use Rattle.std.proofs.lemmas.List.Elements.{filter_map-append}
+use Rattle.seam_law_book.proofs.Prelude.{◌≡◌, ℕ, Bool, true, false, cond, List, [], ◌∷◌, map, Option, Some, None, refl, sym, ap, ◌∙◌}
+use Rattle.seam_law_book.proofs.Prelude.{append-nil, inl, inr, ◌⊎◌, eqb, find, ◌==◌, ◌||◌, ◌&&◌, is_some, AllByRecursion, list_any}
+use Rattle.seam_law_book.proofs.Prelude.{filter_map, option_or, filter_map-append, none-some, Create, Book, entries, creates_of, created_as}
+use Rattle.seam_law_book.proofs.Prelude.{live_as, destroys, joins, has_client, with_entry, Entry, as_begun, entity_of, made_among}
+use Rattle.seam_law_book.proofs.Prelude.{IsPresent, joined, destroyed}
 use Rattle.std.proofs.lemmas.List.Folds.{find-append, list_any-append}
-use Rattle.std.proofs.lemmas.Option.{none-some}
-use Rattle.seam_node_steps.specs.Prelude.{Create}
-use Rattle.seam_rule_rounds.specs.Prelude.{Book, entries, created, creates_of, created_as, live_as, destroys, joins, has_client, with_entry}
-use Rattle.seam_rule_rounds.specs.Prelude.{Entry}
-use Rattle.seam_law_book.specs.Prelude.{as_begun, entity_of, made_among, IsPresent}
+use Rattle.seam_rule_rounds.specs.Prelude.{created}
 use Rattle.seam_rule_lines.specs.declared.verdict.Entry.TheVariants as entry
-use Rattle.seam_accept.specs.Batches.{joined, destroyed}
 
 -- ---- options and tests
 

@@ -1,13 +1,9 @@
 -- What is known of an entry that a line adds: the facts of its command, and that no cause holds against it.
-use Rattle.std.proofs.Common.{◌≡◌, ℕ, ◌+◌, ◌<◌, ◌≤◌, Bool, true, false, List, length, Option, Some, None, refl, sym, ap, ◌∙◌, subst, arith}
-use Rattle.std.proofs.Common.{inl, inr, ◌-◌}
-use Rattle.std.specs.Prelude.{IsSome, IsTrue}
-use Rattle.std.proofs.lemmas.Bool.{cases_lt}
-use Rattle.seam_node_steps.specs.Prelude.{IsWhole, Area, Division, cells_of, area, IsTree, MOST_CELLS, FitsDeed, part_of_deed, type_of}
-use Rattle.seam_node_steps.specs.Prelude.{TypeDef, Deed, Sender, Call, Create}
-use Rattle.seam_rule_rounds.specs.Prelude.{Line, Content, Long, Header, Book, created_as, live_as, accepted, has_client, tree_of, Adds}
-use Rattle.seam_rule_rounds.specs.Prelude.{HoldsAgainst, Holds, Spells, Entry, Cause}
-use Rattle.seam_law_book.specs.Prelude.{IsAccepted, IsInside, StaysInside, IsSenderOf}
+use Rattle.seam_law_book.proofs.Prelude.{◌≡◌, ℕ, ◌+◌, ◌<◌, ◌≤◌, Bool, true, false, List, length, Option, Some, None, refl, sym, ap, ◌∙◌}
+use Rattle.seam_law_book.proofs.Prelude.{subst, arith, inl, inr, ◌-◌, IsSome, IsTrue, cases_lt, IsWhole, Area, Division, cells_of, area}
+use Rattle.seam_law_book.proofs.Prelude.{IsTree, MOST_CELLS, FitsDeed, part_of_deed, type_of, TypeDef, Deed, Sender, Call, Create, Line}
+use Rattle.seam_law_book.proofs.Prelude.{Content, Long, Header, Book, created_as, live_as, accepted, has_client, tree_of, Adds}
+use Rattle.seam_law_book.proofs.Prelude.{HoldsAgainst, Holds, Spells, Entry, Cause, IsAccepted, IsInside, StaysInside, IsSenderOf}
 use Rattle.seam_value.specs.NumberWords.{SpellsPositive}
 use Rattle.seam_tree.specs.Boundary.{RunsThrough, place_along}
 use Rattle.seam_tree.specs.Division.{HasBoundary, NoneEmpty}
@@ -21,7 +17,7 @@ use Rattle.seam_tree.proofs.Changes.{with_cut_tree, with_place_tree, cells_with_
 use Rattle.seam_tree.proofs.Padded.{length_cuts_moved}
 use Rattle.seam_call.specs.declared.sender.Sender.TheVariants as sender
 use Rattle.seam_rule_lines.specs.Language as language
-use Rattle.seam_rule_lines.specs.Judging.{IsThere, NamesCreate, NamesCall, NamesDeed, NamesMove, RefusesCut, RefusesShift}
+use Rattle.seam_rule_lines.specs.Judging.{SenderExists, NamesCreate, NamesCall, NamesDeed, NamesMove, RefusesCut, RefusesShift}
 use Rattle.seam_rule_lines.specs.declared.verdict.Entry.TheVariants as entry
 use Rattle.seam_rule_lines.specs.declared.verdict.Cause.TheVariants as cause
 
@@ -79,7 +75,7 @@ false_of false not = refl
 below_of : (m n : ℕ) → ¬ (n ≤ m) → m < n
 below_of m n not = elim (cases_lt m n) [ inl lt ↦ lt | inr ge ↦ absurd (not ge) ]
 
-known_sender : (h : Header) (b : Book) (s : Sender) → IsThere h b s → IsSenderOf h s
+known_sender : (h : Header) (b : Book) (s : Sender) → SenderExists h b s → IsSenderOf h s
 known_sender h b (sender.Base n) there = there
 known_sender h b (sender.Client e) there = tt
 

@@ -1,16 +1,14 @@
 -- What the open round of a book brings, entry by entry.
-use Rattle.std.proofs.Common.{◌≡◌, ℕ, ◌+◌, ◌≤◌, Bool, true, false, cond, [], ◌∷◌, ◌++◌, map, length, refl, sym, ap, ◌∙◌, subst, arith}
-use Rattle.std.proofs.Common.{append-nil}
-use Rattle.std.specs.Prelude.{eqb, ◌==◌, ◌&&◌}
-use Rattle.std.specs.List.{AllByRecursion, IsDistinct, filter_map}
-use Rattle.std.proofs.lemmas.Bool.{eqb-true}
-use Rattle.seam_node_steps.specs.Prelude.{cells_of, AreLegal, Part, is_for, same_part, rank_of, Call, Create}
-use Rattle.seam_rule_rounds.specs.Prelude.{Header, Book, entries, created, called, creates_of, calls_of, with_entry, tree_of, Entry}
-use Rattle.seam_law_book.specs.Prelude.{IsOfLines, empty, accepts, ends, balances, as_begun, entity_of, GetsClient, HasEntity, IsNewEntity}
-use Rattle.seam_law_book.specs.Prelude.{IsFitCall, calls_from, last_number, AreNumberedFrom, HasFitRound}
+use Rattle.seam_law_book.proofs.Prelude.{◌≡◌, ℕ, ◌+◌, ◌≤◌, Bool, true, false, cond, [], ◌∷◌, ◌++◌, map, length, refl, sym, ap, ◌∙◌, subst}
+use Rattle.seam_law_book.proofs.Prelude.{arith, append-nil, eqb, ◌==◌, ◌&&◌, AllByRecursion, filter_map, eqb-true, cells_of, AreLegal, Part}
+use Rattle.seam_law_book.proofs.Prelude.{is_for, same_part, rank_of, Call, Create, Header, Book, entries, called, creates_of, calls_of}
+use Rattle.seam_law_book.proofs.Prelude.{with_entry, tree_of, Entry, IsOfLines, empty, accepts, ends, balances, as_begun, entity_of}
+use Rattle.seam_law_book.proofs.Prelude.{GetsClient, HasEntity, IsNewEntity, IsFitCall, calls_from, last_number, AreNumberedFrom}
+use Rattle.seam_law_book.proofs.Prelude.{HasFitRound, joined, destroyed, tree_with, same_part_is}
+use Rattle.std.specs.List.{IsDistinct}
+use Rattle.seam_rule_rounds.specs.Prelude.{created}
 use Rattle.seam_rule_lines.specs.declared.verdict.Entry.TheVariants as entry
-use Rattle.seam_accept.specs.Batches.{joined, destroyed}
-use Rattle.seam_accept.proofs.Books.{tree_with, same_part_is, both}
+use Rattle.seam_accept.proofs.Books.{both}
 use Rattle.seam_law_book.proofs.Proper.{IsProper, IsProperCall, accepted_is_proper}
 use Rattle.seam_law_book.proofs.Adding.{all_join, all_turn, distinct_more, numbered_more, brought_more, calls_from_more, counted}
 use Rattle.seam_law_book.proofs.Present.{uncreated, live_is_present, unjoined, undestroyed, alone_begun, present_more, unmade_apart}

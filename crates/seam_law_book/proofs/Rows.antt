@@ -1,37 +1,25 @@
 -- The flat table of a world is that of the rules.
-use Rattle.std.proofs.Common.{◌≡◌, ℕ, zero, suc, ◌-◌, ◌⊎◌, Bool, true, false, cond, eqb, T, List, [], ◌∷◌, map, length, Some, None, refl}
-use Rattle.std.proofs.Common.{sym, ap, ◌∙◌, subst, arith, inl, inr}
-use Rattle.std.specs.Prelude.{Contains, not, ◌&&◌}
-use Rattle.std.specs.List.{AllByRecursion, flat_map}
-use Rattle.std.specs.Ordering.{nat_cmp, eq_by_cmp, is_lt}
-use Rattle.std.specs.Cmp.{nat_cmp_total}
-use Rattle.std.specs.declared.cmp.Ordering.TheVariants.{Less}
+use Rattle.seam_law_book.proofs.Prelude.{◌≡◌, ℕ, zero, suc, ◌-◌, ◌⊎◌, Bool, true, false, cond, eqb, T, List, [], ◌∷◌, map, length, Some}
+use Rattle.seam_law_book.proofs.Prelude.{None, refl, sym, ap, ◌∙◌, subst, arith, inl, inr, Contains, not, ◌&&◌, AllByRecursion, flat_map}
+use Rattle.seam_law_book.proofs.Prelude.{nat_cmp, eq_by_cmp, nat_cmp_total, Less, is_sorted, below_all, same_entries, nat_tests, Division}
+use Rattle.seam_law_book.proofs.Prelude.{Value, Number, Text, ghost_of, other_of, own_of, same_value, same_values, same_state, same_shown}
+use Rattle.seam_law_book.proofs.Prelude.{State, Call as CallData, Create, RealView, World, Header, Book, entries, creates_of, live_as, flat}
+use Rattle.seam_law_book.proofs.Prelude.{Orders, Lists, Row, properties, has_changed_at, public_at, row_after, rows_of, here_at}
+use Rattle.seam_law_book.proofs.Prelude.{IsBetweenRounds, rows_at, row_in, row_of_real, frame_of, GoesWith, IsInTable, AreInTable}
+use Rattle.seam_law_book.proofs.Prelude.{live_is_created, both as both_hold, Somewhere, Nowhere, search_real, tied_same, find_entries}
+use Rattle.seam_law_book.proofs.Prelude.{found_in, row_there, row_nowhere, public_more}
+use Rattle.std.specs.Ordering.{is_lt}
 use Rattle.std.specs.List.Sorted.{IsStrictlySortedBy}
 use Rattle.std.specs.FinMap as table
-use Rattle.std.specs.FinMap.Entries.{is_sorted, below_all, same_entries}
 use Rattle.std.proofs.lemmas.Map.Keys.{sorted_from_strictly_increasing}
-use Rattle.std.proofs.lemmas.Bool.Decides.{nat_tests, Decides-eqb, Decides-int_eq}
+use Rattle.std.proofs.lemmas.Bool.Decides.{Decides-eqb, Decides-int_eq}
 use Rattle.std.proofs.lemmas.Slice.Eq.{slice_eq-Decides, bytes_eq-Decides}
 use Rattle.std.specs.Bool.{Decides}
-use Rattle.seam_node_steps.specs.Prelude.{Division, Value, Number, Text, ghost_of, other_of, own_of, same_value, same_values, same_state}
-use Rattle.seam_node_steps.specs.Prelude.{same_shown, State, Call as CallData, Create, RealView, World}
-use Rattle.seam_rule_rounds.specs.Prelude.{Header, Book, entries, creates_of, live_as, flat, Orders, Lists, Row, properties, has_changed_at}
-use Rattle.seam_rule_rounds.specs.Prelude.{public_at, row_after, rows_of}
-use Rattle.seam_law_calls.specs.Prelude.{here_at}
-use Rattle.seam_law_rounds.specs.Prelude.{IsBetweenRounds}
-use Rattle.seam_law_clients.specs.Prelude.{rows_at, row_in, row_of_real}
-use Rattle.seam_law_book.specs.Prelude.{frame_of, GoesWith, IsInTable, AreInTable}
 use Rattle.seam_defs.specs.declared.flags.Part.TheVariants as part
-use Rattle.seam_rule_lines.proofs.BookEntries.{live_is_created}
 use Rattle.seam_rule_lines.proofs.InOrderLemmas.{found_entity}
 use Rattle.seam_rule_lines.proofs.Lists.{contains_first, contains_later, contains_cases}
-use Rattle.seam_law_calls.proofs.Holds.{both as both_hold}
-use Rattle.seam_law_rounds.proofs.Shape.{Somewhere, Nowhere, search_real}
-use Rattle.seam_node_steps.proofs.Sorted.{both, tied_same, find_entries}
+use Rattle.seam_node_steps.proofs.Sorted.{both}
 use Rattle.seam_law_clients.specs.Tables as world
-use Rattle.seam_law_clients.proofs.Rows.{found_in}
-use Rattle.seam_law_clients.proofs.OneLook.{row_there, row_nowhere}
-use Rattle.seam_rule_rounds.proofs.Public.{public_more}
 
 -- ---- what others may see, at the public version
 

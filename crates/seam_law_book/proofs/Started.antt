@@ -1,15 +1,9 @@
 -- Where the entities of a loaded world come from, where the batch is that of a book's open round.
-use Rattle.std.proofs.Common.{◌≡◌, ℕ, ◌≤◌, Option, Some, None, refl, ap, ◌∙◌, arith, inl, inr}
-use Rattle.seam_node_steps.specs.Prelude.{Division, Create, Batch, RealView, PartView, holders, World, loaded}
-use Rattle.seam_rule_rounds.specs.Prelude.{Header, Book, created_as, ClientReplica}
-use Rattle.seam_law_flow.specs.Prelude.{letters_of}
-use Rattle.seam_law_calls.specs.Prelude.{entity_flow, real_of, real_at}
-use Rattle.seam_law_all.specs.Prelude.{KeepsRecords, MayBeGiven, may_begin}
-use Rattle.seam_law_book.specs.Prelude.{as_begun, made_among, IsPresent, HasFitRound, IsUntouched, frame_of, GoesWith, HasRoomForCalls}
-use Rattle.seam_accept.specs.Batches.{batch_of}
-use Rattle.seam_law_calls.proofs.Counting.{none_counts}
-use Rattle.seam_law_rounds.proofs.Loaded.{no_mail}
-use Rattle.seam_law_rounds.proofs.Shape.{Nowhere}
+use Rattle.seam_law_book.proofs.Prelude.{◌≡◌, ℕ, ◌≤◌, Option, Some, None, refl, ap, ◌∙◌, arith, inl, inr, Division, Create, Batch, RealView}
+use Rattle.seam_law_book.proofs.Prelude.{PartView, holders, World, loaded, Header, Book, created_as, ClientReplica, letters_of, entity_flow}
+use Rattle.seam_law_book.proofs.Prelude.{real_of, real_at, KeepsRecords, MayBeGiven, may_begin, as_begun, made_among, IsPresent}
+use Rattle.seam_law_book.proofs.Prelude.{HasFitRound, IsUntouched, frame_of, GoesWith, HasRoomForCalls, batch_of, none_counts, no_mail}
+use Rattle.seam_law_book.proofs.Prelude.{Nowhere}
 use Rattle.seam_law_book.proofs.Origins.{RealFrom, real_from, PartFrom, had, comes, part_from, IsCreate}
 use Rattle.seam_law_book.proofs.Fitting.{found_by}
 

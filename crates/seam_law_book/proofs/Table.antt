@@ -1,27 +1,16 @@
 -- After a round each real is what the flat table has of its entity.
-use Rattle.std.proofs.Common.{◌≡◌, ℕ, ◌≤◌, true, cond, List, [], ◌∷◌, ◌++◌, length, Some, None, refl, sym, ap, ◌∙◌, subst, inl, inr, ◌⊎◌}
-use Rattle.std.specs.Prelude.{filter}
-use Rattle.std.proofs.lemmas.Bool.{cases_eq, eq-eqb}
-use Rattle.std.specs.List.{AllByRecursion}
-use Rattle.std.proofs.lemmas.Option.{none-some}
-use Rattle.seam_law_flow.proofs.TokenLemmas.{sole_here}
-use Rattle.seam_node_steps.specs.Prelude.{Division, leaf_at, type_of, Part, is_from, IsSender, same_sender, rank_of, Sender}
-use Rattle.seam_node_steps.specs.Prelude.{Call as CallData, Create, Batch, RealView, real_begins, World, loaded, holders}
-use Rattle.seam_rule_rounds.specs.Prelude.{Header, Book, entries, calls_of, created_as, accepted, flat, public_at, Orders, of_sender}
-use Rattle.seam_rule_rounds.specs.Prelude.{IsFull, ClientReplica}
-use Rattle.seam_law_calls.specs.Prelude.{entity_flow, real_in, real_of, OneFrom, Account, account_of, after_calls, real_at}
-use Rattle.seam_law_ghosts.specs.Prelude.{made_real, BeginsAt}
-use Rattle.seam_law_all.specs.Prelude.{ObeysLaws, KeepsRecords, MayBeGiven, may_begin}
-use Rattle.seam_law_book.specs.Prelude.{as_begun, IsPresent, calls_from, HasFitRound, IsUntouched, frame_of, GoesWith, HasRoomForCalls}
-use Rattle.seam_law_book.specs.Prelude.{IsInTable, AreInTable, BeginsReal, IsDoneOn}
+use Rattle.seam_law_book.proofs.Prelude.{◌≡◌, ℕ, ◌≤◌, true, cond, List, [], ◌∷◌, ◌++◌, length, Some, None, refl, sym, ap, ◌∙◌, subst, inl}
+use Rattle.seam_law_book.proofs.Prelude.{inr, ◌⊎◌, filter, cases_eq, eq-eqb, AllByRecursion, none-some, sole_here, Division, leaf_at}
+use Rattle.seam_law_book.proofs.Prelude.{type_of, Part, is_from, IsSender, same_sender, rank_of, Sender, Call as CallData, Create, Batch}
+use Rattle.seam_law_book.proofs.Prelude.{RealView, real_begins, World, loaded, holders, Header, Book, entries, calls_of, created_as}
+use Rattle.seam_law_book.proofs.Prelude.{accepted, flat, public_at, Orders, of_sender, IsFull, ClientReplica, entity_flow, real_in, real_of}
+use Rattle.seam_law_book.proofs.Prelude.{OneFrom, Account, account_of, after_calls, real_at, made_real, BeginsAt, ObeysLaws, KeepsRecords}
+use Rattle.seam_law_book.proofs.Prelude.{MayBeGiven, may_begin, as_begun, IsPresent, calls_from, HasFitRound, IsUntouched, frame_of}
+use Rattle.seam_law_book.proofs.Prelude.{GoesWith, HasRoomForCalls, IsInTable, AreInTable, BeginsReal, IsDoneOn, batch_of, live_is_created}
+use Rattle.seam_law_book.proofs.Prelude.{middle, real_loaded, settled_loaded}
 use Rattle.seam_defs.specs.declared.flags.Part.TheVariants as part
 use Rattle.seam_call.specs.declared.sender.Sender.TheVariants as sender
-use Rattle.seam_accept.specs.Batches.{batch_of}
 use Rattle.seam_law_book.proofs.Untouched.{IsFromSender, accepted_by_place}
-use Rattle.seam_rule_lines.proofs.BookEntries.{live_is_created}
-use Rattle.seam_law_rounds.proofs.Making.{middle}
-use Rattle.seam_law_rounds.proofs.Loaded.{real_loaded}
-use Rattle.seam_law_rounds.proofs.Going.{settled_loaded}
 use Rattle.seam_law_book.proofs.Accounts.{done_after, Agrees, agrees_after, in_table_by}
 use Rattle.seam_law_book.proofs.Origins.{IsCreate, RealFrom, was, made}
 use Rattle.seam_law_book.proofs.Fitting.{others_none, made_is, new_number, type_by}

@@ -1,18 +1,14 @@
 -- What holds of all entries of a book that lines made.
-use Rattle.std.proofs.Common.{◌≡◌, ℕ, Bool, false, cond, List, [], ◌∷◌, ◌++◌, map, Some, None, refl, sym, ap, ◌∙◌, subst, arith, append-nil}
-use Rattle.std.specs.Prelude.{eqb, filter, ◌==◌, ◌&&◌, ◌||◌}
-use Rattle.std.specs.List.{AllByRecursion, IsDistinct, list_any}
-use Rattle.std.proofs.lemmas.Option.{none-some}
-use Rattle.seam_node_steps.specs.Prelude.{Division, IsTree, AreLegal, Part, is_for, is_from, same_part, IsSender, same_sender, rank_of}
-use Rattle.seam_node_steps.specs.Prelude.{Sender, Call, Create}
-use Rattle.seam_rule_rounds.specs.Prelude.{Header, Book, one_cell, entries, creates_of, calls_of, created_as, live_as, joins, destroys}
-use Rattle.seam_rule_rounds.specs.Prelude.{with_entry, tree_of, Entry}
-use Rattle.seam_law_book.specs.Prelude.{IsOfLines, empty, accepts, ends, balances, as_begun, entity_of, made_among, IsSenderOf}
-use Rattle.seam_law_book.specs.Prelude.{calls_from, IsUntouched}
+use Rattle.seam_law_book.proofs.Prelude.{◌≡◌, ℕ, Bool, false, cond, List, [], ◌∷◌, ◌++◌, map, Some, None, refl, sym, ap, ◌∙◌, subst, arith}
+use Rattle.seam_law_book.proofs.Prelude.{append-nil, eqb, filter, ◌==◌, ◌&&◌, ◌||◌, AllByRecursion, list_any, none-some, Division, IsTree}
+use Rattle.seam_law_book.proofs.Prelude.{AreLegal, Part, is_for, is_from, same_part, IsSender, same_sender, rank_of, Sender, Call, Create}
+use Rattle.seam_law_book.proofs.Prelude.{Header, Book, one_cell, entries, creates_of, calls_of, created_as, live_as, joins, destroys}
+use Rattle.seam_law_book.proofs.Prelude.{with_entry, tree_of, Entry, IsOfLines, empty, accepts, ends, balances, as_begun, entity_of}
+use Rattle.seam_law_book.proofs.Prelude.{made_among, IsSenderOf, calls_from, IsUntouched, differ, live_is_created, creates_with_entry}
+use Rattle.seam_law_book.proofs.Prelude.{created_with, calls_with_entry, any_with, tree_with}
+use Rattle.std.specs.List.{IsDistinct}
 use Rattle.seam_call.specs.declared.sender.Sender.TheVariants as sender
 use Rattle.seam_rule_lines.specs.declared.verdict.Entry.TheVariants as entry
-use Rattle.seam_rule_lines.proofs.BookEntries.{differ, live_is_created, creates_with_entry}
-use Rattle.seam_accept.proofs.Books.{created_with, calls_with_entry, any_with, tree_with}
 use Rattle.seam_law_book.proofs.Proper.{IsProper, accepted_is_proper}
 use Rattle.seam_law_book.proofs.Adding.{all_join, distinct_more, calls_from_more}
 use Rattle.seam_law_book.proofs.Present.{both_none, unmade_apart}

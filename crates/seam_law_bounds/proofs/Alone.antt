@@ -1,15 +1,11 @@
 -- A call that waits at the end of a link waits nowhere else.
-use Rattle.std.proofs.Common.{◌≡◌, ℕ, Bool, true, false, ◌==◌, ◌&&◌, List, [], ◌∷◌, ◌++◌, Option, None, Some, refl, sym, ap, ◌∙◌, inl, inr}
-use Rattle.std.specs.List.{AllByRecursion}
-use Rattle.std.proofs.lemmas.Bool.{cases_eq}
-use Rattle.seam_node_steps.specs.Prelude.{Call as CallData, Msg}
-use Rattle.seam_law_flow.specs.Prelude.{Flow, letters_of, more_letter, TokenPlace, In, On, Sole, of_number, Mail, Item, packed, keeps}
-use Rattle.seam_law_flow.specs.Prelude.{bears, held_in, WaitsOnce}
-use Rattle.seam_law_calls.specs.Prelude.{Has, kept_if, is_from, cell_order_from, cell_post, cell_mail, as_sender}
-use Rattle.seam_law_bounds.specs.Prelude.{is_numbered}
-use Rattle.seam_law_flow.proofs.Bridge.{letters_of-append}
+use Rattle.seam_law_bounds.proofs.Prelude.{◌≡◌, ℕ, Bool, true, false, ◌==◌, ◌&&◌, List, [], ◌∷◌, ◌++◌, Option, None, Some, refl, sym, ap}
+use Rattle.seam_law_bounds.proofs.Prelude.{◌∙◌, inl, inr, AllByRecursion, cases_eq, Call as CallData, Msg, Flow, letters_of, more_letter}
+use Rattle.seam_law_bounds.proofs.Prelude.{TokenPlace, In, On, Sole, of_number, Mail, Item, packed, bears, Has, kept_if, is_from}
+use Rattle.seam_law_bounds.proofs.Prelude.{cell_order_from, cell_post, cell_mail, as_sender, is_numbered, letters_of-append, both}
+use Rattle.seam_law_flow.specs.Prelude.{keeps}
+use Rattle.seam_law_flow.specs.Prelude.{held_in, WaitsOnce}
 use Rattle.seam_entity.specs.declared.message.Msg.TheVariants.{Call}
-use Rattle.seam_law_calls.proofs.Holds.{both}
 
 nil_before : {A : Type 0} (xs : List A) (y r : A) → xs ++ y ∷ [] ≡ r ∷ [] → xs ≡ []
 nil_before [] y r h = refl

@@ -1,30 +1,21 @@
 -- Over every list of events cells know, and witnesses view, no other entities than those at the start.
-use Rattle.std.proofs.Common.{◌≡◌, ℕ, Bool, true, false, cond, List, [], ◌∷◌, drop, Option, None, Some, refl, sym, subst, arith}
-use Rattle.std.specs.Prelude.{not, slice_get}
-use Rattle.std.specs.List.{AllByRecursion, range_with_len}
-use Rattle.std.specs.Ordering.{nat_cmp, eq_by_cmp}
+use Rattle.seam_law_bounds.proofs.Prelude.{◌≡◌, ℕ, Bool, true, false, cond, List, [], ◌∷◌, drop, Option, None, Some, refl, sym, subst}
+use Rattle.seam_law_bounds.proofs.Prelude.{arith, not, slice_get, AllByRecursion, range_with_len, nat_cmp, eq_by_cmp, nat_tests, Stepped}
+use Rattle.seam_law_bounds.proofs.Prelude.{link, letter, input_from, happens, enabled, Occurs, EachNode, Input, Task, From, Event}
+use Rattle.seam_law_bounds.proofs.Prelude.{Call as CallData, Order, Msg, Reap, Slot, SlotStep, slot_after, about, slot_steps, stray_survey}
+use Rattle.seam_law_bounds.proofs.Prelude.{stray_ready_call, stray_look, CellView, slot_of, stepped, known_to, surveys, calls_ready}
+use Rattle.seam_law_bounds.proofs.Prelude.{looks_around, ready_entity, look_next, ready_next, cell_task, cell_hears, cell_steps, BaseView}
+use Rattle.seam_law_bounds.proofs.Prelude.{PartView, RouteView, on_route, base_order, is_base_node_of, tick_to, order_of_node, stray_order}
+use Rattle.seam_law_bounds.proofs.Prelude.{ready_part, ready_proxy, proxy_task, task_without_orders, base_task, base_steps, may_show}
+use Rattle.seam_law_bounds.proofs.Prelude.{NodeView, World, node_steps, node_has_work, Cell, Base, IsCell, IsNode, Frame, IsInFrame}
+use Rattle.seam_law_bounds.proofs.Prelude.{LooksAmong, Always, occurs, each_node, each_link, leads_keeps, all_append, unless_stray}
+use Rattle.seam_law_bounds.proofs.Prelude.{slot_stepped, frame_happens}
 use Rattle.std.specs.FinMap as table
-use Rattle.std.proofs.lemmas.Bool.Decides.{nat_tests}
-use Rattle.seam_node_steps.specs.Prelude.{Stepped, link, letter, input_from, happens, enabled, Occurs, EachNode, Input, Task, From, Event}
-use Rattle.seam_node_steps.specs.Prelude.{Call as CallData, Order, Msg, Reap, Slot, SlotStep, slot_after, about, slot_steps, stray_survey}
-use Rattle.seam_node_steps.specs.Prelude.{stray_ready_call, stray_look, CellView, slot_of, stepped, known_to, surveys, calls_ready}
-use Rattle.seam_node_steps.specs.Prelude.{looks_around, ready_entity, look_next, ready_next, cell_task, cell_hears, cell_steps, BaseView}
-use Rattle.seam_node_steps.specs.Prelude.{PartView, RouteView, on_route, base_order, is_base_node_of, tick_to, order_of_node, stray_order}
-use Rattle.seam_node_steps.specs.Prelude.{ready_part, ready_proxy, proxy_task, task_without_orders, base_task, base_steps, may_show}
-use Rattle.seam_node_steps.specs.Prelude.{NodeView, World, node_steps, node_has_work, Cell, Base, IsCell, IsNode}
-use Rattle.seam_law_calls.specs.Prelude.{Frame, IsInFrame}
-use Rattle.seam_law_bounds.specs.Prelude.{LooksAmong, Always}
 use Rattle.seam_machine.specs.Events.{EachLink}
-use Rattle.seam_machine.proofs.Occurring.{occurs}
 use Rattle.seam_net_runs.specs.Kept.{StaysTrue}
-use Rattle.seam_net_runs.proofs.Keeping.{each_node, each_link}
-use Rattle.seam_net_runs.proofs.Runs.{leads_keeps}
-use Rattle.seam_law_flow.proofs.Following.{all_append}
 use Rattle.seam_call.specs.declared.order.Order.TheVariants as order
 use Rattle.seam_entity.specs.declared.message.Msg.TheVariants.{Call}
-use Rattle.seam_node_steps.specs.BaseCases.{unless_stray, is_stray, may_execute}
-use Rattle.seam_node_steps.proofs.Slots.{slot_stepped}
-use Rattle.seam_law_calls.proofs.Classify.{frame_happens}
+use Rattle.seam_node_steps.specs.BaseCases.{is_stray, may_execute}
 use Rattle.seam_law_bounds.proofs.AmongSlots.{SlotOk, LetterOk, SentOk, StepOk, unless_ok, message_ok, survey_ok, ready_ok, look_ok}
 use Rattle.seam_law_bounds.proofs.AmongSlots.{all_mapped}
 use Rattle.seam_law_bounds.proofs.LookCounts.{known_named, seen_are_named}

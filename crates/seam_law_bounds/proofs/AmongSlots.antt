@@ -1,31 +1,21 @@
 -- A step of one entity's slot names no other entities than those that there are.
-use Rattle.std.proofs.Common.{◌≡◌, ℕ, ◌+◌, Bool, true, false, cond, ◌||◌, ◌==◌, eqb, List, [], ◌∷◌, map, Option, None, Some, refl, sym, ap}
-use Rattle.std.proofs.Common.{◌∙◌, subst}
-use Rattle.std.specs.Prelude.{filter_map, nat_lt}
-use Rattle.std.specs.List.{AllByRecursion, cons_option}
-use Rattle.std.specs.Map.{keys_of}
-use Rattle.std.specs.Ordering.{nat_cmp}
-use Rattle.std.specs.declared.cmp.Ordering.{Ordering}
-use Rattle.std.specs.declared.cmp.Ordering.TheVariants.{Less, Equal, Greater}
+use Rattle.seam_law_bounds.proofs.Prelude.{◌≡◌, ℕ, ◌+◌, Bool, true, false, cond, ◌||◌, ◌==◌, eqb, List, [], ◌∷◌, map, Option, None, Some}
+use Rattle.seam_law_bounds.proofs.Prelude.{refl, sym, ap, ◌∙◌, subst, filter_map, nat_lt, AllByRecursion, cons_option, keys_of, nat_cmp}
+use Rattle.seam_law_bounds.proofs.Prelude.{Ordering, Less, Equal, Greater, eqb-true, Division, Cells, Ghost, copy_in, beat_in, OrderView}
+use Rattle.seam_law_bounds.proofs.Prelude.{next_item, Call as CallData, GhostCopy, Shown, order_of, RealView, WitnessView, Msg, Hand}
+use Rattle.seam_law_bounds.proofs.Prelude.{GhostSet, GhostDrop, Reap, Here, cell_numbers, base_numbers, base_of, ready_order, copy_of_real}
+use Rattle.seam_law_bounds.proofs.Prelude.{executed, executed_ready, shows, settled_to, Slot, NextPlace, SlotStep, rests, slot_after, heard}
+use Rattle.seam_law_bounds.proofs.Prelude.{told, told_unless, ghost_message, ghost_messages, haunts_at, home_after, stays, settled_by}
+use Rattle.seam_law_bounds.proofs.Prelude.{settled, about, call_next_place, current_to, hand_over_comes, ghost_set, ghost_drop, drop_if}
+use Rattle.seam_law_bounds.proofs.Prelude.{drop_at, reap, survey_task, executes_ready, ready_in, ready_call_task, is_stray, slot_steps}
+use Rattle.seam_law_bounds.proofs.Prelude.{Known, seen_as, numbered, shown_of, looks_of, looks_with, look_by, look_task, is_among, AllAmong}
+use Rattle.seam_law_bounds.proofs.Prelude.{all_append, Seen, Look, Leave, Set as LookSet, Enter, Replica, IsView, seen_of, placed, without}
+use Rattle.seam_law_bounds.proofs.Prelude.{after_showing, after_look, after_looks, view_after_looks, offered, call}
 use Rattle.std.specs.FinSet as set
-use Rattle.std.proofs.lemmas.Bool.{eqb-true}
-use Rattle.seam_node_steps.specs.Prelude.{Division, Cells, Ghost, copy_in, beat_in, OrderView, next_item, Call as CallData, GhostCopy}
-use Rattle.seam_node_steps.specs.Prelude.{Shown, order_of, RealView, WitnessView, Msg, Hand, GhostSet, GhostDrop, Reap, Here, cell_numbers}
-use Rattle.seam_node_steps.specs.Prelude.{base_numbers, base_of, ready_order, copy_of_real, executed, executed_ready, shows, settled_to}
-use Rattle.seam_node_steps.specs.Prelude.{Slot, NextPlace, SlotStep, rests, unless_stray, slot_after, heard, told, told_unless}
-use Rattle.seam_node_steps.specs.Prelude.{ghost_message, ghost_messages, haunts_at, home_after, stays, goes, settled_by, settled, about}
-use Rattle.seam_node_steps.specs.Prelude.{call_next_place, current_to, hand_over_comes, ghost_set, ghost_drop, drop_if, drop_at, reap}
-use Rattle.seam_node_steps.specs.Prelude.{survey_task, executes_ready, ready_in, ready_call_task, is_stray, slot_steps, Known, seen_as}
-use Rattle.seam_node_steps.specs.Prelude.{numbered, shown_of, looks_of, looks_with, look_by, look_task}
-use Rattle.seam_law_bounds.specs.Prelude.{is_among, AllAmong}
-use Rattle.seam_law_flow.proofs.Following.{all_append}
-use Rattle.seam_view.specs.declared.Seen.{Seen}
-use Rattle.seam_view.specs.declared.Look.{Look}
-use Rattle.seam_view.specs.declared.Look.TheVariants.{Leave, Set as LookSet, Enter}
-use Rattle.seam_view.specs.Replica.{Replica, IsView, seen_of, placed, without, after_showing, after_look, after_looks}
-use Rattle.seam_view.proofs.Kept.{view_after_looks}
+use Rattle.seam_node_steps.specs.Prelude.{unless_stray}
+use Rattle.seam_node_steps.specs.Prelude.{goes}
 use Rattle.seam_entity.specs.declared.message.Msg.TheVariants.{Call}
-use Rattle.seam_node_steps.specs.CellCases.{offered, call, case_of}
+use Rattle.seam_node_steps.specs.CellCases.{case_of}
 
 -- ---- lists
 

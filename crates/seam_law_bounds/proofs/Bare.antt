@@ -1,26 +1,17 @@
 -- Without looks, and without calls to an entity's base part, nothing comes to it: a part that holds nothing never holds anything.
-use Rattle.std.proofs.Common.{◌≡◌, ℕ, true, List, [], ◌∷◌, Option, None, Some, refl, sym, ap, ◌∙◌, subst, arith}
-use Rattle.std.specs.List.{AllByRecursion}
-use Rattle.seam_node_steps.specs.Prelude.{happens, enabled, Event, Order, Msg, Tick, Here, PartView, World, node_steps, node_has_work}
-use Rattle.seam_law_flow.specs.Prelude.{comes, letters_of, IsSilent, carried_in}
-use Rattle.seam_law_calls.specs.Prelude.{Frame, here_at, IsInFrame, Has, AtBase, entity_flow, Moves, at_a_cell, at_a_base, held_in, real_in}
-use Rattle.seam_law_calls.specs.Prelude.{base_call_in, update_in, base_call_of, calls_ordered, called, told, PartMoves, WitnessMoves}
-use Rattle.seam_law_calls.specs.Prelude.{HasNoBaseCalls, HasToldAtMost, HasNoLooks, RunsTo}
-use Rattle.seam_law_bounds.specs.Prelude.{part_weight}
-use Rattle.seam_machine.proofs.Occurring.{occurs}
-use Rattle.seam_net_runs.specs.Sums.{weight_or}
-use Rattle.seam_net_runs.proofs.Runs.{leads_by_one, leads_keeps}
-use Rattle.seam_law_flow.proofs.Following.{all_append, slots_kept, letters_kept, came}
+use Rattle.seam_law_bounds.proofs.Prelude.{◌≡◌, ℕ, true, List, [], ◌∷◌, Option, None, Some, refl, sym, ap, ◌∙◌, subst, arith}
+use Rattle.seam_law_bounds.proofs.Prelude.{AllByRecursion, happens, enabled, Event, Order, Msg, Tick, Here, PartView, World, node_steps}
+use Rattle.seam_law_bounds.proofs.Prelude.{node_has_work, comes, letters_of, IsSilent, carried_in, Frame, here_at, IsInFrame, Has, AtBase}
+use Rattle.seam_law_bounds.proofs.Prelude.{entity_flow, Moves, at_a_cell, at_a_base, held_in, real_in, base_call_in, update_in}
+use Rattle.seam_law_bounds.proofs.Prelude.{base_call_of, calls_ordered, called, PartMoves, WitnessMoves, HasNoBaseCalls, HasToldAtMost}
+use Rattle.seam_law_bounds.proofs.Prelude.{HasNoLooks, RunsTo, part_weight, occurs, weight_or, leads_by_one, leads_keeps, all_append}
+use Rattle.seam_law_bounds.proofs.Prelude.{slots_kept, letters_kept, came, event_moves, frame_happens, taken_counts, items_all, IsTickOrder}
+use Rattle.seam_law_bounds.proofs.Prelude.{IsTick, IsUnknown, unknown_leads, looks_lead, part_moves}
+use Rattle.seam_law_calls.specs.Prelude.{told}
 use Rattle.seam_call.specs.declared.order.Order.TheVariants as order
-use Rattle.seam_law_calls.proofs.Classify.{event_moves, frame_happens}
-use Rattle.seam_law_calls.proofs.HeldCounts.{taken_counts}
-use Rattle.seam_law_calls.proofs.Sparing.{items_all}
 use Rattle.seam_law_calls.specs.PartMoves as part
 use Rattle.seam_law_calls.specs.WitnessMoves as witness
-use Rattle.seam_law_ghosts.proofs.Unknown.{IsTickOrder, IsTick, IsUnknown, unknown_leads}
 use Rattle.seam_law_calls.proofs.BaseSilent.{sees_no_update, base_silent}
-use Rattle.seam_law_calls.proofs.NoLooks.{looks_lead}
-use Rattle.seam_law_calls.proofs.PartSteps.{part_moves}
 use Rattle.seam_law_calls.proofs.Reaped.{no_call_comes}
 use Rattle.seam_law_calls.proofs.WitnessSteps.{witness_moves}
 use Rattle.seam_law_bounds.proofs.BaseWeights.{showing_weighs}

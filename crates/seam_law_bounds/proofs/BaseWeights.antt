@@ -1,31 +1,23 @@
 -- A step of a base node lowers the weight.
-use Rattle.std.proofs.Common.{◌≡◌, ℕ, ◌+◌, ◌≤◌, Bool, true, false, List, [], ◌∷◌, Option, None, Some, refl, sym, ap, ◌∙◌, arith}
-use Rattle.std.specs.Prelude.{not, ◌||◌, is_some, option_map}
-use Rattle.std.specs.Ordering.{nat_cmp}
-use Rattle.std.specs.declared.cmp.Ordering.{Ordering}
-use Rattle.std.specs.declared.cmp.Ordering.TheVariants.{Less, Equal, Greater}
+use Rattle.seam_law_bounds.proofs.Prelude.{◌≡◌, ℕ, ◌+◌, ◌≤◌, Bool, true, false, List, [], ◌∷◌, Option, None, Some, refl, sym, ap, ◌∙◌}
+use Rattle.seam_law_bounds.proofs.Prelude.{arith, not, ◌||◌, is_some, option_map, nat_cmp, Ordering, Less, Equal, Greater, Stepped, total}
+use Rattle.seam_law_bounds.proofs.Prelude.{Input, Task, From, OrderView, next_item, Call as CallData, Order, Shown, ClientText, rank_of}
+use Rattle.seam_law_bounds.proofs.Prelude.{order_of, Msg, BaseCall, Current, Tick, Reap, Update, Here, cell_count, ready_order}
+use Rattle.seam_law_bounds.proofs.Prelude.{order_is_ready, has_any, BaseView, PartView, ProxyView, RouteView, with_part, line_if}
+use Rattle.seam_law_bounds.proofs.Prelude.{sends_none, may_show, part_called, on_route, base_order, is_base_node_of, order_of_node}
+use Rattle.seam_law_bounds.proofs.Prelude.{stray_order, part_is_ready, ready_part, after_ready, proxy_is_ready, client_is_ready}
+use Rattle.seam_law_bounds.proofs.Prelude.{ready_proxy, shows_next, proxy_task, task_without_orders, base_task, newer_route, current}
+use Rattle.seam_law_bounds.proofs.Prelude.{offered_update, updated_proxy, update, case_of, base_steps, base_has_work, Sizes, settle_weight}
+use Rattle.seam_law_bounds.proofs.Prelude.{tick_weight, proxy_weight, part_weight, order_weight, letter_weight, BaseCan, weight_or}
+use Rattle.seam_law_bounds.proofs.Prelude.{sent_weight, input_weight, total_of_insert, total_of_remove, sent_of_range, range_bounds, found}
+use Rattle.seam_law_bounds.proofs.Prelude.{unless_stray, turn_counts, early_counts, taken_counts, equal_of, greater_of, base_weight}
 use Rattle.std.specs.FinMap as table
-use Rattle.seam_node_steps.specs.Prelude.{Stepped, total, Input, Task, From, OrderView, next_item, Call as CallData, Order, Shown}
-use Rattle.seam_node_steps.specs.Prelude.{ClientText, rank_of, order_of, Msg, BaseCall, Current, Tick, Reap, Update, Here, cell_count}
-use Rattle.seam_node_steps.specs.Prelude.{ready_order, order_is_ready, has_any, BaseView, PartView, ProxyView, RouteView, with_part}
-use Rattle.seam_node_steps.specs.Prelude.{line_if, sends_none, may_show, offered, part_called, on_route, base_order, is_base_node_of}
-use Rattle.seam_node_steps.specs.Prelude.{order_of_node, stray_order, part_is_ready, ready_part, after_ready, proxy_is_ready}
-use Rattle.seam_node_steps.specs.Prelude.{client_is_ready, ready_proxy, shows_next, after_showing, proxy_task, task_without_orders}
-use Rattle.seam_node_steps.specs.Prelude.{base_task, newer_route, current, offered_update, updated_proxy, update, case_of, base_steps}
-use Rattle.seam_node_steps.specs.Prelude.{base_has_work}
-use Rattle.seam_law_bounds.specs.Prelude.{Sizes, settle_weight, tick_weight, proxy_weight, part_weight, order_weight, letter_weight}
-use Rattle.seam_law_bounds.specs.Prelude.{BaseCan}
-use Rattle.seam_net_runs.specs.Sums.{weight_or}
-use Rattle.seam_net_runs.specs.Weights.{sent_weight, input_weight}
-use Rattle.seam_net_runs.proofs.MapSums.{total_of_insert, total_of_remove, sent_of_range, range_bounds}
-use Rattle.seam_table.proofs.Found.{found}
+use Rattle.seam_node_steps.specs.Prelude.{offered}
+use Rattle.seam_node_steps.specs.Prelude.{after_showing}
 use Rattle.seam_call.specs.declared.order.Order.TheVariants as order
 use Rattle.seam_call.specs.declared.shown.Update.{Update as UpdateData}
 use Rattle.seam_entity.specs.declared.message.Msg.TheVariants.{Call}
-use Rattle.seam_node_steps.specs.BaseCases.{unless_stray, may_execute, executed, executes_ready, is_stray}
-use Rattle.seam_law_calls.proofs.HeldCounts.{turn_counts, early_counts, taken_counts}
-use Rattle.seam_law_calls.proofs.PartSteps.{equal_of, greater_of}
-use Rattle.seam_law_bounds.specs.Weights.{base_weight}
+use Rattle.seam_node_steps.specs.BaseCases.{may_execute, executed, executes_ready, is_stray}
 use Rattle.seam_law_bounds.proofs.Counts.{offer_adds, taking_removes}
 
 -- ---- parts

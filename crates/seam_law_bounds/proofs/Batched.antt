@@ -1,30 +1,18 @@
 -- Each call to a cell part that is on its way in a round was ordered.
-use Rattle.std.proofs.Common.{◌≡◌, ℕ, Bool, true, false, cond, List, [], ◌∷◌, Option, None, Some, refl, sym, ap, subst}
-use Rattle.std.specs.Prelude.{slice_get}
-use Rattle.std.specs.List.{AllByRecursion}
+use Rattle.seam_law_bounds.proofs.Prelude.{◌≡◌, ℕ, Bool, true, false, cond, List, [], ◌∷◌, Option, None, Some, refl, sym, ap, subst}
+use Rattle.seam_law_bounds.proofs.Prelude.{slice_get, AllByRecursion, Division, link, happens, enabled, EachNode, Event, Call as CallData}
+use Rattle.seam_law_bounds.proofs.Prelude.{Order, Msg, base_numbers, base_of, haunts_at, ghost_messages, current_to, NodeView, World}
+use Rattle.seam_law_bounds.proofs.Prelude.{node_steps, node_has_work, Cell, Base, comes, slot_at, letters_of, IsSilent, Frame, here_at}
+use Rattle.seam_law_bounds.proofs.Prelude.{IsInFrame, Has, mine, order_concerns, orders_of, has_of, has_none, entity_flow, CellMoves}
+use Rattle.seam_law_bounds.proofs.Prelude.{BaseMoves, Moves, at_a_cell, at_a_base, RunsTo, occurs, leads_by_one, leads_keeps, all_append}
+use Rattle.seam_law_bounds.proofs.Prelude.{letters_kept, came, event_moves, frame_happens, SeesNoGhost, ghosts_silent, drops_silent}
+use Rattle.seam_law_bounds.proofs.Prelude.{mapped_silent, numbered_silent, items_all, call_in, base_keeps}
 use Rattle.std.specs.FinSet as set
-use Rattle.seam_node_steps.specs.Prelude.{Division, link, happens, enabled, EachNode, Event, Call as CallData, Order, Msg, base_numbers}
-use Rattle.seam_node_steps.specs.Prelude.{base_of}
-use Rattle.seam_node_steps.specs.Prelude.{haunts_at, ghost_messages, current_to, NodeView, World, node_steps, node_has_work, Cell, Base}
-use Rattle.seam_law_flow.specs.Prelude.{comes, slot_at, letters_of, IsSilent}
-use Rattle.seam_law_calls.specs.Prelude.{Frame, here_at, IsInFrame, Has, mine, order_concerns, orders_of, has_of, has_none, entity_flow}
-use Rattle.seam_law_calls.specs.Prelude.{CellMoves, BaseMoves, Moves, at_a_cell, at_a_base, RunsTo}
-use Rattle.seam_machine.proofs.Occurring.{occurs}
-use Rattle.seam_net_runs.proofs.Runs.{leads_by_one, leads_keeps}
-use Rattle.seam_law_flow.proofs.Following.{all_append, letters_kept, came}
 use Rattle.seam_call.specs.declared.order.Order.TheVariants as order
 use Rattle.seam_entity.specs.declared.message.Msg.TheVariants.{Call}
-use Rattle.seam_law_calls.specs.CellMoves as move
-use Rattle.seam_law_calls.proofs.Classify.{event_moves, frame_happens}
-use Rattle.seam_law_calls.proofs.Plain.{SeesNoGhost, ghosts_silent, drops_silent, mapped_silent, numbered_silent}
-use Rattle.seam_law_calls.proofs.Sparing.{items_all}
+use Rattle.seam_law_calls.proofs.CellDeeds.{cell_deeds, cell_says}
 use Rattle.seam_law_ghosts.proofs.Strays.{seen_first}
-use Rattle.seam_law_calls.proofs.WayMoves.{call_in}
 use Rattle.seam_law_bounds.proofs.Ordered.{OrdersAre, orders_lead}
-use Rattle.seam_law_calls.proofs.BaseDeeds.{base_keeps}
-
-no_calls : SeesNoGhost call_in
-no_calls = record { sets = λ e n c. refl; drops = λ e n. refl }
 
 -- P is true of each call to a cell part
 module _ (P : CallData → Type 0) where
@@ -36,48 +24,21 @@ module _ (P : CallData → Type 0) where
   MessageIs (Call c) = P c
   MessageIs _ = Unit {0}
 
-  silent_one : (m : Msg) → call_in m ≡ None → MessageIs m
-  silent_one (Call c) h = cc
-  silent_one _ h = tt
-
-  silent : (ps : List (ℕ × Msg)) → IsSilent call_in ps → AllByRecursion (λ p. MessageIs p.1) ps
-  silent [] h = tt
-  silent (p ∷ ps) h = (silent_one p.1 h.0, silent ps h.1)
-
   module _ (f : Frame) (e k : ℕ) (s : Has) (i : Option Msg) (t : Has) (sent : List (ℕ × Msg))
       (stored : AllByRecursion OrderIs s.base.orders) (brought : (m : Msg) → i ≡ Some m → MessageIs m) where
     abbrev SentAre : Type 0
     SentAre = AllByRecursion (λ p. MessageIs p.1) sent
 
-    of : (l : List (ℕ × Msg)) → sent ≡ l → IsSilent call_in l → SentAre
-    of l is h = subst (AllByRecursion (λ p. MessageIs p.1)) (sym is) (silent l h)
-
     cell_sends : {tree : Division} → CellMoves (here_at f k) tree e s.cell i t.cell sent → SentAre
-    cell_sends (move.rests n d) = of [] d.sends tt
-    cell_sends (move.strays m n b d) = of [] d.sends tt
-    cell_sends {tree} (move.stays u r q changed has own acts at d) =
-        of _ d.sends (ghosts_silent call_in no_calls (here_at f k) q k (haunts_at (here_at f k) tree q.state.pos k q.haunts) changed)
-    cell_sends {tree} (move.goes u r q changed j has own acts at n d) =
-        let haunts = haunts_at (here_at f k) tree q.state.pos j (set.insert q.haunts k) in
-        of _ d.sends
-        (all_append (λ p. call_in p.1 ≡ None) (ghost_messages (here_at f k) q j haunts changed) _
-        (ghosts_silent call_in no_calls (here_at f k) q j haunts changed) (refl, tt))
-    cell_sends (move.late c r n has may lt d) = of [] d.sends tt
-    cell_sends (move.holds c r n own has mine may lt d) = of [] d.sends tt
-    cell_sends (move.passes c p n own has at d) =
-        subst (AllByRecursion (λ p. MessageIs p.1)) (sym d.sends) (brought (Call c) n, tt)
-    cell_sends (move.lands r n own has may d) =
-        of _ d.sends (mapped_silent call_in (current_to (here_at f k) r) (λ b. refl) (base_numbers (here_at f k)))
-    cell_sends (move.hears_set n c h has d) = of [] d.sends tt
-    cell_sends (move.ignores_set n c r h has d) = of [] d.sends tt
-    cell_sends (move.hears_drop n h d) = of [] d.sends tt
-    cell_sends (move.reaped r n has own may d) = of _ d.sends (drops_silent call_in no_calls r)
-    cell_sends (move.ticks n st z) = of [] z tt
-    cell_sends (move.unlists n h at b d) = of [] d.sends tt
-    cell_sends (move.looks n r w known h at has own v small d) =
-        of _ d.sends (numbered_silent call_in (base_of (here_at f k) r.entity) r.entity w.sent _ (λ u. refl))
-    cell_sends (move.overlooks n known h at b d) = of [] d.sends tt
-    cell_sends (move.stuck r h has ready may d) = of [] d.sends tt
+    cell_sends m =
+        cell_says (λ j x. MessageIs x) (record {
+          sets = λ j x beat c low. tt;
+          drops = λ j x beat low. tt;
+          hands = λ u r q changed j has acts at. tt;
+          calls = λ c n is at. brought (Call c) is;
+          routes = λ r j is le lt. tt;
+          updates = λ x u. tt;
+        }) (cell_deeds m)
 
     base_sends : (cells : ℕ) → BaseMoves (here_at f k) cells e s.base i t.base sent → SentAre
     base_sends cells m = (base_keeps OrderIs (λ j x. MessageIs x) m

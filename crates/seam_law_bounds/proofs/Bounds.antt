@@ -1,16 +1,10 @@
 -- What there is to look at where a round's witnesses look.
-use Rattle.std.proofs.Common.{◌≡◌, ℕ, zero, suc, ◌+◌, ◌*◌, ◌≤◌, true, is_some, List, [], ◌∷◌, length, Option, None, Some, refl, sym, ap}
-use Rattle.std.proofs.Common.{◌∙◌, subst, arith}
-use Rattle.std.specs.Prelude.{slice_get}
-use Rattle.std.specs.List.{range_with_len}
+use Rattle.seam_law_bounds.proofs.Prelude.{◌≡◌, ℕ, zero, suc, ◌+◌, ◌*◌, ◌≤◌, true, is_some, List, [], ◌∷◌, length, Option, None, Some, refl}
+use Rattle.seam_law_bounds.proofs.Prelude.{sym, ap, ◌∙◌, subst, arith, slice_get, range_with_len, mul-le-mul_left, total, Batch, cell_count}
+use Rattle.seam_law_bounds.proofs.Prelude.{has_witness, witnesses, NodeView, World, Cell, Base, loaded, Frame, MayBeLoaded}
+use Rattle.seam_law_bounds.proofs.Prelude.{AreCopiesBetweenRounds, GoesThroughRound, is_among, LooksAmong, EachSeenIsHeld, entities}
+use Rattle.seam_law_bounds.proofs.Prelude.{reals_at, witnesses_at, all_witnesses, events_of_looks}
 use Rattle.std.specs.FinMap as table
-use Rattle.std.proofs.Math.Nat.{mul-le-mul_left}
-use Rattle.seam_node_steps.specs.Prelude.{total, Batch, cell_count, has_witness, witnesses, NodeView, World, Cell, Base, loaded}
-use Rattle.seam_law_calls.specs.Prelude.{Frame}
-use Rattle.seam_law_rounds.specs.Prelude.{MayBeLoaded}
-use Rattle.seam_law_ghosts.specs.Prelude.{AreCopiesBetweenRounds, GoesThroughRound}
-use Rattle.seam_law_bounds.specs.Prelude.{is_among, LooksAmong, EachSeenIsHeld, entities, reals_at, witnesses_at, all_witnesses}
-use Rattle.seam_law_bounds.specs.Prelude.{events_of_looks}
 use Rattle.seam_law_bounds.proofs.There.{numbers_many, reals_of, reals_many, passing_has, us, ws, among_then}
 
 -- ---- the witnesses, cell by cell

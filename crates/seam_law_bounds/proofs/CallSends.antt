@@ -1,20 +1,16 @@
 -- What each step sends of calls to the cell part: one that was ordered, one that is passed on, or none.
-use Rattle.std.proofs.Common.{◌≡◌, ℕ, ◌+◌, ◌<◌, ◌≤◌, ◌⊎◌, true, List, [], ◌∷◌, Option, None, Some, refl, sym, ap, ◌∙◌, subst, arith, inl}
-use Rattle.std.proofs.Common.{inr}
-use Rattle.std.specs.List.{range_with_len}
+use Rattle.seam_law_bounds.proofs.Prelude.{◌≡◌, ℕ, ◌+◌, ◌<◌, ◌≤◌, ◌⊎◌, true, List, [], ◌∷◌, Option, None, Some, refl, sym, ap, ◌∙◌, subst}
+use Rattle.seam_law_bounds.proofs.Prelude.{arith, inl, inr, range_with_len, Division, Call as CallData, Order, RealView, Msg, Hand}
+use Rattle.seam_law_bounds.proofs.Prelude.{cell_count, base_numbers, base_of, NextPlace, haunts_at, ghost_messages, settled_to, stray_call}
+use Rattle.seam_law_bounds.proofs.Prelude.{is_stray, current_to, RouteView, tick_to, IsSilent, Frame, here_at, Has, CellMoves, Moves}
+use Rattle.seam_law_bounds.proofs.Prelude.{at_a_cell, at_a_base, real_in, all_append, SeesNoGhost, ghosts_silent, drops_silent}
+use Rattle.seam_law_bounds.proofs.Prelude.{mapped_silent, numbered_silent, call_in}
 use Rattle.std.specs.FinSet as set
-use Rattle.seam_node_steps.specs.Prelude.{Division, Call as CallData, Order, RealView, Msg, Hand, cell_count, base_numbers, base_of}
-use Rattle.seam_node_steps.specs.Prelude.{NextPlace}
-use Rattle.seam_node_steps.specs.Prelude.{haunts_at, ghost_messages, settled_to, stray_call, is_stray, current_to, RouteView, tick_to}
-use Rattle.seam_law_flow.specs.Prelude.{IsSilent}
-use Rattle.seam_law_calls.specs.Prelude.{Frame, here_at, Has, CellMoves, Moves, at_a_cell, at_a_base, real_in}
-use Rattle.seam_law_flow.proofs.Following.{all_append}
 use Rattle.seam_call.specs.declared.order.Order.TheVariants as order
 use Rattle.seam_entity.specs.declared.message.Msg.TheVariants.{Call}
-use Rattle.seam_law_calls.specs.CellMoves as move
+use Rattle.seam_law_calls.proofs.CellDeeds as deed
+use Rattle.seam_law_calls.proofs.CellDeeds.{CellDeeds, Ignored, cell_deeds, not_called}
 use Rattle.seam_law_calls.proofs.BaseDeeds as base
-use Rattle.seam_law_calls.proofs.Plain.{SeesNoGhost, ghosts_silent, drops_silent, mapped_silent, numbered_silent}
-use Rattle.seam_law_calls.proofs.WayMoves.{call_in}
 use Rattle.seam_law_calls.proofs.BaseDeeds.{base_deeds, BaseDeeds}
 
 no_calls : SeesNoGhost call_in
@@ -48,49 +44,40 @@ module _ (f : Frame) (e k : ℕ) (s : Has) (i : Option Msg) (t : Has) (sent : Li
   silent_of : (l : List (ℕ × Msg)) → sent ≡ l → IsSilent call_in l → IsSilent call_in sent
   silent_of l is h = subst (IsSilent call_in) (sym is) h
 
-  stray_none : (tree : Division) (m : Msg) → i ≡ Some m → is_stray (here_at f k) tree s.cell.slot m ≡ true → NonePasses
-  stray_none tree m a b c is away n at =
-      let same : m ≡ Call c = let z = sym a ∙ is in cc in
-      let strays : stray_call (here_at f k) c s.cell.slot.real s.cell.slot.next ≡ true =
-      ap (is_stray (here_at f k) tree s.cell.slot) (sym same) ∙ b in
-      let gone = ap (λ o. stray_call (here_at f k) c o s.cell.slot.next) away in
-      let left = ap (stray_call (here_at f k) c None) at in
-      let z = sym strays ∙ (gone ∙ left) in
-      cc
+  stray_none : (tree : Division) → Ignored (here_at f k) tree s.cell i → NonePasses
+  stray_none tree why c is away n at = elim (not_called why c is) [
+    | inl strays ↦
+        let gone = ap (λ o. stray_call (here_at f k) c o s.cell.slot.next) away in
+        let left = ap (stray_call (here_at f k) c None) at in
+        let z = sym strays ∙ (gone ∙ left) in
+        cc
+    | inr l ↦ let z = sym l.1 ∙ away in cc
+  ]
 
   module _ (base : t.base ≡ s.base) where
     same : FewerOrders
     same = inl (ap (λ b. b.orders) base)
 
-    cell_sends : {tree : Division} → CellMoves (here_at f k) tree e s.cell i t.cell sent → Sends
-    cell_sends (move.rests n d) = plain (silent_of [] d.sends tt) (task n) same
-    cell_sends {tree} (move.strays m n b d) = plain (silent_of [] d.sends tt) (stray_none tree m n b) same
-    cell_sends {tree} (move.stays u r q changed has own acts at d) =
+    cell_sends : {tree : Division} → CellDeeds (here_at f k) tree e s.cell i t.cell sent → Sends
+    cell_sends (deed.passes c p n own away at d) =
+        passed c p n away at (ap (λ a. a.slot.next) d.state ∙ at) (ap (λ b. b.orders) base) d.sends
+    cell_sends {tree} (deed.idles a z) = plain (silent_of [] z tt) (stray_none tree a.why) same
+    cell_sends {tree} (deed.stays u r q changed has own acts at d) =
         plain (silent_of _ d.sends (ghosts_silent call_in no_calls (here_at f k) q k (haunts_at (here_at f k) tree q.state.pos k q.haunts)
         changed)) (held r has) same
-    cell_sends {tree} (move.goes u r q changed j has own acts at n d) =
+    cell_sends {tree} (deed.goes u r q changed j has own acts at n d) =
         let haunts = haunts_at (here_at f k) tree q.state.pos j (set.insert q.haunts k) in
         let gone = settled_to q haunts (q.beat + 1) (q.generation + 1) in
         let told = ghost_messages (here_at f k) q j haunts changed in
         plain (silent_of _ d.sends (all_append (λ p. call_in p.1 ≡ None) told ((j, Hand gone) ∷ [])
         (ghosts_silent call_in no_calls (here_at f k) q j haunts changed) (refl, tt))) (held r has) same
-    cell_sends (move.late c r n has may lt d) = plain (silent_of [] d.sends tt) (held r has) same
-    cell_sends (move.holds c r n own has mine may lt d) = plain (silent_of [] d.sends tt) (held r has) same
-    cell_sends (move.passes c p n own away at d) =
-        passed c p n away at (ap (λ a. a.slot.next) d.state ∙ at) (ap (λ b. b.orders) base) d.sends
-    cell_sends (move.lands r n own has may d) =
+    cell_sends (deed.holds c r n own has mine may lt d) = plain (silent_of [] d.sends tt) (held r has) same
+    cell_sends (deed.lands r n own has may d) =
         plain (silent_of _ d.sends (mapped_silent call_in (current_to (here_at f k) r) (λ b. refl) (base_numbers (here_at f k))))
         (other _ n (λ c z. cc)) same
-    cell_sends (move.hears_set n c a has d) = plain (silent_of [] d.sends tt) (other _ a (λ c z. cc)) same
-    cell_sends (move.ignores_set n c r a has d) = plain (silent_of [] d.sends tt) (other _ a (λ c z. cc)) same
-    cell_sends (move.hears_drop n a d) = plain (silent_of [] d.sends tt) (other _ a (λ c z. cc)) same
-    cell_sends (move.reaped r n has own may d) = plain (silent_of _ d.sends (drops_silent call_in no_calls r)) (held r has) same
-    cell_sends (move.ticks n st z) = plain (silent_of [] z tt) (other _ n (λ c y. cc)) same
-    cell_sends (move.unlists n a at b d) = plain (silent_of [] d.sends tt) (task a) same
-    cell_sends (move.looks n r w known a at has own v small d) =
+    cell_sends (deed.reaped r n has own may d) = plain (silent_of _ d.sends (drops_silent call_in no_calls r)) (held r has) same
+    cell_sends (deed.looks n r w known a at has own v small d) =
         plain (silent_of _ d.sends (numbered_silent call_in (base_of (here_at f k) r.entity) r.entity w.sent _ (λ u. refl))) (task a) same
-    cell_sends (move.overlooks n known a at b d) = plain (silent_of [] d.sends tt) (task a) same
-    cell_sends (move.stuck r a has ready may d) = plain (silent_of [] d.sends tt) (task a) same
 
   module _ (high : cell_count ≤ k) (cell : (c : CallData) → i ≡ Some (Call c) → k < cell_count) where
     at_base : NonePasses
@@ -106,5 +93,5 @@ module _ (f : Frame) (e k : ℕ) (s : Has) (i : Option Msg) (t : Has) (sent : Li
     base_sends cells (base.reaps r n at has z) = plain (silent_of _ z (refl, tt)) at_base (inr (_, at))
 
   pub sends : ((c : CallData) → i ≡ Some (Call c) → k < cell_count) → Moves f e k s i t sent → Sends
-  sends cell (at_a_cell tree of low m is) = cell_sends is m
+  sends cell (at_a_cell tree of low m is) = cell_sends is (cell_deeds m)
   sends cell (at_a_base high m is) = base_sends high cell _ (base_deeds m)

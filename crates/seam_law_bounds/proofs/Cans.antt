@@ -1,16 +1,11 @@
 -- Where no one looks, what is asked of nodes is that calls and updates that are ready may be served, and that no first order is stray.
-use Rattle.std.proofs.Common.{◌≡◌, ℕ, ◌+◌, ◌≤◌, ◌⊎◌, Bool, true, false, cond, List, [], ◌∷◌, Option, None, Some, refl, ap, ◌∙◌, ◌&&◌, subst}
-use Rattle.std.proofs.Common.{arith, inl, inr}
-use Rattle.std.specs.Prelude.{slice_get}
-use Rattle.std.specs.List.{AllByRecursion}
+use Rattle.seam_law_bounds.proofs.Prelude.{◌≡◌, ℕ, ◌+◌, ◌≤◌, ◌⊎◌, Bool, true, false, cond, List, [], ◌∷◌, Option, None, Some, refl, ap, ◌∙◌}
+use Rattle.seam_law_bounds.proofs.Prelude.{◌&&◌, subst, arith, inl, inr, slice_get, AllByRecursion, eq-eqb, link, letter, input_from, Input}
+use Rattle.seam_law_bounds.proofs.Prelude.{From, Order, RealView, has_ready, ready_order, may_execute, may_rise, Msg, Tick, Here, CellView}
+use Rattle.seam_law_bounds.proofs.Prelude.{BaseView, PartView, stray_order, proxy_is_ready, may_show, NodeView, World, Cell, Base, slot_at}
+use Rattle.seam_law_bounds.proofs.Prelude.{letters_of, Frame, IsInFrame, mine, times, has_of, has_none, tick_in, HasNoLooks, Sizes}
+use Rattle.seam_law_bounds.proofs.Prelude.{part_weight, BaseCan, NodeCan, LooksFit}
 use Rattle.std.specs.FinMap as table
-use Rattle.std.proofs.lemmas.Bool.{eq-eqb}
-use Rattle.seam_node_steps.specs.Prelude.{link, letter, input_from, Input, From, Order, RealView, has_ready, ready_order, may_execute}
-use Rattle.seam_node_steps.specs.Prelude.{may_rise, Msg, Tick, Here, CellView, BaseView, PartView, stray_order, proxy_is_ready, may_show}
-use Rattle.seam_node_steps.specs.Prelude.{NodeView, World, Cell, Base}
-use Rattle.seam_law_flow.specs.Prelude.{slot_at, letters_of}
-use Rattle.seam_law_calls.specs.Prelude.{Frame, IsInFrame, mine, times, has_of, has_none, tick_in, HasNoLooks}
-use Rattle.seam_law_bounds.specs.Prelude.{Sizes, part_weight, BaseCan, NodeCan, LooksFit}
 use Rattle.seam_node_steps.specs.BaseCases as base
 use Rattle.seam_law_bounds.proofs.BaseWeights.{after_ready_weighs, showing_weighs}
 

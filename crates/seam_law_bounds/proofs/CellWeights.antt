@@ -1,20 +1,17 @@
 -- A step of a cell lowers the weight, but where a call is passed on.
-use Rattle.std.proofs.Common.{◌≡◌, ℕ, suc, ◌+◌, ◌*◌, ◌≤◌, Bool, true, false, List, [], ◌∷◌, length, Option, None, Some, refl, sym, ap, ◌∙◌}
-use Rattle.std.proofs.Common.{find, arith}
-use Rattle.std.specs.Prelude.{◌||◌, is_some, if◌then◌else◌, option_map}
+use Rattle.seam_law_bounds.proofs.Prelude.{◌≡◌, ℕ, suc, ◌+◌, ◌*◌, ◌≤◌, Bool, true, false, List, [], ◌∷◌, length, Option, None, Some, refl}
+use Rattle.seam_law_bounds.proofs.Prelude.{sym, ap, ◌∙◌, find, arith, ◌||◌, is_some, if◌then◌else◌, option_map, Input, Task, From, RealView}
+use Rattle.seam_law_bounds.proofs.Prelude.{has_ready, Msg, Tick, number_of, has_any, Slot, SlotStep, slot_after, about, slot_steps}
+use Rattle.seam_law_bounds.proofs.Prelude.{CellView, slot_of, after_slot, is_another, unlisted_by, stepped, known_to, surveys, calls_ready}
+use Rattle.seam_law_bounds.proofs.Prelude.{looks_around, real_is_ready, ready_entity, look_next, ready_next, cell_task, cell_hears}
+use Rattle.seam_law_bounds.proofs.Prelude.{cell_steps, cell_has_work, Cell, Sizes, settling, look_weight, tick_weight, real_weight}
+use Rattle.seam_law_bounds.proofs.Prelude.{letter_weight, cell_passes, node_passes, sent_weight, input_weight, found, cell_weight}
+use Rattle.seam_law_bounds.proofs.Prelude.{entity_of}
 use Rattle.std.specs.FinMap as table
-use Rattle.seam_node_steps.specs.Prelude.{Input, Task, From, RealView, has_ready, Msg, Tick, number_of, has_any, Slot, SlotStep, slot_after}
-use Rattle.seam_node_steps.specs.Prelude.{about, slot_steps, CellView, slot_of, after_slot, is_another, unlisted_by, stepped, known_to}
-use Rattle.seam_node_steps.specs.Prelude.{surveys, calls_ready, looks_around, real_is_ready, ready_entity, look_next, ready_next, cell_task}
-use Rattle.seam_node_steps.specs.Prelude.{tick, cell_hears, cell_steps, cell_has_work, Cell}
-use Rattle.seam_law_bounds.specs.Prelude.{Sizes, settling, look_weight, tick_weight, real_weight, letter_weight, cell_passes, node_passes}
-use Rattle.seam_net_runs.specs.Weights.{sent_weight, input_weight}
-use Rattle.seam_table.proofs.Found.{found}
-use Rattle.seam_law_bounds.specs.Weights.{cell_weight}
+use Rattle.seam_node_steps.specs.Prelude.{tick}
 use Rattle.seam_law_bounds.specs.Events.{CellCan}
 use Rattle.seam_law_bounds.proofs.Counts.{times_grows, one_more, filter_shortens, total_of_set_at}
 use Rattle.seam_law_bounds.proofs.SlotWeights.{slot_weight, step_weight, passed, message_weighs, survey_weighs, ready_weighs, look_weighs}
-use Rattle.seam_law_calls.specs.Prelude.{entity_of}
 
 -- a list with one more weighs that much more
 first_weighs : (xs ys : List ℕ) (e c : ℕ) → xs ≡ e ∷ ys → length xs * c ≡ length ys * c + c

@@ -1,14 +1,9 @@
 -- In a round each call that is passed on climbs.
-use Rattle.std.proofs.Common.{◌≡◌, ℕ, ◌+◌, ◌≤◌, true, List, Option, None, Some, refl, sym, ap, ◌∙◌, arith, inl, inr}
-use Rattle.std.proofs.lemmas.Bool.{cases_eq}
-use Rattle.seam_node_steps.specs.Prelude.{happens, enabled, Event, Batch, RealView, Msg, NextPlace, World, node_steps, node_has_work}
-use Rattle.seam_node_steps.specs.Prelude.{loaded}
-use Rattle.seam_law_flow.specs.Prelude.{Flow}
-use Rattle.seam_law_calls.specs.Prelude.{Frame, Has, entity_flow, real_in, RunsTo, real_at}
-use Rattle.seam_law_rounds.specs.Prelude.{framed, MayBegin}
-use Rattle.seam_law_bounds.specs.Prelude.{rank_of, ComesTo, AreRanked, Climbs}
-use Rattle.seam_law_rounds.proofs.Going.{frame_loaded, settled_loaded, its, one_loaded, spared_loaded}
-use Rattle.seam_law_rounds.proofs.CallsEnd.{routed_loaded}
+use Rattle.seam_law_bounds.proofs.Prelude.{◌≡◌, ℕ, ◌+◌, ◌≤◌, true, List, Option, None, Some, refl, sym, ap, ◌∙◌, arith, inl, inr, cases_eq}
+use Rattle.seam_law_bounds.proofs.Prelude.{happens, enabled, Event, Batch, RealView, Msg, NextPlace, World, node_steps, node_has_work}
+use Rattle.seam_law_bounds.proofs.Prelude.{loaded, Flow, Frame, Has, entity_flow, real_in, RunsTo, real_at, framed, MayBegin, ComesTo}
+use Rattle.seam_law_bounds.proofs.Prelude.{AreRanked, Climbs, frame_loaded, settled_loaded, its, one_loaded, spared_loaded, routed_loaded}
+use Rattle.seam_law_bounds.specs.Prelude.{rank_of}
 use Rattle.seam_law_bounds.proofs.Ranking.{rank_real, rank_next, rank_none, Ranked, ranked_leads, climbs}
 
 -- what a node without the real sends to its next place comes to a node of higher rank

@@ -1,16 +1,11 @@
 -- Sums of weights: lists that grow or shrink, maps that are set, and items that are held.
-use Rattle.std.proofs.Common.{◌≡◌, ℕ, zero, suc, ◌+◌, ◌*◌, ◌≤◌, Bool, true, false, cond, eqb, ltb, List, [], ◌∷◌, length, Option, None}
-use Rattle.std.proofs.Common.{Some, filter, refl, ap, ◌∙◌, arith}
-use Rattle.std.specs.Prelude.{filter_map}
-use Rattle.std.specs.List.{cons_option}
-use Rattle.std.specs.Ordering.{nat_cmp, match_ordering}
-use Rattle.std.specs.declared.cmp.Ordering.{Ordering}
-use Rattle.std.specs.declared.cmp.Ordering.TheVariants.{Less, Equal, Greater}
+use Rattle.seam_law_bounds.proofs.Prelude.{◌≡◌, ℕ, zero, suc, ◌+◌, ◌*◌, ◌≤◌, Bool, true, false, cond, eqb, ltb, List, [], ◌∷◌, length}
+use Rattle.seam_law_bounds.proofs.Prelude.{Option, None, Some, filter, refl, ap, ◌∙◌, arith, filter_map, cons_option, nat_cmp}
+use Rattle.seam_law_bounds.proofs.Prelude.{match_ordering, Ordering, Less, Equal, Greater, OrderView, item_at, with_item, next_item}
+use Rattle.seam_law_bounds.proofs.Prelude.{after_offer, after_item, after_taking, Map, set_at, weight_or, map_total, total_of_insert}
+use Rattle.seam_law_bounds.proofs.Prelude.{total_of_remove}
 use Rattle.std.specs.FinMap as table
-use Rattle.seam_node_steps.specs.Prelude.{OrderView, item_at, with_item, next_item, after_offer, after_item, after_taking, Map, set_at}
 use Rattle.seam_order.specs.Held.{without}
-use Rattle.seam_net_runs.specs.Sums.{weight_or, map_total}
-use Rattle.seam_net_runs.proofs.MapSums.{total_of_insert, total_of_remove}
 
 -- ---- products
 

@@ -1,11 +1,7 @@
 -- A call that comes after what brings its node a rank: lists of letters joined and parted.
-use Rattle.std.proofs.Common.{◌≡◌, ℕ, ◌≤◌, ◌⊎◌, Bool, true, false, ◌||◌, List, [], ◌∷◌, ◌++◌, refl, sym, ◌∙◌, arith, inl, inr}
-use Rattle.std.specs.List.{AllByRecursion}
-use Rattle.std.proofs.lemmas.Bool.Decides.{nat_tests}
-use Rattle.seam_node_steps.specs.Prelude.{Call as CallData, Msg, Hand}
-use Rattle.seam_law_flow.specs.Prelude.{Flow}
-use Rattle.seam_law_calls.specs.Prelude.{Has}
-use Rattle.seam_law_bounds.specs.Prelude.{is_hand_from, has_hand_from, ComesTo}
+use Rattle.seam_law_bounds.proofs.Prelude.{◌≡◌, ℕ, ◌≤◌, ◌⊎◌, Bool, true, false, ◌||◌, List, [], ◌∷◌, ◌++◌, refl, sym, ◌∙◌, arith, inl, inr}
+use Rattle.seam_law_bounds.proofs.Prelude.{AllByRecursion, nat_tests, Call as CallData, Msg, Hand, Flow, Has, is_hand_from, has_hand_from}
+use Rattle.seam_law_bounds.proofs.Prelude.{ComesTo}
 use Rattle.seam_entity.specs.declared.message.Msg.TheVariants.{Call}
 use Rattle.seam_law_bounds.proofs.Ranking.{either}
 

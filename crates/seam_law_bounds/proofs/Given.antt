@@ -1,18 +1,11 @@
 -- What a load of orders adds to the weight of a world.
-use Rattle.std.proofs.Common.{◌≡◌, ℕ, suc, ◌+◌, ◌*◌, ◌≤◌, Bool, true, false, cond, eqb, nat_lt, List, [], ◌∷◌, length, map, Some, refl, sym}
-use Rattle.std.proofs.Common.{ap, ◌∙◌, subst, arith, inl, inr}
-use Rattle.std.specs.Prelude.{slice_get}
-use Rattle.std.proofs.lemmas.Bool.{cases_eq, eq-eqb, ne_eqb}
-use Rattle.std.proofs.lemmas.Bool.Decides.{nat_tests}
-use Rattle.std.proofs.lemmas.Option.{slice_get-map}
-use Rattle.seam_node_steps.specs.Prelude.{EachNode, total, Order, base_of, BaseView, NodeView, World, Cell, Base, order_if, ordered_at}
-use Rattle.seam_node_steps.specs.Prelude.{with_orders, with_nodes, reap_ordered_at, with_reap, reaps_loaded}
-use Rattle.seam_law_calls.specs.Prelude.{Frame, here_at, IsAt, IsBaseAt}
-use Rattle.seam_law_bounds.specs.Prelude.{Sizes, order_weight, node_weight, world_weight}
-use Rattle.seam_machine.proofs.Totals.{total-push}
+use Rattle.seam_law_bounds.proofs.Prelude.{◌≡◌, ℕ, suc, ◌+◌, ◌*◌, ◌≤◌, Bool, true, false, cond, eqb, nat_lt, List, [], ◌∷◌, length, map}
+use Rattle.seam_law_bounds.proofs.Prelude.{Some, refl, sym, ap, ◌∙◌, subst, arith, inl, inr, slice_get, cases_eq, eq-eqb, ne_eqb, nat_tests}
+use Rattle.seam_law_bounds.proofs.Prelude.{slice_get-map, EachNode, total, Order, base_of, BaseView, NodeView, World, Cell, Base, order_if}
+use Rattle.seam_law_bounds.proofs.Prelude.{ordered_at, with_orders, with_nodes, reap_ordered_at, with_reap, reaps_loaded, Frame, here_at}
+use Rattle.seam_law_bounds.proofs.Prelude.{IsAt, IsBaseAt, Sizes, order_weight, node_weight, world_weight, total-push, with_order}
+use Rattle.seam_law_bounds.proofs.Prelude.{node_there}
 use Rattle.seam_call.specs.declared.order.Order.TheVariants as order
-use Rattle.seam_node_steps.specs.Loads.{with_order}
-use Rattle.seam_law_rounds.proofs.Loading.{node_there}
 
 -- where g is at most h at each node, but at most a more at the node `home`, so is the sum
 module _ {N : Type 0} (g h : N → ℕ) (home a : ℕ) where

@@ -1,32 +1,22 @@
 -- A real is handed over at most once for each of its calls, and once more.
-use Rattle.std.proofs.Common.{◌≡◌, ℕ, ◌+◌, ◌≤◌, Bool, true, false, cond, ◌&&◌, List, [], ◌∷◌, map, Option, None, Some, refl, ap, ◌∙◌, arith}
-use Rattle.std.specs.Prelude.{is_some, is_none}
-use Rattle.std.specs.List.{range_with_len}
+use Rattle.seam_law_bounds.proofs.Prelude.{◌≡◌, ℕ, ◌+◌, ◌≤◌, Bool, true, false, cond, ◌&&◌, List, [], ◌∷◌, map, Option, None, Some, refl}
+use Rattle.seam_law_bounds.proofs.Prelude.{ap, ◌∙◌, arith, is_some, is_none, range_with_len, Division, happens, AllEnabled, Occurs, total}
+use Rattle.seam_law_bounds.proofs.Prelude.{Event, rank_of, RealView, Msg, Hand, Reap, base_numbers, base_of, settled_to, SlotStep}
+use Rattle.seam_law_bounds.proofs.Prelude.{slot_after, haunts_at, ghost_messages, current_to, shown_of, looks_with, tick_to, NodeView}
+use Rattle.seam_law_bounds.proofs.Prelude.{World, node_steps, node_has_work, letter_in, slot_at, IsSilent, Frame, here_at, IsInFrame, Has}
+use Rattle.seam_law_bounds.proofs.Prelude.{AtCell, AtBase, mine, concerning, has_of, has_none, unlisted_if, Does, Acts, calls, readies}
+use Rattle.seam_law_bounds.proofs.Prelude.{CellMoves, BaseMoves, Moves, at_a_cell, at_a_base, held_in, real_in, IsSpared, real_at}
+use Rattle.seam_law_bounds.proofs.Prelude.{hands_over, hand_overs, one_if_cell, occurs, node_here, total-push, weight_or, weight}
+use Rattle.seam_law_bounds.proofs.Prelude.{sound_sends, weight_moves, node_laws, node_moves, frame_happens, sent_is as all_sent, input_is}
+use Rattle.seam_law_bounds.proofs.Prelude.{SeesNoGhost, ghosts_silent, mapped_silent, numbered_silent, turn_counts, early_counts}
+use Rattle.seam_law_bounds.proofs.Prelude.{taken_counts, calm_of, spared_happens}
 use Rattle.std.specs.FinSet as set
-use Rattle.seam_node_steps.specs.Prelude.{Division, happens, AllEnabled, Occurs, total, Event, rank_of, RealView, Msg, Hand, Reap}
-use Rattle.seam_node_steps.specs.Prelude.{base_numbers}
-use Rattle.seam_node_steps.specs.Prelude.{base_of, settled_to, SlotStep, slot_after, haunts_at, ghost_messages, current_to, shown_of}
-use Rattle.seam_node_steps.specs.Prelude.{looks_with, tick_to, NodeView, World, node_steps, node_has_work}
-use Rattle.seam_law_flow.specs.Prelude.{letter_in, slot_at, IsSilent}
-use Rattle.seam_law_calls.specs.Prelude.{Frame, here_at, IsInFrame, Has, AtCell, AtBase, mine, concerning, has_of, has_none, unlisted_if}
-use Rattle.seam_law_calls.specs.Prelude.{Does, Acts, surveys, calls, readies, CellMoves, BaseMoves, Moves, at_a_cell, at_a_base, held_in}
-use Rattle.seam_law_calls.specs.Prelude.{real_in, IsSpared, real_at}
-use Rattle.seam_law_bounds.specs.Prelude.{hands_over, hand_overs, one_if_cell}
-use Rattle.seam_machine.proofs.Occurring.{occurs, node_here}
-use Rattle.seam_machine.proofs.Totals.{total-push}
-use Rattle.seam_net_runs.specs.Sums.{weight_or}
-use Rattle.seam_net_runs.specs.Weights.{weight}
-use Rattle.seam_net_runs.proofs.Soundness.{sound_sends}
-use Rattle.seam_net_runs.proofs.Weighing.{weight_moves}
+use Rattle.seam_law_calls.specs.Prelude.{surveys}
 use Rattle.seam_entity.specs.declared.message.Msg.TheVariants.{Call}
 use Rattle.seam_node_steps.specs.Settle as settle
-use Rattle.seam_law_calls.specs.CellMoves as move
-use Rattle.seam_law_calls.proofs.Classify.{node_laws, node_moves, frame_happens}
-use Rattle.seam_law_calls.proofs.Easing.{sent_is as all_sent, input_is}
+use Rattle.seam_law_calls.proofs.CellDeeds as deed
+use Rattle.seam_law_calls.proofs.CellDeeds.{CellDeeds, cell_deeds}
 use Rattle.seam_law_calls.proofs.Paying.{OrdersPay, base_paid}
-use Rattle.seam_law_calls.proofs.Plain.{SeesNoGhost, ghosts_silent, mapped_silent, numbered_silent}
-use Rattle.seam_law_calls.proofs.HeldCounts.{turn_counts, early_counts, taken_counts}
-use Rattle.seam_law_calls.proofs.OneReal.{calm_of, spared_happens}
 
 -- eyes that see what may bring a settling
 abbrev heavy : Msg → Option ℕ
@@ -125,17 +115,6 @@ module _ (f : Frame) (e k : ℕ) (s : Has) (i : Option Msg) (t : Has) (sent : Li
     sent_is : IsSilent heavy x.sent → sent_left sent ≡ 0
     sent_is h = ap sent_left d.sends ∙ light_sent x.sent h
 
-  -- the same real, and nothing that brings a settling is sent
-  rests : (x : SlotStep) (u : AtCell) → Does u x t.cell sent → (slot_after x.slot u.slot).real ≡ s.cell.slot.real →
-      u.survey ≤ s.cell.survey → IsSilent heavy x.sent → t.base ≡ s.base → Lowers
-  rests x u d same less silent base =
-      let a = real_is x u d ∙ ap (weight_or real_left) same in
-      let b = survey_is x u d in
-      let c = sent_is x u d silent in
-      let z = base_is base in
-      let g = ap (gone_by (real_in s)) (now x u d ∙ same) ∙ gone_same (real_in s) in
-      omega (arith, a, b, c, z, g, less)
-
   stays_lowers : (tree : Division) (u : AtCell) (r q : RealView) (changed : Bool) → s.cell.slot.real ≡ Some r →
       Acts (here_at f k) e s.cell i r u q changed →
       Does u (settle.stays (here_at f k) tree s.cell.slot q changed) t.cell sent → t.base ≡ s.base → Lowers
@@ -170,13 +149,17 @@ module _ (f : Frame) (e k : ℕ) (s : Has) (i : Option Msg) (t : Has) (sent : Li
       let was = had r has in
       omega (arith, a, b, c, none, z, g, p, was)
 
-  cell_lowers : {tree : Division} → CellMoves (here_at f k) tree e s.cell i t.cell sent → t.base ≡ s.base → Lowers
-  cell_lowers (move.rests n d) base = rests _ s.cell d refl (omega arith) tt base
-  cell_lowers (move.strays m n b d) base = rests _ s.cell d refl (omega arith) tt base
-  cell_lowers {tree} (move.stays u r q changed has own acts at d) base = stays_lowers tree u r q changed has acts d base
-  cell_lowers {tree} (move.goes u r q changed j has own acts at n d) base = goes_lowers tree u r q changed j has acts d base
-  cell_lowers (move.late c r n has may lt d) base = rests _ s.cell d refl (omega arith) tt base
-  cell_lowers (move.holds c r n is has own may lt d) base =
+  cell_lowers : {tree : Division} → CellDeeds (here_at f k) tree e s.cell i t.cell sent → t.base ≡ s.base → Lowers
+  cell_lowers (deed.idles x none) base =
+      let a = ap (weight_or real_left) x.real in
+      let b = x.survey in
+      let c = ap sent_left none in
+      let z = base_is base in
+      let g = ap (gone_by (real_in s)) x.real ∙ gone_same (real_in s) in
+      omega (arith, a, b, c, z, g)
+  cell_lowers {tree} (deed.stays u r q changed has own acts at d) base = stays_lowers tree u r q changed has acts d base
+  cell_lowers {tree} (deed.goes u r q changed j has own acts at n d) base = goes_lowers tree u r q changed j has acts d base
+  cell_lowers (deed.holds c r n is has own may lt d) base =
       let a = real_is _ s.cell d in
       let b = survey_is _ s.cell d in
       let x = sent_is _ s.cell d tt in
@@ -186,7 +169,7 @@ module _ (f : Frame) (e k : ℕ) (s : Has) (i : Option Msg) (t : Has) (sent : Li
       let more = early_counts r.orders (rank_of c.sender) c.number c lt in
       let pay = ap came n in
       omega (arith, a, b, x, z, g, was, more, pay)
-  cell_lowers (move.passes c p n is has at d) base =
+  cell_lowers (deed.passes c p n is has at d) base =
       let a = real_is _ s.cell d in
       let b = survey_is _ s.cell d in
       let x = ap sent_left d.sends in
@@ -194,7 +177,7 @@ module _ (f : Frame) (e k : ℕ) (s : Has) (i : Option Msg) (t : Has) (sent : Li
       let g = ap (gone_by (real_in s)) (now _ s.cell d) ∙ gone_same (real_in s) in
       let pay = ap came n in
       omega (arith, a, b, x, z, g, pay)
-  cell_lowers (move.lands r n is has may d) base =
+  cell_lowers (deed.lands r n is has may d) base =
       let a = real_is _ s.cell d in
       let b = survey_is _ s.cell d in
       let x = sent_is _ s.cell d (mapped_silent heavy (current_to (here_at f k) r) (λ b. refl) (base_numbers (here_at f k))) in
@@ -202,20 +185,8 @@ module _ (f : Frame) (e k : ℕ) (s : Has) (i : Option Msg) (t : Has) (sent : Li
       let g = gone_some (real_in s) (real_in t) _ (now _ s.cell d) in
       let pay = ap came n in
       omega (arith, a, b, x, z, g, pay)
-  cell_lowers (move.hears_set n c h has d) base = rests _ s.cell d refl (omega arith) tt base
-  cell_lowers (move.ignores_set n c r h has d) base = rests _ s.cell d refl (omega arith) tt base
-  cell_lowers (move.hears_drop n h d) base = rests _ s.cell d refl (omega arith) tt base
-  cell_lowers (move.reaped r n has own may d) base = absurd (calm n)
-  cell_lowers (move.ticks n st se) base =
-      let a = ap (λ (x : AtCell). weight_or real_left x.slot.real) st in
-      let b = ap (λ (x : AtCell). x.survey) st in
-      let x = ap sent_left se in
-      let z = base_is base in
-      let g = ap (gone_by (real_in s)) (ap (λ (x : AtCell). x.slot.real) st) ∙ gone_same (real_in s) in
-      omega (arith, a, b, x, z, g)
-  cell_lowers (move.unlists n h at b d) base =
-      rests _ (record { slot = s.cell.slot; survey = n; looks = s.cell.looks }) d refl (omega (arith, at)) tt base
-  cell_lowers (move.looks n r w known h at has own is small d) base =
+  cell_lowers (deed.reaped r n has own may d) base = absurd (calm n)
+  cell_lowers (deed.looks n r w known h at has own is small d) base =
       let x = looks_with (here_at f k) s.cell.slot r w known (shown_of (here_at f k) r w known) in
       let u : AtCell = record { slot = s.cell.slot; survey = s.cell.survey; looks = n } in
       let a = real_is x u d in
@@ -225,9 +196,6 @@ module _ (f : Frame) (e k : ℕ) (s : Has) (i : Option Msg) (t : Has) (sent : Li
       let g = gone_some (real_in s) (real_in t) _ (now x u d) in
       let was = had r has in
       omega (arith, a, b, y, z, g, was)
-  cell_lowers (move.overlooks n known h at b d) base =
-      rests _ (record { slot = s.cell.slot; survey = s.cell.survey; looks = n }) d refl (omega arith) tt base
-  cell_lowers (move.stuck r h has ready may d) base = rests _ s.cell d refl (omega arith) tt base
 
   -- ---- a base node: orders may go, and what was ordered is sent
 
@@ -248,7 +216,7 @@ module _ (f : Frame) (e k : ℕ) (s : Has) (i : Option Msg) (t : Has) (sent : Li
       omega (arith, a, b, g, paid)
 
   pub move_lowers : Moves f e k s i t sent → Lowers
-  move_lowers (at_a_cell tree of low m same) = cell_lowers m same
+  move_lowers (at_a_cell tree of low m same) = cell_lowers (cell_deeds m) same
   move_lowers (at_a_base high m same) = base_lowers _ m same
 
 -- ---- a world

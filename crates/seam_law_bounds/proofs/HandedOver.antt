@@ -1,13 +1,10 @@
 -- In a round a call is passed on at most as often as its entity's real is handed over.
-use Rattle.std.proofs.Common.{◌≡◌, ℕ, ◌+◌, ◌≤◌, List, Some, refl, sym, ap, ◌∙◌, subst, arith, inl}
-use Rattle.seam_node_steps.specs.Prelude.{run, Event, Batch, RealView, World, node_steps, loaded}
-use Rattle.seam_law_calls.specs.Prelude.{Frame, entity_flow, real_in, real_of, RunsTo, real_at}
-use Rattle.seam_law_rounds.specs.Prelude.{calls_of, next_from, framed, MayBegin}
-use Rattle.seam_law_bounds.specs.Prelude.{rank_of, is_numbered, passes, hand_overs}
-use Rattle.seam_law_flow.proofs.TokenLemmas.{sole_here}
-use Rattle.seam_law_rounds.proofs.Going.{frame_loaded, settled_loaded, kept_loaded}
-use Rattle.seam_law_rounds.proofs.Loaded.{no_mail}
-use Rattle.seam_law_rounds.proofs.Turns.{are_calls}
+use Rattle.seam_law_bounds.proofs.Prelude.{◌≡◌, ℕ, ◌+◌, ◌≤◌, List, Some, refl, sym, ap, ◌∙◌, subst, arith, inl, run, Event, Batch, RealView}
+use Rattle.seam_law_bounds.proofs.Prelude.{World, node_steps, loaded, Frame, entity_flow, real_in, real_of, RunsTo, real_at, calls_of}
+use Rattle.seam_law_bounds.proofs.Prelude.{next_from, framed, MayBegin, is_numbered, passes, hand_overs, sole_here, frame_loaded}
+use Rattle.seam_law_bounds.proofs.Prelude.{settled_loaded, no_mail, are_calls}
+use Rattle.seam_law_bounds.specs.Prelude.{rank_of}
+use Rattle.seam_law_rounds.proofs.Going.{kept_loaded}
 use Rattle.seam_law_bounds.proofs.Following.{Follows}
 use Rattle.seam_law_bounds.proofs.Passing.{Passing, passing_is, passing_leads}
 use Rattle.seam_law_bounds.proofs.Climbing.{no_next, ranked_loaded}

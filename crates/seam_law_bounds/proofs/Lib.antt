@@ -1,3 +1,4 @@
+pub mod Prelude
 pub mod Ranking
 pub mod Climbing
 mod CallSends

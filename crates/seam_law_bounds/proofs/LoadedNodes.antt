@@ -1,23 +1,14 @@
 -- What a load makes of the nodes of a quiet world that holds nothing.
-use Rattle.std.proofs.Common.{◌≡◌, ℕ, Bool, true, false, eqb, List, [], ◌∷◌, map, Option, None, Some, refl, sym, ap, ◌∙◌, subst, arith, T}
-use Rattle.std.proofs.Common.{◌&&◌}
-use Rattle.std.specs.Prelude.{option_map}
-use Rattle.std.specs.List.{AllByRecursion}
-use Rattle.std.specs.Ordering.{nat_cmp, is_lt}
-use Rattle.std.specs.Cmp.{nat_cmp_total}
+use Rattle.seam_law_bounds.proofs.Prelude.{◌≡◌, ℕ, Bool, true, false, eqb, List, [], ◌∷◌, map, Option, None, Some, refl, sym, ap, ◌∙◌}
+use Rattle.seam_law_bounds.proofs.Prelude.{subst, arith, T, ◌&&◌, option_map, AllByRecursion, nat_cmp, is_lt, nat_cmp_total, is_sorted}
+use Rattle.seam_law_bounds.proofs.Prelude.{below_all, leaf_at, cells_of, Create, Order, Batch, properties_of, Here, base_of, properties}
+use Rattle.seam_law_bounds.proofs.Prelude.{Map, with_value, each_value, has_any, BaseView, PartView, ProxyView, base_text, CellView}
+use Rattle.seam_law_bounds.proofs.Prelude.{NodeView, node_has_work, Cell, Base, real_if, part_if, with_route, new_part, created_at}
+use Rattle.seam_law_bounds.proofs.Prelude.{with_proxy, attached, cell_round, base_round, new_proxy, proxy_begins, part_begins, order_if}
+use Rattle.seam_law_bounds.proofs.Prelude.{ordered_at, held_of, each, made, node_loaded, proxy_weight, part_weight, weight_or, all_append}
+use Rattle.seam_law_bounds.proofs.Prelude.{each_keeps, Any, any, set_keeps, get-each_value}
 use Rattle.std.specs.FinMap as table
-use Rattle.std.specs.FinMap.Entries.{is_sorted, below_all}
-use Rattle.seam_node_steps.specs.Prelude.{leaf_at, cells_of, Create, Order, Batch, properties_of, Here, base_of, properties, Map}
-use Rattle.seam_node_steps.specs.Prelude.{with_value, each_value, has_any, BaseView, PartView, ProxyView, base_text, CellView, NodeView}
-use Rattle.seam_node_steps.specs.Prelude.{node_has_work, Cell, Base, real_if, part_if, with_route, new_part, created_at, with_proxy}
-use Rattle.seam_node_steps.specs.Prelude.{attached, cell_round, base_round, new_proxy, proxy_begins, part_begins, order_if, ordered_at}
-use Rattle.seam_law_calls.specs.Prelude.{held_of}
-use Rattle.seam_law_rounds.specs.Prelude.{each, made, node_loaded}
-use Rattle.seam_law_bounds.specs.Prelude.{proxy_weight, part_weight}
-use Rattle.seam_net_runs.specs.Sums.{weight_or}
-use Rattle.seam_law_flow.proofs.Following.{all_append}
 use Rattle.seam_defs.specs.declared.flags.Group.TheVariants as group
-use Rattle.seam_law_rounds.proofs.Loading.{each_keeps, Any, any, set_keeps, get-each_value}
 use Rattle.seam_law_bounds.proofs.BaseWeights.{line_weighs}
 use Rattle.seam_law_bounds.proofs.QuietWeights.{map_weighs_none, idle_looks, idle_base}
 use Rattle.seam_law_bounds.proofs.Starts.{IsPlain}

@@ -1,28 +1,15 @@
 -- A look has at most one line for each entity that there is.
-use Rattle.std.proofs.Common.{◌≡◌, ℕ, suc, ◌+◌, ◌≤◌, Bool, true, false, cond, T, ◌&&◌, ◌||◌, eqb, List, [], ◌∷◌, ◌++◌, length, map, filter}
-use Rattle.std.proofs.Common.{Option, None, Some, refl, sym, ap, ◌∙◌, subst, arith}
-use Rattle.std.specs.Prelude.{not, nat_le, nat_lt, is_none, is_some, find}
-use Rattle.std.specs.List.{AllByRecursion, list_any}
-use Rattle.std.specs.Map.{keys_of}
-use Rattle.std.specs.Ordering.{nat_cmp, is_lt}
-use Rattle.std.specs.declared.cmp.Ordering.{Ordering}
-use Rattle.std.specs.declared.cmp.Ordering.TheVariants.{Less, Equal, Greater}
-use Rattle.std.specs.Cmp.{nat_cmp_total}
+use Rattle.seam_law_bounds.proofs.Prelude.{◌≡◌, ℕ, suc, ◌+◌, ◌≤◌, Bool, true, false, cond, T, ◌&&◌, ◌||◌, eqb, List, [], ◌∷◌, ◌++◌, length}
+use Rattle.seam_law_bounds.proofs.Prelude.{map, filter, Option, None, Some, refl, sym, ap, ◌∙◌, subst, arith, not, nat_le, nat_lt, is_none}
+use Rattle.seam_law_bounds.proofs.Prelude.{is_some, find, AllByRecursion, list_any, keys_of, nat_cmp, is_lt, Ordering, Less, Equal, Greater}
+use Rattle.seam_law_bounds.proofs.Prelude.{nat_cmp_total, is_sorted, below_all, nat_tests, length-map, length-append, all_append, Ghost}
+use Rattle.seam_law_bounds.proofs.Prelude.{copy_in, with_copy, copied, Pos, distance, GhostCopy, RealView, WitnessView, Map, number_of}
+use Rattle.seam_law_bounds.proofs.Prelude.{Known, seen_as, looks_of, known_real, known_copy, CellView, is_of_another, known_in, known_to}
+use Rattle.seam_law_bounds.proofs.Prelude.{has_witness, witnesses, World, is_among, AllAmong, LooksAmong, LooksFit, Seen, Leave}
+use Rattle.seam_law_bounds.proofs.Prelude.{Set as LookSet, Enter as LookEnter, one_look, leaving, changed, entering, leaves, has_changed}
+use Rattle.seam_law_bounds.proofs.Prelude.{enters, in_view, is_far, not_older, Replica, IsView, seen_of, entries_empty, found}
 use Rattle.std.specs.FinMap as table
-use Rattle.std.specs.FinMap.Entries.{by_order, put, is_sorted, below_all}
-use Rattle.std.proofs.lemmas.Bool.Decides.{nat_tests}
-use Rattle.std.proofs.lemmas.List.{length-map, length-append}
-use Rattle.seam_law_flow.proofs.Following.{all_append}
-use Rattle.seam_node_steps.specs.Prelude.{Ghost, copy_in, with_copy, copied, Pos, distance, GhostCopy, RealView, WitnessView, Map}
-use Rattle.seam_node_steps.specs.Prelude.{number_of, Known, seen_as, looks_of, known_real, known_copy, CellView, is_of_another, known_in}
-use Rattle.seam_node_steps.specs.Prelude.{known_to, has_witness, witnesses, World}
-use Rattle.seam_law_bounds.specs.Prelude.{is_among, AllAmong, LooksAmong, LooksFit}
-use Rattle.seam_view.specs.declared.Seen.{Seen}
-use Rattle.seam_view.specs.declared.Look.TheVariants.{Leave, Set as LookSet, Enter as LookEnter}
-use Rattle.seam_view.specs.ViewLooks.{one_look, leaving, changed, entering, leaves, has_changed, enters, in_view, is_far, not_older}
-use Rattle.seam_view.specs.Replica.{Replica, IsView, seen_of}
-use Rattle.seam_node_steps.proofs.Tables.{entries_empty}
-use Rattle.seam_table.proofs.Found.{found}
+use Rattle.std.specs.FinMap.Entries.{by_order, put}
 use Rattle.seam_law_bounds.proofs.Pigeons.{Distinct, distinct_from, apart, pigeons, NoneAmong, distinct_append}
 
 abbrev pub seen_names : List Seen → List ℕ

@@ -1,30 +1,17 @@
 -- The phase of looks ends.
-use Rattle.std.proofs.Common.{◌≡◌, ℕ, zero, suc, ◌+◌, ◌*◌, ◌≤◌, Bool, true, false, cond, List, [], ◌∷◌, length, Option, None, Some, refl}
-use Rattle.std.proofs.Common.{sym, ap, ◌∙◌, subst, arith}
-use Rattle.std.specs.Prelude.{not, slice_get}
-use Rattle.std.specs.List.{AllByRecursion, range_with_len}
+use Rattle.seam_law_bounds.proofs.Prelude.{◌≡◌, ℕ, zero, suc, ◌+◌, ◌*◌, ◌≤◌, Bool, true, false, cond, List, [], ◌∷◌, length, Option, None}
+use Rattle.seam_law_bounds.proofs.Prelude.{Some, refl, sym, ap, ◌∙◌, subst, arith, not, slice_get, AllByRecursion, range_with_len}
+use Rattle.seam_law_bounds.proofs.Prelude.{slice_get-map, link, EachNode, total, Event, Call as CallData, Order, RealView, has_ready}
+use Rattle.seam_law_bounds.proofs.Prelude.{may_execute, cell_count, Msg, CellView, BaseView, PartView, stray_order, NodeView, World}
+use Rattle.seam_law_bounds.proofs.Prelude.{node_has_work, Cell, Base, ordered_at, look_loaded, slot_at, letters_of, more_letter, Frame}
+use Rattle.seam_law_bounds.proofs.Prelude.{IsInFrame, mine, order_concerns, orders_of, has_of, has_none, entity_flow, base_call_in}
+use Rattle.seam_law_bounds.proofs.Prelude.{base_call_of, calls_ordered, RunsTo, IsBetweenRounds, Sizes, look_weight, tick_weight}
+use Rattle.seam_law_bounds.proofs.Prelude.{part_weight, world_weight, BaseCan, AllCan, is_pass, LooksFit, ClientsKeepRoom, Always}
+use Rattle.seam_law_bounds.proofs.Prelude.{HoldsNothing, events_of_looks, quiet_tasks, weight_or, node_there, look_framed, tick}
+use Rattle.seam_law_bounds.proofs.Prelude.{frame_leads, look_tasks, IsTickOrder, all_weaker}
 use Rattle.std.specs.FinMap as table
-use Rattle.std.proofs.lemmas.Option.{slice_get-map}
-use Rattle.seam_node_steps.specs.Prelude.{link, EachNode, total, Event, Call as CallData, Order, RealView, has_ready, may_execute}
-use Rattle.seam_node_steps.specs.Prelude.{cell_count, Msg, CellView, BaseView, PartView, stray_order, NodeView, World, node_has_work, Cell}
-use Rattle.seam_node_steps.specs.Prelude.{Base, ordered_at, look_loaded}
-use Rattle.seam_law_flow.specs.Prelude.{slot_at, letters_of, more_letter}
-use Rattle.seam_law_calls.specs.Prelude.{Frame, IsInFrame, mine, order_concerns, orders_of, has_of, has_none, entity_flow, base_call_in}
-use Rattle.seam_law_calls.specs.Prelude.{base_call_of, calls_ordered, RunsTo}
-use Rattle.seam_law_rounds.specs.Prelude.{IsBetweenRounds}
-use Rattle.seam_law_bounds.specs.Prelude.{Sizes, look_weight, tick_weight, part_weight, world_weight, BaseCan, AllCan, is_pass, LooksFit}
-use Rattle.seam_law_bounds.specs.Prelude.{ClientsKeepRoom, Always, HoldsNothing, events_of_looks}
-use Rattle.seam_machine.proofs.Quiet.{quiet_tasks}
-use Rattle.seam_net_runs.specs.Sums.{weight_or}
 use Rattle.seam_call.specs.declared.order.Order.TheVariants as order
 use Rattle.seam_entity.specs.declared.message.Msg.TheVariants.{Call}
-use Rattle.seam_law_rounds.proofs.Loading.{node_there}
-use Rattle.seam_law_rounds.proofs.Giving.{look_framed}
-use Rattle.seam_law_rounds.proofs.Looking.{tick}
-use Rattle.seam_law_rounds.proofs.Shape.{frame_leads}
-use Rattle.seam_law_ghosts.proofs.NoStrays.{look_tasks}
-use Rattle.seam_law_ghosts.proofs.Unknown.{IsTickOrder}
-use Rattle.seam_law_calls.proofs.WitnessKept.{all_weaker}
 use Rattle.seam_law_bounds.proofs.Bare.{part_calls, IsUncalled, uncalled_leads}
 use Rattle.seam_law_bounds.proofs.Batched.{OrderIs, calls_are}
 use Rattle.seam_law_bounds.proofs.Cans.{none_is_ready, can_look}

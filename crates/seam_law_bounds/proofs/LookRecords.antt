@@ -1,21 +1,12 @@
 -- The phase of looks ends by the records: no client runs out of numbers in it.
-use Rattle.std.proofs.Common.{◌≡◌, ℕ, ◌+◌, ◌≤◌, ◌⊎◌, true, List, length, Some, sym, ap, ◌∙◌, arith, inl, inr}
-use Rattle.std.specs.Prelude.{slice_get}
-use Rattle.std.specs.List.{range_with_len}
+use Rattle.seam_law_bounds.proofs.Prelude.{◌≡◌, ℕ, ◌+◌, ◌≤◌, ◌⊎◌, true, List, length, Some, sym, ap, ◌∙◌, arith, inl, inr, slice_get}
+use Rattle.seam_law_bounds.proofs.Prelude.{range_with_len, cases_eq, total, Event, cell_count, RealView, BaseView, PartView, proxy_is_ready}
+use Rattle.seam_law_bounds.proofs.Prelude.{may_show, World, Base, look_loaded, slot_at, Frame, has_of, has_none, entity_flow, home_of}
+use Rattle.seam_law_bounds.proofs.Prelude.{sent_by, RunsTo, real_at, IsBetweenRounds, HasPartsBetweenRounds, HasSmallNumbers, IsServed}
+use Rattle.seam_law_bounds.proofs.Prelude.{bare, served, part_weight, Always, LooksAmong, ClientsKeepRoom, HoldsNothing, events_of_looks}
+use Rattle.seam_law_bounds.proofs.Prelude.{weight_or, Somewhere, Nowhere, search_real, part_may_show, base_burden_leads, look_settles}
+use Rattle.seam_law_bounds.proofs.Prelude.{look_numbers, look_serves, most_told}
 use Rattle.std.specs.FinMap as table
-use Rattle.std.proofs.lemmas.Bool.{cases_eq}
-use Rattle.seam_node_steps.specs.Prelude.{total, Event, cell_count, RealView, BaseView, PartView, proxy_is_ready, may_show, World, Base}
-use Rattle.seam_node_steps.specs.Prelude.{look_loaded}
-use Rattle.seam_law_flow.specs.Prelude.{slot_at}
-use Rattle.seam_law_calls.specs.Prelude.{Frame, has_of, has_none, entity_flow, home_of, sent_by, RunsTo, real_at}
-use Rattle.seam_law_rounds.specs.Prelude.{IsBetweenRounds, HasPartsBetweenRounds, HasSmallNumbers, IsServed, bare, served}
-use Rattle.seam_law_bounds.specs.Prelude.{part_weight, Always, LooksAmong, ClientsKeepRoom, HoldsNothing, events_of_looks}
-use Rattle.seam_net_runs.specs.Sums.{weight_or}
-use Rattle.seam_law_rounds.proofs.Shape.{Somewhere, Nowhere, search_real}
-use Rattle.seam_law_calls.proofs.ClientRuns.{part_may_show}
-use Rattle.seam_law_calls.proofs.StrayRuns.{base_burden_leads}
-use Rattle.seam_law_rounds.proofs.Calms.{look_settles, look_numbers, look_serves}
-use Rattle.seam_law_rounds.proofs.Ticking.{most_told}
 use Rattle.seam_law_bounds.proofs.Cans.{none_is_shown}
 use Rattle.seam_law_bounds.proofs.LookCounts.{looks_fit}
 use Rattle.seam_law_bounds.proofs.LookPhase.{frame_start, looks_end}

@@ -1,28 +1,16 @@
 -- The bounds of a round with ticks and of looks, by what there is to look at where they begin.
-use Rattle.std.proofs.Common.{[], ◌∷◌, ◌≡◌, ℕ, ◌≤◌, ◌⊎◌, List, length, Option, None, Some, refl, sym, ap, ◌∙◌, subst, arith, inl, inr}
-use Rattle.std.specs.Prelude.{Bool, true, false, slice_get}
-use Rattle.std.specs.List.{AllByRecursion}
+use Rattle.seam_law_bounds.proofs.Prelude.{[], ◌∷◌, ◌≡◌, ℕ, ◌≤◌, ◌⊎◌, List, length, Option, None, Some, refl, sym, ap, ◌∙◌, subst, arith}
+use Rattle.seam_law_bounds.proofs.Prelude.{inl, inr, Bool, true, false, slice_get, AllByRecursion, cases_eq, slice_get-map, quiet_links}
+use Rattle.seam_law_bounds.proofs.Prelude.{counted_none, none_counts, Event, Batch, RealView, WitnessView, CellView, NodeView, World}
+use Rattle.seam_law_bounds.proofs.Prelude.{node_has_work, Cell, Base, order_if, ordered_at, loaded, look_loaded, reap_ordered_at}
+use Rattle.seam_law_bounds.proofs.Prelude.{reaps_loaded, slot_at, letters_of, Frame, mine, has_of, has_none, real_in, real_of, EachReal}
+use Rattle.seam_law_bounds.proofs.Prelude.{RunsTo, real_at, IsBetweenRounds, each, AreReapable, MayBeLoaded, LooksFit, Always, is_among}
+use Rattle.seam_law_bounds.proofs.Prelude.{LooksAmong, HoldsNothing, entities, cell_orders, base_orders, tick_orders, events_of_round}
+use Rattle.seam_law_bounds.proofs.Prelude.{node_there, Somewhere, Nowhere, search_real, IsCalm, look_cell, reals_stay, tick}
+use Rattle.seam_law_bounds.proofs.Prelude.{look_makes_none, calm_leads, each_happens}
 use Rattle.std.specs.FinMap as table
-use Rattle.std.proofs.lemmas.Bool.{cases_eq}
-use Rattle.std.proofs.lemmas.Option.{slice_get-map}
-use Rattle.seam_machine.proofs.Quiet.{quiet_links}
-use Rattle.seam_law_calls.proofs.Counting.{counted_none, none_counts}
-use Rattle.seam_node_steps.specs.Prelude.{Event, Batch, RealView, WitnessView, CellView, NodeView, World, node_has_work, Cell, Base}
-use Rattle.seam_node_steps.specs.Prelude.{order_if, ordered_at, loaded, look_loaded, reap_ordered_at, reaps_loaded}
-use Rattle.seam_law_flow.specs.Prelude.{slot_at, letters_of}
-use Rattle.seam_law_calls.specs.Prelude.{Frame, mine, has_of, has_none, real_in, real_of, EachReal, RunsTo, real_at}
-use Rattle.seam_law_rounds.specs.Prelude.{IsBetweenRounds, each, AreReapable, MayBeLoaded}
-use Rattle.seam_law_bounds.specs.Prelude.{LooksFit, Always, is_among, LooksAmong, HoldsNothing, entities, cell_orders, base_orders}
-use Rattle.seam_law_bounds.specs.Prelude.{tick_orders, events_of_round}
-use Rattle.seam_law_rounds.proofs.Loading.{node_there}
 use Rattle.seam_law_bounds.proofs.ReapPhase as reap
-use Rattle.seam_law_rounds.proofs.Shape.{Somewhere, Nowhere, search_real}
-use Rattle.seam_law_rounds.proofs.Calm.{IsCalm}
-use Rattle.seam_law_rounds.proofs.Giving.{look_cell, reals_stay}
 use Rattle.seam_law_rounds.proofs.Looking as looking
-use Rattle.seam_law_rounds.proofs.Looking.{tick, look_makes_none}
-use Rattle.seam_law_rounds.proofs.Phases.{calm_leads}
-use Rattle.seam_law_calls.proofs.WitnessKept.{each_happens}
 use Rattle.seam_law_bounds.proofs.Among.{always_among}
 use Rattle.seam_law_bounds.proofs.LookCounts.{looks_fit}
 use Rattle.seam_law_bounds.proofs.LookPhase.{frame_start, empty_start}

@@ -1,11 +1,6 @@
 -- What there is to look at in a loaded world is of the entities that have a real there.
-use Rattle.std.proofs.Common.{ℕ, List, ap, ◌∙◌}
-use Rattle.seam_node_steps.specs.Prelude.{Batch, loaded, World}
-use Rattle.seam_law_flow.specs.Prelude.{slot_at}
-use Rattle.seam_law_calls.specs.Prelude.{Frame, has_of, has_none, real_in}
-use Rattle.seam_law_rounds.specs.Prelude.{MayBeLoaded}
-use Rattle.seam_law_ghosts.specs.Prelude.{AreCopiesBetweenRounds}
-use Rattle.seam_law_bounds.specs.Prelude.{LooksAmong, EachSeenIsHeld, AreAmong}
+use Rattle.seam_law_bounds.proofs.Prelude.{ℕ, List, ap, ◌∙◌, Batch, loaded, World, slot_at, Frame, has_of, has_none, real_in, MayBeLoaded}
+use Rattle.seam_law_bounds.proofs.Prelude.{AreCopiesBetweenRounds, LooksAmong, EachSeenIsHeld, AreAmong}
 use Rattle.seam_law_bounds.proofs.There.{among_named}
 
 pub among_these : (f : Frame) (w : World) (b : Batch) → MayBeLoaded f w b → AreCopiesBetweenRounds f w → EachSeenIsHeld (loaded w b) →

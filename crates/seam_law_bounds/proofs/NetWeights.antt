@@ -1,19 +1,12 @@
 -- An enabled event lowers the weight of a world, or passes a call on and keeps it; so a run ends.
-use Rattle.std.proofs.Common.{◌≡◌, ℕ, ◌+◌, ◌≤◌, Bool, true, false, List, [], ◌∷◌, ◌++◌, length, Some, refl, ap, ◌∙◌, arith}
-use Rattle.std.proofs.lemmas.List.{length-append}
-use Rattle.std.specs.Prelude.{if◌then◌else◌}
-use Rattle.seam_node_steps.specs.Prelude.{input_from, happens, enabled, IsQuiet, Occurs, Event, Input, Task, Msg, NodeView, World}
-use Rattle.seam_node_steps.specs.Prelude.{node_steps, node_has_work, Cell, Base, IsNode}
-use Rattle.seam_law_calls.specs.Prelude.{Frame, IsAt, IsInFrame, RunsTo}
-use Rattle.seam_law_bounds.specs.Prelude.{Sizes, node_weight, letter_weight, world_weight, node_passes, passes_by, is_pass, NodeCan, AllCan}
-use Rattle.seam_law_bounds.specs.Prelude.{all_passes}
-use Rattle.seam_machine.proofs.Occurring.{occurs, occurs_works}
-use Rattle.seam_net_runs.specs.Weights.{sent_weight, input_weight, Lowers}
-use Rattle.seam_net_runs.proofs.Runs.{leads_nowhere, leads_extend, leads_end}
-use Rattle.seam_net_runs.proofs.Soundness.{sound_sends}
-use Rattle.seam_net_runs.proofs.Weighing.{weight_moves}
-use Rattle.seam_law_calls.proofs.Classify.{node_laws}
-use Rattle.seam_law_rounds.proofs.Shape.{frame_leads}
+use Rattle.seam_law_bounds.proofs.Prelude.{◌≡◌, ℕ, ◌+◌, ◌≤◌, Bool, true, false, List, [], ◌∷◌, ◌++◌, length, Some, refl, ap, ◌∙◌, arith}
+use Rattle.seam_law_bounds.proofs.Prelude.{length-append, if◌then◌else◌, input_from, happens, enabled, IsQuiet, Occurs, Event, Input, Task}
+use Rattle.seam_law_bounds.proofs.Prelude.{Msg, NodeView, World, node_steps, node_has_work, Cell, Base, IsNode, Frame, IsAt, IsInFrame}
+use Rattle.seam_law_bounds.proofs.Prelude.{RunsTo, Sizes, node_weight, letter_weight, world_weight, node_passes, passes_by, is_pass}
+use Rattle.seam_law_bounds.proofs.Prelude.{NodeCan, AllCan, all_passes, occurs, occurs_works, sent_weight, input_weight, leads_nowhere}
+use Rattle.seam_law_bounds.proofs.Prelude.{leads_extend, sound_sends, weight_moves, node_laws, frame_leads}
+use Rattle.seam_net_runs.specs.Weights.{Lowers}
+use Rattle.seam_net_runs.proofs.Runs.{leads_end}
 use Rattle.seam_law_bounds.proofs.CellWeights.{cell_lowers}
 use Rattle.seam_law_bounds.proofs.BaseWeights.{base_lowers}
 

@@ -1,13 +1,10 @@
 -- Where no call comes to a cell, none is passed on.
-use Rattle.std.proofs.Common.{◌≡◌, ℕ, false, cond, List, [], ◌∷◌, Option, None, Some, refl, ap, arith}
-use Rattle.std.specs.Prelude.{slice_get}
-use Rattle.seam_node_steps.specs.Prelude.{link, input_from, happens, AllEnabled, Event, Input, Task, From, Call as CallData, Msg, CellView}
-use Rattle.seam_node_steps.specs.Prelude.{NodeView, World, node_steps, node_has_work, Cell, Base}
-use Rattle.seam_law_bounds.specs.Prelude.{cell_passes, node_passes, passes_by, is_pass, all_passes}
-use Rattle.seam_net_runs.proofs.Runs.{leads_nowhere, leads_by_one, leads_join}
+use Rattle.seam_law_bounds.proofs.Prelude.{◌≡◌, ℕ, false, cond, List, [], ◌∷◌, Option, None, Some, refl, ap, arith, slice_get, link}
+use Rattle.seam_law_bounds.proofs.Prelude.{input_from, happens, AllEnabled, Event, Input, Task, From, Call as CallData, Msg, CellView}
+use Rattle.seam_law_bounds.proofs.Prelude.{NodeView, World, node_steps, node_has_work, Cell, Base, cell_passes, node_passes, passes_by}
+use Rattle.seam_law_bounds.proofs.Prelude.{is_pass, all_passes, leads_nowhere, leads_by_one, leads_join, RunsTo}
 use Rattle.seam_entity.specs.declared.message.Msg.TheVariants.{Call}
 use Rattle.seam_law_bounds.proofs.Cans.{fed_by}
-use Rattle.seam_law_calls.specs.Prelude.{RunsTo}
 
 message_passes : (c : CellView) (m : Msg) → ((k : CallData) → m ≡ Call k → ⊥) → cell_passes c m ≡ false
 message_passes c (Call k) never = absurd (never k refl)

@@ -1,24 +1,13 @@
 -- A world that holds nothing, and has both records between rounds, holds nothing again at the end of each phase.
-use Rattle.std.proofs.Common.{◌≡◌, ℕ, ◌⊎◌, List, [], length, Option, None, Some, refl, sym, ap, ◌∙◌, subst, arith, inl, inr}
+use Rattle.seam_law_bounds.proofs.Prelude.{◌≡◌, ℕ, ◌⊎◌, List, [], length, Option, None, Some, refl, sym, ap, ◌∙◌, subst, arith, inl, inr}
+use Rattle.seam_law_bounds.proofs.Prelude.{cases_eq, IsQuiet, Event, Batch, order_or, RealView, WitnessView, holders, PartView, ProxyView}
+use Rattle.seam_law_bounds.proofs.Prelude.{World, node_has_work, loaded, look_loaded, slot_at, letters_of, Frame, mine, has_of, has_none}
+use Rattle.seam_law_bounds.proofs.Prelude.{entity_flow, home_of, RunsTo, real_at, framed, IsBetweenRounds, HasPartsBetweenRounds}
+use Rattle.seam_law_bounds.proofs.Prelude.{HasSmallNumbers, MayBeLoaded, AreFor, proxy_weight, part_weight, HoldsNothing, weight_or}
+use Rattle.seam_law_bounds.proofs.Prelude.{quiet_links, one_after, one_holder, quiet_home, no_held, calls_end_between, look_keeps}
+use Rattle.seam_law_bounds.proofs.Prelude.{look_ends_between, Somewhere, Nowhere, search_real, unknown_look, IsTickOrder}
+use Rattle.seam_law_bounds.proofs.Prelude.{calls_end_with_parts}
 use Rattle.std.specs.FinMap as table
-use Rattle.std.proofs.lemmas.Bool.{cases_eq}
-use Rattle.seam_node_steps.specs.Prelude.{IsQuiet, Event, Batch, order_or, RealView, WitnessView, holders, PartView, ProxyView, World}
-use Rattle.seam_node_steps.specs.Prelude.{node_has_work, loaded, look_loaded}
-use Rattle.seam_law_flow.specs.Prelude.{slot_at, letters_of}
-use Rattle.seam_law_calls.specs.Prelude.{Frame, mine, has_of, has_none, entity_flow, home_of, RunsTo, real_at}
-use Rattle.seam_law_rounds.specs.Prelude.{framed, IsBetweenRounds, HasPartsBetweenRounds, HasSmallNumbers, MayBeLoaded, AreFor}
-use Rattle.seam_law_bounds.specs.Prelude.{proxy_weight, part_weight, HoldsNothing}
-use Rattle.seam_net_runs.specs.Sums.{weight_or}
-use Rattle.seam_machine.proofs.Quiet.{quiet_links}
-use Rattle.seam_law_rounds.proofs.Going.{one_after}
-use Rattle.seam_law_rounds.proofs.Ready.{one_holder, quiet_home}
-use Rattle.seam_law_rounds.proofs.Room.{no_held}
-use Rattle.seam_law_rounds.proofs.CallsEnd.{calls_end_between}
-use Rattle.seam_law_rounds.proofs.Looking.{look_keeps, look_ends_between}
-use Rattle.seam_law_rounds.proofs.Shape.{Somewhere, Nowhere, search_real}
-use Rattle.seam_law_ghosts.proofs.NoStrays.{unknown_look}
-use Rattle.seam_law_ghosts.proofs.Unknown.{IsTickOrder}
-use Rattle.seam_law_rounds.proofs.BaseCallsEnd.{calls_end_with_parts}
 use Rattle.seam_law_rounds.proofs.Calms.{look_ends_with_parts}
 use Rattle.seam_law_bounds.proofs.Bare.{HoldsNone, IsIdle, idle_leads}
 use Rattle.seam_law_bounds.proofs.LookPhase.{plain_start}

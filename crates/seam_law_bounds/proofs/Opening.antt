@@ -1,14 +1,9 @@
 -- What the laws ask of where a phase begins is true of an opened world.
-use Rattle.std.proofs.Common.{◌≡◌, ℕ, ◌≤◌, List, [], Some, sym, ap, ◌∙◌}
-use Rattle.std.specs.Prelude.{slice_get}
+use Rattle.seam_law_bounds.proofs.Prelude.{◌≡◌, ℕ, ◌≤◌, List, [], Some, sym, ap, ◌∙◌, slice_get, copy_in, Settings, TypeDef, RealView}
+use Rattle.seam_law_bounds.proofs.Prelude.{CellView, BaseView, PartView, NodeView, World, Cell, Base, opened, slot_at, Has, has_of}
+use Rattle.seam_law_bounds.proofs.Prelude.{has_none, real_in, IsFrame, first_frame, LooksAmong, EachSeenIsHeld, HoldsNothing, opened_is_new}
+use Rattle.seam_law_bounds.proofs.Prelude.{opened_has_none}
 use Rattle.std.specs.FinMap as table
-use Rattle.seam_node_steps.specs.Prelude.{copy_in, Settings, TypeDef, RealView, CellView, BaseView, PartView, NodeView, World, Cell, Base}
-use Rattle.seam_node_steps.specs.Prelude.{opened}
-use Rattle.seam_law_flow.specs.Prelude.{slot_at}
-use Rattle.seam_law_calls.specs.Prelude.{Has, has_of, has_none, real_in, IsFrame}
-use Rattle.seam_law_rounds.specs.Prelude.{first_frame}
-use Rattle.seam_law_bounds.specs.Prelude.{LooksAmong, EachSeenIsHeld, HoldsNothing}
-use Rattle.seam_law_rounds.proofs.Opened.{opened_is_new, opened_has_none}
 
 module _ (defs : List TypeDef) (settings : Settings) (frame : IsFrame (first_frame defs settings)) (bases : 1 ≤ settings.bases) where
   abbrev w : World

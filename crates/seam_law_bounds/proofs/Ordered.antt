@@ -1,20 +1,15 @@
 -- The orders of base nodes only go: what is true of each order at the start is true of each that is left.
-use Rattle.std.proofs.Common.{◌≡◌, ℕ, Bool, true, false, List, [], ◌∷◌, Option, None, Some, refl, sym, subst}
-use Rattle.std.specs.Prelude.{not}
-use Rattle.std.specs.List.{AllByRecursion}
+use Rattle.seam_law_bounds.proofs.Prelude.{◌≡◌, ℕ, Bool, true, false, List, [], ◌∷◌, Option, None, Some, refl, sym, subst, not}
+use Rattle.seam_law_bounds.proofs.Prelude.{AllByRecursion, Stepped, EachNode, Event, Input, Task, From, Call as CallData, Order, Msg}
+use Rattle.seam_law_bounds.proofs.Prelude.{BaseCall, Current, Update, BaseView, PartView, ProxyView, RouteView, part_called, base_order}
+use Rattle.seam_law_bounds.proofs.Prelude.{is_base_node_of, order_of_node, stray_order, ready_part, ready_proxy, proxy_task}
+use Rattle.seam_law_bounds.proofs.Prelude.{task_without_orders, base_task, newer_route, current, updated_proxy, update, case_of, base_steps}
+use Rattle.seam_law_bounds.proofs.Prelude.{may_show, NodeView, World, node_steps, node_has_work, Cell, Base, occurs, each_node, leads_keeps}
+use Rattle.seam_law_bounds.proofs.Prelude.{unless_stray, RunsTo}
 use Rattle.std.specs.FinMap as table
-use Rattle.seam_node_steps.specs.Prelude.{Stepped, EachNode, Event, Input, Task, From, Call as CallData, Order, Msg, BaseCall, Current}
-use Rattle.seam_node_steps.specs.Prelude.{Update, BaseView, PartView, ProxyView, RouteView, part_called, base_order, is_base_node_of}
-use Rattle.seam_node_steps.specs.Prelude.{order_of_node, stray_order, ready_part, ready_proxy, proxy_task, task_without_orders, base_task}
-use Rattle.seam_node_steps.specs.Prelude.{newer_route, current, updated_proxy, update, case_of, base_steps, may_show, NodeView, World}
-use Rattle.seam_node_steps.specs.Prelude.{node_steps, node_has_work, Cell, Base}
-use Rattle.seam_machine.proofs.Occurring.{occurs}
-use Rattle.seam_net_runs.proofs.Keeping.{each_node}
-use Rattle.seam_net_runs.proofs.Runs.{leads_keeps}
 use Rattle.seam_call.specs.declared.order.Order.TheVariants as order
 use Rattle.seam_call.specs.declared.shown.Update.{Update as UpdateData}
-use Rattle.seam_node_steps.specs.BaseCases.{unless_stray, is_stray, may_execute}
-use Rattle.seam_law_calls.specs.Prelude.{RunsTo}
+use Rattle.seam_node_steps.specs.BaseCases.{is_stray, may_execute}
 
 -- ---- a step keeps the orders, or takes the first
 

@@ -1,18 +1,12 @@
 -- The calls that are passed on, order by order.
-use Rattle.std.proofs.Common.{◌≡◌, ℕ, ◌+◌, ◌*◌, ◌≤◌, ◌⊎◌, Bool, true, false, cond, eqb, List, [], ◌∷◌, Option, None, Some, refl, ap, ◌∙◌}
-use Rattle.std.proofs.Common.{arith, inl, inr}
-use Rattle.std.specs.Prelude.{slice_get}
-use Rattle.std.specs.List.{AllByRecursion}
-use Rattle.std.proofs.lemmas.Bool.{eq-eqb}
-use Rattle.seam_node_steps.specs.Prelude.{link, input_from, happens, AllEnabled, total, Event, Input, From, Call as CallData, Order}
-use Rattle.seam_node_steps.specs.Prelude.{rank_of, Msg, CellView, slot_of, NodeView, World, node_steps, node_has_work, Cell, Base}
-use Rattle.seam_law_flow.specs.Prelude.{slot_at}
-use Rattle.seam_law_calls.specs.Prelude.{has_of, has_none, entity_flow, RunsTo}
-use Rattle.seam_law_bounds.specs.Prelude.{brings_call, was_left, passes_on, passes, is_left, passes_by, is_pass, all_passes, one_if_cell}
-use Rattle.seam_net_runs.proofs.Runs.{leads_nowhere, leads_by_one, leads_join}
+use Rattle.seam_law_bounds.proofs.Prelude.{◌≡◌, ℕ, ◌+◌, ◌*◌, ◌≤◌, ◌⊎◌, Bool, true, false, cond, eqb, List, [], ◌∷◌, Option, None, Some}
+use Rattle.seam_law_bounds.proofs.Prelude.{refl, ap, ◌∙◌, arith, inl, inr, slice_get, AllByRecursion, eq-eqb, link, input_from, happens}
+use Rattle.seam_law_bounds.proofs.Prelude.{AllEnabled, total, Event, Input, From, Call as CallData, Order, rank_of, Msg, CellView, slot_of}
+use Rattle.seam_law_bounds.proofs.Prelude.{NodeView, World, node_steps, node_has_work, Cell, Base, slot_at, has_of, has_none, entity_flow}
+use Rattle.seam_law_bounds.proofs.Prelude.{RunsTo, brings_call, was_left, passes_on, passes, is_left, passes_by, is_pass, all_passes}
+use Rattle.seam_law_bounds.proofs.Prelude.{one_if_cell, leads_nowhere, leads_by_one, leads_join, all_two}
 use Rattle.seam_call.specs.declared.order.Order.TheVariants as order
 use Rattle.seam_entity.specs.declared.message.Msg.TheVariants.{Call}
-use Rattle.seam_law_calls.proofs.Holds.{all_two}
 use Rattle.seam_law_bounds.proofs.Cans.{fed_by}
 
 -- the call is one of those that are ordered

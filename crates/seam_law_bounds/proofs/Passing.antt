@@ -1,30 +1,20 @@
 -- Each time that a call is passed on it comes to a node of higher rank: an event.
-use Rattle.std.proofs.Common.{◌≡◌, ℕ, ◌+◌, ◌<◌, ◌≤◌, ◌⊎◌, Bool, true, false, ◌||◌, ◌&&◌, cond, is_some, is_none, List, [], ◌∷◌, ◌++◌}
-use Rattle.std.proofs.Common.{length, Option, None, Some, refl, sym, ap, ◌∙◌, subst, arith, inl, inr}
-use Rattle.std.specs.List.{AllByRecursion}
-use Rattle.std.proofs.lemmas.Bool.{cases_eq}
-use Rattle.seam_node_steps.specs.Prelude.{happens, enabled, run, AllEnabled, Occurs, items_to, Input, Task, From, Event, item_at}
-use Rattle.seam_node_steps.specs.Prelude.{Call as CallData, Order, RealView, Msg, BaseCall, Hand, Current, GhostSet, GhostDrop, Tick, Reap}
-use Rattle.seam_node_steps.specs.Prelude.{Update, NextPlace, RouteView, World, node_steps, node_has_work}
-use Rattle.seam_law_flow.specs.Prelude.{Flow, Goes, comes, letter_in, letters_of, more_letter, slot_at, IsSilent, carried_in, TokenPlace}
-use Rattle.seam_law_flow.specs.Prelude.{In, On, number_from, of_number}
-use Rattle.seam_law_calls.specs.Prelude.{Frame, Has, kept_if, mine, has_of, has_none, entity_flow, MovesTo, real_in, real_of, IsOne}
-use Rattle.seam_law_calls.specs.Prelude.{IsFrame, is_visited, cell_order_from, AreCallsOf}
-use Rattle.seam_law_bounds.specs.Prelude.{rank_of, is_hand_from, has_hand_from, ComesTo, is_handed_over, is_numbered, brings_call, was_left}
-use Rattle.seam_law_bounds.specs.Prelude.{passes_on, hands_over, passes, hand_overs}
-use Rattle.seam_machine.proofs.Occurring.{occurs, node_there}
-use Rattle.seam_law_flow.proofs.Following.{Rest, whole, tail, More, own, none, change}
-use Rattle.seam_law_flow.proofs.SendLists.{one_here}
-use Rattle.seam_law_flow.proofs.TokenLemmas.{first_is, sole_here}
+use Rattle.seam_law_bounds.proofs.Prelude.{◌≡◌, ℕ, ◌+◌, ◌<◌, ◌≤◌, ◌⊎◌, Bool, true, false, ◌||◌, ◌&&◌, cond, is_some, is_none, List, [], ◌∷◌}
+use Rattle.seam_law_bounds.proofs.Prelude.{◌++◌, length, Option, None, Some, refl, sym, ap, ◌∙◌, subst, arith, inl, inr, AllByRecursion}
+use Rattle.seam_law_bounds.proofs.Prelude.{cases_eq, happens, enabled, run, AllEnabled, Occurs, items_to, Input, Task, From, Event, item_at}
+use Rattle.seam_law_bounds.proofs.Prelude.{Call as CallData, Order, RealView, Msg, BaseCall, Hand, Current, GhostSet, GhostDrop, Tick, Reap}
+use Rattle.seam_law_bounds.proofs.Prelude.{Update, NextPlace, RouteView, World, node_steps, node_has_work, Flow, Goes, comes, letter_in}
+use Rattle.seam_law_bounds.proofs.Prelude.{letters_of, more_letter, slot_at, IsSilent, carried_in, TokenPlace, In, On, number_from}
+use Rattle.seam_law_bounds.proofs.Prelude.{of_number, Frame, Has, kept_if, mine, has_of, has_none, entity_flow, MovesTo, real_in, real_of}
+use Rattle.seam_law_bounds.proofs.Prelude.{IsOne, IsFrame, is_visited, cell_order_from, AreCallsOf, is_hand_from, has_hand_from, ComesTo}
+use Rattle.seam_law_bounds.proofs.Prelude.{is_handed_over, is_numbered, brings_call, was_left, passes_on, hands_over, passes, hand_overs}
+use Rattle.seam_law_bounds.proofs.Prelude.{occurs, Rest, whole, tail, More, own, none, change, one_here, first_is, sole_here}
+use Rattle.seam_law_bounds.proofs.Prelude.{event_moves_with, both, goes, room, calm_of, items_all, call_in, Came, road}
+use Rattle.seam_law_bounds.specs.Prelude.{rank_of}
+use Rattle.seam_machine.proofs.Occurring.{node_there}
 use Rattle.seam_call.specs.declared.order.Order.TheVariants as order
 use Rattle.seam_entity.specs.declared.message.Msg.TheVariants.{Call}
-use Rattle.seam_law_calls.proofs.Classify.{event_moves_with}
-use Rattle.seam_law_calls.proofs.Holds.{both}
-use Rattle.seam_law_calls.proofs.OneReal.{goes, room, calm_of}
-use Rattle.seam_law_calls.proofs.Sparing.{items_all}
-use Rattle.seam_law_calls.proofs.WayMoves.{call_in}
 use Rattle.seam_law_calls.proofs.CellRuns.{Kept, kept_happens, finds}
-use Rattle.seam_law_rounds.proofs.RoadRuns.{Came, road}
 use Rattle.seam_law_bounds.specs.Passes.{is_to}
 use Rattle.seam_law_bounds.proofs.Ranking.{rank_real, rank_next, hand_from, landed_by, Ranked, Raises, raises}
 use Rattle.seam_law_bounds.proofs.CallSends.{FewerOrders, Sends, plain, ordered, passed, sends}

@@ -1,9 +1,7 @@
 -- Distinct numbers of a list are at most as many as it has.
-use Rattle.std.proofs.Common.{◌≡◌, ℕ, suc, ◌+◌, ◌≤◌, Bool, true, false, cond, ◌||◌, eqb, List, [], ◌∷◌, ◌++◌, length, refl, ap, ◌∙◌, arith}
-use Rattle.std.specs.List.{AllByRecursion, IsDistinct}
-use Rattle.std.proofs.lemmas.Bool.Decides.{nat_tests}
-use Rattle.std.proofs.lemmas.Map.Keys.{IsDistinct-head, IsDistinct-tail}
-use Rattle.seam_law_bounds.specs.Looking.{is_among, AllAmong}
+use Rattle.seam_law_bounds.proofs.Prelude.{◌≡◌, ℕ, suc, ◌+◌, ◌≤◌, Bool, true, false, cond, ◌||◌, eqb, List, [], ◌∷◌, ◌++◌, length, refl, ap}
+use Rattle.seam_law_bounds.proofs.Prelude.{◌∙◌, arith, AllByRecursion, IsDistinct, nat_tests, IsDistinct-head, IsDistinct-tail, is_among}
+use Rattle.seam_law_bounds.proofs.Prelude.{AllAmong}
 
 abbrev pub Distinct : List ℕ → Type 0
 Distinct [] = Unit {0}

@@ -1,20 +1,11 @@
 -- A quiet world that holds nothing weighs nothing.
-use Rattle.std.proofs.Common.{◌≡◌, ℕ, ◌*◌, Bool, true, false, cond, ◌||◌, List, [], ◌∷◌, length, Option, None, Some, refl, sym, ap, ◌∙◌}
-use Rattle.std.proofs.Common.{arith}
-use Rattle.std.specs.Prelude.{nat_lt, find, slice_get}
+use Rattle.seam_law_bounds.proofs.Prelude.{◌≡◌, ℕ, ◌*◌, Bool, true, false, cond, ◌||◌, List, [], ◌∷◌, length, Option, None, Some, refl, sym}
+use Rattle.seam_law_bounds.proofs.Prelude.{ap, ◌∙◌, arith, nat_lt, find, slice_get, nat_tests, link, total, RealView, Map, has_any}
+use Rattle.seam_law_bounds.proofs.Prelude.{CellView, BaseView, NodeView, World, node_has_work, Cell, Base, slot_at, Frame, has_of, has_none}
+use Rattle.seam_law_bounds.proofs.Prelude.{held_in, real_in, IsBetweenRounds, Sizes, settling, look_weight, real_weight, part_weight}
+use Rattle.seam_law_bounds.proofs.Prelude.{order_weight, node_weight, letter_weight, world_weight, HoldsNothing, quiet_links, quiet_tasks}
+use Rattle.seam_law_bounds.proofs.Prelude.{found, map_total, no_held, rows_none}
 use Rattle.std.specs.FinMap as table
-use Rattle.std.proofs.lemmas.Bool.Decides.{nat_tests}
-use Rattle.seam_node_steps.specs.Prelude.{link, total, RealView, Map, has_any, CellView, BaseView, NodeView, World, node_has_work, Cell}
-use Rattle.seam_node_steps.specs.Prelude.{Base}
-use Rattle.seam_law_flow.specs.Prelude.{slot_at}
-use Rattle.seam_law_calls.specs.Prelude.{Frame, has_of, has_none, held_in, real_in}
-use Rattle.seam_law_rounds.specs.Prelude.{IsBetweenRounds}
-use Rattle.seam_law_bounds.specs.Prelude.{Sizes, settling, look_weight, real_weight, part_weight, order_weight, node_weight, letter_weight}
-use Rattle.seam_law_bounds.specs.Prelude.{world_weight, HoldsNothing}
-use Rattle.seam_machine.proofs.Quiet.{quiet_links, quiet_tasks}
-use Rattle.seam_table.proofs.Found.{found}
-use Rattle.seam_net_runs.specs.Sums.{map_total}
-use Rattle.seam_law_rounds.proofs.Room.{no_held, rows_none}
 use Rattle.seam_law_rounds.proofs.Starting.{none_weighs}
 use Rattle.seam_law_bounds.proofs.Counts.{none_times}
 

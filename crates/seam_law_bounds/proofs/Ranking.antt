@@ -1,24 +1,15 @@
 -- No event lowers a rank, and each next place has a higher one.
-use Rattle.std.proofs.Common.{◌≡◌, ℕ, ◌+◌, ◌-◌, ◌<◌, ◌≤◌, ◌⊎◌, Bool, true, false, cond, ◌||◌, nat_le, List, [], ◌∷◌, ◌++◌, length, Option}
-use Rattle.std.proofs.Common.{None, Some, refl, sym, ap, ◌∙◌, subst, arith, inl, inr}
-use Rattle.std.specs.Prelude.{option_map}
-use Rattle.std.proofs.lemmas.Bool.{cases_eq}
-use Rattle.std.proofs.lemmas.Bool.Decides.{nat_tests}
-use Rattle.seam_node_steps.specs.Prelude.{happens, enabled, items_to, Event, RealView, Msg, Hand, NextPlace, World, node_steps}
-use Rattle.seam_node_steps.specs.Prelude.{node_has_work}
-use Rattle.seam_law_flow.specs.Prelude.{Flow, Goes, comes, carried_in, TokenPlace, In, On}
-use Rattle.seam_law_calls.specs.Prelude.{Frame, Has, entity_flow, MovesTo, real_in, real_of, IsSpared, IsFrame, HasOne, RunsTo}
-use Rattle.seam_law_bounds.specs.Prelude.{rank_of, is_hand_from, has_hand_from, ComesTo, AreRanked, is_handed_over, Climbs}
-use Rattle.seam_machine.proofs.Occurring.{occurs}
+use Rattle.seam_law_bounds.proofs.Prelude.{◌≡◌, ℕ, ◌+◌, ◌-◌, ◌<◌, ◌≤◌, ◌⊎◌, Bool, true, false, cond, ◌||◌, nat_le, List, [], ◌∷◌, ◌++◌}
+use Rattle.seam_law_bounds.proofs.Prelude.{length, Option, None, Some, refl, sym, ap, ◌∙◌, subst, arith, inl, inr, option_map, cases_eq}
+use Rattle.seam_law_bounds.proofs.Prelude.{nat_tests, happens, enabled, items_to, Event, RealView, Msg, Hand, NextPlace, World, node_steps}
+use Rattle.seam_law_bounds.proofs.Prelude.{node_has_work, Flow, Goes, comes, carried_in, TokenPlace, In, On, Frame, Has, entity_flow}
+use Rattle.seam_law_bounds.proofs.Prelude.{MovesTo, real_in, real_of, IsSpared, IsFrame, HasOne, RunsTo, is_hand_from, has_hand_from}
+use Rattle.seam_law_bounds.proofs.Prelude.{ComesTo, AreRanked, is_handed_over, Climbs, occurs, leads_keeps, Rest, whole, tail, More, own}
+use Rattle.seam_law_bounds.proofs.Prelude.{none, change, one_here, sole_here, sole_came, FindsRoom, goes, room, one_happens, calm_of}
+use Rattle.seam_law_bounds.proofs.Prelude.{spared_happens, IsRouted, Came, road, grown, place_then, routed_by}
+use Rattle.seam_law_bounds.specs.Prelude.{rank_of}
 use Rattle.seam_machine.proofs.SendLemmas.{items_to-append}
-use Rattle.seam_net_runs.proofs.Runs.{leads_keeps}
-use Rattle.seam_law_flow.proofs.Following.{Rest, whole, tail, More, own, none, change}
-use Rattle.seam_law_flow.proofs.SendLists.{one_here}
-use Rattle.seam_law_flow.proofs.TokenLemmas.{sole_here, sole_came}
-use Rattle.seam_law_calls.proofs.Handling.{FindsRoom}
-use Rattle.seam_law_calls.proofs.OneReal.{goes, room, one_happens, calm_of, spared_happens}
 use Rattle.seam_law_rounds.proofs.RoadMoves.{generation_of, generation_in, Roads, plain, arrives, departs}
-use Rattle.seam_law_rounds.proofs.RoadRuns.{IsRouted, Came, road, grown, place_then, routed_by}
 use Rattle.seam_law_bounds.specs.Ranks.{rank_by}
 
 -- ---- lists of letters

@@ -1,33 +1,21 @@
 -- The phase of reaps ends.
-use Rattle.std.proofs.Common.{◌≡◌, ℕ, ◌+◌, ◌*◌, ◌<◌, ◌≤◌, Bool, true, false, eqb, List, [], ◌∷◌, length, Option, None, Some, refl, not, sym}
-use Rattle.std.proofs.Common.{ap, ◌∙◌, subst, arith, inl}
-use Rattle.std.specs.Prelude.{is_none, slice_get}
-use Rattle.std.specs.List.{AllByRecursion}
+use Rattle.seam_law_bounds.proofs.Prelude.{◌≡◌, ℕ, ◌+◌, ◌*◌, ◌<◌, ◌≤◌, Bool, true, false, eqb, List, [], ◌∷◌, length, Option, None, Some}
+use Rattle.seam_law_bounds.proofs.Prelude.{refl, not, sym, ap, ◌∙◌, subst, arith, inl, is_none, slice_get, AllByRecursion, length-map}
+use Rattle.seam_law_bounds.proofs.Prelude.{slice_get-map, slice_get_within, link, Occurs, EachNode, Event, Call as CallData, Order}
+use Rattle.seam_law_bounds.proofs.Prelude.{RealView, has_ready, may_execute, cell_count, base_of, Msg, holders, CellView, BaseView}
+use Rattle.seam_law_bounds.proofs.Prelude.{PartView, RouteView, stray_order, NodeView, World, node_has_work, Cell, Base, order_if}
+use Rattle.seam_law_bounds.proofs.Prelude.{with_nodes, reap_ordered_at, reaps_loaded, slot_at, Frame, IsInFrame, has_of, has_none}
+use Rattle.seam_law_bounds.proofs.Prelude.{entity_flow, base_call_of, is_tick_order, RunsTo, IsBetweenRounds, each, AreReapable, Sizes}
+use Rattle.seam_law_bounds.proofs.Prelude.{part_weight, BaseCan, NodeCan, is_pass, all_passes, HoldsNothing, quiet_tasks, weight_or}
+use Rattle.seam_law_bounds.proofs.Prelude.{all_append, node_there, quiet_home, frame_leads, reaps_framed, reaps_cell, reals_stay}
+use Rattle.seam_law_bounds.proofs.Prelude.{calm_leads, reaps_tasks, all_weaker}
 use Rattle.std.specs.FinMap as table
-use Rattle.std.proofs.lemmas.List.{length-map}
-use Rattle.std.proofs.lemmas.Option.{slice_get-map, slice_get_within}
-use Rattle.seam_node_steps.specs.Prelude.{link, Occurs, EachNode, Event, Call as CallData, Order, RealView, has_ready, may_execute}
-use Rattle.seam_node_steps.specs.Prelude.{cell_count, base_of, Msg, holders, CellView, BaseView, PartView, RouteView, stray_order, NodeView}
-use Rattle.seam_node_steps.specs.Prelude.{World, node_has_work, Cell, Base, order_if, with_nodes, reap_ordered_at, reaps_loaded}
-use Rattle.seam_law_flow.specs.Prelude.{slot_at}
-use Rattle.seam_law_calls.specs.Prelude.{Frame, IsInFrame, has_of, has_none, entity_flow, base_call_of, is_tick_order, RunsTo}
-use Rattle.seam_law_rounds.specs.Prelude.{IsBetweenRounds, each, AreReapable}
-use Rattle.seam_law_bounds.specs.Prelude.{Sizes, part_weight, BaseCan, NodeCan, is_pass, all_passes, HoldsNothing}
-use Rattle.seam_machine.proofs.Quiet.{quiet_tasks}
-use Rattle.seam_net_runs.specs.Sums.{weight_or}
-use Rattle.seam_law_flow.proofs.Following.{all_append}
 use Rattle.seam_call.specs.declared.order.Order.TheVariants as order
 use Rattle.seam_entity.specs.declared.message.Msg.TheVariants.{Call}
-use Rattle.seam_law_rounds.proofs.Loading.{node_there}
-use Rattle.seam_law_rounds.proofs.Ready.{quiet_home}
-use Rattle.seam_law_rounds.proofs.Shape.{frame_leads, many_leads}
-use Rattle.seam_law_rounds.proofs.Giving.{reaps_framed, reaps_cell, reals_stay}
-use Rattle.seam_law_rounds.proofs.Phases.{calm_leads}
+use Rattle.seam_law_rounds.proofs.Shape.{many_leads}
 use Rattle.seam_law_rounds.proofs.Reaping as reaping
 use Rattle.seam_law_rounds.proofs.Reaping.{is_told}
-use Rattle.seam_law_ghosts.proofs.NoStrays.{reaps_tasks}
 use Rattle.seam_law_bounds.proofs.Bare.{IsBare, bare_leads}
-use Rattle.seam_law_calls.proofs.WitnessKept.{all_weaker}
 use Rattle.seam_law_bounds.proofs.Batched.{OrderIs, calls_are}
 use Rattle.seam_law_bounds.proofs.Cans.{base_can, can_by}
 use Rattle.seam_law_bounds.proofs.Given.{reaps_add}

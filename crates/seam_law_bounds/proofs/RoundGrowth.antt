@@ -1,28 +1,16 @@
 -- What a round adds to the numbers of a world.
-use Rattle.std.proofs.Common.{◌≡◌, ℕ, ◌+◌, ◌*◌, ◌≤◌, ◌⊎◌, List, length, Option, None, Some, refl, sym, ap, ◌∙◌, subst, arith, inl, inr}
-use Rattle.std.specs.Prelude.{slice_get}
-use Rattle.std.specs.List.{AllByRecursion}
+use Rattle.seam_law_bounds.proofs.Prelude.{◌≡◌, ℕ, ◌+◌, ◌*◌, ◌≤◌, ◌⊎◌, List, length, Option, None, Some, refl, sym, ap, ◌∙◌, subst, arith}
+use Rattle.seam_law_bounds.proofs.Prelude.{inl, inr, slice_get, AllByRecursion, mul-le-mul_left, Batch, RealView, WitnessView, CellView}
+use Rattle.seam_law_bounds.proofs.Prelude.{loaded, World, Cell, slot_at, letters_of, Frame, has_of, has_none, real_in, real_of, sent_of}
+use Rattle.seam_law_bounds.proofs.Prelude.{sent_by, HasToldAtMost, real_at, framed, numbers_of, MayBeLoaded, AreCopiesBetweenRounds}
+use Rattle.seam_law_bounds.proofs.Prelude.{GoesThroughRound, HadSameReal, having_looked, looked_by, LooksAmong, LooksFit, Always, AreAtMost}
+use Rattle.seam_law_bounds.proofs.Prelude.{burden_leads, gone_leads, in_frame, frame_loaded, no_mail, no_held, weighs, real_room, Somewhere}
+use Rattle.seam_law_bounds.proofs.Prelude.{Nowhere, search_real, called_between, cell_at}
 use Rattle.std.specs.FinMap as table
-use Rattle.std.proofs.Math.Nat.{mul-le-mul_left}
-use Rattle.seam_node_steps.specs.Prelude.{Batch, RealView, WitnessView, CellView, loaded, World, Cell}
-use Rattle.seam_law_flow.specs.Prelude.{slot_at, letters_of}
-use Rattle.seam_law_calls.specs.Prelude.{Frame, has_of, has_none, real_in, real_of, sent_of, sent_by, HasToldAtMost, real_at}
-use Rattle.seam_law_rounds.specs.Prelude.{framed, numbers_of, MayBeLoaded}
-use Rattle.seam_law_ghosts.specs.Prelude.{AreCopiesBetweenRounds, GoesThroughRound, HadSameReal}
-use Rattle.seam_law_clients.specs.Prelude.{having_looked, looked_by}
-use Rattle.seam_law_bounds.specs.Prelude.{LooksAmong, LooksFit, Always, AreAtMost}
-use Rattle.seam_law_calls.proofs.Easing.{burden_leads}
-use Rattle.seam_law_calls.proofs.Gone.{gone_leads}
-use Rattle.seam_law_rounds.proofs.Framing.{in_frame}
-use Rattle.seam_law_rounds.proofs.Going.{frame_loaded}
-use Rattle.seam_law_rounds.proofs.Loaded.{no_mail, real_loaded}
-use Rattle.seam_law_rounds.proofs.Room.{no_held, weighs, real_room}
-use Rattle.seam_law_rounds.proofs.Shape.{Somewhere, Nowhere, search_real}
+use Rattle.seam_law_rounds.proofs.Loaded.{real_loaded}
 use Rattle.seam_law_rounds.proofs.Ticking.{looks_loaded}
 use Rattle.seam_law_bounds.proofs.There.{had_loaded}
 use Rattle.seam_law_clients.proofs.Reaping.{stays}
-use Rattle.seam_law_clients.proofs.Round.{called_between}
-use Rattle.seam_law_clients.proofs.ShownOnce.{cell_at}
 use Rattle.seam_law_bounds.proofs.ToldCounts.{tells_few}
 use Rattle.seam_law_bounds.proofs.Telling.{tells_at_most}
 

@@ -1,32 +1,20 @@
 -- How long a round is, where its nodes can do what they are to do.
-use Rattle.std.proofs.Common.{◌≡◌, ℕ, ◌+◌, ◌*◌, ◌≤◌, ◌⊎◌, Bool, true, false, List, [], ◌∷◌, length, Some, refl, sym, ap, ◌∙◌, subst, arith}
-use Rattle.std.proofs.Common.{inl, inr}
-use Rattle.std.specs.Prelude.{not, slice_get}
-use Rattle.std.specs.List.{AllByRecursion}
+use Rattle.seam_law_bounds.proofs.Prelude.{◌≡◌, ℕ, ◌+◌, ◌*◌, ◌≤◌, ◌⊎◌, Bool, true, false, List, [], ◌∷◌, length, Some, refl, sym, ap, ◌∙◌}
+use Rattle.seam_law_bounds.proofs.Prelude.{subst, arith, inl, inr, not, slice_get, AllByRecursion, slice_get-map, link, EachNode, Event}
+use Rattle.seam_law_bounds.proofs.Prelude.{Call as CallData, Order, Batch, rank_of, RealView, has_ready, may_execute, Msg, holders}
+use Rattle.seam_law_bounds.proofs.Prelude.{CellView, BaseView, PartView, stray_order, NodeView, World, node_has_work, Cell, Base, loaded}
+use Rattle.seam_law_bounds.proofs.Prelude.{slot_at, Frame, IsInFrame, order_about, has_of, has_none, NoneIsStray, RunsTo, framed}
+use Rattle.seam_law_bounds.proofs.Prelude.{node_loaded, MayBeLoaded, part_weight, Sizes, settle_weight, settling, order_weight, BaseCan}
+use Rattle.seam_law_bounds.proofs.Prelude.{AllCan, all_passes, HoldsNothing, entities, one_if_cell, cell_orders, base_orders, tick_orders}
+use Rattle.seam_law_bounds.proofs.Prelude.{quiet_links, weight_or, in_frame, settled_loaded, spared_loaded, loaded_is, node_there}
+use Rattle.seam_law_bounds.proofs.Prelude.{Somewhere, Nowhere, search_real, frame_leads, round_tasks, all_weaker}
 use Rattle.std.specs.FinMap as table
-use Rattle.std.proofs.lemmas.Option.{slice_get-map}
-use Rattle.seam_node_steps.specs.Prelude.{link, EachNode, Event, Call as CallData, Order, Batch, rank_of, RealView, has_ready, may_execute}
-use Rattle.seam_node_steps.specs.Prelude.{Msg, holders, CellView, BaseView, PartView, stray_order, NodeView, World, node_has_work, Cell}
-use Rattle.seam_node_steps.specs.Prelude.{Base, loaded}
-use Rattle.seam_law_flow.specs.Prelude.{slot_at}
-use Rattle.seam_law_calls.specs.Prelude.{Frame, IsInFrame, order_about, has_of, has_none, NoneIsStray, RunsTo}
-use Rattle.seam_law_rounds.specs.Prelude.{framed, node_loaded, MayBeLoaded}
-use Rattle.seam_law_bounds.specs.Prelude.{part_weight, Sizes, settle_weight, settling, order_weight, BaseCan, AllCan, all_passes}
-use Rattle.seam_law_bounds.specs.Prelude.{HoldsNothing, entities, one_if_cell, cell_orders, base_orders, tick_orders}
-use Rattle.seam_machine.proofs.Quiet.{quiet_links}
-use Rattle.seam_net_runs.specs.Sums.{weight_or}
 use Rattle.seam_call.specs.declared.order.Order.TheVariants as order
 use Rattle.seam_entity.specs.declared.message.Msg.TheVariants.{Call}
 use Rattle.seam_node_steps.specs.BaseCases as base
-use Rattle.seam_law_rounds.proofs.Framing.{in_frame}
-use Rattle.seam_law_rounds.proofs.Going.{settled_loaded, spared_loaded}
-use Rattle.seam_law_rounds.proofs.Loading.{loaded_is, node_there}
-use Rattle.seam_law_rounds.proofs.Shape.{Somewhere, Nowhere, search_real, frame_leads}
 use Rattle.seam_law_ghosts.proofs.Beginning.{unknown_loaded}
 use Rattle.seam_law_ghosts.proofs.InRound.{nobody}
-use Rattle.seam_law_ghosts.proofs.NoStrays.{round_tasks}
 use Rattle.seam_law_bounds.proofs.HandedOver.{passed_few}
-use Rattle.seam_law_calls.proofs.WitnessKept.{all_weaker}
 use Rattle.seam_law_calls.proofs.NodeStray.{none_is_stray}
 use Rattle.seam_law_rounds.proofs.PartsGoing.{none_strays}
 use Rattle.seam_law_bounds.proofs.Bare.{IsIdle, idle_leads}

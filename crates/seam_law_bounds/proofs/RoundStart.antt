@@ -1,31 +1,19 @@
 -- What a loaded world weighs, and how often its entities may yet settle.
-use Rattle.std.proofs.Common.{◌≡◌, ℕ, suc, ◌+◌, ◌*◌, ◌≤◌, ◌⊎◌, Bool, true, false, cond, eqb, List, [], ◌∷◌, ◌++◌, length, map, Option, None}
-use Rattle.std.proofs.Common.{Some, refl, sym, ap, ◌∙◌, subst, arith, inl, inr}
-use Rattle.std.specs.Prelude.{option_map, slice_get}
-use Rattle.std.specs.List.{AllByRecursion}
+use Rattle.seam_law_bounds.proofs.Prelude.{◌≡◌, ℕ, suc, ◌+◌, ◌*◌, ◌≤◌, ◌⊎◌, Bool, true, false, cond, eqb, List, [], ◌∷◌, ◌++◌, length, map}
+use Rattle.seam_law_bounds.proofs.Prelude.{Option, None, Some, refl, sym, ap, ◌∙◌, subst, arith, inl, inr, option_map, slice_get}
+use Rattle.seam_law_bounds.proofs.Prelude.{AllByRecursion, cases_eq, eq-eqb, ne_eqb, length-map, slice_get-map, link, EachNode, total}
+use Rattle.seam_law_bounds.proofs.Prelude.{Order, Batch, RealView, real_begins, Here, with_value, each_value, CellView, BaseView, NodeView}
+use Rattle.seam_law_bounds.proofs.Prelude.{World, node_has_work, Cell, Base, with_nodes, with_orders, order_if, ordered_at, cell_begins}
+use Rattle.seam_law_bounds.proofs.Prelude.{cell_round, loaded, slot_at, Frame, IsAt, order_concerns, orders_of, has_of, has_none, held_in}
+use Rattle.seam_law_bounds.proofs.Prelude.{real_in, reaped_by_order, real_at, framed, each, made, node_loaded, MayBegin, Sizes}
+use Rattle.seam_law_bounds.proofs.Prelude.{settle_weight, settling, look_weight, real_weight, part_weight, order_weight, node_weight}
+use Rattle.seam_law_bounds.proofs.Prelude.{letter_weight, world_weight, HoldsNothing, reals_at, entities, one_if_cell, one_if_tick}
+use Rattle.seam_law_bounds.proofs.Prelude.{cell_orders, base_orders, tick_orders, quiet_links, quiet_tasks, weight_or, with_order}
+use Rattle.seam_law_bounds.proofs.Prelude.{loaded_is, node_there, nodes_after, settled_loaded, one_if, Surveys, loaded_surveys, no_held}
+use Rattle.seam_law_bounds.proofs.Prelude.{rows_none, look_cell, reals_stay}
 use Rattle.std.specs.FinMap as table
-use Rattle.std.proofs.lemmas.Bool.{cases_eq, eq-eqb, ne_eqb}
-use Rattle.std.proofs.lemmas.List.{length-map}
-use Rattle.std.proofs.lemmas.Option.{slice_get-map}
-use Rattle.seam_node_steps.specs.Prelude.{link, EachNode, total, Order, Batch, RealView, real_begins, Here, with_value, each_value}
-use Rattle.seam_node_steps.specs.Prelude.{CellView, BaseView, NodeView, World, node_has_work, Cell, Base, with_nodes, with_orders, order_if}
-use Rattle.seam_node_steps.specs.Prelude.{ordered_at, cell_begins, cell_round, loaded}
-use Rattle.seam_law_flow.specs.Prelude.{slot_at}
-use Rattle.seam_law_calls.specs.Prelude.{Frame, IsAt, order_concerns, orders_of, has_of, has_none, held_in, real_in, reaped_by_order}
-use Rattle.seam_law_calls.specs.Prelude.{real_at}
-use Rattle.seam_law_rounds.specs.Prelude.{framed, each, made, node_loaded, MayBegin}
-use Rattle.seam_law_bounds.specs.Prelude.{Sizes, settle_weight, settling, look_weight, real_weight, part_weight, order_weight, node_weight}
-use Rattle.seam_law_bounds.specs.Prelude.{letter_weight, world_weight, HoldsNothing, reals_at, entities, one_if_cell, one_if_tick}
-use Rattle.seam_law_bounds.specs.Prelude.{cell_orders, base_orders, tick_orders}
-use Rattle.seam_machine.proofs.Quiet.{quiet_links, quiet_tasks}
-use Rattle.seam_net_runs.specs.Sums.{weight_or}
 use Rattle.seam_call.specs.declared.order.Order.TheVariants as order
-use Rattle.seam_node_steps.specs.Loads.{with_order}
-use Rattle.seam_law_rounds.proofs.Loading.{loaded_is, node_there, nodes_after}
 use Rattle.seam_law_rounds.proofs.Framing.{node_begun}
-use Rattle.seam_law_rounds.proofs.Going.{settled_loaded}
-use Rattle.seam_law_rounds.proofs.Room.{one_if, Surveys, loaded_surveys, no_held, rows_none}
-use Rattle.seam_law_rounds.proofs.Giving.{look_cell, reals_stay}
 use Rattle.seam_law_bounds.specs.Phases.{one_if_base}
 use Rattle.seam_law_bounds.proofs.Counts.{none_times}
 use Rattle.seam_law_bounds.proofs.Given.{AreAt, sum_exceeds, sum_adds, turned, nodes_stay, order_stays, orders_add}

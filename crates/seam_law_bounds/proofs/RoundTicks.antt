@@ -1,11 +1,8 @@
 -- A round ends, with its ticks.
-use Rattle.std.proofs.Common.{◌≡◌, ℕ, zero, suc, ◌+◌, ◌*◌, ◌≤◌, List, length, refl, ap, arith}
-use Rattle.std.specs.List.{range_with_len}
-use Rattle.seam_node_steps.specs.Prelude.{total, Event, Batch, cell_count, World, loaded}
-use Rattle.seam_law_calls.specs.Prelude.{Frame, RunsTo}
-use Rattle.seam_law_rounds.specs.Prelude.{MayBeLoaded}
-use Rattle.seam_law_bounds.specs.Prelude.{Sizes, look_weight, tick_weight, order_weight, AllCan, LooksFit, Always, HoldsNothing, entities}
-use Rattle.seam_law_bounds.specs.Prelude.{cell_orders, base_orders, tick_orders, events_of_round}
+use Rattle.seam_law_bounds.proofs.Prelude.{◌≡◌, ℕ, zero, suc, ◌+◌, ◌*◌, ◌≤◌, List, length, refl, ap, arith, range_with_len, total, Event}
+use Rattle.seam_law_bounds.proofs.Prelude.{Batch, cell_count, World, loaded, Frame, RunsTo, MayBeLoaded, Sizes, look_weight, tick_weight}
+use Rattle.seam_law_bounds.proofs.Prelude.{order_weight, AllCan, LooksFit, Always, HoldsNothing, entities, cell_orders, base_orders}
+use Rattle.seam_law_bounds.proofs.Prelude.{tick_orders, events_of_round}
 use Rattle.seam_call.specs.declared.order.Order.TheVariants as order
 use Rattle.seam_law_bounds.proofs.Cans.{can_look}
 use Rattle.seam_law_bounds.proofs.RoundPhase.{g, start, frame_then, base_then, cell_then, round_long}

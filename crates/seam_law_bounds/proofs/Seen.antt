@@ -1,28 +1,16 @@
 -- Where witnesses looked, views name what is there.
-use Rattle.std.proofs.Common.{◌≡◌, ℕ, ◌⊎◌, Bool, true, false, cond, is_some, List, [], ◌∷◌, map, Option, None, Some, refl, sym, ap, ◌∙◌}
-use Rattle.std.proofs.Common.{subst, inl, inr}
-use Rattle.std.specs.Prelude.{option_map, slice_get}
-use Rattle.std.specs.List.{AllByRecursion}
-use Rattle.seam_node_steps.specs.Prelude.{IsQuiet, Event, State, Property, ghost_of, other_of, projected, GhostCopy, RealView, WitnessView}
-use Rattle.seam_node_steps.specs.Prelude.{holders, seen_as, CellView, known_to, is_another, World, node_has_work, Cell, look_loaded}
-use Rattle.seam_law_flow.specs.Prelude.{letters_of}
-use Rattle.seam_law_calls.specs.Prelude.{Frame, mine, RunsTo, real_at}
-use Rattle.seam_law_rounds.specs.Prelude.{IsBetweenRounds, HasPartsBetweenRounds}
-use Rattle.seam_law_ghosts.specs.Prelude.{HadSameReal, AreCopiesBetweenRounds}
-use Rattle.seam_law_clients.specs.Prelude.{witness_looked, looked_by, having_looked, HaveRoomToLook}
-use Rattle.seam_law_bounds.specs.Prelude.{EachSeenIsHeld}
-use Rattle.seam_machine.proofs.Quiet.{quiet_links}
+use Rattle.seam_law_bounds.proofs.Prelude.{◌≡◌, ℕ, ◌⊎◌, Bool, true, false, cond, is_some, List, [], ◌∷◌, map, Option, None, Some, refl, sym}
+use Rattle.seam_law_bounds.proofs.Prelude.{ap, ◌∙◌, subst, inl, inr, option_map, slice_get, AllByRecursion, IsQuiet, Event, State, Property}
+use Rattle.seam_law_bounds.proofs.Prelude.{ghost_of, other_of, projected, GhostCopy, RealView, WitnessView, holders, seen_as, CellView}
+use Rattle.seam_law_bounds.proofs.Prelude.{known_to, is_another, World, node_has_work, Cell, look_loaded, letters_of, Frame, mine, RunsTo}
+use Rattle.seam_law_bounds.proofs.Prelude.{real_at, IsBetweenRounds, HasPartsBetweenRounds, HadSameReal, AreCopiesBetweenRounds}
+use Rattle.seam_law_bounds.proofs.Prelude.{witness_looked, looked_by, having_looked, HaveRoomToLook, EachSeenIsHeld, quiet_links, seen_of}
+use Rattle.seam_law_bounds.proofs.Prelude.{one_holder, look_keeps, Somewhere, Nowhere, search_real, looks_leave, known_at, known_to_is}
+use Rattle.seam_law_bounds.proofs.Prelude.{cell_at}
 use Rattle.seam_defs.specs.declared.flags.Group.TheVariants as group
-use Rattle.seam_view.specs.Replica.{seen_of}
-use Rattle.seam_law_rounds.proofs.Ready.{one_holder}
-use Rattle.seam_law_rounds.proofs.Looking.{look_keeps}
-use Rattle.seam_law_rounds.proofs.Shape.{Somewhere, Nowhere, search_real}
-use Rattle.seam_law_ghosts.proofs.Ends.{looks_leave}
 use Rattle.seam_law_clients.proofs.Near.{as_seen, seen_found}
-use Rattle.seam_node_steps.proofs.Knowing.{known_at, known_to_is}
 use Rattle.seam_law_clients.proofs.OneLook.{known_nowhere}
 use Rattle.seam_law_clients.proofs.LookEnds.{looked}
-use Rattle.seam_law_clients.proofs.ShownOnce.{cell_at}
 use Rattle.seam_law_bounds.proofs.Viewed.{EachKnown, viewed_known}
 
 module _ (f : Frame) (u : World) (between : IsBetweenRounds f u) (parts : HasPartsBetweenRounds f u) (copies : AreCopiesBetweenRounds f u)

@@ -1,31 +1,22 @@
 -- What a step of one entity's slot leaves and sends weighs less than the slot and what the step is fed.
-use Rattle.std.proofs.Common.{◌≡◌, ℕ, ◌+◌, ◌*◌, ◌<◌, ◌≤◌, Bool, true, false, List, [], ◌∷◌, length, Option, None, Some, refl, sym, ap, ◌∙◌}
-use Rattle.std.proofs.Common.{arith}
-use Rattle.std.specs.Prelude.{not, ◌&&◌, ◌||◌, ◌==◌, is_none, is_some, if◌then◌else◌, filter_map}
-use Rattle.std.specs.Ordering.{nat_cmp}
-use Rattle.std.specs.declared.cmp.Ordering.{Ordering}
-use Rattle.std.specs.declared.cmp.Ordering.TheVariants.{Less, Equal, Greater}
+use Rattle.seam_law_bounds.proofs.Prelude.{◌≡◌, ℕ, ◌+◌, ◌*◌, ◌<◌, ◌≤◌, Bool, true, false, List, [], ◌∷◌, length, Option, None, Some, refl}
+use Rattle.seam_law_bounds.proofs.Prelude.{sym, ap, ◌∙◌, arith, not, ◌&&◌, ◌||◌, ◌==◌, is_none, is_some, if◌then◌else◌, filter_map, nat_cmp}
+use Rattle.seam_law_bounds.proofs.Prelude.{Ordering, Less, Equal, Greater, total-append, weight_or, sent_weight, sent_of_chosen}
+use Rattle.seam_law_bounds.proofs.Prelude.{sent_of_range_bounds, Division, Cells, OrderView, next_item, Call as CallData, GhostCopy, Shown}
+use Rattle.seam_law_bounds.proofs.Prelude.{rank_of, order_of, RealView, WitnessView, Msg, Hand, Current, GhostSet, GhostDrop, Reap, Here}
+use Rattle.seam_law_bounds.proofs.Prelude.{cell_count, base_of, has_ready, ready_order, order_is_ready, copy_of_real, may_settle}
+use Rattle.seam_law_bounds.proofs.Prelude.{may_execute, may_call, with_offer, executed, executed_ready, shows, settled_to, Slot, NextPlace}
+use Rattle.seam_law_bounds.proofs.Prelude.{SlotStep, slot_after, told, told_unless, ghost_message, ghost_messages, gone_to, stays}
+use Rattle.seam_law_bounds.proofs.Prelude.{settled_by, settled, home_after, haunts_at, call_next_place, stray_call, hand_over_comes}
+use Rattle.seam_law_bounds.proofs.Prelude.{stray_hand, ghost_set, stray_ghost_set, ghost_drop, drop_at, drop_if, reap, stray_reap}
+use Rattle.seam_law_bounds.proofs.Prelude.{survey_task, stray_survey, executes_ready, ready_in, is_stray, slot_steps, ready_call_task}
+use Rattle.seam_law_bounds.proofs.Prelude.{stray_ready_call, Known, numbered, own_due, shown_for, all_shown, looks_of, shown_of, look_by}
+use Rattle.seam_law_bounds.proofs.Prelude.{look_task, stray_look, Sizes, settle_weight, settling, look_weight, real_weight, letter_weight}
+use Rattle.seam_law_bounds.proofs.Prelude.{is_left, Look, found, offered, call, turn_counts, early_counts, taken_counts, equal_of}
+use Rattle.seam_law_bounds.proofs.Prelude.{greater_of}
 use Rattle.std.specs.FinSet as set
-use Rattle.seam_machine.proofs.Totals.{total-append}
-use Rattle.seam_net_runs.specs.Sums.{weight_or}
-use Rattle.seam_net_runs.specs.Weights.{sent_weight}
-use Rattle.seam_net_runs.proofs.MapSums.{sent_of_chosen, sent_of_range_bounds}
-use Rattle.seam_node_steps.specs.Prelude.{Division, Cells, OrderView, next_item, Call as CallData, GhostCopy, Shown, rank_of, order_of}
-use Rattle.seam_node_steps.specs.Prelude.{RealView, WitnessView, Msg, Hand, Current, GhostSet, GhostDrop, Reap, Here, cell_count, base_of}
-use Rattle.seam_node_steps.specs.Prelude.{has_ready, ready_order, order_is_ready, copy_of_real, may_settle, may_execute, may_call}
-use Rattle.seam_node_steps.specs.Prelude.{with_offer, executed, executed_ready, shows, settled_to, Slot, NextPlace, SlotStep, unless_stray}
-use Rattle.seam_node_steps.specs.Prelude.{slot_after, told, told_unless, ghost_message, ghost_messages, gone_to, stays, settled_by, settled}
-use Rattle.seam_node_steps.specs.Prelude.{home_after, haunts_at, call_next_place, stray_call, hand_over_comes, stray_hand, ghost_set}
-use Rattle.seam_node_steps.specs.Prelude.{stray_ghost_set, ghost_drop, drop_at, drop_if, reap, stray_reap, survey_task, stray_survey}
-use Rattle.seam_node_steps.specs.Prelude.{executes_ready, ready_in, is_stray, slot_steps, ready_call_task, stray_ready_call, Known}
-use Rattle.seam_node_steps.specs.Prelude.{numbered, own_due, shown_for, all_shown, looks_of, shown_of, look_by, look_task, stray_look}
-use Rattle.seam_law_bounds.specs.Prelude.{Sizes, settle_weight, settling, look_weight, real_weight, letter_weight, is_left}
-use Rattle.seam_view.specs.declared.Look.{Look}
+use Rattle.seam_node_steps.specs.Prelude.{unless_stray}
 use Rattle.seam_entity.specs.declared.message.Msg.TheVariants.{Call}
-use Rattle.seam_table.proofs.Found.{found}
-use Rattle.seam_node_steps.specs.CellCases.{offered, call}
-use Rattle.seam_law_calls.proofs.HeldCounts.{turn_counts, early_counts, taken_counts}
-use Rattle.seam_law_calls.proofs.PartSteps.{equal_of, greater_of}
 use Rattle.seam_law_bounds.proofs.Counts.{one_more, chosen_are_few}
 
 module _ (z : Sizes) where

@@ -1,18 +1,11 @@
 -- Where a phase begins: no one looks, and base parts hold nothing.
-use Rattle.std.proofs.Common.{◌≡◌, ℕ, ◌≤◌, ◌⊎◌, Bool, true, false, cond, List, [], ◌∷◌, Option, None, Some, refl, sym, ap, ◌∙◌, subst}
-use Rattle.std.proofs.Common.{arith, inl, inr}
-use Rattle.std.specs.Prelude.{slice_get}
-use Rattle.std.specs.List.{AllByRecursion}
+use Rattle.seam_law_bounds.proofs.Prelude.{◌≡◌, ℕ, ◌≤◌, ◌⊎◌, Bool, true, false, cond, List, [], ◌∷◌, Option, None, Some, refl, sym, ap, ◌∙◌}
+use Rattle.seam_law_bounds.proofs.Prelude.{subst, arith, inl, inr, slice_get, AllByRecursion, cases_eq, link, EachNode, Order, RealView}
+use Rattle.seam_law_bounds.proofs.Prelude.{Msg, PartView, NodeView, World, Cell, Base, slot_at, letters_of, more_letter, Frame, IsInFrame}
+use Rattle.seam_law_bounds.proofs.Prelude.{Has, mine, times, order_concerns, orders_of, has_of, has_none, entity_flow, real_of}
+use Rattle.seam_law_bounds.proofs.Prelude.{base_call_in, update_in, base_call_of, calls_ordered, sent_by, is_tick_order, tick_in}
+use Rattle.seam_law_bounds.proofs.Prelude.{HasToldAtMost, HasNoLooks, real_at, part_weight, weight_or, Somewhere, Nowhere, search_real}
 use Rattle.std.specs.FinMap as table
-use Rattle.std.proofs.lemmas.Bool.{cases_eq}
-use Rattle.seam_node_steps.specs.Prelude.{link, EachNode, Order, RealView, Msg, PartView, NodeView, World, Cell, Base}
-use Rattle.seam_law_flow.specs.Prelude.{slot_at, letters_of, more_letter}
-use Rattle.seam_law_calls.specs.Prelude.{Frame, IsInFrame, Has, mine, times, order_concerns, orders_of, has_of, has_none, entity_flow}
-use Rattle.seam_law_calls.specs.Prelude.{real_of, base_call_in, update_in, base_call_of, calls_ordered, sent_by, is_tick_order, tick_in}
-use Rattle.seam_law_calls.specs.Prelude.{HasToldAtMost, HasNoLooks, real_at}
-use Rattle.seam_law_bounds.specs.Prelude.{part_weight}
-use Rattle.seam_net_runs.specs.Sums.{weight_or}
-use Rattle.seam_law_rounds.proofs.Shape.{Somewhere, Nowhere, search_real}
 use Rattle.seam_law_bounds.proofs.Bare.{HoldsNone, IsBare}
 
 -- a cell whose look list is empty, and a base node whose orders are such and whose parts hold nothing

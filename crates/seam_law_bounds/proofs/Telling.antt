@@ -1,16 +1,10 @@
 -- What a witness told stays within what it told at the start and what its looks may tell, by how many entities there are to look at.
-use Rattle.std.proofs.Common.{◌≡◌, ℕ, ◌+◌, ◌*◌, ◌≤◌, true, List, [], ◌∷◌, ◌++◌, length, Some, sym, ap, ◌∙◌, arith}
-use Rattle.std.proofs.Math.Nat.{mul-le-mul_left}
-use Rattle.seam_node_steps.specs.Prelude.{cells_of, happens, enabled, Occurs, Event, Here, base_of, cell_count, RealView, WitnessView}
-use Rattle.seam_node_steps.specs.Prelude.{Known, shown_of, CellView, known_to, World, node_steps, node_has_work, Cell}
-use Rattle.seam_law_flow.specs.Prelude.{slot_at}
-use Rattle.seam_law_calls.specs.Prelude.{Frame, IsInFrame, has_of, has_none, real_in, sent_of, sent_by, EachReal, HasToldAtMost, looks_left}
-use Rattle.seam_law_calls.specs.Prelude.{RunsTo}
-use Rattle.seam_law_bounds.specs.Prelude.{LooksAmong, LooksFit, Always}
-use Rattle.seam_machine.proofs.Occurring.{occurs}
-use Rattle.seam_net_runs.proofs.Runs.{leads_keeps, leads_extend, leads_nowhere}
-use Rattle.seam_law_calls.proofs.Classify.{frame_happens}
-use Rattle.seam_law_calls.proofs.WitnessKept.{ByWitness, each_weaker}
+use Rattle.seam_law_bounds.proofs.Prelude.{◌≡◌, ℕ, ◌+◌, ◌*◌, ◌≤◌, true, List, [], ◌∷◌, ◌++◌, length, Some, sym, ap, ◌∙◌, arith}
+use Rattle.seam_law_bounds.proofs.Prelude.{mul-le-mul_left, cells_of, happens, enabled, Occurs, Event, Here, base_of, cell_count, RealView}
+use Rattle.seam_law_bounds.proofs.Prelude.{WitnessView, Known, shown_of, CellView, known_to, World, node_steps, node_has_work, Cell}
+use Rattle.seam_law_bounds.proofs.Prelude.{slot_at, Frame, IsInFrame, has_of, has_none, real_in, sent_of, sent_by, EachReal, HasToldAtMost}
+use Rattle.seam_law_bounds.proofs.Prelude.{looks_left, RunsTo, LooksAmong, LooksFit, Always, occurs, leads_keeps, leads_extend}
+use Rattle.seam_law_bounds.proofs.Prelude.{leads_nowhere, frame_happens, ByWitness, each_weaker}
 use Rattle.seam_law_calls.proofs.Looking.{looked_at}
 use Rattle.seam_law_calls.proofs.LooksLeft.{looks_left_happens, looks_left_falls}
 use Rattle.seam_law_calls.proofs.Telling.{Looked, each_looked}

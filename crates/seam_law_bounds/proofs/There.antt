@@ -1,37 +1,22 @@
 -- A loaded world has to look at what is there: by the records its copies and views name no entities but those that have a real.
-use Rattle.std.proofs.Common.{◌≡◌, ℕ, zero, suc, ◌≤◌, ◌⊎◌, Bool, true, false, cond, ◌||◌, List, [], ◌∷◌, ◌++◌, length, Option, None, Some}
-use Rattle.std.proofs.Common.{refl, sym, ap, ◌∙◌, subst, arith, inl, inr, eqb}
-use Rattle.std.specs.Prelude.{is_some, filter, map, nat_eq, option_map, slice_get}
-use Rattle.std.specs.List.{AllByRecursion}
-use Rattle.std.specs.Map.{keys_of}
-use Rattle.std.specs.Ordering.{nat_cmp, eq_by_cmp}
+use Rattle.seam_law_bounds.proofs.Prelude.{◌≡◌, ℕ, zero, suc, ◌≤◌, ◌⊎◌, Bool, true, false, cond, ◌||◌, List, [], ◌∷◌, ◌++◌, length, Option}
+use Rattle.seam_law_bounds.proofs.Prelude.{None, Some, refl, sym, ap, ◌∙◌, subst, arith, inl, inr, eqb, is_some, filter, map, nat_eq}
+use Rattle.seam_law_bounds.proofs.Prelude.{option_map, slice_get, AllByRecursion, keys_of, nat_cmp, eq_by_cmp, eq-eqb, nat_tests}
+use Rattle.seam_law_bounds.proofs.Prelude.{length-append, length-map, Division, leaf_at, cells_of, link, total, Event, copy_in, Create}
+use Rattle.seam_law_bounds.proofs.Prelude.{Order, Batch, GhostCopy, Here, RealView, WitnessView, created, real_begins, holders, Map}
+use Rattle.seam_law_bounds.proofs.Prelude.{number_of, CellView, has_witness, witnesses, NodeView, World, node_has_work, Cell, Base, real_if}
+use Rattle.seam_law_bounds.proofs.Prelude.{created_at, with_witness, attached, cell_round, base_round, ordered_at, loaded, slot_at}
+use Rattle.seam_law_bounds.proofs.Prelude.{letters_of, Frame, has_of, has_none, real_in, real_of, RunsTo, real_at, framed, made}
+use Rattle.seam_law_bounds.proofs.Prelude.{node_loaded, MayBeLoaded, AreCopiesBetweenRounds, is_among, AllAmong, LooksAmong, EachSeenIsHeld}
+use Rattle.seam_law_bounds.proofs.Prelude.{HoldsNothing, entities, reals_at, all_witnesses, witnesses_at, cell_orders, base_orders}
+use Rattle.seam_law_bounds.proofs.Prelude.{tick_orders, events_of_round, quiet_links, get-set_at, none_counts, in_frame, one_after}
+use Rattle.seam_law_bounds.proofs.Prelude.{each_keeps, Any, any, loaded_is, get-each_value, slot_is, no_mail, holds_kept, Somewhere}
+use Rattle.seam_law_bounds.proofs.Prelude.{Nowhere, search_real, all_weaker}
 use Rattle.std.specs.FinMap as table
 use Rattle.std.specs.FinMap.Entries.{find as key_find}
-use Rattle.std.proofs.lemmas.Bool.{eq-eqb}
-use Rattle.std.proofs.lemmas.Bool.Decides.{nat_tests}
-use Rattle.std.proofs.lemmas.List.{length-append, length-map}
 use Rattle.std.proofs.lemmas.List.Folds.{list_any-append}
-use Rattle.seam_node_steps.specs.Prelude.{Division, leaf_at, cells_of, link, total, Event, copy_in, Create, Order, Batch, GhostCopy, Here}
-use Rattle.seam_node_steps.specs.Prelude.{RealView, WitnessView, created, real_begins, holders, Map, number_of, CellView, has_witness}
-use Rattle.seam_node_steps.specs.Prelude.{witnesses, NodeView, World, node_has_work, Cell, Base, real_if, created_at, with_witness}
-use Rattle.seam_node_steps.specs.Prelude.{attached, cell_round, base_round, ordered_at, loaded}
-use Rattle.seam_law_flow.specs.Prelude.{slot_at, letters_of}
-use Rattle.seam_law_calls.specs.Prelude.{Frame, has_of, has_none, real_in, real_of, RunsTo, real_at}
-use Rattle.seam_law_rounds.specs.Prelude.{framed, made, node_loaded, MayBeLoaded}
-use Rattle.seam_law_ghosts.specs.Prelude.{AreCopiesBetweenRounds}
-use Rattle.seam_law_bounds.specs.Prelude.{is_among, AllAmong, LooksAmong, EachSeenIsHeld, HoldsNothing, entities, reals_at, all_witnesses}
-use Rattle.seam_law_bounds.specs.Prelude.{witnesses_at, cell_orders, base_orders, tick_orders, events_of_round}
-use Rattle.seam_machine.proofs.Quiet.{quiet_links}
-use Rattle.seam_node_steps.proofs.Slots.{get-set_at}
-use Rattle.seam_law_calls.proofs.Counting.{none_counts}
-use Rattle.seam_law_rounds.proofs.Framing.{in_frame}
-use Rattle.seam_law_rounds.proofs.Going.{one_after}
-use Rattle.seam_law_rounds.proofs.Loading.{each_keeps, Any, any, loaded_is, get-each_value}
-use Rattle.seam_law_rounds.proofs.Loaded.{slot_is, no_mail, holds_kept}
-use Rattle.seam_law_rounds.proofs.Shape.{Somewhere, Nowhere, search_real}
 use Rattle.seam_law_ghosts.proofs.Loading.{home_loaded}
 use Rattle.seam_law_ghosts.proofs.Rounding.{loaded_copied}
-use Rattle.seam_law_calls.proofs.WitnessKept.{all_weaker}
 use Rattle.seam_law_rounds.proofs.Attaching.{sees_loaded}
 use Rattle.seam_law_bounds.proofs.Among.{always_among}
 use Rattle.seam_law_bounds.proofs.LookStarts.{in_cell, round_is_bounded}

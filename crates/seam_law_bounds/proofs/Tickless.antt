@@ -1,13 +1,9 @@
 -- A round without ticks ends.
-use Rattle.std.proofs.Common.{◌≡◌, ℕ, ◌+◌, ◌*◌, ◌≤◌, false, List, [], ◌∷◌, length, refl, arith}
-use Rattle.std.specs.List.{AllByRecursion}
-use Rattle.seam_node_steps.specs.Prelude.{EachNode, total, Event, Order, Batch, World}
-use Rattle.seam_law_calls.specs.Prelude.{Frame, is_tick_order, HasNoLooks, RunsTo}
-use Rattle.seam_law_rounds.specs.Prelude.{MayBeLoaded}
-use Rattle.seam_law_bounds.specs.Prelude.{Sizes, order_weight, AllCan, HoldsNothing, entities, one_if_tick, cell_orders, base_orders}
-use Rattle.seam_law_bounds.specs.Prelude.{tick_orders, events_of_round}
+use Rattle.seam_law_bounds.proofs.Prelude.{◌≡◌, ℕ, ◌+◌, ◌*◌, ◌≤◌, false, List, [], ◌∷◌, length, refl, arith, AllByRecursion, EachNode}
+use Rattle.seam_law_bounds.proofs.Prelude.{total, Event, Order, Batch, World, Frame, is_tick_order, HasNoLooks, RunsTo, MayBeLoaded, Sizes}
+use Rattle.seam_law_bounds.proofs.Prelude.{order_weight, AllCan, HoldsNothing, entities, one_if_tick, cell_orders, base_orders, tick_orders}
+use Rattle.seam_law_bounds.proofs.Prelude.{events_of_round, looks_lead}
 use Rattle.seam_call.specs.declared.order.Order.TheVariants as order
-use Rattle.seam_law_calls.proofs.NoLooks.{looks_lead}
 use Rattle.seam_law_bounds.proofs.Cans.{can_by}
 use Rattle.seam_law_bounds.proofs.Counts.{none_times}
 use Rattle.seam_law_bounds.proofs.RoundPhase.{g, start, plain_with, frame_start, empty_start, sole_start, frame_then, base_then, cell_then}

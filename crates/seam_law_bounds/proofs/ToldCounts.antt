@@ -1,11 +1,8 @@
 -- How much one look tells, by how many entities there are to look at.
-use Rattle.std.proofs.Common.{◌≡◌, ℕ, zero, suc, ◌+◌, ◌≤◌, Bool, true, false, List, [], ◌∷◌, length, filter_map, Some, refl, sym, subst}
-use Rattle.std.proofs.Common.{arith}
-use Rattle.std.specs.Prelude.{slice_get}
+use Rattle.seam_law_bounds.proofs.Prelude.{◌≡◌, ℕ, zero, suc, ◌+◌, ◌≤◌, Bool, true, false, List, [], ◌∷◌, length, filter_map, Some, refl}
+use Rattle.seam_law_bounds.proofs.Prelude.{sym, subst, arith, slice_get, copy_in, Shown, Here, RealView, WitnessView, Known, shown_for}
+use Rattle.seam_law_bounds.proofs.Prelude.{own_due, looks_of, shown_of, CellView, known_to, World, Cell, LooksAmong, LooksFit}
 use Rattle.std.specs.FinMap as table
-use Rattle.seam_node_steps.specs.Prelude.{copy_in, Shown, Here, RealView, WitnessView, Known, shown_for, own_due, looks_of, shown_of}
-use Rattle.seam_node_steps.specs.Prelude.{CellView, known_to, World, Cell}
-use Rattle.seam_law_bounds.specs.Prelude.{LooksAmong, LooksFit}
 use Rattle.seam_law_calls.proofs.Below.{mapped_few}
 
 -- a world of one cell has that one alone

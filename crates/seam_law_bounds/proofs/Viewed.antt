@@ -1,17 +1,10 @@
 -- After a look a view has no entity but those that were known.
-use Rattle.std.proofs.Common.{◌≡◌, ℕ, Bool, true, false, cond, eqb, ◌||◌, is_some, List, [], ◌∷◌, ◌++◌, map, filter, Option, None, Some}
-use Rattle.std.proofs.Common.{refl, sym, ap, ◌∙◌, subst, arith}
-use Rattle.std.specs.List.{AllByRecursion, IsDistinct, list_any}
-use Rattle.std.specs.Map.{keys_of}
-use Rattle.std.proofs.lemmas.Bool.{eq-eqb}
-use Rattle.std.proofs.lemmas.Bool.Decides.{nat_tests}
-use Rattle.std.proofs.lemmas.List.Sums.{fold-append}
-use Rattle.seam_geo.specs.declared.pos.Pos.{Pos}
-use Rattle.seam_view.specs.declared.Seen.{Seen}
-use Rattle.seam_view.specs.declared.Look.{Look}
+use Rattle.seam_law_bounds.proofs.Prelude.{◌≡◌, ℕ, Bool, true, false, cond, eqb, ◌||◌, is_some, List, [], ◌∷◌, ◌++◌, map, filter, Option}
+use Rattle.seam_law_bounds.proofs.Prelude.{None, Some, refl, sym, ap, ◌∙◌, subst, arith, AllByRecursion, list_any, keys_of, eq-eqb}
+use Rattle.seam_law_bounds.proofs.Prelude.{nat_tests, fold-append, Pos, Seen, Look, Replica, IsView, seen_of, placed, without}
+use Rattle.seam_law_bounds.proofs.Prelude.{after_showing, after_look, after_looks, leaves, leaving, changed, entering, one_look}
+use Rattle.std.specs.List.{IsDistinct}
 use Rattle.seam_view.specs.declared.Look.TheVariants as look
-use Rattle.seam_view.specs.Replica.{Replica, IsView, seen_of, placed, without, after_showing, after_look, after_looks}
-use Rattle.seam_view.specs.ViewLooks.{leaves, leaving, changed, entering, one_look}
 use Rattle.seam_view.proofs.Kept.{view_when_left}
 
 module _ (known : List Seen) where

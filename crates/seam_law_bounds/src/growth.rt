@@ -28,7 +28,7 @@ pub fn a_round_raises_numbers_little()
 {
     seam_law_ghosts::the_last_phases_leave_places();
     crate::nothing_held_goes_from_record_to_record();
-    crate::views_name_what_is_there();
+    crate::what_is_seen_is_held();
     crate::looks_are_about_what_there_is();
     seam_law_clients::each_witness_looks_once();
 }

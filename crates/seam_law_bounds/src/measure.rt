@@ -85,8 +85,8 @@ pub fn nothing_held_goes_from_record_to_record()
         RunsTo (look_loaded u) vs v → IsQuiet node_has_work v → HoldsNothing v }
 {}
 
-/// Views name what is there where a world is opened, and again after a round's calls, whatever its witnesses looked at.
-pub fn views_name_what_is_there()
+/// Each entity in a view has a holder where a world is opened, and again after a round's calls, whatever its witnesses looked at.
+pub fn what_is_seen_is_held()
     ensures opened { (defs : List TypeDef) (settings : Settings) →
         IsFrame (first_frame defs settings) → 1 ≤ settings.bases →
         EachSeenIsHeld (opened defs settings) }

@@ -36,7 +36,7 @@ pub fn a_round_keeps_what_bounds_it()
 {
     seam_defs::laws::others_see_the_ghost();
     crate::nothing_held_goes_from_record_to_record();
-    crate::views_name_what_is_there();
+    crate::what_is_seen_is_held();
     crate::reaps_end();
 }
 

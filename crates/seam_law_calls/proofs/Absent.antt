@@ -1,12 +1,11 @@
 -- An entity that is nowhere, and that nothing brings, stays so.
-use Rattle.std.proofs.Common.{◌≡◌, ℕ, Bool, true, false, cond, nat_lt, List, Option, None, Some, refl, sym, ap, ◌∙◌, subst}
-use Rattle.std.specs.List.{AllByRecursion}
-use Rattle.seam_node_steps.specs.Prelude.{Division, happens, Occurs, Event, Ghost, beat_in, copy_in, ghost_after, GhostCopy, RealView, Msg}
-use Rattle.seam_node_steps.specs.Prelude.{Hand}
-use Rattle.seam_node_steps.specs.Prelude.{GhostSet, World, node_steps}
-use Rattle.seam_law_calls.specs.Prelude.{Frame, here_at, IsInFrame, Has, AtCell, CellMoves, BaseMoves, Moves, at_a_cell, at_a_base, real_in}
-use Rattle.seam_law_calls.specs.Prelude.{IsBlank, CarriesNoEntity, IsAbsent, HasFewEntities, RunsTo}
-use Rattle.seam_law_calls.specs.CellMoves as move
+use Rattle.seam_law_calls.proofs.Prelude.{◌≡◌, ℕ, Bool, true, false, cond, nat_lt, List, Option, None, Some, refl, sym, ap, ◌∙◌, subst}
+use Rattle.seam_law_calls.proofs.Prelude.{AllByRecursion, Division, happens, Occurs, Event, Ghost, beat_in, copy_in, ghost_after, GhostCopy}
+use Rattle.seam_law_calls.proofs.Prelude.{RealView, Msg, Hand, GhostSet, World, node_steps, Frame, here_at, IsInFrame, Has, AtCell}
+use Rattle.seam_law_calls.proofs.Prelude.{BaseMoves, Moves, at_a_cell, at_a_base, real_in, IsBlank, CarriesNoEntity, IsAbsent}
+use Rattle.seam_law_calls.proofs.Prelude.{HasFewEntities, RunsTo}
+use Rattle.seam_law_calls.proofs.CellDeeds as deed
+use Rattle.seam_law_calls.proofs.CellDeeds.{CellDeeds, HeardOf, as_before, set_to, dropped, cell_deeds}
 use Rattle.seam_law_calls.proofs.Keeping.{all_happen, run_keeps, units}
 use Rattle.seam_law_calls.proofs.BaseDeeds.{base_keeps}
 
@@ -43,28 +42,20 @@ module _ (f : Frame) (e k : ℕ) (s : Has) (i : Option Msg) (t : Has) (sent : Li
   never : (r : RealView) → real_in s ≡ Some r → ⊥
   never r has = let z = sym here.real ∙ has in cc
 
-  cell_blank : {tree : Division} → CellMoves (here_at f k) tree e s.cell i t.cell sent → Stays
-  cell_blank (move.rests n d) = with_sent (slot_same _ refl d.state) _ d.sends tt
-  cell_blank (move.strays m n b d) = with_sent (slot_same _ refl d.state) _ d.sends tt
-  cell_blank (move.stays u r q changed has own acts at d) = absurd (never r has)
-  cell_blank (move.goes u r q changed j has own acts at n d) = absurd (never r has)
-  cell_blank (move.late c r n has may lt d) = absurd (never r has)
-  cell_blank (move.holds c r n own has mine may lt d) = absurd (never r has)
-  cell_blank (move.passes c p n own has at d) = with_sent (slot_same _ refl d.state) _ d.sends (tt, tt)
-  cell_blank (move.lands r n own has may d) = absurd (come (Hand r) n)
-  cell_blank (move.hears_set n c is has d) = absurd (come (GhostSet e n c) is)
-  cell_blank (move.ignores_set n c r is has d) = absurd (never r has)
-  cell_blank (move.hears_drop n is d) =
-      with_sent (record {
-        real = ap (λ (x : AtCell). x.slot.real) d.state ∙ here.real;
-        copy = ap (λ (x : AtCell). copy_in x.slot.ghost) d.state ∙ no_copy s.cell.slot.ghost n here.copy;
-      }) _ d.sends tt
-  cell_blank (move.reaped r n has own may d) = absurd (never r has)
-  cell_blank (move.ticks n st z) = with_sent (slot_same _ refl st) _ z tt
-  cell_blank (move.unlists n is at b d) = with_sent (slot_same _ refl d.state) _ d.sends tt
-  cell_blank (move.looks n r w known is at has own v small d) = absurd (never r has)
-  cell_blank (move.overlooks n known is at b d) = with_sent (slot_same _ refl d.state) _ d.sends tt
-  cell_blank (move.stuck r is has ready may d) = absurd (never r has)
+  cell_blank : {tree : Division} → CellDeeds (here_at f k) tree e s.cell i t.cell sent → Stays
+  cell_blank (deed.idles a z) = with_sent (record { real = a.real ∙ here.real; copy = copy_then a.heard }) _ z tt
+    where
+      copy_then : HeardOf e s.cell i t.cell → copy_in t.cell.slot.ghost ≡ None
+      copy_then (as_before is) = ap copy_in is ∙ here.copy
+      copy_then (set_to n c is none book) = absurd (come (GhostSet e n c) is)
+      copy_then (dropped n is book) = ap copy_in book ∙ no_copy s.cell.slot.ghost n here.copy
+  cell_blank (deed.stays u r q changed has own acts at d) = absurd (never r has)
+  cell_blank (deed.goes u r q changed j has own acts at n d) = absurd (never r has)
+  cell_blank (deed.holds c r n own has mine may lt d) = absurd (never r has)
+  cell_blank (deed.passes c p n own has at d) = with_sent (slot_same _ refl d.state) _ d.sends (tt, tt)
+  cell_blank (deed.lands r n own has may d) = absurd (come (Hand r) n)
+  cell_blank (deed.reaped r n has own may d) = absurd (never r has)
+  cell_blank (deed.looks n r w known is at has own v small d) = absurd (never r has)
 
   base_blank : (cells : ℕ) → t.cell ≡ s.cell → BaseMoves (here_at f k) cells e s.base i t.base sent → Stays
   base_blank cells cell m = (
@@ -75,7 +66,7 @@ module _ (f : Frame) (e k : ℕ) (s : Has) (i : Option Msg) (t : Has) (sent : Li
   )
 
   stays_blank : Moves f e k s i t sent → Stays
-  stays_blank (at_a_cell tree of low m base) = cell_blank m
+  stays_blank (at_a_cell tree of low m base) = cell_blank (cell_deeds m)
   stays_blank (at_a_base high m cell) = base_blank _ cell m
 
 module _ (f : Frame) (e : ℕ) where

@@ -1,13 +1,8 @@
 -- Each call once to the base part of an entity without a client: after every list of events.
-use Rattle.std.proofs.Common.{◌≡◌, ℕ, true, List, ◌∷◌, ap}
-use Rattle.seam_node_steps.specs.Prelude.{happens, enabled, Occurs, Event, Call as CallData, Msg, BaseCall, may_show, World, node_steps}
-use Rattle.seam_node_steps.specs.Prelude.{node_has_work}
-use Rattle.seam_law_flow.specs.Prelude.{comes}
-use Rattle.seam_law_calls.specs.Prelude.{Frame, here_at, IsInFrame, entity_flow, IsSpared, HasNoProxy, home_of, FindsPart, HasBaseCalls}
-use Rattle.seam_law_calls.specs.Prelude.{HasNoClient, RunsTo}
-use Rattle.seam_machine.proofs.Occurring.{occurs}
-use Rattle.seam_net_runs.proofs.Runs.{leads_keeps}
-use Rattle.seam_law_flow.proofs.Following.{slots_kept}
+use Rattle.seam_law_calls.proofs.Prelude.{◌≡◌, ℕ, true, List, ◌∷◌, ap, happens, enabled, Occurs, Event, Call as CallData, Msg, BaseCall}
+use Rattle.seam_law_calls.proofs.Prelude.{may_show, World, node_steps, node_has_work, comes, Frame, here_at, IsInFrame, entity_flow}
+use Rattle.seam_law_calls.proofs.Prelude.{IsSpared, HasNoProxy, home_of, FindsPart, HasBaseCalls, HasNoClient, RunsTo, occurs, leads_keeps}
+use Rattle.seam_law_calls.proofs.Prelude.{slots_kept}
 use Rattle.seam_law_calls.proofs.Classify.{event_moves}
 use Rattle.seam_law_calls.proofs.OneReal.{spared_happens}
 use Rattle.seam_law_calls.proofs.PartSteps.{part_moves}

@@ -1,8 +1,8 @@
 -- What a step of a base node does with an entity, in six kinds; and what it keeps of the orders and sends for them.
-use Rattle.std.proofs.Common.{◌≡◌, ℕ, zero, suc, ◌+◌, ◌<◌, ◌≤◌, List, [], ◌∷◌, map, Option, None, Some, sym, ap, ◌∙◌, subst, arith, refl}
-use Rattle.std.specs.List.{AllByRecursion, range_with_len}
-use Rattle.seam_node_steps.specs.Prelude.{Call as CallData, Order, Msg, BaseCall, Tick, Reap, Here, base_of, RouteView, tick_to}
-use Rattle.seam_law_calls.specs.Prelude.{AtBase, BaseMoves}
+use Rattle.seam_law_calls.proofs.Prelude.{◌≡◌, ℕ, zero, suc, ◌+◌, ◌<◌, ◌≤◌, List, [], ◌∷◌, map, Option, None, Some, sym, ap, ◌∙◌, subst}
+use Rattle.seam_law_calls.proofs.Prelude.{arith, refl, AllByRecursion, range_with_len, Call as CallData, Order, Msg, BaseCall, Tick, Reap}
+use Rattle.seam_law_calls.proofs.Prelude.{true, Here, base_of, RouteView, tick_to, Current, Update, stray_current, AtBase, BaseMoves, newer}
+use Rattle.seam_law_calls.proofs.Prelude.{strays_at}
 use Rattle.seam_call.specs.declared.order.Order.TheVariants as order
 use Rattle.seam_entity.specs.declared.message.Msg.TheVariants.{Call}
 use Rattle.seam_law_calls.specs.BaseMoves as move
@@ -42,6 +42,40 @@ module _ {h : Here} {cells e : ℕ} {s : AtBase} {i : Option Msg} {t : AtBase} {
   base_deeds (move.stuck_part p n has v may a z) = kept _ a refl z
   base_deeds (move.shows p n has v may a z) = kept _ a refl z
   base_deeds (move.stuck_client p n has v may a z) = kept _ a refl z
+
+-- the route stays, and one that comes is stray; or it is the newer of the two
+pub data RouteAfter (e : ℕ) (s : AtBase) (i : Option Msg) (t : AtBase) : Type 0 where
+  same_route : t.route ≡ s.route
+      → ((x j g : ℕ) → i ≡ Some (Current x j g) → stray_current (record { cell = j; generation = g }) s.route ≡ true) → RouteAfter e s i t
+  newer_of : (new r : RouteView) → i ≡ Some (Current e new.cell new.generation) → s.route ≡ Some r → t.route ≡ Some (newer r new)
+      → RouteAfter e s i t
+
+module _ {e : ℕ} {s : AtBase} {i : Option Msg} {t : AtBase} where
+  by_task : (b : AtBase) → t ≡ b → b.route ≡ s.route → i ≡ None → RouteAfter e s i t
+  by_task b a same n = same_route (ap (λ x. x.route) a ∙ same) (λ x j g is. absurd (let z = sym n ∙ is in cc))
+
+  by_other : (b : AtBase) → t ≡ b → b.route ≡ s.route → (m : Msg) → i ≡ Some m → ((x j g : ℕ) → m ≡ Current x j g → ⊥) → RouteAfter e s i t
+  by_other b a same m n not = same_route (ap (λ x. x.route) a ∙ same) (λ x j g is. absurd (not x j g (let z = sym n ∙ is in cc)))
+
+module _ {h : Here} {cells e : ℕ} {s : AtBase} {i : Option Msg} {t : AtBase} {sent : List (ℕ × Msg)} where
+  pub base_route : BaseMoves h cells e s i t sent → RouteAfter e s i t
+  base_route (move.rests n a z) = by_task s a refl n
+  base_route (move.strays m n b a z) =
+      same_route (ap (λ x. x.route) a) (λ x j g is. let one : m ≡ Current x j g = let z = sym n ∙ is in cc in
+      ap (strays_at h s) (sym one) ∙ b)
+  base_route (move.reroutes new r n has b a z) = newer_of new r n has (ap (λ x. x.route) a)
+  base_route (move.offers c p n own has may a z) = by_other _ a refl (BaseCall c) n (λ x j g y. cc)
+  base_route (move.updates u n own b a z) = by_other _ a refl (Update u) n (λ x j g y. cc)
+  base_route (move.orders_call c os r n at own has a z) = by_task _ a refl n
+  base_route (move.orders_base_call c os n at own b a z) = by_task _ a refl n
+  base_route (move.offers_own c os p n at own b has may a z) = by_task _ a refl n
+  base_route (move.orders_tick os n at a z) = by_task _ a refl n
+  base_route (move.orders_reap os r n at has a z) = by_task _ a refl n
+  base_route (move.stuck_order o os n at b a z) = by_task s a refl n
+  base_route (move.executes p o c n has may at item a z) = by_task _ a refl n
+  base_route (move.stuck_part p n has v may a z) = by_task s a refl n
+  base_route (move.shows p n has v may a z) = by_task _ a refl n
+  base_route (move.stuck_client p n has v may a z) = by_task s a refl n
 
 -- P is true of each message with its target
 abbrev pub AllSent : (ℕ → Msg → Type 0) → List (ℕ × Msg) → Type 0

@@ -1,18 +1,13 @@
 -- In a quiet world nothing of a base part's calls waits: no message, no order, and no held call whose turn it is.
-use Rattle.std.proofs.Common.{◌≡◌, ℕ, false, is_some, List, [], Option, None, Some, refl, sym, ap, ◌∙◌, subst}
-use Rattle.std.specs.List.{AllByRecursion}
+use Rattle.seam_law_calls.proofs.Prelude.{◌≡◌, ℕ, false, is_some, List, [], Option, None, Some, refl, sym, ap, ◌∙◌, subst, AllByRecursion}
+use Rattle.seam_law_calls.proofs.Prelude.{IsQuiet, next_item, Call as CallData, order_or, has_any, BaseView, PartView, ProxyView}
+use Rattle.seam_law_calls.proofs.Prelude.{part_is_ready, ready_part, proxy_is_ready, client_is_ready, ready_proxy, base_has_work, NodeView}
+use Rattle.seam_law_calls.proofs.Prelude.{World, node_has_work, Cell, Base, letters_of, Desk, desk_of, parcel_of, IsStill, Frame, IsInFrame}
+use Rattle.seam_law_calls.proofs.Prelude.{Has, mine, has_of, has_none, orders_of, entity_flow, from_sender, numbered_from, base_call_in}
+use Rattle.seam_law_calls.proofs.Prelude.{base_call_of, part_desk, base_mail, as_base_sender, BaseCallsInTurn, home_of, proxy_of, order_in}
+use Rattle.seam_law_calls.proofs.Prelude.{updates_at, shown_at, tells, HasClient, HasNoBaseCalls, quiet_links, quiet_tasks, sole_here}
+use Rattle.seam_law_calls.proofs.Prelude.{all_delivered, all_done}
 use Rattle.std.specs.FinMap as table
-use Rattle.seam_node_steps.specs.Prelude.{IsQuiet, next_item, Call as CallData, order_or, has_any, BaseView, PartView, ProxyView}
-use Rattle.seam_node_steps.specs.Prelude.{part_is_ready, ready_part, proxy_is_ready, client_is_ready, ready_proxy, base_has_work, NodeView}
-use Rattle.seam_node_steps.specs.Prelude.{World, node_has_work, Cell, Base}
-use Rattle.seam_law_flow.specs.Prelude.{letters_of, Desk, desk_of, parcel_of, IsStill}
-use Rattle.seam_law_calls.specs.Prelude.{Frame, IsInFrame, Has, mine, has_of, has_none, orders_of, entity_flow, from_sender, numbered_from}
-use Rattle.seam_law_calls.specs.Prelude.{base_call_in, base_call_of, part_desk, base_mail, as_base_sender, BaseCallsInTurn, home_of}
-use Rattle.seam_law_calls.specs.Prelude.{proxy_of, order_in, updates_at, shown_at, tells, HasClient, HasNoBaseCalls}
-use Rattle.seam_machine.proofs.Quiet.{quiet_links, quiet_tasks}
-use Rattle.seam_law_flow.proofs.TokenLemmas.{sole_here}
-use Rattle.seam_law_flow.proofs.Delivering.{all_delivered}
-use Rattle.seam_law_flow.proofs.Ends.{all_done}
 use Rattle.seam_law_calls.proofs.ExampleMet.{slots}
 use Rattle.seam_law_calls.proofs.Quieting.{neither, none_left, none_some, got_fails, no_turn_by}
 use Rattle.seam_law_calls.proofs.PartSeen.{desk_of_part}

@@ -1,26 +1,16 @@
 -- Each call to a base part once: after an event.
-use Rattle.std.proofs.Common.{◌≡◌, ℕ, ◌+◌, ◌<◌, ◌≤◌, true, not, is_some, List, ◌∷◌, length, Option, None, Some, refl, ap, ◌∙◌, subst, arith}
-use Rattle.std.specs.Prelude.{slice_get}
-use Rattle.std.specs.List.{AllByRecursion}
+use Rattle.seam_law_calls.proofs.Prelude.{◌≡◌, ℕ, ◌+◌, ◌<◌, ◌≤◌, true, not, is_some, List, ◌∷◌, length, Option, None, Some, refl, ap, ◌∙◌}
+use Rattle.seam_law_calls.proofs.Prelude.{subst, arith, slice_get, AllByRecursion, length-append, found, happens, Occurs, Task, Event}
+use Rattle.seam_law_calls.proofs.Prelude.{item_at, next_item, Call as CallData, Order, rank_of, order_or, order_of, Msg, BaseCall, limit}
+use Rattle.seam_law_calls.proofs.Prelude.{may_rise, order_is_ready, may_offer, PartView, fits_base_part, may_show, NodeView, World}
+use Rattle.seam_law_calls.proofs.Prelude.{node_steps, Flow, Goes, comes, letters_of, more_letter, slot_at, carried_in, number_from, Item}
+use Rattle.seam_law_calls.proofs.Prelude.{desk_of, parcel_of, AreInTurn, Passes, Frame, here_at, Has, has_of, has_none, entity_flow}
+use Rattle.seam_law_calls.proofs.Prelude.{MovesTo, reaped_by_order, IsSpared, numbered_from, calls_ordered, part_desk, base_post, base_mail}
+use Rattle.seam_law_calls.proofs.Prelude.{as_base_sender, IsBaseCallOf, BaseCallsInTurn, part_burden, node_base_burden, mine_base_burden}
+use Rattle.seam_law_calls.proofs.Prelude.{base_burden, home_of, IsHomeward, FindsPart, HasBaseCalls, weight_or, weight_bounds, narrow_goes}
+use Rattle.seam_law_calls.proofs.Prelude.{first_is, sole_here, item_bounds, turn_goes, is_met, never_held, held_is_due, due_is}
+use Rattle.seam_law_calls.proofs.Prelude.{stored_is_due, stored_is_free}
 use Rattle.std.specs.FinMap as table
-use Rattle.std.proofs.lemmas.List.{length-append}
-use Rattle.seam_table.proofs.Found.{found}
-use Rattle.seam_node_steps.specs.Prelude.{happens, Occurs, Task, Event, item_at, next_item, Call as CallData, Order, rank_of, order_or}
-use Rattle.seam_node_steps.specs.Prelude.{order_of, Msg, BaseCall, limit, may_rise, order_is_ready, may_offer, PartView, fits_base_part}
-use Rattle.seam_node_steps.specs.Prelude.{may_show, NodeView, World, node_steps}
-use Rattle.seam_law_flow.specs.Prelude.{Flow, Goes, comes, letters_of, more_letter, slot_at, carried_in, number_from, Item, desk_of}
-use Rattle.seam_law_flow.specs.Prelude.{parcel_of, AreInTurn, Passes}
-use Rattle.seam_law_calls.specs.Prelude.{Frame, here_at, Has, has_of, has_none, entity_flow, MovesTo, reaped_by_order, IsSpared}
-use Rattle.seam_law_calls.specs.Prelude.{numbered_from, calls_ordered, part_desk, base_post, base_mail, as_base_sender, IsBaseCallOf}
-use Rattle.seam_law_calls.specs.Prelude.{BaseCallsInTurn, part_burden, node_base_burden, mine_base_burden, base_burden, home_of, IsHomeward}
-use Rattle.seam_law_calls.specs.Prelude.{FindsPart, HasBaseCalls}
-use Rattle.seam_net_runs.specs.Sums.{weight_or}
-use Rattle.seam_net_runs.proofs.Weighing.{weight_bounds}
-use Rattle.seam_law_flow.proofs.Narrowing.{narrow_goes}
-use Rattle.seam_law_flow.proofs.TokenLemmas.{first_is, sole_here}
-use Rattle.seam_law_flow.proofs.Numbers.{item_bounds}
-use Rattle.seam_law_flow.proofs.Steps.{turn_goes}
-use Rattle.seam_law_flow.proofs.Ends.{is_met, never_held, held_is_due, due_is, stored_is_due, stored_is_free}
 use Rattle.seam_call.specs.declared.order.Order.TheVariants as order
 use Rattle.seam_law_calls.proofs.Classify.{event_moves, frame_happens}
 use Rattle.seam_law_calls.proofs.Holds.{all_two, below_is}

@@ -1,8 +1,6 @@
 -- What a base node sends: calls, ticks and reaps alone.
-use Rattle.std.proofs.Common.{◌≡◌, ℕ, List, [], ◌∷◌, Option, None, ◌+◌, refl}
-use Rattle.seam_node_steps.specs.Prelude.{Shown, Call as CallData, Msg, BaseCall, Tick, Reap, Here, numbered}
-use Rattle.seam_law_flow.specs.Prelude.{IsSilent}
-use Rattle.seam_law_calls.specs.Prelude.{AtBase, BaseMoves, real_of, update_in}
+use Rattle.seam_law_calls.proofs.Prelude.{◌≡◌, ℕ, List, [], ◌∷◌, Option, None, ◌+◌, refl, Shown, Call as CallData, Msg, BaseCall, Tick}
+use Rattle.seam_law_calls.proofs.Prelude.{Reap, Here, numbered, IsSilent, AtBase, BaseMoves, real_of, update_in}
 use Rattle.seam_entity.specs.declared.message.Msg.TheVariants.{Call}
 use Rattle.seam_law_calls.proofs.BaseDeeds.{base_keeps}
 use Rattle.seam_law_calls.proofs.Keeping.{units}

@@ -1,16 +1,15 @@
 -- A step of a base node is, for each entity, one of the moves.
-use Rattle.std.proofs.Common.{◌≡◌, ℕ, ◌⊎◌, Bool, true, false, not, cond, List, [], Option, None, Some, refl, sym, ap, ◌∙◌, subst, inl, inr}
-use Rattle.std.specs.Prelude.{nat_lt}
-use Rattle.std.specs.Cmp.{nat_cmp_total, unsigned_tied}
+use Rattle.seam_law_calls.proofs.Prelude.{◌≡◌, ℕ, ◌⊎◌, Bool, true, false, not, cond, List, [], Option, None, Some, refl, sym, ap, ◌∙◌}
+use Rattle.seam_law_calls.proofs.Prelude.{subst, inl, inr, nat_lt, nat_cmp_total, unsigned_tied, cases_eq, eq-eqb, ne_eqb, From}
+use Rattle.seam_law_calls.proofs.Prelude.{Call as CallData, Order, Msg, BaseCall, Current, Tick, Update, Map, about, BaseView, RouteView}
+use Rattle.seam_law_calls.proofs.Prelude.{PartView, ProxyView, with_part, stray_base_call, stray_current, stray_update, sends_none}
+use Rattle.seam_law_calls.proofs.Prelude.{base_steps, mine, concerning, orders_of, AtBase, at_base, newer, part_offered, updated, BaseMoves}
+use Rattle.seam_law_calls.proofs.Prelude.{entity_of, unless_stray}
 use Rattle.std.specs.FinMap as table
-use Rattle.std.proofs.lemmas.Bool.{cases_eq, eq-eqb, ne_eqb}
-use Rattle.seam_node_steps.specs.Prelude.{From, Call as CallData, Order, Msg, BaseCall, Current, Tick, Update, Map, about, BaseView}
-use Rattle.seam_node_steps.specs.Prelude.{RouteView, PartView, ProxyView, with_part, stray_base_call, stray_current, stray_update}
-use Rattle.seam_node_steps.specs.Prelude.{sends_none, case_of, base_steps}
-use Rattle.seam_law_calls.specs.Prelude.{mine, concerning, orders_of, AtBase, at_base, newer, part_offered, updated, BaseMoves, entity_of}
+use Rattle.seam_node_steps.specs.Prelude.{case_of}
 use Rattle.seam_call.specs.declared.shown.Update.{Update as UpdateData}
 use Rattle.seam_node_steps.specs.BaseCases
-use Rattle.seam_node_steps.specs.BaseCases.{may_call, unless_stray, is_stray}
+use Rattle.seam_node_steps.specs.BaseCases.{may_call, is_stray}
 use Rattle.seam_law_calls.specs.BaseMoves as move
 use Rattle.seam_law_calls.proofs.Lists.{mine_own, mine_other}
 

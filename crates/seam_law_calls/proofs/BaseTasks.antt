@@ -1,28 +1,21 @@
 -- A task of a base node is, for each entity, one of the moves.
-use Rattle.std.proofs.Common.{◌≡◌, ℕ, ◌⊎◌, Bool, true, false, not, ◌&&◌, List, [], ◌∷◌, map, is_none, Option, None, Some, refl, sym, ap}
-use Rattle.std.proofs.Common.{◌∙◌, subst, inl, inr}
-use Rattle.std.specs.List.{AllByRecursion, range_with_len}
+use Rattle.seam_law_calls.proofs.Prelude.{◌≡◌, ℕ, ◌⊎◌, Bool, true, false, not, ◌&&◌, List, [], ◌∷◌, map, is_none, Option, None, Some, refl}
+use Rattle.seam_law_calls.proofs.Prelude.{sym, ap, ◌∙◌, subst, inl, inr, AllByRecursion, range_with_len, cases_eq, found, OrderView}
+use Rattle.seam_law_calls.proofs.Prelude.{next_item, Stepped, Call as CallData, Order, Msg, BaseCall, Reap, base_of, about, has_ready}
+use Rattle.seam_law_calls.proofs.Prelude.{ready_order, BaseView, RouteView, PartView, ProxyView, with_part, may_show, after_ready}
+use Rattle.seam_law_calls.proofs.Prelude.{after_showing, is_base_node_of, tick_to, on_route, stray_base_call, stray_order, order_of_node}
+use Rattle.seam_law_calls.proofs.Prelude.{base_order, base_task, task_without_orders, proxy_task, ready_part, ready_proxy, part_is_ready}
+use Rattle.seam_law_calls.proofs.Prelude.{client_is_ready, sends_none, concerns, concerning, order_about, orders_of, AtBase, at_base}
+use Rattle.seam_law_calls.proofs.Prelude.{is_stuck, part_offered, BaseMoves, may_execute, executes_ready, unless_stray}
 use Rattle.std.specs.FinMap as table
-use Rattle.std.proofs.lemmas.Bool.{cases_eq}
-use Rattle.seam_table.proofs.Found.{found}
-use Rattle.seam_node_steps.specs.Prelude.{OrderView, next_item, Stepped, Call as CallData, Order, Msg, BaseCall, Reap, base_of, about}
-use Rattle.seam_node_steps.specs.Prelude.{has_ready, ready_order, BaseView, RouteView, PartView, ProxyView, with_part, may_show}
-use Rattle.seam_node_steps.specs.Prelude.{after_ready, after_showing, is_base_node_of, tick_to, on_route, stray_base_call, stray_order}
-use Rattle.seam_node_steps.specs.Prelude.{order_of_node, base_order, base_task, task_without_orders, proxy_task, ready_part, ready_proxy}
-use Rattle.seam_node_steps.specs.Prelude.{part_is_ready, client_is_ready, sends_none}
-use Rattle.seam_law_calls.specs.Prelude.{concerns, concerning, order_about, orders_of, AtBase, at_base, is_stuck, part_offered, BaseMoves}
 use Rattle.seam_call.specs.declared.order.Order.TheVariants as order
 use Rattle.seam_entity.specs.declared.message.Msg.TheVariants.{Call}
 use Rattle.seam_node_steps.specs.BaseCases
-use Rattle.seam_node_steps.specs.BaseCases.{may_call, may_execute, executes_ready, unless_stray}
+use Rattle.seam_node_steps.specs.BaseCases.{may_call}
 use Rattle.seam_law_calls.specs.BaseMoves as move
 use Rattle.seam_law_calls.proofs.Lists.{AllAbout, all_pass, concerned_own, concerned_other, concerning_own, concerning_other, orders_own}
 use Rattle.seam_law_calls.proofs.Lists.{orders_other}
 use Rattle.seam_law_calls.proofs.BaseSteps.{gone_own, gone_other, at_same, yes_of, part_own, part_other}
-
-both_no : (a b : Bool) → (a && b) ≡ false → a ≡ true → b ≡ false
-both_no true b is h = is
-both_no false b is h = cc
 
 module _ (e : ℕ) (b : BaseView) where
   abbrev s : AtBase

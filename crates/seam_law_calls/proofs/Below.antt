@@ -1,20 +1,13 @@
 -- Lists of entities with numbers below a bound: how long they are, and what a look makes of a view of such.
-use Rattle.std.proofs.Common.{◌≡◌, ℕ, ◌+◌, ◌*◌, ◌<◌, ◌≤◌, Bool, true, false, not, cond, eqb, nat_lt, nat_eq, ◌&&◌, ◌||◌, is_some, T, List}
-use Rattle.std.proofs.Common.{[], ◌∷◌, ◌++◌, map, filter, filter_map, find, length, Option, None, Some, refl, sym, ap, ◌∙◌, arith}
-use Rattle.std.specs.List.{AllByRecursion, list_any}
+use Rattle.seam_law_calls.proofs.Prelude.{◌≡◌, ℕ, ◌+◌, ◌*◌, ◌<◌, ◌≤◌, Bool, true, false, not, cond, eqb, nat_lt, nat_eq, ◌&&◌, ◌||◌}
+use Rattle.seam_law_calls.proofs.Prelude.{is_some, T, List, [], ◌∷◌, ◌++◌, map, filter, filter_map, find, length, Option, None, Some, refl}
+use Rattle.seam_law_calls.proofs.Prelude.{sym, ap, ◌∙◌, arith, AllByRecursion, list_any, nat_cmp, is_lt, eq_by_cmp, nat_cmp_total}
+use Rattle.seam_law_calls.proofs.Prelude.{is_sorted, below_all, nat_tests, length-map, length-append, found, Pos, Ghost, copy_in, with_copy}
+use Rattle.seam_law_calls.proofs.Prelude.{copied, GhostCopy, RealView, Map, Known, seen_as, CellView, known_real, known_copy, known_in}
+use Rattle.seam_law_calls.proofs.Prelude.{is_of_another, known_to, most_entities, IsFewView, all_append}
 use Rattle.std.specs.Map.{keys_of}
-use Rattle.std.specs.Ordering.{nat_cmp, is_lt, eq_by_cmp}
-use Rattle.std.specs.Cmp.{nat_cmp_total}
 use Rattle.std.specs.FinMap as table
-use Rattle.std.specs.FinMap.Entries.{is_sorted, below_all}
-use Rattle.std.proofs.lemmas.Bool.Decides.{nat_tests}
-use Rattle.std.proofs.lemmas.List.{length-map, length-append}
 use Rattle.std.proofs.lemmas.Map.Steps.{length-le_from_distinct_below}
-use Rattle.seam_table.proofs.Found.{found}
-use Rattle.seam_node_steps.specs.Prelude.{Pos, Ghost, copy_in, with_copy, copied, GhostCopy, RealView, Map, Known, seen_as, CellView}
-use Rattle.seam_node_steps.specs.Prelude.{known_real, known_copy, known_in, is_of_another, known_to}
-use Rattle.seam_law_calls.specs.Prelude.{most_entities, IsFewView}
-use Rattle.seam_law_flow.proofs.Following.{all_append}
 use Rattle.seam_view.specs.declared.Seen.{Seen}
 use Rattle.seam_view.specs.declared.Look.{Look}
 use Rattle.seam_view.specs.declared.Look.TheVariants as look

@@ -1,19 +1,16 @@
 -- No move raises what is yet to do.
-use Rattle.std.proofs.Common.{◌≡◌, ℕ, ◌+◌, ◌*◌, ◌≤◌, Bool, false, List, [], ◌∷◌, map, Option, None, Some, refl, ap, ◌∙◌, arith}
-use Rattle.std.specs.List.{range_with_len}
+use Rattle.seam_law_calls.proofs.Prelude.{◌≡◌, ℕ, ◌+◌, ◌*◌, ◌≤◌, Bool, List, [], ◌∷◌, map, Option, None, Some, refl, ap, ◌∙◌, arith}
+use Rattle.seam_law_calls.proofs.Prelude.{range_with_len, Division, rank_of, total, RealView, Msg, Hand, Reap, base_numbers, base_of}
+use Rattle.seam_law_calls.proofs.Prelude.{SlotStep, slot_after, haunts_at, ghost_messages, beat_after, settled_to, current_to, shown_of}
+use Rattle.seam_law_calls.proofs.Prelude.{looks_with, tick_to, IsSilent, Frame, here_at, Has, AtCell, unlisted_if, Does, Acts, surveys}
+use Rattle.seam_law_calls.proofs.Prelude.{calls, readies, BaseMoves, Moves, at_a_cell, at_a_base, held_in, real_burden, order_burden}
+use Rattle.seam_law_calls.proofs.Prelude.{letter_burden, has_burden, weight_or}
 use Rattle.std.specs.FinSet as set
-use Rattle.seam_node_steps.specs.Prelude.{Division, rank_of, total, RealView, Msg, Hand, Reap, base_numbers, base_of, SlotStep, slot_after}
-use Rattle.seam_node_steps.specs.Prelude.{haunts_at}
-use Rattle.seam_node_steps.specs.Prelude.{ghost_messages, beat_after, settled_to, current_to, shown_of, looks_with, tick_to}
-use Rattle.seam_law_flow.specs.Prelude.{IsSilent}
-use Rattle.seam_law_calls.specs.Prelude.{Frame, here_at, Has, AtCell, unlisted_if, Does, Acts, surveys, calls, readies, CellMoves}
-use Rattle.seam_law_calls.specs.Prelude.{BaseMoves, Moves, at_a_cell, at_a_base, held_in, real_burden, order_burden, letter_burden}
-use Rattle.seam_law_calls.specs.Prelude.{has_burden}
 use Rattle.seam_machine.proofs.Totals.{total-push}
-use Rattle.seam_net_runs.specs.Sums.{weight_or}
 use Rattle.seam_entity.specs.declared.message.Msg.TheVariants.{Call}
 use Rattle.seam_node_steps.specs.Settle as settle
-use Rattle.seam_law_calls.specs.CellMoves as move
+use Rattle.seam_law_calls.proofs.CellDeeds as deed
+use Rattle.seam_law_calls.proofs.CellDeeds.{CellDeeds, cell_deeds}
 use Rattle.seam_law_calls.proofs.Plain.{SeesNoGhost, ghosts_silent, drops_silent, mapped_silent, numbered_silent}
 use Rattle.seam_law_calls.proofs.Paying.{OrdersPay, base_paid}
 use Rattle.seam_law_calls.proofs.HeldCounts.{turn_counts, early_counts, taken_counts}
@@ -87,15 +84,6 @@ module _ (f : Frame) (e k : ℕ) (s : Has) (i : Option Msg) (t : Has) (sent : Li
   base_is : t.base ≡ s.base → orders_of t ≡ orders_of s
   base_is h = ap (λ b. total order_burden b.orders) h
 
-  -- the same real and survey list, and nothing that weighs is sent
-  rests : Does s.cell (record { slot = None; unlisted = false; sent = [] }) t.cell sent → t.base ≡ s.base → Eased
-  rests d same =
-      let a = real_is _ s.cell d in
-      let b = survey_is _ s.cell d in
-      let c = sent_is _ s.cell d tt in
-      let z = base_is same in
-      omega (arith, a, b, c, z)
-
   stays_eased : (tree : Division) (u : AtCell) (r q : RealView) (changed : Bool) → s.cell.slot.real ≡ Some r →
       Acts (here_at f k) e s.cell i r u q changed →
       Does u (settle.stays (here_at f k) tree s.cell.slot q changed) t.cell sent → t.base ≡ s.base → Eased
@@ -135,13 +123,16 @@ module _ (f : Frame) (e k : ℕ) (s : Has) (i : Option Msg) (t : Has) (sent : Li
       let was = had r has in
       omega (arith, a, b, c, none, z, pb, pg, pp, was)
 
-  cell_eased : {tree : Division} → CellMoves (here_at f k) tree e s.cell i t.cell sent → t.base ≡ s.base → Eased
-  cell_eased (move.rests n d) same = rests d same
-  cell_eased (move.strays m n b d) same = rests d same
-  cell_eased {tree} (move.stays u r q changed has own acts at d) same = stays_eased tree u r q changed has acts d same
-  cell_eased {tree} (move.goes u r q changed j has own acts at n d) same = goes_eased tree u r q changed j has acts d same
-  cell_eased (move.late c r n has may lt d) same = rests d same
-  cell_eased (move.holds c r n is has own may lt d) same =
+  cell_eased : {tree : Division} → CellDeeds (here_at f k) tree e s.cell i t.cell sent → t.base ≡ s.base → Eased
+  cell_eased (deed.idles x none) same =
+      let a = ap (weight_or real_burden) x.real in
+      let b = x.survey in
+      let g = ap sent_burden none in
+      let z = base_is same in
+      omega (arith, a, b, g, z)
+  cell_eased {tree} (deed.stays u r q changed has own acts at d) same = stays_eased tree u r q changed has acts d same
+  cell_eased {tree} (deed.goes u r q changed j has own acts at n d) same = goes_eased tree u r q changed j has acts d same
+  cell_eased (deed.holds c r n is has own may lt d) same =
       let a = real_is _ s.cell d in
       let b = survey_is _ s.cell d in
       let g = sent_is _ s.cell d tt in
@@ -150,52 +141,27 @@ module _ (f : Frame) (e k : ℕ) (s : Has) (i : Option Msg) (t : Has) (sent : Li
       let more = early_counts r.orders (rank_of c.sender) c.number c lt in
       let pay = ap came n in
       omega (arith, a, b, g, z, was, more, pay)
-  cell_eased (move.passes c p n is has at d) same =
+  cell_eased (deed.passes c p n is has at d) same =
       let a = real_is _ s.cell d in
       let b = survey_is _ s.cell d in
       let g = ap sent_burden d.sends in
       let z = base_is same in
       let pay = ap came n in
       omega (arith, a, b, g, z, pay)
-  cell_eased (move.lands r n is has may d) same =
+  cell_eased (deed.lands r n is has may d) same =
       let a = real_is _ s.cell d in
       let b = survey_is _ s.cell d in
       let g = sent_is _ s.cell d (mapped_silent heavy (current_to (here_at f k) r) (λ b. refl) (base_numbers (here_at f k))) in
       let z = base_is same in
       let pay = ap came n in
       omega (arith, a, b, g, z, pay)
-  cell_eased (move.hears_set n c h has d) same =
-      let a = real_is _ s.cell d in
-      let b = survey_is _ s.cell d in
-      let g = sent_is _ s.cell d tt in
-      let z = base_is same in
-      omega (arith, a, b, g, z)
-  cell_eased (move.ignores_set n c r h has d) same = rests d same
-  cell_eased (move.hears_drop n h d) same =
-      let a = real_is _ s.cell d in
-      let b = survey_is _ s.cell d in
-      let g = sent_is _ s.cell d tt in
-      let z = base_is same in
-      omega (arith, a, b, g, z)
-  cell_eased (move.reaped r n has own may d) same =
+  cell_eased (deed.reaped r n has own may d) same =
       let a = real_is _ s.cell d in
       let b = survey_is _ s.cell d in
       let g = sent_is _ s.cell d (drops_silent heavy no_ghosts r) in
       let z = base_is same in
       omega (arith, a, b, g, z)
-  cell_eased (move.ticks n st se) same =
-      let a = ap (λ x. weight_or real_burden x.slot.real) st in
-      let b = ap (λ x. x.survey) st in
-      let g = ap sent_burden se in
-      let z = base_is same in
-      omega (arith, a, b, g, z)
-  cell_eased (move.unlists n h at b d) same =
-      let a = real_is _ (record { slot = s.cell.slot; survey = n; looks = s.cell.looks }) d in
-      let b = survey_is _ (record { slot = s.cell.slot; survey = n; looks = s.cell.looks }) d in
-      let g = sent_is _ (record { slot = s.cell.slot; survey = n; looks = s.cell.looks }) d tt in
-      let z = base_is same in
-      omega (arith, a, b, g, z, at)
-  cell_eased (move.looks n r w known h at has own is small d) same =
+  cell_eased (deed.looks n r w known h at has own is small d) same =
       let x = looks_with (here_at f k) s.cell.slot r w known (shown_of (here_at f k) r w known) in
       let a = real_is x _ d in
       let b = survey_is x _ d in
@@ -203,13 +169,6 @@ module _ (f : Frame) (e k : ℕ) (s : Has) (i : Option Msg) (t : Has) (sent : Li
       let z = base_is same in
       let was = had r has in
       omega (arith, a, b, g, z, was)
-  cell_eased (move.overlooks n known h at b d) same =
-      let a = real_is _ (record { slot = s.cell.slot; survey = s.cell.survey; looks = n }) d in
-      let b = survey_is _ (record { slot = s.cell.slot; survey = s.cell.survey; looks = n }) d in
-      let g = sent_is _ (record { slot = s.cell.slot; survey = s.cell.survey; looks = n }) d tt in
-      let z = base_is same in
-      omega (arith, a, b, g, z)
-  cell_eased (move.stuck r h has ready may d) same = rests d same
 
   -- ---- a base node: orders may go, and what was ordered is sent
 
@@ -230,5 +189,5 @@ module _ (f : Frame) (e k : ℕ) (s : Has) (i : Option Msg) (t : Has) (sent : Li
 
   -- no move raises it
   pub eased : Moves f e k s i t sent → Eased
-  eased (at_a_cell tree of low m same) = cell_eased m same
+  eased (at_a_cell tree of low m same) = cell_eased (cell_deeds m) same
   eased (at_a_base high m same) = base_eased _ m same

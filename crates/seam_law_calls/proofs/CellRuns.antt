@@ -1,24 +1,16 @@
 -- Each call to a cell part once: after an event, and after every list of events.
-use Rattle.std.proofs.Common.{◌≡◌, ℕ, ◌+◌, ◌<◌, ◌≤◌, true, not, is_some, List, ◌∷◌, length, Option, None, Some, refl, ap, ◌∙◌, arith}
-use Rattle.std.specs.Prelude.{slice_get}
+use Rattle.seam_law_calls.proofs.Prelude.{◌≡◌, ℕ, ◌+◌, ◌<◌, ◌≤◌, true, not, is_some, List, ◌∷◌, length, Option, None, Some, refl, ap, ◌∙◌}
+use Rattle.seam_law_calls.proofs.Prelude.{arith, slice_get, found, happens, enabled, Occurs, Task, Event, item_at, next_item}
+use Rattle.seam_law_calls.proofs.Prelude.{Call as CallData, rank_of, order_or, order_of, RealView, Msg, Reap, limit, cell_count}
+use Rattle.seam_law_calls.proofs.Prelude.{order_is_ready, may_offer, fits_cell_part, may_call, NodeView, World, node_steps, node_has_work}
+use Rattle.seam_law_calls.proofs.Prelude.{Cell, Base, Flow, comes, letter_in, letters_of, more_letter, slot_at, carried_in, Item, desk_of}
+use Rattle.seam_law_calls.proofs.Prelude.{parcel_of, AreInTurn, Passes, Twice, Frame, here_at, IsInFrame, Has, mine, has_of, has_none}
+use Rattle.seam_law_calls.proofs.Prelude.{entity_flow, real_burden, node_burden, mine_burden, burden, real_in, IsSpared, IsFrame, HasOne}
+use Rattle.seam_law_calls.proofs.Prelude.{is_visited, AllLead, desk_for, real_desk, cell_post, cell_mail, as_sender, IsCallOf, AreCallsOf}
+use Rattle.seam_law_calls.proofs.Prelude.{CellCallsInTurn, FindsTurn, RunsTo, occurs, weight_or, leads_keeps, weight_bounds, narrow_goes}
+use Rattle.seam_law_calls.proofs.Prelude.{first_is, sole_here, turns_go, is_met, never_late, never_held, held_is_due, due_is}
 use Rattle.std.specs.FinMap as table
-use Rattle.seam_table.proofs.Found.{found}
-use Rattle.seam_node_steps.specs.Prelude.{happens, enabled, Occurs, Task, Event, item_at, next_item, Call as CallData, rank_of, order_or}
-use Rattle.seam_node_steps.specs.Prelude.{order_of, RealView, Msg, Reap, limit, cell_count, order_is_ready, may_offer, fits_cell_part}
-use Rattle.seam_node_steps.specs.Prelude.{may_call, may_execute, NodeView, World, node_steps, node_has_work, Cell, Base}
-use Rattle.seam_law_flow.specs.Prelude.{Flow, comes, letter_in, letters_of, more_letter, slot_at, carried_in, Item, desk_of, parcel_of}
-use Rattle.seam_law_flow.specs.Prelude.{AreInTurn, Passes, Twice}
-use Rattle.seam_law_calls.specs.Prelude.{Frame, here_at, IsInFrame, Has, mine, has_of, has_none, entity_flow, real_burden, node_burden}
-use Rattle.seam_law_calls.specs.Prelude.{mine_burden, burden, real_in, IsSpared, IsFrame, HasOne, is_visited, AllLead, desk_for, real_desk}
-use Rattle.seam_law_calls.specs.Prelude.{cell_post, cell_mail, as_sender, IsCallOf, AreCallsOf, CellCallsInTurn, FindsTurn, RunsTo}
-use Rattle.seam_machine.proofs.Occurring.{occurs}
-use Rattle.seam_net_runs.specs.Sums.{weight_or}
-use Rattle.seam_net_runs.proofs.Runs.{leads_keeps}
-use Rattle.seam_net_runs.proofs.Weighing.{weight_bounds}
-use Rattle.seam_law_flow.proofs.Narrowing.{narrow_goes}
-use Rattle.seam_law_flow.proofs.TokenLemmas.{first_is, sole_here}
-use Rattle.seam_law_flow.proofs.Steps.{turns_go}
-use Rattle.seam_law_flow.proofs.Ends.{is_met, never_late, never_held, held_is_due, due_is}
+use Rattle.seam_node_steps.specs.Prelude.{may_execute}
 use Rattle.seam_entity.specs.declared.message.Msg.TheVariants.{Call}
 use Rattle.seam_law_calls.proofs.Holds.{all_two, below_is}
 use Rattle.seam_law_calls.proofs.Easing.{burden_happens}

@@ -1,30 +1,26 @@
 -- Each step of a node is, for one sender, one or two of the moves of its calls to the entity's cell part.
-use Rattle.std.proofs.Common.{◌≡◌, ℕ, ◌+◌, ◌<◌, ◌≤◌, Bool, true, ◌||◌, is_some, List, [], ◌∷◌, ◌++◌, Option, None, Some, refl, sym, ap, ◌∙◌}
-use Rattle.std.proofs.Common.{subst, arith, inl, inr}
-use Rattle.std.specs.List.{range_with_len}
+use Rattle.seam_law_calls.proofs.Prelude.{◌≡◌, ℕ, ◌+◌, ◌<◌, ◌≤◌, Bool, true, ◌||◌, is_some, List, [], ◌∷◌, ◌++◌, Option, None, Some, refl}
+use Rattle.seam_law_calls.proofs.Prelude.{sym, ap, ◌∙◌, subst, arith, inl, inr, range_with_len, cases_eq, found, Division, items_to}
+use Rattle.seam_law_calls.proofs.Prelude.{OrderView, next_item, Call as CallData, Order, rank_of, order_or, order_of, RealView, Msg}
+use Rattle.seam_law_calls.proofs.Prelude.{BaseCall, Hand, Reap, Here, cell_count, base_numbers, base_of, order_is_ready}
+use Rattle.seam_law_calls.proofs.Prelude.{ready_order, may_call, with_offer, settled_to, NextPlace, SlotStep, slot_after, haunts_at}
+use Rattle.seam_law_calls.proofs.Prelude.{ghost_messages, current_to, stray_call, shown_of, looks_with, tick_to, letters_of, more_letter}
+use Rattle.seam_law_calls.proofs.Prelude.{IsSilent, carried_in, Desk, Post, Mail, Item, Quiet, Only, Passes, takes, Twice, once, twice}
+use Rattle.seam_law_calls.proofs.Prelude.{Frame, IsTreeOf, here_at, Has, AtCell, Does, Acts, surveys, calls, readies, Moves}
+use Rattle.seam_law_calls.proofs.Prelude.{at_a_cell, at_a_base, real_in, desk_for, cell_order_from, real_desk, cell_post, cell_mail}
+use Rattle.seam_law_calls.proofs.Prelude.{FindsTurn, sees_none, sees_after_silent, sees_one_here, sees_one_there}
 use Rattle.std.specs.FinMap as table
 use Rattle.std.specs.FinSet as set
-use Rattle.std.proofs.lemmas.Bool.{cases_eq}
-use Rattle.seam_table.proofs.Found.{found}
-use Rattle.seam_node_steps.specs.Prelude.{Division, items_to, OrderView, next_item, Call as CallData, Order, rank_of, order_or, order_of}
-use Rattle.seam_node_steps.specs.Prelude.{RealView}
-use Rattle.seam_node_steps.specs.Prelude.{Msg, BaseCall, Hand, Current, GhostSet, GhostDrop, Tick, Reap, Update, Here, cell_count}
-use Rattle.seam_node_steps.specs.Prelude.{base_numbers, base_of, order_is_ready, ready_order, may_call, with_offer, settled_to, NextPlace}
-use Rattle.seam_node_steps.specs.Prelude.{SlotStep, slot_after, haunts_at, ghost_messages, current_to, stray_call, is_stray}
-use Rattle.seam_node_steps.specs.Prelude.{shown_of, looks_with, tick_to}
-use Rattle.seam_law_flow.specs.Prelude.{letters_of, more_letter, IsSilent, carried_in, Desk, Post, Mail, Item, Quiet, Only, Passes, rests}
-use Rattle.seam_law_flow.specs.Prelude.{sends, offers, takes, Twice, once, twice}
-use Rattle.seam_law_calls.specs.Prelude.{Frame, IsTreeOf, here_at, Has, AtCell, Does, Acts, surveys, calls, readies, CellMoves, BaseMoves}
-use Rattle.seam_law_calls.specs.Prelude.{Moves}
-use Rattle.seam_law_calls.specs.Prelude.{at_a_cell, at_a_base, real_in, desk_for, cell_order_from, real_desk, cell_post, cell_mail}
-use Rattle.seam_law_calls.specs.Prelude.{FindsTurn}
-use Rattle.seam_law_flow.proofs.SendLists.{sees_none, sees_after_silent, sees_one_here, sees_one_there}
+use Rattle.seam_law_flow.specs.Prelude.{rests}
+use Rattle.seam_law_flow.specs.Prelude.{sends, offers}
 use Rattle.seam_law_flow.specs.CallMoves.{relays, lands, leaves}
 use Rattle.seam_call.specs.declared.order.Order.TheVariants as order
 use Rattle.seam_entity.specs.declared.message.Msg.TheVariants.{Call}
 use Rattle.seam_node_steps.specs.Settle as settle
-use Rattle.seam_law_calls.specs.CellMoves as move
-use Rattle.seam_law_calls.specs.BaseMoves as base_move
+use Rattle.seam_law_calls.proofs.CellDeeds as deed
+use Rattle.seam_law_calls.proofs.CellDeeds.{CellDeeds, Ignored, cell_deeds, not_handed, not_called}
+use Rattle.seam_law_calls.proofs.BaseDeeds as base_deed
+use Rattle.seam_law_calls.proofs.BaseDeeds.{BaseDeeds, base_deeds}
 use Rattle.seam_law_calls.proofs.Holds.{not_both}
 use Rattle.seam_law_calls.proofs.Plain.{SeesNoGhost, ghosts_silent, mapped_silent, numbered_silent}
 use Rattle.seam_law_calls.proofs.Handling.{FindsRoom, not_stray}
@@ -179,44 +175,34 @@ module _ (f : Frame) (e k s : ℕ) (h : Has) (i : Option Msg) (t : Has) (sent : 
 
     module _ (room : (r : RealView) → i ≡ Some (Hand r) → FindsRoom f k h r) (turn : (c : CallData) → i ≡ Some (Call c) →
         FindsTurn f k h c) where
-      stray_none : (tree : Division) → IsTreeOf f tree → (m : Msg) → i ≡ Some m → is_stray (here_at f k) tree h.cell.slot m ≡ true →
-          came ≡ None
-      stray_none tree of (Call c) a b =
-          let p = turn c a in
-          absurd (call_not_stray (here_at f k) c h.cell.slot.real h.cell.slot.next p.may p.place b)
-      stray_none tree of (Hand r) a b = absurd (not_stray f k h r (room r a) tree of b)
-      stray_none tree of m a b = unseen m a refl
+      unseen_by : (tree : Division) → IsTreeOf f tree → (j : Option Msg) → i ≡ j → Ignored (here_at f k) tree h.cell i → came ≡ None
+      unseen_by tree of None n why = ap (carried_in mine) n
+      unseen_by tree of (Some (Hand r)) n why = absurd (not_stray f k h r (room r n) tree of (not_handed why r n))
+      unseen_by tree of (Some (Call c)) n why = absurd (elim (not_called why c n) [
+        | inl b ↦ let p = turn c n in call_not_stray (here_at f k) c h.cell.slot.real h.cell.slot.next p.may p.place b
+        | inr l ↦ let le = (turn c n).due l.0 l.1 in let lt = l.2 in omega (arith, le, lt)
+      ])
+      unseen_by tree of (Some m) n why = unseen m n refl
 
       cell_seen : HoldsOwn h → (i ≡ Some (Reap e) → ⊥) → (tree : Division) → IsTreeOf f tree →
-          CellMoves (here_at f k) tree e h.cell i t.cell sent → Seen
-      cell_seen own calm tree of (move.rests n d) = idle_step _ h.cell d refl (ap (carried_in mine) n) tt
-      cell_seen own calm tree of (move.strays m n b d) = idle_step _ h.cell d refl (stray_none tree of m n b) tt
-      cell_seen own calm tree of (move.stays u r q changed has is acts at d) = stays_seen tree u r q changed has own acts d
-      cell_seen own calm tree of (move.goes u r q changed j has is acts at n d) = goes_seen tree u r q changed j has own acts d
-      cell_seen own calm tree of (move.late c r n has may lt d) = let le = (turn c n).due r has in absurd (omega (arith, le, lt))
-      cell_seen own calm tree of (move.holds c r n is has mine_is may lt d) =
+          CellDeeds (here_at f k) tree e h.cell i t.cell sent → Seen
+      cell_seen own calm tree of (deed.idles a z) =
+          idle (unseen_by tree of i refl a.why) (subst (IsSilent mine) (sym z) tt) stores_same (ap (real_desk s) a.real)
+      cell_seen own calm tree of (deed.stays u r q changed has is acts at d) = stays_seen tree u r q changed has own acts d
+      cell_seen own calm tree of (deed.goes u r q changed j has is acts at n d) = goes_seen tree u r q changed j has own acts d
+      cell_seen own calm tree of (deed.holds c r n is has mine_is may lt d) =
           holds_seen c r n has lt (post_is (stores t) (stores h) (desk_at t) _ stores_same (real_is _ h.cell d)) (silent_of _ h.cell d tt)
-      cell_seen own calm tree of (move.passes c p n is has at d) =
+      cell_seen own calm tree of (deed.passes c p n is has at d) =
           passes_seen c p.cell n (post_is (stores t) (stores h) (desk_at t) (desk_at h) stores_same (real_is _ h.cell d)) d.sends
-      cell_seen own calm tree of (move.lands r n is has may d) =
+      cell_seen own calm tree of (deed.lands r n is has may d) =
           once (lands (desk_for s r.orders r.done) (ap (carried_in mine) n)
           (post_is (stores t) (stores h) (desk_at t) _ stores_same (real_is _ h.cell d))
           (quiet (silent_of _ h.cell d (mapped_silent mine (current_to (here_at f k) r) (λ b. refl) (base_numbers (here_at f k))))))
-      cell_seen own calm tree of (move.hears_set n c a has d) = idle_step _ h.cell d refl (unseen (GhostSet e n c) a refl) tt
-      cell_seen own calm tree of (move.ignores_set n c r a has d) = idle_step _ h.cell d refl (unseen (GhostSet e n c) a refl) tt
-      cell_seen own calm tree of (move.hears_drop n a d) = idle_step _ h.cell d refl (unseen (GhostDrop e n) a refl) tt
-      cell_seen own calm tree of (move.reaped r n has is may d) = absurd (calm n)
-      cell_seen own calm tree of (move.ticks n st se) =
-          idle (unseen Tick n refl) (subst (IsSilent mine) (sym se) tt) stores_same (ap (λ a. real_desk s a.slot.real) st)
-      cell_seen own calm tree of (move.unlists n a at b d) =
-          idle_step _ (record { slot = h.cell.slot; survey = n; looks = h.cell.looks }) d refl (ap (carried_in mine) a) tt
-      cell_seen own calm tree of (move.looks n r w known a at has is v small d) =
+      cell_seen own calm tree of (deed.reaped r n has is may d) = absurd (calm n)
+      cell_seen own calm tree of (deed.looks n r w known a at has is v small d) =
           idle_step (looks_with (here_at f k) h.cell.slot r w known (shown_of (here_at f k) r w known))
           (record { slot = h.cell.slot; survey = h.cell.survey; looks = n }) d (sym (before r has)) (ap (carried_in mine) a)
           (numbered_silent mine (base_of (here_at f k) r.entity) r.entity w.sent _ (λ u. refl))
-      cell_seen own calm tree of (move.overlooks n known a at b d) =
-          idle_step _ (record { slot = h.cell.slot; survey = h.cell.survey; looks = n }) d refl (ap (carried_in mine) a) tt
-      cell_seen own calm tree of (move.stuck r a has ready may d) = idle_step _ h.cell d refl (ap (carried_in mine) a) tt
 
   -- ---- a base node
 
@@ -225,13 +211,14 @@ module _ (f : Frame) (e k s : ℕ) (h : Has) (i : Option Msg) (t : Has) (sent : 
     desk_same : desk_at t ≡ desk_at h
     desk_same = ap (λ c. real_desk s c.slot.real) cell
 
-    base_stray_none : (m : Msg) → i ≡ Some m → came ≡ None
-    base_stray_none (Call c) a = let low = (turn c a).cell in absurd (omega (arith, low, high))
-    base_stray_none (Hand r) a = let low = (room r a).cell in absurd (omega (arith, low, high))
-    base_stray_none m a = unseen m a refl
+    base_none : (j : Option Msg) → i ≡ j → came ≡ None
+    base_none None a = ap (carried_in mine) a
+    base_none (Some (Call c)) a = let low = (turn c a).cell in absurd (omega (arith, low, high))
+    base_none (Some (Hand r)) a = let low = (room r a).cell in absurd (omega (arith, low, high))
+    base_none (Some m) a = unseen m a refl
 
-    still : came ≡ None → IsSilent mine sent → stores t ≡ stores h → Seen
-    still n q a = idle n q a desk_same
+    still : IsSilent mine sent → stores t ≡ stores h → Seen
+    still q a = idle (base_none i refl) q a desk_same
 
     nothing : sent ≡ [] → IsSilent mine sent
     nothing z = subst (IsSilent mine) (sym z) tt
@@ -249,7 +236,7 @@ module _ (f : Frame) (e k s : ℕ) (h : Has) (i : Option Msg) (t : Has) (sent : 
               (first ∙ ap (λ o. more_letter o (letters_of (cell_order_from s) os)) (from_same s c (c.number, c) is))
               (post_is (stores t) _ (desk_at t) (desk_at h) after desk_same)
               (only [] to (Call c) (Item c.number c) z tt (from_same s c (Item c.number c) is)))
-          | inr is ↦ still (ap (carried_in mine) n) (one_silent to (Call c) (from_other s c (Item c.number c) is) z)
+          | inr is ↦ still (one_silent to (Call c) (from_other s c (Item c.number c) is) z)
               (after ∙ sym (first ∙ ap (λ o. more_letter o (letters_of (cell_order_from s) os)) (from_other s c (c.number, c) is)))
         ]
 
@@ -260,39 +247,19 @@ module _ (f : Frame) (e k s : ℕ) (h : Has) (i : Option Msg) (t : Has) (sent : 
         ap (letters_of (cell_order_from s)) now
         ∙ sym (ap (letters_of (cell_order_from s)) at ∙ ap (λ x. more_letter x (letters_of (cell_order_from s) os)) none)
 
-    kept : t.base.orders ≡ h.base.orders → stores t ≡ stores h
-    kept is = ap (letters_of (cell_order_from s)) is
-
-    base_seen : (cells : ℕ) → BaseMoves (here_at f k) cells e h.base i t.base sent → Seen
-    base_seen cells (base_move.rests n a z) = still (ap (carried_in mine) n) (nothing z) (kept (ap (λ b. b.orders) a))
-    base_seen cells (base_move.strays m n b a z) = still (base_stray_none m n) (nothing z) (kept (ap (λ b. b.orders) a))
-    base_seen cells (base_move.reroutes new r n has b a z) =
-        still (unseen (Current e new.cell new.generation) n refl) (nothing z) (kept (ap (λ b. b.orders) a))
-    base_seen cells (base_move.offers c p n is has may a z) =
-        still (unseen (BaseCall c) n refl) (nothing z) (kept (ap (λ b. b.orders) a))
-    base_seen cells (base_move.updates u n is b a z) = still (unseen (Update u) n refl) (nothing z) (kept (ap (λ b. b.orders) a))
-    base_seen cells (base_move.orders_call c os r n at is has a z) = orders_seen c os r.cell n at (ap (λ b. b.orders) a) z
-    base_seen cells (base_move.orders_base_call c os n at is b a z) =
-        still (ap (carried_in mine) n) (one_silent (base_of (here_at f k) e) (BaseCall c) refl z)
-        (other_gone (order.Base c) os refl at (ap (λ b. b.orders) a))
-    base_seen cells (base_move.offers_own c os p n at is b has may a z) =
-        still (ap (carried_in mine) n) (nothing z) (other_gone (order.Base c) os refl at (ap (λ b. b.orders) a))
-    base_seen cells (base_move.orders_tick os n at a z) =
-        still (ap (carried_in mine) n)
-        (subst (IsSilent mine) (sym z) (mapped_silent mine tick_to (λ j. refl) (range_with_len 0 cells)))
-        (other_gone order.Tick os refl at (ap (λ b. b.orders) a))
-    base_seen cells (base_move.orders_reap os r n at has a z) =
-        still (ap (carried_in mine) n) (one_silent r.cell (Reap e) refl z) (other_gone (order.Reap e) os refl at (ap (λ b. b.orders) a))
-    base_seen cells (base_move.stuck_order o os n at b a z) = still (ap (carried_in mine) n) (nothing z) (kept (ap (λ b. b.orders) a))
-    base_seen cells (base_move.executes p o c n has may at item a z) =
-        still (ap (carried_in mine) n) (nothing z) (kept (ap (λ b. b.orders) a))
-    base_seen cells (base_move.stuck_part p n has is may a z) =
-        still (ap (carried_in mine) n) (nothing z) (kept (ap (λ b. b.orders) a))
-    base_seen cells (base_move.shows p n has is may a z) = still (ap (carried_in mine) n) (nothing z) (kept (ap (λ b. b.orders) a))
-    base_seen cells (base_move.stuck_client p n has is may a z) =
-        still (ap (carried_in mine) n) (nothing z) (kept (ap (λ b. b.orders) a))
+    base_seen : (cells : ℕ) → BaseDeeds (here_at f k) cells e h.base i t.base sent → Seen
+    base_seen cells (base_deed.stays orders z) = still (nothing z) (ap (letters_of (cell_order_from s)) orders)
+    base_seen cells (base_deed.calls c r n at has z) = orders_seen c t.base.orders r.cell n at refl z
+    base_seen cells (base_deed.base_calls c n at z) =
+        still (one_silent (base_of (here_at f k) e) (BaseCall c) refl z) (other_gone (order.Base c) t.base.orders refl at refl)
+    base_seen cells (base_deed.serves c n at z) = still (nothing z) (other_gone (order.Base c) t.base.orders refl at refl)
+    base_seen cells (base_deed.ticks n at z) =
+        still (subst (IsSilent mine) (sym z) (mapped_silent mine tick_to (λ j. refl) (range_with_len 0 cells)))
+        (other_gone order.Tick t.base.orders refl at refl)
+    base_seen cells (base_deed.reaps r n at has z) =
+        still (one_silent r.cell (Reap e) refl z) (other_gone (order.Reap e) t.base.orders refl at refl)
 
   pub calls_seen : ((r : RealView) → i ≡ Some (Hand r) → FindsRoom f k h r) → ((c : CallData) → i ≡ Some (Call c) → FindsTurn f k h c) →
       HoldsOwn h → (i ≡ Some (Reap e) → ⊥) → Moves f e k h i t sent → Seen
-  calls_seen room turn own calm (at_a_cell tree of low m same) = cell_seen same room turn own calm tree of m
-  calls_seen room turn own calm (at_a_base high m same) = base_seen same high room turn _ m
+  calls_seen room turn own calm (at_a_cell tree of low m same) = cell_seen same room turn own calm tree of (cell_deeds m)
+  calls_seen room turn own calm (at_a_base high m same) = base_seen same high room turn _ (base_deeds m)

@@ -1,19 +1,13 @@
 -- A step of a cell is, for each entity, one of the moves.
-use Rattle.std.proofs.Common.{◌≡◌, ℕ, ◌⊎◌, Bool, true, false, cond, List, [], ◌∷◌, find, Option, None, Some, refl, sym, ap, ◌∙◌, subst, inl}
-use Rattle.std.proofs.Common.{inr}
-use Rattle.std.specs.Prelude.{option_map}
-use Rattle.std.specs.Ordering.{nat_cmp, eq_by_cmp}
-use Rattle.std.specs.Cmp.{unsigned_tied}
+use Rattle.seam_law_calls.proofs.Prelude.{◌≡◌, ℕ, ◌⊎◌, Bool, true, false, cond, List, [], ◌∷◌, find, Option, None, Some, refl, sym, ap, ◌∙◌}
+use Rattle.seam_law_calls.proofs.Prelude.{subst, inl, inr, option_map, nat_cmp, eq_by_cmp, unsigned_tied, cases_eq, eq-eqb, ne_eqb, found}
+use Rattle.seam_law_calls.proofs.Prelude.{Input, Task, From, RealView, Msg, Tick, number_of, has_ready, Slot, SlotStep, slot_after, about}
+use Rattle.seam_law_calls.proofs.Prelude.{slot_steps, stray_survey, stray_ready_call, stray_look, CellView, slot_of, after_slot}
+use Rattle.seam_law_calls.proofs.Prelude.{unlisted_by, stepped, cell_steps, cell_task, ready_next, look_next, cell_hears, ready_entity}
+use Rattle.seam_law_calls.proofs.Prelude.{real_is_ready, calls_ready, looks_around, known_to, AreUnderTheirEntities, letter_in, mine}
+use Rattle.seam_law_calls.proofs.Prelude.{concerning, times, AtCell, at_cell, unlisted_if, Does, CellMoves, entity_of, slot_stepped}
 use Rattle.std.specs.FinMap as table
-use Rattle.std.proofs.lemmas.Bool.{cases_eq, eq-eqb, ne_eqb}
-use Rattle.seam_table.proofs.Found.{found}
-use Rattle.seam_node_steps.specs.Prelude.{Input, Task, From, RealView, Msg, Tick, number_of, has_ready, Slot, SlotStep, slot_after, about}
-use Rattle.seam_node_steps.specs.Prelude.{slot_steps, stray_survey, stray_ready_call, stray_look, CellView, slot_of, after_slot}
-use Rattle.seam_node_steps.specs.Prelude.{unlisted_by, stepped, cell_steps, cell_task, ready_next, look_next, cell_hears, ready_entity}
-use Rattle.seam_node_steps.specs.Prelude.{real_is_ready, surveys, calls_ready, looks_around, known_to, AreUnderTheirEntities}
-use Rattle.seam_law_flow.specs.Prelude.{letter_in}
-use Rattle.seam_law_calls.specs.Prelude.{mine, concerning, times, AtCell, at_cell, unlisted_if, Does, CellMoves, entity_of}
-use Rattle.seam_node_steps.proofs.Slots.{slot_stepped}
+use Rattle.seam_node_steps.specs.Prelude.{surveys}
 use Rattle.seam_law_calls.specs.CellMoves as move
 use Rattle.seam_law_calls.specs.CellMoves.{after_step}
 use Rattle.seam_law_calls.proofs.Lists.{AllAbout, mine_own, mine_other, concerning_own, concerning_other, times_own, times_other}

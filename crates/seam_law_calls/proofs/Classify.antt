@@ -1,15 +1,11 @@
 -- For callers: a step of a node is, for each entity, one of the moves, and so is an event of a world.
-use Rattle.std.proofs.Common.{ℕ, Option, refl, sym, ◌∙◌, subst}
-use Rattle.seam_node_steps.specs.Prelude.{cells_of, happens, Occurs, items_to, Input, Task, From, Event, Msg, cell_steps, BaseView}
-use Rattle.seam_node_steps.specs.Prelude.{base_steps, NodeView, World, node_steps, node_has_work, node_peers, Cell, Base, IsNode}
-use Rattle.seam_law_flow.specs.Prelude.{Goes, letter_in, letters_of}
-use Rattle.seam_law_calls.specs.Prelude.{Frame, IsAt, IsInFrame, IsTreeOf, Has, mine, concerning, at_cell, at_base, has_of, has_none}
-use Rattle.seam_law_calls.specs.Prelude.{entity_flow}
-use Rattle.seam_law_calls.specs.Prelude.{CellMoves, BaseMoves, Moves, at_a_cell, at_a_base, MovesTo}
+use Rattle.seam_law_calls.proofs.Prelude.{ℕ, Option, refl, sym, ◌∙◌, subst, cells_of, happens, Occurs, items_to, Input, Task, From, Event}
+use Rattle.seam_law_calls.proofs.Prelude.{Msg, cell_steps, BaseView, base_steps, NodeView, World, node_steps, node_has_work, node_peers}
+use Rattle.seam_law_calls.proofs.Prelude.{Cell, Base, IsNode, Goes, letter_in, letters_of, Frame, IsAt, IsInFrame, IsTreeOf, Has, mine}
+use Rattle.seam_law_calls.proofs.Prelude.{concerning, at_cell, at_base, has_of, has_none, entity_flow, CellMoves, BaseMoves, Moves}
+use Rattle.seam_law_calls.proofs.Prelude.{at_a_cell, at_a_base, MovesTo, sound_sends, sound_happens, event_goes}
 use Rattle.seam_net_runs.specs.Sound.{MachineLaws}
 use Rattle.seam_net_runs.proofs.Keeping.{each_node}
-use Rattle.seam_net_runs.proofs.Soundness.{sound_sends, sound_happens}
-use Rattle.seam_law_flow.proofs.Bridge.{event_goes}
 use Rattle.seam_node_steps.proofs.Peers.{peers_stay, node_stays_valid, cell_frame}
 use Rattle.seam_node_steps.proofs.Targets.{node_targets}
 use Rattle.seam_node_steps.proofs.ValidBases.{base_frame}

@@ -1,10 +1,8 @@
 -- Each call to a base part with a client once, over every list of events in which its witness tells no more than there is room for.
-use Rattle.std.proofs.Common.{◌≡◌, ℕ, ◌+◌, ◌≤◌, true, List, [], ◌∷◌, length, refl, sym, ap, subst, arith}
-use Rattle.seam_node_steps.specs.Prelude.{happens, run, AllEnabled, Event, Call as CallData, RealView, Msg, BaseCall, may_show, World}
-use Rattle.seam_node_steps.specs.Prelude.{node_steps, node_has_work}
-use Rattle.seam_law_calls.specs.Prelude.{Frame, IsInFrame, entity_flow, IsSpared, sent_of, sent_by, FindsPart, HasBaseCalls, EachReal}
-use Rattle.seam_law_calls.specs.Prelude.{HasToldAtMost, HasClient, HasRoomFor, RunsTo}
-use Rattle.seam_machine.proofs.Occurring.{occurs}
+use Rattle.seam_law_calls.proofs.Prelude.{◌≡◌, ℕ, ◌+◌, ◌≤◌, true, List, [], ◌∷◌, length, refl, sym, ap, subst, arith, happens, run}
+use Rattle.seam_law_calls.proofs.Prelude.{AllEnabled, Event, Call as CallData, RealView, Msg, BaseCall, may_show, World, node_steps}
+use Rattle.seam_law_calls.proofs.Prelude.{node_has_work, Frame, IsInFrame, entity_flow, IsSpared, sent_of, sent_by, FindsPart, HasBaseCalls}
+use Rattle.seam_law_calls.proofs.Prelude.{EachReal, HasToldAtMost, HasClient, HasRoomFor, RunsTo, occurs}
 use Rattle.seam_law_calls.proofs.OneReal.{one_leads, spared_happens}
 use Rattle.seam_law_calls.proofs.PartEasing.{base_burden_happens}
 use Rattle.seam_law_calls.proofs.WitnessKept.{each_weaker, each_happens}

@@ -1,25 +1,16 @@
 -- An entity's client: what each event keeps of it, and what an update finds that comes.
-use Rattle.std.proofs.Common.{◌≡◌, ℕ, ◌+◌, ◌<◌, ◌≤◌, true, false, not, is_some, List, [], ◌∷◌, ◌++◌, length, ◌⊎◌, Option, None, Some, refl}
-use Rattle.std.proofs.Common.{sym, ap, ◌∙◌, subst, arith, inl, inr, cond, Bool}
-use Rattle.std.specs.Prelude.{option_map}
-use Rattle.std.specs.List.{AllByRecursion}
-use Rattle.std.specs.Ordering.{nat_cmp}
-use Rattle.std.specs.declared.cmp.Ordering.{Ordering}
-use Rattle.std.specs.declared.cmp.Ordering.TheVariants.{Less, Equal, Greater}
-use Rattle.std.proofs.lemmas.Bool.{cases_eq, eq-eqb}
-use Rattle.std.proofs.lemmas.List.{length-append}
-use Rattle.seam_node_steps.specs.Prelude.{happens, Occurs, Event, item_at, next_item, after_item, Order, Shown, RealView, Msg, Hand, Update}
-use Rattle.seam_node_steps.specs.Prelude.{limit, may_rise, Here, may_offer, PartView, ProxyView, line_if, base_text, may_show, stray_update}
-use Rattle.seam_node_steps.specs.Prelude.{stray_proxy_update, offered_update, shows_next, World, node_steps}
-use Rattle.seam_law_flow.specs.Prelude.{Flow, Goes, comes, letters_of, more_letter, carried_in, TokenPlace, In, On, SoleIn, Sole, Delivery}
-use Rattle.seam_law_flow.specs.Prelude.{IsToward, Life, number_from, numbered}
-use Rattle.seam_law_calls.specs.Prelude.{Frame, here_at, Has, AtBase, entity_flow, MovesTo, real_in, real_of, IsSpared, IsOne, Missed}
-use Rattle.seam_law_calls.specs.Prelude.{sent_by, base_burden, home_of, tells, proxy_of, order_in, updates_at, shown_at, EachReal}
-use Rattle.seam_law_calls.specs.Prelude.{HasToldAtMost, HasClient, HasRoomFor, FindsClient, real_at}
-use Rattle.seam_law_flow.proofs.Following.{letters_kept, came}
-use Rattle.seam_law_flow.proofs.TokenLemmas.{one_more, first_is, sole_first, sole_here}
-use Rattle.seam_law_flow.proofs.Numbers.{item_bounds}
-use Rattle.seam_law_flow.proofs.Delivering.{offer_next, offer_early, delivery_goes}
+use Rattle.seam_law_calls.proofs.Prelude.{◌≡◌, ℕ, ◌+◌, ◌<◌, ◌≤◌, true, false, not, is_some, List, [], ◌∷◌, ◌++◌, length, ◌⊎◌, Option, None}
+use Rattle.seam_law_calls.proofs.Prelude.{Some, refl, sym, ap, ◌∙◌, subst, arith, inl, inr, cond, Bool, option_map, AllByRecursion, nat_cmp}
+use Rattle.seam_law_calls.proofs.Prelude.{Ordering, Less, Equal, Greater, cases_eq, eq-eqb, length-append, happens, Occurs, Event, item_at}
+use Rattle.seam_law_calls.proofs.Prelude.{next_item, after_item, Order, Shown, RealView, Msg, Hand, Update, limit, may_rise, Here}
+use Rattle.seam_law_calls.proofs.Prelude.{may_offer, PartView, ProxyView, line_if, base_text, may_show, stray_update, stray_proxy_update}
+use Rattle.seam_law_calls.proofs.Prelude.{offered_update, shows_next, World, node_steps, Flow, Goes, comes, letters_of, more_letter}
+use Rattle.seam_law_calls.proofs.Prelude.{carried_in, TokenPlace, In, On, SoleIn, Sole, Delivery, IsToward, Life, number_from, Frame}
+use Rattle.seam_law_calls.proofs.Prelude.{here_at, Has, AtBase, entity_flow, MovesTo, real_in, real_of, IsSpared, IsOne, Missed, sent_by}
+use Rattle.seam_law_calls.proofs.Prelude.{base_burden, home_of, tells, proxy_of, order_in, updates_at, shown_at, EachReal, HasToldAtMost}
+use Rattle.seam_law_calls.proofs.Prelude.{HasClient, HasRoomFor, FindsClient, real_at, letters_kept, came, one_more, first_is, sole_first}
+use Rattle.seam_law_calls.proofs.Prelude.{sole_here, item_bounds, offer_next, offer_early, delivery_goes}
+use Rattle.seam_law_flow.specs.Prelude.{numbered}
 use Rattle.seam_call.specs.declared.order.Order.TheVariants as order
 use Rattle.seam_call.specs.declared.shown.Update.{Update as UpdateData}
 use Rattle.seam_law_calls.proofs.Classify.{event_moves}

@@ -1,11 +1,9 @@
 -- What each move of the base part does with its client.
-use Rattle.std.proofs.Common.{◌≡◌, ℕ, ◌+◌, Bool, true, List, ◌∷◌, Option, None, Some, refl, sym, ap, ◌∙◌}
-use Rattle.std.specs.Prelude.{option_map}
-use Rattle.std.specs.Ordering.{nat_cmp}
-use Rattle.seam_node_steps.specs.Prelude.{changes, next_item, Call as CallData, Order, Msg, Update, Here, type_at, is_ready, PartView}
-use Rattle.seam_node_steps.specs.Prelude.{ProxyView, line_if, base_text, with_deed, offered_update, shows_next}
-use Rattle.seam_law_calls.specs.Prelude.{AtBase, told, HasNoProxy, Missed, Offered, now, early, late, PartMoves, rests, refuses, offers}
-use Rattle.seam_law_calls.specs.Prelude.{sends, serves, executes, misses, updates, shows, ends}
+use Rattle.seam_law_calls.proofs.Prelude.{◌≡◌, ℕ, ◌+◌, Bool, true, List, ◌∷◌, Option, None, Some, refl, sym, ap, ◌∙◌, option_map, nat_cmp}
+use Rattle.seam_law_calls.proofs.Prelude.{changes, next_item, Call as CallData, Order, Msg, Update, Here, type_at, is_ready, PartView}
+use Rattle.seam_law_calls.proofs.Prelude.{ProxyView, line_if, base_text, with_deed, offered_update, shows_next, AtBase, told, HasNoProxy}
+use Rattle.seam_law_calls.proofs.Prelude.{Missed, Offered, now, early, late, PartMoves, rests, refuses, offers, sends, serves, executes}
+use Rattle.seam_law_calls.proofs.Prelude.{misses, updates, shows, ends}
 use Rattle.seam_call.specs.declared.order.Order.TheVariants as order
 use Rattle.seam_call.specs.declared.shown.Update.{Update as UpdateData}
 

@@ -1,25 +1,14 @@
 -- Each step of a node is one of the moves of a client's updates: some are issued by the witness, one is offered, or one that was held is
 -- shown; and how many the witness told is known after it.
-use Rattle.std.proofs.Common.{◌≡◌, ℕ, ◌+◌, ◌<◌, cond, is_some, List, [], ◌∷◌, ◌++◌, length, ◌⊎◌, Option, None, Some, refl, sym, ap, ◌∙◌}
-use Rattle.std.proofs.Common.{subst, arith, inl, inr, true, Bool, false}
-use Rattle.std.specs.Prelude.{option_map}
-use Rattle.std.specs.List.{AllByRecursion}
-use Rattle.std.specs.Ordering.{nat_cmp, match_ordering}
-use Rattle.std.specs.declared.cmp.Ordering.{Ordering}
-use Rattle.std.specs.declared.cmp.Ordering.TheVariants.{Less, Equal, Greater}
-use Rattle.std.proofs.lemmas.Bool.{eq-eqb, ne_eqb}
-use Rattle.std.proofs.lemmas.Bool.Decides.{nat_tests}
-use Rattle.std.proofs.lemmas.List.{append-nil}
-use Rattle.seam_node_steps.specs.Prelude.{items_to, with_item, after_offer, after_taking, next_item, Order, Shown, RealView, Msg, Hand}
-use Rattle.seam_node_steps.specs.Prelude.{Update, Here, cell_count, PartView, ProxyView, line_if, base_text, offered_update, shows_next}
-use Rattle.seam_node_steps.specs.Prelude.{numbered}
-use Rattle.seam_law_flow.specs.Prelude.{letters_of, IsSilent, carried_in, SendsNone, at_once, more_issued, number_from}
-use Rattle.seam_law_calls.specs.Prelude.{Frame, here_at, Has, Moves, at_a_cell, at_a_base, real_in, real_of, update_in, told, Missed}
-use Rattle.seam_law_calls.specs.Prelude.{sent_of, sent_by, WitnessMoves, home_of, with_number, tells, proxy_of, order_in, updates_at}
-use Rattle.seam_law_calls.specs.Prelude.{shown_in, lines_in, shown_at}
-use Rattle.seam_law_flow.proofs.Bridge.{letters_of-append}
-use Rattle.seam_law_flow.proofs.Following.{all_append}
-use Rattle.seam_law_flow.proofs.SendLists.{sees_none}
+use Rattle.seam_law_calls.proofs.Prelude.{◌≡◌, ℕ, ◌+◌, ◌<◌, cond, is_some, List, [], ◌∷◌, ◌++◌, length, ◌⊎◌, Option, None, Some, refl, sym}
+use Rattle.seam_law_calls.proofs.Prelude.{ap, ◌∙◌, subst, arith, inl, inr, true, Bool, false, option_map, AllByRecursion, nat_cmp}
+use Rattle.seam_law_calls.proofs.Prelude.{match_ordering, Ordering, Less, Equal, Greater, eq-eqb, ne_eqb, nat_tests, append-nil, items_to}
+use Rattle.seam_law_calls.proofs.Prelude.{with_item, after_offer, after_taking, next_item, Order, Shown, RealView, Msg, Hand, Update, Here}
+use Rattle.seam_law_calls.proofs.Prelude.{cell_count, PartView, ProxyView, line_if, base_text, offered_update, shows_next, numbered}
+use Rattle.seam_law_calls.proofs.Prelude.{letters_of, IsSilent, carried_in, SendsNone, at_once, more_issued, number_from, Frame, here_at}
+use Rattle.seam_law_calls.proofs.Prelude.{Has, Moves, at_a_cell, at_a_base, real_in, real_of, update_in, told, Missed, sent_of, sent_by}
+use Rattle.seam_law_calls.proofs.Prelude.{WitnessMoves, home_of, with_number, tells, proxy_of, order_in, updates_at, shown_in, lines_in}
+use Rattle.seam_law_calls.proofs.Prelude.{shown_at, letters_of-append, all_append, sees_none}
 use Rattle.seam_law_flow.specs.Deliveries.{Passes}
 use Rattle.seam_law_flow.specs.Deliveries as pass
 use Rattle.seam_call.specs.declared.order.Order.TheVariants as order

@@ -1,14 +1,11 @@
 -- An entity's holders, and the place of its one real.
-use Rattle.std.proofs.Common.{◌≡◌, ℕ, Bool, true, false, cond, eqb, Option, None, Some, refl, sym, ap, ◌∙◌}
+use Rattle.seam_law_calls.proofs.Prelude.{◌≡◌, ℕ, Bool, true, false, cond, eqb, Option, None, Some, refl, sym, ap, ◌∙◌, weight, RealView}
+use Rattle.seam_law_calls.proofs.Prelude.{Msg, Hand, Tick, NodeView, World, Cell, Base, one_if_real, held_at, carried, holders, carried_in}
+use Rattle.seam_law_calls.proofs.Prelude.{one_if, TokenPlace, Nobody, concerns, kept_if, mine, has_of, has_none, entity_flow, real_in}
+use Rattle.seam_law_calls.proofs.Prelude.{real_of, IsOne}
 use Rattle.std.proofs.Math.Path.{fun_ext}
-use Rattle.seam_net_runs.specs.Weights.{weight}
-use Rattle.seam_node_steps.specs.Prelude.{RealView, Msg, BaseCall, Hand, Current, GhostSet, GhostDrop, Tick, Reap, Update, NodeView, World}
-use Rattle.seam_node_steps.specs.Prelude.{Cell, Base, one_if_real, held_at, carried, holders}
-use Rattle.seam_law_flow.specs.Prelude.{carried_in, one_if, TokenPlace, Sole, Nobody}
-use Rattle.seam_law_calls.specs.Prelude.{concerns, kept_if, mine, has_of, has_none, entity_flow, real_in, real_of, IsOne}
 use Rattle.seam_law_flow.specs.Tokens as token
 use Rattle.seam_law_flow.proofs.TokenCounts.{one_counted, sole_counts, none_counted, nobody_counts}
-use Rattle.seam_entity.specs.declared.message.Msg.TheVariants.{Call}
 use Rattle.std.specs.FinMap as table
 
 one_is : (o : Option RealView) → one_if o ≡ one_if_real o

@@ -1,13 +1,9 @@
 -- One sender's desk after a call was offered, or one that was held was taken.
-use Rattle.std.proofs.Common.{◌≡◌, ℕ, ◌<◌, cond, eqb, List, [], ◌∷◌, ◌++◌, None, Some, refl, sym, ap, ◌∙◌, arith}
-use Rattle.std.specs.Cmp.{nat_cmp_total, unsigned_tied}
+use Rattle.seam_law_calls.proofs.Prelude.{◌≡◌, ℕ, ◌<◌, cond, eqb, List, [], ◌∷◌, ◌++◌, None, Some, refl, sym, ap, ◌∙◌, arith, nat_cmp_total}
+use Rattle.seam_law_calls.proofs.Prelude.{unsigned_tied, eq-eqb, ne_eqb, append-nil, OrderView, after_offer, after_taking, Call as CallData}
+use Rattle.seam_law_calls.proofs.Prelude.{rank_of, Orders, order_or, letters_of, more_letter, Desk, offered, taken, kept_if, from_sender}
+use Rattle.seam_law_calls.proofs.Prelude.{desk_for, letters_of-append}
 use Rattle.std.specs.FinMap as table
-use Rattle.std.proofs.lemmas.Bool.{eq-eqb, ne_eqb}
-use Rattle.std.proofs.lemmas.List.{append-nil}
-use Rattle.seam_node_steps.specs.Prelude.{OrderView, after_offer, after_taking, Call as CallData, rank_of, Orders, order_or}
-use Rattle.seam_law_flow.specs.Prelude.{letters_of, more_letter, Desk, offered, taken}
-use Rattle.seam_law_calls.specs.Prelude.{kept_if, from_sender, desk_for}
-use Rattle.seam_law_flow.proofs.Bridge.{letters_of-append}
 
 pub from_same : {A : Type 0} (s : ℕ) (c : CallData) (a : A) → rank_of c.sender ≡ s → kept_if (eqb (rank_of c.sender) s) a ≡ Some a
 from_same s c a is = ap (λ t. kept_if t a) (eq-eqb (rank_of c.sender) s is)

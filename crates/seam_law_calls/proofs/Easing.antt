@@ -1,14 +1,9 @@
 -- What no step raises no event raises; so what is yet to do, and a hand-over that comes has small numbers.
-use Rattle.std.proofs.Common.{◌≡◌, ℕ, ◌+◌, ◌<◌, ◌≤◌, Bool, true, false, cond, List, [], ◌∷◌, Some, refl, ap, arith}
-use Rattle.seam_node_steps.specs.Prelude.{happens, Occurs, total, Input, Task, From, Event, RealView, Msg, Hand, Reap, limit, NodeView}
-use Rattle.seam_node_steps.specs.Prelude.{World, node_steps}
-use Rattle.seam_law_flow.specs.Prelude.{letter_in}
-use Rattle.seam_law_calls.specs.Prelude.{Frame, IsInFrame, Has, concerns, kept_if, mine, concerning, has_of, real_burden, letter_burden}
-use Rattle.seam_law_calls.specs.Prelude.{has_burden, node_burden, mine_burden, burden, RunsTo}
-use Rattle.seam_net_runs.specs.Sums.{weight_or}
-use Rattle.seam_net_runs.specs.Weights.{weight, input_weight, sent_weight}
-use Rattle.seam_net_runs.proofs.Soundness.{sound_sends}
-use Rattle.seam_net_runs.proofs.Weighing.{weight_moves, weight_bounds}
+use Rattle.seam_law_calls.proofs.Prelude.{◌≡◌, ℕ, ◌+◌, ◌<◌, ◌≤◌, Bool, true, false, cond, List, [], ◌∷◌, Some, refl, ap, arith, happens}
+use Rattle.seam_law_calls.proofs.Prelude.{Occurs, total, Input, Task, From, Event, RealView, Msg, Hand, Reap, limit, NodeView, World}
+use Rattle.seam_law_calls.proofs.Prelude.{node_steps, letter_in, Frame, IsInFrame, Has, concerns, kept_if, mine, concerning, has_of}
+use Rattle.seam_law_calls.proofs.Prelude.{real_burden, letter_burden, has_burden, node_burden, mine_burden, burden, RunsTo, weight_or}
+use Rattle.seam_law_calls.proofs.Prelude.{weight, input_weight, sent_weight, sound_sends, weight_moves, weight_bounds}
 use Rattle.seam_law_calls.proofs.Classify.{node_laws, node_moves}
 use Rattle.seam_law_calls.proofs.Burdening.{eased}
 use Rattle.seam_law_calls.proofs.Keeping.{run_keeps}

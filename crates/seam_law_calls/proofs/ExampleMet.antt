@@ -1,8 +1,9 @@
 -- The example is a world of its frame in which the entity fits.
-use Rattle.std.proofs.Common.{◌≡◌, ℕ, zero, suc, ◌+◌, ◌<◌, ◌≤◌, Bool, true, false, cond, eqb, List, [], ◌∷◌, length, replicate, Option}
+use Rattle.std.proofs.Common.{◌≡◌, ℕ, zero, suc, ◌+◌, ◌<◌, ◌≤◌, Bool, true, false, cond, eqb, List, [], ◌∷◌, ◌++◌, map, length, replicate}
+use Rattle.std.proofs.Common.{Option}
 use Rattle.std.proofs.Common.{None, Some, refl, sym, ap, ◌∙◌, subst, arith}
 use Rattle.std.specs.Prelude.{slice_get, slice_index_or}
-use Rattle.std.specs.List.{All, AllByRecursion}
+use Rattle.std.specs.List.{All, AllByRecursion, range_with_len}
 use Rattle.std.specs.Ordering.{nat_cmp}
 use Rattle.std.specs.Cmp.{nat_cmp_total, unsigned_tied}
 use Rattle.std.proofs.lemmas.Bool.{eqb-true}
@@ -12,7 +13,7 @@ use Rattle.std.proofs.lemmas.List.Elements.{All-nil, All-cons, All-replicate}
 use Rattle.seam_node_steps.specs.Prelude.{cut_after, area, IsTree, IsProper, are_of_group, link, run, AllEnabled, IsSquare, ArePeers}
 use Rattle.seam_node_steps.specs.Prelude.{EachNode, Event, Msg, Map, properties, all_held, fits_cell_part, NodeView, World, node_peers}
 use Rattle.seam_node_steps.specs.Prelude.{node_has_work, node_steps, IsNode, holders, RouteView, idle, one, IsRow, two_cells, made, at_home}
-use Rattle.seam_node_steps.specs.Prelude.{with_cells, base_16, the_move, hit_1, hit_2}
+use Rattle.seam_node_steps.specs.Prelude.{Division, with_cells, base_16, the_move, hit_1, hit_2}
 use Rattle.seam_law_flow.specs.Prelude.{slot_at, letters_of}
 use Rattle.seam_law_calls.specs.Prelude.{here_at, IsAt, IsInFrame, Has, mine, has_of, has_none, entity_flow, RealFits, IsFitReal, IsFitHand}
 use Rattle.seam_law_calls.specs.Prelude.{burden, real_in, reaped_by, HasNoReaps, IsSpared, AllFits, IsFrame, frame, events_of, RunsTo}
@@ -43,49 +44,25 @@ each_at P (x ∷ xs) i (suc k) s h e =
 pub each_node : {N : Type 0} (P : ℕ → N → Type 0) (xs : List N) → EachFrom P 0 xs → EachNode P xs
 each_node P xs h k s e = let at : k + 0 ≡ k = omega arith in subst (λ j. P j s) at (each_at P xs 0 k s h e)
 
--- what is true of cell 0, of each cell without anything, and of the two base nodes is true of each node of such a world
+-- what is true of each cell without anything is true of n idle ones from the a-th on, before nodes of which it is true
+module _ (P : ℕ → NodeView → Type 0) (t : Division) where
+  pub idle_each : (a n : ℕ) (ys : List NodeView) → ((k : ℕ) → k < a + n → P k (idle t k)) → EachFrom P (a + n) ys →
+      EachFrom P a (map (idle t) (range_with_len a n) ++ ys)
+  idle_each a zero ys each rest = let same : a + 0 ≡ a = omega arith in subst (λ j. EachFrom P j ys) same rest
+  idle_each a (suc n) ys each rest =
+      let same : a + suc n ≡ a + 1 + n = omega arith in
+      let next : a + 1 ≡ suc a = omega arith in
+      let here : a < a + suc n = omega arith in (
+        each a here,
+        subst (λ j. EachFrom P j (map (idle t) (range_with_len (a + 1) n) ++ ys)) next
+            (idle_each (a + 1) n ys (λ k low. each k (omega (arith, low))) (subst (λ j. EachFrom P j ys) same rest)),
+      )
+
+-- so it is of each node of a world with cell 0 and two base nodes
 pub nodes_of : (P : ℕ → NodeView → Type 0) (home b16 b17 : NodeView) → P 0 home → ((k : ℕ) → k < 16 → P k (idle two_cells k)) → P 16 b16 →
     P 17 b17 → EachFrom P 0 (with_cells home (idle two_cells 1) b16 b17 []).nodes
-nodes_of P home b16 b17 first others sixteen seventeen = (
-  first,
-  (
-    others 1 (omega arith),
-    (
-      others 2 (omega arith),
-      (
-        others 3 (omega arith),
-        (
-          others 4 (omega arith),
-          (
-            others 5 (omega arith),
-            (
-              others 6 (omega arith),
-              (
-                others 7 (omega arith),
-                (
-                  others 8 (omega arith),
-                  (
-                    others 9 (omega arith),
-                    (
-                      others 10 (omega arith),
-                      (
-                        others 11 (omega arith),
-                        (
-                          others 12 (omega arith),
-                          (others 13 (omega arith), (others 14 (omega arith), (others 15 (omega arith), (sixteen, (seventeen, tt))))),
-                        ),
-                      ),
-                    ),
-                  ),
-                ),
-              ),
-            ),
-          ),
-        ),
-      ),
-    ),
-  ),
-)
+nodes_of P home b16 b17 first others sixteen seventeen =
+    (first, idle_each P two_cells 1 15 (b16 ∷ b17 ∷ []) others (sixteen, (seventeen, tt)))
 
 -- the nodes of the example that have something
 abbrev pub node_0 : NodeView

@@ -1,11 +1,8 @@
 -- Calls find their way after every list of events.
-use Rattle.std.proofs.Common.{◌≡◌, ℕ, ◌<◌, Bool, true, false, not, ◌&&◌, ◌||◌, is_some, List, [], ◌∷◌, length, None, Some, refl, sym, ap}
-use Rattle.std.proofs.Common.{◌∙◌, subst}
-use Rattle.std.specs.List.{AllByRecursion}
-use Rattle.seam_node_steps.specs.Prelude.{happens, Event, Call as CallData, Msg, RouteView, World, node_steps}
-use Rattle.seam_law_flow.specs.Prelude.{Flow, comes}
-use Rattle.seam_law_calls.specs.Prelude.{Frame, Has, entity_flow, IsSpared, IsFrame, HasOne, is_visited, follow, NamesVisited, AllLead}
-use Rattle.seam_law_calls.specs.Prelude.{RunsTo}
+use Rattle.seam_law_calls.proofs.Prelude.{◌≡◌, ℕ, ◌<◌, Bool, true, false, not, ◌&&◌, ◌||◌, is_some, List, [], ◌∷◌, length, None, Some, refl}
+use Rattle.seam_law_calls.proofs.Prelude.{sym, ap, ◌∙◌, subst, AllByRecursion, happens, Event, Call as CallData, Msg, RouteView, World}
+use Rattle.seam_law_calls.proofs.Prelude.{node_steps, Flow, comes, Frame, Has, entity_flow, IsSpared, IsFrame, HasOne, is_visited, follow}
+use Rattle.seam_law_calls.proofs.Prelude.{NamesVisited, AllLead, RunsTo}
 use Rattle.seam_entity.specs.declared.message.Msg.TheVariants.{Call}
 use Rattle.seam_law_calls.proofs.OneReal.{goes, room, one_keeps}
 use Rattle.seam_law_calls.proofs.WayMoves.{leads}

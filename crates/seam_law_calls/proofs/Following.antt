@@ -1,8 +1,7 @@
 -- Calls that follow: lists of letters joined and parted.
-use Rattle.std.proofs.Common.{◌≡◌, Bool, true, false, not, ◌||◌, List, [], ◌∷◌, ◌++◌, refl, subst}
-use Rattle.seam_entity.specs.declared.message.Msg.{Msg}
+use Rattle.seam_law_calls.proofs.Prelude.{◌≡◌, Bool, true, false, not, ◌||◌, List, [], ◌∷◌, ◌++◌, refl, subst, Msg, is_call, is_hand}
+use Rattle.seam_law_calls.proofs.Prelude.{has_hand, follow}
 use Rattle.seam_law_calls.proofs.Holds.{both, all_two as two}
-use Rattle.seam_law_calls.specs.Ways.{is_call, is_hand, has_hand, follow}
 
 pub or_right : (a b : Bool) → b ≡ true → (a || b) ≡ true
 or_right true b h = refl

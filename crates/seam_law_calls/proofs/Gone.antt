@@ -1,17 +1,13 @@
 -- A Reap that finds the real takes it out of the world, and an entity that no one has stays gone.
-use Rattle.std.proofs.Common.{◌≡◌, ℕ, ◌+◌, Bool, true, false, not, List, Option, None, Some, refl, sym, ap, ◌∙◌, subst, arith}
-use Rattle.std.specs.List.{AllByRecursion}
-use Rattle.seam_node_steps.specs.Prelude.{Division, happens, Occurs, Event, RealView, Msg, Hand, Reap, limit, may_rise, is_stray, World}
-use Rattle.seam_node_steps.specs.Prelude.{node_steps}
-use Rattle.seam_law_flow.specs.Prelude.{Goes, comes, letter_in, letters_of, IsSilent, carried_in, Nobody, Handles, still, turns, lands}
-use Rattle.seam_law_flow.specs.Prelude.{leaves, relays}
-use Rattle.seam_law_calls.specs.Prelude.{Frame, here_at, IsInFrame, Has, AtCell, mine, has_of, entity_flow, Acts, surveys, calls, readies}
-use Rattle.seam_law_calls.specs.Prelude.{CellMoves, Moves, at_a_cell, at_a_base, MovesTo, Replays, real_in, real_of, IsFrame, HasOne}
-use Rattle.seam_law_calls.specs.Prelude.{RunsTo, real_at}
-use Rattle.seam_law_flow.proofs.Following.{came}
-use Rattle.seam_law_flow.proofs.SendLists.{sees_none}
+use Rattle.seam_law_calls.proofs.Prelude.{◌≡◌, ℕ, ◌+◌, Bool, true, false, not, List, Option, None, Some, refl, sym, ap, ◌∙◌, subst, arith}
+use Rattle.seam_law_calls.proofs.Prelude.{AllByRecursion, Division, happens, Occurs, Event, RealView, Msg, Hand, Reap, limit, may_rise}
+use Rattle.seam_law_calls.proofs.Prelude.{is_stray, World, node_steps, Goes, comes, letter_in, letters_of, IsSilent, carried_in, Nobody}
+use Rattle.seam_law_calls.proofs.Prelude.{Handles, still, turns, lands, leaves, relays, Frame, here_at, IsInFrame, Has, AtCell, mine}
+use Rattle.seam_law_calls.proofs.Prelude.{has_of, entity_flow, Acts, surveys, calls, readies, Moves, at_a_cell, at_a_base, MovesTo, Replays}
+use Rattle.seam_law_calls.proofs.Prelude.{real_in, real_of, IsFrame, HasOne, RunsTo, real_at, came, sees_none}
 use Rattle.seam_law_flow.proofs.Lives.{nobody_still, nobody_ends}
-use Rattle.seam_law_calls.specs.CellMoves as move
+use Rattle.seam_law_calls.proofs.CellDeeds as deed
+use Rattle.seam_law_calls.proofs.CellDeeds.{CellDeeds, cell_deeds, not_reaped}
 use Rattle.seam_law_calls.proofs.Classify.{event_moves, event_moves_with}
 use Rattle.seam_law_calls.proofs.Holds.{below_is}
 use Rattle.seam_law_calls.proofs.Plain.{drops_silent}
@@ -78,35 +74,21 @@ module _ (f : Frame) (e k : ℕ) (s : Has) (i : Option Msg) (t : Has) (sent : Li
   acts_not u p q changed (calls c a b d g) = not_reap _ a (λ z. cc)
   acts_not u p q changed (readies o c a b d g) = never a
 
-  stray_not : (tree : Division) (m : Msg) → i ≡ Some m → is_stray (here_at f k) tree s.cell.slot m ≡ true → Takes
-  stray_not tree m n b =
-      let same : Reap e ≡ m = let z = sym is ∙ n in cc in
-      let c = ap (is_stray (here_at f k) tree s.cell.slot) same ∙ b in
+  takes : {tree : Division} → CellDeeds (here_at f k) tree e s.cell i t.cell sent → Takes
+  takes {tree} (deed.idles a z) =
       absurd (not_yes (may_rise r.beat) may
       (sym (ap (λ o. is_stray (here_at f k) tree (record { real = o; next = s.cell.slot.next; ghost = s.cell.slot.ghost }) (Reap e))
-      has) ∙ c))
-
-  takes : {tree : Division} → CellMoves (here_at f k) tree e s.cell i t.cell sent → Takes
-  takes (move.rests n d) = never n
-  takes {tree} (move.strays m n b d) = stray_not tree m n b
-  takes (move.stays u p q changed h own acts at d) = acts_not u p q changed acts
-  takes (move.goes u p q changed j h own acts at n d) = acts_not u p q changed acts
-  takes (move.late c p n h m lt d) = not_reap _ n (λ z. cc)
-  takes (move.holds c p n own h mine m lt d) = not_reap _ n (λ z. cc)
-  takes (move.passes c p n own h at d) = not_reap _ n (λ z. cc)
-  takes (move.lands p n own h m d) = not_reap _ n (λ z. cc)
-  takes (move.hears_set n c h p d) = not_reap _ h (λ z. cc)
-  takes (move.ignores_set n c p h q d) = not_reap _ h (λ z. cc)
-  takes (move.hears_drop n h d) = not_reap _ h (λ z. cc)
-  takes (move.reaped p n h own m d) = record {
+      has) ∙ not_reaped a.why e is))
+  takes (deed.stays u p q changed h own acts at d) = acts_not u p q changed acts
+  takes (deed.goes u p q changed j h own acts at n d) = acts_not u p q changed acts
+  takes (deed.holds c p n own h mine m lt d) = not_reap _ n (λ z. cc)
+  takes (deed.passes c p n own h at d) = not_reap _ n (λ z. cc)
+  takes (deed.lands p n own h m d) = not_reap _ n (λ z. cc)
+  takes (deed.reaped p n h own m d) = record {
     none = ap (λ a. a.slot.real) d.state;
     silent = subst (IsSilent real_of) (sym d.sends) (drops_silent real_of reals_unseen p);
   }
-  takes (move.ticks n st se) = not_reap _ n (λ z. cc)
-  takes (move.unlists n h at b d) = never h
-  takes (move.looks n p x known h at q own g small d) = never h
-  takes (move.overlooks n known h at b d) = never h
-  takes (move.stuck p h q ready m d) = never h
+  takes (deed.looks n p x known h at q own g small d) = never h
 
 module _ (f : Frame) (frame : IsFrame f) (e ty : ℕ) (w : World) (v : Event) (o : Occurs w v) (has : HasOne f e ty w) (r : RealView)
     (fed : letter_in (mine e) o.input ≡ Some (Reap e)) (here : real_in (has_of e o.node) ≡ Some r) where
@@ -125,7 +107,7 @@ module _ (f : Frame) (frame : IsFrame f) (e ty : ℕ) (w : World) (v : Event) (o
       Takes f e finds.k ((entity_flow e w).slot finds.k) (comes finds.input) t finds.moves.0.sent r finds.moves.1.0 finds.moves.1.1
       finds.moves.1.2
   ends t (at_a_cell tree of low m same) =
-      takes f e finds.k _ (comes finds.input) t finds.moves.0.sent r finds.moves.1.0 finds.moves.1.1 finds.moves.1.2 m
+      takes f e finds.k _ (comes finds.input) t finds.moves.0.sent r finds.moves.1.0 finds.moves.1.1 finds.moves.1.2 (cell_deeds m)
   ends t (at_a_base high m same) =
       let fits = has.fits.reals finds.k r finds.moves.1.1 in
       let low = fits.home in

@@ -1,21 +1,18 @@
 -- What each move does with the entity's real: it stays as it is, is turned into what calls make of it, lands, or leaves.
-use Rattle.std.proofs.Common.{◌≡◌, ℕ, ◌+◌, ◌<◌, ◌≤◌, Bool, true, List, [], ◌∷◌, Option, None, Some, refl, sym, ap, ◌∙◌, subst, arith, inl}
-use Rattle.std.proofs.Common.{inr}
-use Rattle.std.specs.List.{range_with_len}
+use Rattle.seam_law_calls.proofs.Prelude.{◌≡◌, ℕ, ◌+◌, ◌<◌, ◌≤◌, Bool, true, List, [], ◌∷◌, Option, None, Some, refl, sym, ap, ◌∙◌, subst}
+use Rattle.seam_law_calls.proofs.Prelude.{arith, inl, inr, Division, items_to, RealView, Msg, Hand, Reap}
+use Rattle.seam_law_calls.proofs.Prelude.{cell_count, base_numbers, base_of, with_offer, settled_to, SlotStep, slot_after}
+use Rattle.seam_law_calls.proofs.Prelude.{haunts_at, ghost_messages, beat_after, current_to, is_stray, may_come, shown_of, looks_with}
+use Rattle.seam_law_calls.proofs.Prelude.{letters_of, IsSilent, carried_in, SendsNone, Handles, still, turns, lands, leaves}
+use Rattle.seam_law_calls.proofs.Prelude.{relays, Frame, IsTreeOf, here_at, IsFrame, Has, AtCell, Does, Acts, surveys, calls, readies}
+use Rattle.seam_law_calls.proofs.Prelude.{BaseMoves, Moves, at_a_cell, at_a_base, Replays, RealFits, real_in, real_of, sees_none}
+use Rattle.seam_law_calls.proofs.Prelude.{sees_after_silent, sees_one_here, sees_one_there}
 use Rattle.std.specs.FinSet as set
-use Rattle.seam_node_steps.specs.Prelude.{Division, items_to, RealView, Msg, BaseCall, Hand, Current, GhostSet, GhostDrop, Tick, Reap}
-use Rattle.seam_node_steps.specs.Prelude.{Update, cell_count, base_numbers, base_of, with_offer, settled_to, SlotStep, slot_after}
-use Rattle.seam_node_steps.specs.Prelude.{haunts_at, ghost_messages, beat_after, current_to, is_stray, may_come, shown_of, looks_with}
-use Rattle.seam_node_steps.specs.Prelude.{tick_to}
-use Rattle.seam_law_flow.specs.Prelude.{letters_of, IsSilent, carried_in, SendsNone, Handles, still, turns, lands, leaves, relays}
-use Rattle.seam_law_calls.specs.Prelude.{Frame, IsTreeOf, here_at, IsFrame, Has, AtCell, Does, Acts, surveys, calls, readies, CellMoves}
-use Rattle.seam_law_calls.specs.Prelude.{BaseMoves, Moves}
-use Rattle.seam_law_calls.specs.Prelude.{at_a_cell, at_a_base, Replays, RealFits, real_in, real_of}
-use Rattle.seam_law_flow.proofs.SendLists.{sees_none, sees_after_silent, sees_one_here, sees_one_there}
 use Rattle.seam_entity.specs.declared.message.Msg.TheVariants.{Call}
 use Rattle.seam_node_steps.specs.Settle as settle
-use Rattle.seam_law_calls.specs.CellMoves as move
-use Rattle.seam_law_calls.specs.BaseMoves as base_move
+use Rattle.seam_law_calls.proofs.CellDeeds as deed
+use Rattle.seam_law_calls.proofs.CellDeeds.{CellDeeds, cell_deeds, not_handed}
+use Rattle.seam_law_calls.proofs.BaseSilent.{sees_no_real, base_silent}
 use Rattle.seam_law_calls.proofs.Holds.{not_both}
 use Rattle.seam_law_calls.proofs.Plain.{SeesNoGhost, ghosts_silent, mapped_silent, numbered_silent}
 use Rattle.seam_law_calls.proofs.Replaying.{acts_replays}
@@ -90,14 +87,14 @@ module _ (f : Frame) (frame : IsFrame f) (e ty k : ℕ) (s : Has) (i : Option Ms
   came_none : (m : Msg) → i ≡ Some m → real_of m ≡ None → carried_in real_of i ≡ None
   came_none m h n = ap (carried_in real_of) h ∙ n
 
+  none_handed : (j : Option Msg) → i ≡ j → ((r : RealView) → i ≡ Some (Hand r) → ⊥) → carried_in real_of i ≡ None
+  none_handed (Some (Hand r)) is never = absurd (never r is)
+  none_handed None is never = ap (carried_in real_of) is
+  none_handed (Some m) is never = ap (carried_in real_of) is
+
   -- ---- a cell
 
   module _ (tree : Division) (of : IsTreeOf f tree) where
-    stray_none : ((r : RealView) → i ≡ Some (Hand r) → FindsRoom f k s r) → (m : Msg) → i ≡ Some m →
-        is_stray (here_at f k) tree s.cell.slot m ≡ true → carried_in real_of i ≡ None
-    stray_none room (Hand r) h b = absurd (not_stray f k s r (room r h) tree of b)
-    stray_none room m h b = came_none m h refl
-
     -- a settling that stays
     stays_handled : (u : AtCell) (r q : RealView) (changed : Bool) → real_in s ≡ Some r → Acts (here_at f k) e s.cell i r u q changed →
         Does u (settle.stays (here_at f k) tree s.cell.slot q changed) t.cell sent → Handled
@@ -141,37 +138,26 @@ module _ (f : Frame) (frame : IsFrame f) (e ty k : ℕ) (s : Has) (i : Option Ms
 
     cell_handled : ((r : RealView) → i ≡ Some (Hand r) → FindsRoom f k s r) →
         ((r : RealView) → real_in s ≡ Some r → i ≡ Some (Reap e) → ⊥) →
-        CellMoves (here_at f k) tree e s.cell i t.cell sent → Handled
-    cell_handled room spared (move.rests n d) = rests (real_is _ s.cell d) (none_of n) (silent_of _ s.cell d tt)
-    cell_handled room spared (move.strays m n b d) = rests (real_is _ s.cell d) (stray_none room m n b) (silent_of _ s.cell d tt)
-    cell_handled room spared (move.stays u r q changed has own acts at d) = stays_handled u r q changed has acts d
-    cell_handled room spared (move.goes u r q changed j has own acts at n d) = goes_handled u r q changed j has acts at d
-    cell_handled room spared (move.late c r n has may lt d) =
-        rests (real_is _ s.cell d) (came_none (Call c) n refl) (silent_of _ s.cell d tt)
-    cell_handled room spared (move.holds c r n is has own may lt d) = (
+        CellDeeds (here_at f k) tree e s.cell i t.cell sent → Handled
+    cell_handled room spared (deed.idles a z) =
+        rests a.real (none_handed i refl (λ r is. not_stray f k s r (room r is) tree of (not_handed a.why r is)))
+        (subst (IsSilent real_of) (sym z) tt)
+    cell_handled room spared (deed.stays u r q changed has own acts at d) = stays_handled u r q changed has acts d
+    cell_handled room spared (deed.goes u r q changed j has own acts at n d) = goes_handled u r q changed j has acts at d
+    cell_handled room spared (deed.holds c r n is has own may lt d) = (
       turns r (with_offer r c) has (real_is _ s.cell d) (inr (record { further = []; entity = refl; type = refl; account = refl }))
           (came_none (Call c) n refl) (sends_none (silent_of _ s.cell d tt)),
       λ fits. held_fits f frame.defs e ty k r c fits may,
     )
-    cell_handled room spared (move.passes c p n is has at d) =
+    cell_handled room spared (deed.passes c p n is has at d) =
         rests (real_is _ s.cell d) (came_none (Call c) n refl) (silent_of _ s.cell d (refl, tt))
-    cell_handled room spared (move.lands r n is has may d) = (
+    cell_handled room spared (deed.lands r n is has may d) = (
       lands r r (ap (carried_in real_of) n) (real_is _ s.cell d) (inl refl)
           (sends_none (silent_of _ s.cell d (mapped_silent real_of (current_to (here_at f k) r) (λ b. refl) (base_numbers (here_at f k))))),
       λ fits. fits,
     )
-    cell_handled room spared (move.hears_set n c h has d) =
-        rests (real_is _ s.cell d) (came_none (GhostSet e n c) h refl) (silent_of _ s.cell d tt)
-    cell_handled room spared (move.ignores_set n c r h has d) =
-        rests (real_is _ s.cell d) (came_none (GhostSet e n c) h refl) (silent_of _ s.cell d tt)
-    cell_handled room spared (move.hears_drop n h d) =
-        rests (real_is _ s.cell d) (came_none (GhostDrop e n) h refl) (silent_of _ s.cell d tt)
-    cell_handled room spared (move.reaped r n has own may d) = absurd (spared r has n)
-    cell_handled room spared (move.ticks n st se) =
-        rests (ap (λ a. a.slot.real) st) (came_none Tick n refl) (subst (IsSilent real_of) (sym se) tt)
-    cell_handled room spared (move.unlists n h at b d) =
-        rests (real_is _ (record { slot = s.cell.slot; survey = n; looks = s.cell.looks }) d) (none_of h) (silent_of _ _ d tt)
-    cell_handled room spared (move.looks n r w known h at has own is small d) = (
+    cell_handled room spared (deed.reaped r n has own may d) = absurd (spared r has n)
+    cell_handled room spared (deed.looks n r w known h at has own is small d) = (
       turns r _ has (real_is (looks_with (here_at f k) s.cell.slot r w known (shown_of (here_at f k) r w known)) _ d)
           (inr (record { further = []; entity = refl; type = refl; account = refl })) (none_of h)
           (sends_none (silent_of (looks_with (here_at f k) s.cell.slot r w known (shown_of (here_at f k) r w known)) _ d
@@ -186,47 +172,16 @@ module _ (f : Frame) (frame : IsFrame f) (e ty k : ℕ) (s : Has) (i : Option Ms
         haunts = fits.haunts;
       },
     )
-    cell_handled room spared (move.overlooks n known h at b d) =
-        rests (real_is _ (record { slot = s.cell.slot; survey = s.cell.survey; looks = n }) d) (none_of h) (silent_of _ _ d tt)
-    cell_handled room spared (move.stuck r h has ready may d) = rests (real_is _ s.cell d) (none_of h) (silent_of _ s.cell d tt)
 
   -- ---- a base node
 
-  base_stray_none : cell_count ≤ k → ((r : RealView) → i ≡ Some (Hand r) → FindsRoom f k s r) → (m : Msg) → i ≡ Some m →
-      carried_in real_of i ≡ None
-  base_stray_none high room (Hand r) h = let p = room r h in let low = p.cell in absurd (omega (arith, low, high))
-  base_stray_none high room m h = came_none m h refl
-
-  quiet : sent ≡ [] → IsSilent real_of sent
-  quiet h = subst (IsSilent real_of) (sym h) tt
-
-  one_quiet : (j : ℕ) (m : Msg) → real_of m ≡ None → sent ≡ (j, m) ∷ [] → IsSilent real_of sent
-  one_quiet j m n h = subst (IsSilent real_of) (sym h) (n, tt)
-
   base_handled : cell_count ≤ k → ((r : RealView) → i ≡ Some (Hand r) → FindsRoom f k s r) → (cells : ℕ) →
       BaseMoves (here_at f k) cells e s.base i t.base sent → real_in t ≡ real_in s → Handled
-  base_handled high room cells (base_move.rests n a z) same = rests same (none_of n) (quiet z)
-  base_handled high room cells (base_move.strays m n b a z) same = rests same (base_stray_none high room m n) (quiet z)
-  base_handled high room cells (base_move.reroutes new r n has b a z) same =
-      rests same (came_none (Current e new.cell new.generation) n refl) (quiet z)
-  base_handled high room cells (base_move.offers c p n is has may a z) same = rests same (came_none (BaseCall c) n refl) (quiet z)
-  base_handled high room cells (base_move.updates u n is b a z) same = rests same (came_none (Update u) n refl) (quiet z)
-  base_handled high room cells (base_move.orders_call c os r n at is has a z) same =
-      rests same (none_of n) (one_quiet r.cell (Call c) refl z)
-  base_handled high room cells (base_move.orders_base_call c os n at is b a z) same =
-      rests same (none_of n) (one_quiet (base_of (here_at f k) e) (BaseCall c) refl z)
-  base_handled high room cells (base_move.offers_own c os p n at is b has may a z) same = rests same (none_of n) (quiet z)
-  base_handled high room cells (base_move.orders_tick os n at a z) same =
-      rests same (none_of n)
-      (subst (IsSilent real_of) (sym z) (mapped_silent real_of tick_to (λ j. refl) (range_with_len 0 cells)))
-  base_handled high room cells (base_move.orders_reap os r n at has a z) same = rests same (none_of n) (one_quiet r.cell (Reap e) refl z)
-  base_handled high room cells (base_move.stuck_order o os n at b a z) same = rests same (none_of n) (quiet z)
-  base_handled high room cells (base_move.executes p o c n has may at item a z) same = rests same (none_of n) (quiet z)
-  base_handled high room cells (base_move.stuck_part p n has is may a z) same = rests same (none_of n) (quiet z)
-  base_handled high room cells (base_move.shows p n has is may a z) same = rests same (none_of n) (quiet z)
-  base_handled high room cells (base_move.stuck_client p n has is may a z) same = rests same (none_of n) (quiet z)
+  base_handled high room cells m same =
+      rests same (none_handed i refl (λ r is. let low = (room r is).cell in omega (arith, low, high)))
+      (base_silent real_of sees_no_real _ cells e _ i _ sent m)
 
   pub handled : ((r : RealView) → i ≡ Some (Hand r) → FindsRoom f k s r) → ((r : RealView) → real_in s ≡ Some r → i ≡ Some (Reap e) → ⊥) →
       Moves f e k s i t sent → Handled
-  handled room spared (at_a_cell tree of low m same) = cell_handled tree of room spared m
+  handled room spared (at_a_cell tree of low m same) = cell_handled tree of room spared (cell_deeds m)
   handled room spared (at_a_base high m same) = base_handled high room _ m (ap (λ c. c.slot.real) same)

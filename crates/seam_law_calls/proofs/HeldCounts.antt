@@ -1,17 +1,10 @@
 -- How many calls a real holds after an offer and after one was taken.
-use Rattle.std.proofs.Common.{◌≡◌, ℕ, ◌+◌, ◌<◌, Bool, true, false, cond, eqb, ltb, List, [], ◌∷◌, length, Option, None, Some, refl, ap}
-use Rattle.std.proofs.Common.{arith}
-use Rattle.std.specs.Ordering.{nat_cmp, match_ordering}
-use Rattle.std.specs.declared.cmp.Ordering.{Ordering}
-use Rattle.std.specs.declared.cmp.Ordering.TheVariants.{Less, Equal, Greater}
+use Rattle.seam_law_calls.proofs.Prelude.{◌≡◌, ℕ, ◌+◌, ◌<◌, Bool, true, false, cond, eqb, ltb, List, [], ◌∷◌, length, Option, None, Some}
+use Rattle.seam_law_calls.proofs.Prelude.{refl, ap, arith, nat_cmp, match_ordering, Ordering, Less, Equal, Greater, nat_tests, found}
+use Rattle.seam_law_calls.proofs.Prelude.{OrderView, item_at, with_item, next_item, after_offer, after_item, after_taking, Call, Orders}
+use Rattle.seam_law_calls.proofs.Prelude.{order_or, order_is_ready, ready_order, held_of, held_in, weight_or}
 use Rattle.std.specs.FinMap as table
-use Rattle.std.proofs.lemmas.Bool.Decides.{nat_tests}
-use Rattle.seam_table.proofs.Found.{found}
-use Rattle.seam_node_steps.specs.Prelude.{OrderView, item_at, with_item, next_item, after_offer, after_item, after_taking, Call, Orders}
-use Rattle.seam_node_steps.specs.Prelude.{order_or, order_is_ready, ready_order}
-use Rattle.seam_law_calls.specs.Prelude.{held_of, held_in}
 use Rattle.seam_order.specs.Held.{without}
-use Rattle.seam_net_runs.specs.Sums.{weight_or}
 use Rattle.seam_net_runs.proofs.MapSums.{total_of_insert}
 
 with_by : (n : ℕ) (c : Call) (p : ℕ × Call) (ps : List (ℕ × Call)) (b : Bool) → length (with_item n c ps) ≡ length ps + 1 →

@@ -1,6 +1,5 @@
 -- Tests of two things and of numbers, beside what is known of held calls.
-use Rattle.std.proofs.Common.{◌≡◌, ℕ, ◌<◌, Bool, true, false, not, nat_lt, arith}
-use Rattle.std.proofs.lemmas.Bool.Decides.{nat_tests}
+use Rattle.seam_law_calls.proofs.Prelude.{◌≡◌, ℕ, ◌<◌, Bool, true, false, not, nat_lt, arith, nat_tests}
 pub use Rattle.seam_entity.proofs.HeldLemmas.{all_two, both, got_passes, held_offered, held_taken, item_passes_too, picked_passes}
 
 pub not_both : (b : Bool) → b ≡ true → not b ≡ true → ⊥

@@ -1,13 +1,8 @@
 -- A law over lists of events from one over events, and from one over moves: P is true of what each node has of an entity, Q of each
 -- message about it on its way, and each move keeps both.
-use Rattle.std.proofs.Common.{◌≡◌, ℕ, true, List, [], ◌∷◌, Option, Some, sym, subst}
-use Rattle.std.specs.List.{AllByRecursion}
-use Rattle.seam_node_steps.specs.Prelude.{happens, enabled, Occurs, Event, Msg, World, node_steps, node_has_work}
-use Rattle.seam_law_flow.specs.Prelude.{comes}
-use Rattle.seam_law_calls.specs.Prelude.{Frame, IsInFrame, Has, entity_flow, Moves, RunsTo}
-use Rattle.seam_machine.proofs.Occurring.{occurs}
-use Rattle.seam_net_runs.proofs.Runs.{leads_keeps}
-use Rattle.seam_law_flow.proofs.Following.{slots_kept, letters_kept, came}
+use Rattle.seam_law_calls.proofs.Prelude.{◌≡◌, ℕ, true, List, [], ◌∷◌, Option, Some, sym, subst, AllByRecursion, happens, enabled, Occurs}
+use Rattle.seam_law_calls.proofs.Prelude.{Event, Msg, World, node_steps, node_has_work, comes, Frame, IsInFrame, Has, entity_flow, Moves}
+use Rattle.seam_law_calls.proofs.Prelude.{RunsTo, occurs, leads_keeps, slots_kept, letters_kept, came}
 use Rattle.seam_law_calls.proofs.Classify.{event_moves, frame_happens}
 use Rattle.seam_law_calls.proofs.PartKept.{targets_all}
 

@@ -1,14 +1,10 @@
 -- Whatever leads to a cell still leads to one after an event.
-use Rattle.std.proofs.Common.{◌≡◌, ℕ, Bool, true, false, not, ◌&&◌, ◌||◌, ◌⊎◌, List, [], ◌∷◌, ◌++◌, map, Option, None, Some, refl, sym, ap}
-use Rattle.std.proofs.Common.{◌∙◌, subst, inl, inr}
-use Rattle.std.specs.List.{AllByRecursion}
-use Rattle.std.proofs.lemmas.Bool.{cases_eq}
-use Rattle.seam_node_steps.specs.Prelude.{items_to, Call as CallData, RealView, Msg, Hand, Current, NextPlace, RouteView}
-use Rattle.seam_law_flow.specs.Prelude.{Flow, Goes, comes, IsSilent}
-use Rattle.seam_law_calls.specs.Prelude.{Has, is_visited, is_call, is_hand, has_hand, follow, NamesVisited, AllLead}
+use Rattle.seam_law_calls.proofs.Prelude.{◌≡◌, ℕ, Bool, true, false, not, ◌&&◌, ◌||◌, ◌⊎◌, List, [], ◌∷◌, ◌++◌, map, Option, None, Some}
+use Rattle.seam_law_calls.proofs.Prelude.{refl, sym, ap, ◌∙◌, subst, inl, inr, AllByRecursion, cases_eq, items_to, Call as CallData}
+use Rattle.seam_law_calls.proofs.Prelude.{RealView, Msg, Hand, Current, NextPlace, RouteView, Flow, Goes, comes, IsSilent, Has, is_visited}
+use Rattle.seam_law_calls.proofs.Prelude.{is_call, is_hand, has_hand, follow, NamesVisited, AllLead, Rest, whole, tail, More, own, none}
+use Rattle.seam_law_calls.proofs.Prelude.{change, came, letters_kept, one_here, one_there}
 use Rattle.seam_machine.proofs.SendLemmas.{items_to-append}
-use Rattle.seam_law_flow.proofs.Following.{Rest, whole, tail, More, own, none, change, came, letters_kept}
-use Rattle.seam_law_flow.proofs.SendLists.{one_here, one_there}
 use Rattle.seam_entity.specs.declared.message.Msg.TheVariants.{Call}
 use Rattle.seam_law_calls.proofs.Sparing.{items_all}
 use Rattle.seam_law_calls.proofs.Holds.{both}

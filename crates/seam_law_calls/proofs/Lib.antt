@@ -1,3 +1,4 @@
+pub mod Prelude
 pub mod Lists
 pub mod Trees
 pub mod Sent
@@ -14,6 +15,7 @@ pub mod Replaying
 pub mod Handling
 pub mod HeldCounts
 pub mod BaseDeeds
+pub mod CellDeeds
 pub mod Paying
 pub mod Burdening
 pub mod Easing

@@ -1,10 +1,9 @@
 -- Lists of sends, of orders and of entities, as one entity sees them.
-use Rattle.std.proofs.Common.{◌≡◌, ℕ, ◌+◌, Bool, true, false, not, cond, eqb, List, [], ◌∷◌, filter, Option, None, Some, refl, sym, ap, ◌∙◌}
-use Rattle.std.specs.List.{AllByRecursion}
-use Rattle.std.proofs.lemmas.Bool.{eq-eqb, ne_eqb, eqb-true}
-use Rattle.seam_node_steps.specs.Prelude.{items_to, Order, Msg, about, without}
-use Rattle.seam_law_flow.specs.Prelude.{letters_of, more_letter}
-use Rattle.seam_law_calls.specs.Prelude.{concerned, concerns, kept_if, mine, concerning, order_concerns, orders_of, one_more_if, times}
+use Rattle.seam_law_calls.proofs.Prelude.{◌≡◌, ℕ, ◌+◌, Bool, true, false, not, cond, eqb, List, [], ◌∷◌, filter, Option, None, Some, refl}
+use Rattle.seam_law_calls.proofs.Prelude.{sym, ap, ◌∙◌, AllByRecursion, eq-eqb, ne_eqb, eqb-true, items_to, Order, Msg, about, letters_of}
+use Rattle.seam_law_calls.proofs.Prelude.{more_letter, concerned, concerns, kept_if, mine, concerning, order_concerns, orders_of}
+use Rattle.seam_law_calls.proofs.Prelude.{one_more_if, times}
+use Rattle.seam_node_steps.specs.Prelude.{without}
 
 -- ---- filters
 

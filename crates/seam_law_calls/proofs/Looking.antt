@@ -1,25 +1,22 @@
 -- What a step does with an entity's witness: it looks at what the cell knows of others, or its entry in the look list is not taken.
-use Rattle.std.proofs.Common.{◌≡◌, ℕ, ◌+◌, ◌⊎◌, Bool, true, false, cond, List, [], ◌∷◌, Option, None, Some, refl, sym, ap, ◌∙◌, subst, inl}
-use Rattle.std.proofs.Common.{inr}
-use Rattle.std.specs.Ordering.{nat_cmp, eq_by_cmp}
-use Rattle.std.specs.Cmp.{unsigned_tied}
+use Rattle.seam_law_calls.proofs.Prelude.{◌≡◌, ℕ, ◌+◌, ◌⊎◌, Bool, true, false, cond, List, [], ◌∷◌, Option, None, Some, refl, sym, ap, ◌∙◌}
+use Rattle.seam_law_calls.proofs.Prelude.{subst, inl, inr, nat_cmp, eq_by_cmp, unsigned_tied, Ordering, Less, Equal, Greater, cases_eq}
+use Rattle.seam_law_calls.proofs.Prelude.{eq-eqb, ne_eqb, Input, Task, From, OrderView, next_item, Division, Call as CallData, Shown}
+use Rattle.seam_law_calls.proofs.Prelude.{ready_order, order_of, executed, executed_ready, RealView, WitnessView, Msg, GhostSet, Tick, Reap}
+use Rattle.seam_law_calls.proofs.Prelude.{Here, base_of, Slot, NextPlace, SlotStep, slot_after, settled, settled_by, home_after, about}
+use Rattle.seam_law_calls.proofs.Prelude.{slot_steps, is_stray, call_next_place, ghost_set, reap, survey_task, stray_survey}
+use Rattle.seam_law_calls.proofs.Prelude.{ready_call_task, stray_ready_call, ready_in, Known, numbered, shown_of, looks_of, after_looking}
+use Rattle.seam_law_calls.proofs.Prelude.{look_task, look_by, stray_look, stray_look_by, CellView, slot_of, after_slot, unlisted_by}
+use Rattle.seam_law_calls.proofs.Prelude.{stepped, cell_steps, cell_task, ready_next, look_next, cell_hears, ready_entity, calls_ready}
+use Rattle.seam_law_calls.proofs.Prelude.{looks_around, known_to, AreUnderTheirEntities, letter_in, mine, concerning, times, AtCell}
+use Rattle.seam_law_calls.proofs.Prelude.{at_cell, entity_of, case_of, call, slot_stepped}
 use Rattle.std.specs.FinMap as table
-use Rattle.std.specs.declared.cmp.Ordering.{Ordering}
-use Rattle.std.specs.declared.cmp.Ordering.TheVariants.{Less, Equal, Greater}
-use Rattle.std.proofs.lemmas.Bool.{cases_eq, eq-eqb, ne_eqb}
-use Rattle.seam_node_steps.specs.Prelude.{Input, Task, From, OrderView, next_item, Division, Call as CallData, Shown, ready_order, order_of}
-use Rattle.seam_node_steps.specs.Prelude.{executed, executed_ready, shows, RealView, WitnessView, Msg, GhostSet, Tick, Reap, Here, base_of}
-use Rattle.seam_node_steps.specs.Prelude.{Slot, NextPlace, SlotStep, slot_after, unless_stray, settled, settled_by, home_after, about}
-use Rattle.seam_node_steps.specs.Prelude.{slot_steps, is_stray, call_next_place, ghost_set, reap, survey_task, stray_survey}
-use Rattle.seam_node_steps.specs.Prelude.{ready_call_task, stray_ready_call, ready_in, executes_ready, Known, numbered, shown_of, looks_of}
-use Rattle.seam_node_steps.specs.Prelude.{after_looking, look_task, look_by, stray_look, stray_look_by, CellView, slot_of, after_slot}
-use Rattle.seam_node_steps.specs.Prelude.{unlisted_by, stepped, cell_steps, cell_task, ready_next, look_next, cell_hears, ready_entity}
-use Rattle.seam_node_steps.specs.Prelude.{surveys, calls_ready, looks_around, known_to, AreUnderTheirEntities}
-use Rattle.seam_law_flow.specs.Prelude.{letter_in}
-use Rattle.seam_law_calls.specs.Prelude.{mine, concerning, times, AtCell, at_cell, entity_of}
+use Rattle.seam_node_steps.specs.Prelude.{shows}
+use Rattle.seam_node_steps.specs.Prelude.{unless_stray}
+use Rattle.seam_node_steps.specs.Prelude.{executes_ready}
+use Rattle.seam_node_steps.specs.Prelude.{surveys}
 use Rattle.seam_entity.specs.declared.message.Msg.TheVariants.{Call}
-use Rattle.seam_node_steps.specs.CellCases.{case_of, call, offered}
-use Rattle.seam_node_steps.proofs.Slots.{slot_stepped}
+use Rattle.seam_node_steps.specs.CellCases.{offered}
 use Rattle.seam_law_calls.proofs.Lists.{AllAbout, concerning_own, concerning_other, times_own}
 use Rattle.seam_law_calls.proofs.Sent.{slot_about, surveys_about, readies_about, looks_about}
 

@@ -1,26 +1,18 @@
 -- How often a witness may look never rises, and falls where it looks.
-use Rattle.std.proofs.Common.{◌≡◌, ℕ, ◌+◌, ◌≤◌, Bool, true, false, List, [], ◌∷◌, map, length, cond, Option, None, refl, sym, ap, ◌∙◌}
-use Rattle.std.proofs.Common.{subst, arith}
-use Rattle.std.specs.List.{range_with_len}
-use Rattle.std.specs.FinSet as set
+use Rattle.seam_law_calls.proofs.Prelude.{◌≡◌, ℕ, ◌+◌, ◌≤◌, Bool, true, false, List, [], ◌∷◌, map, length, cond, Option, None, refl, ap}
+use Rattle.seam_law_calls.proofs.Prelude.{◌∙◌, arith, inl, inr, range_with_len, Division, cells_of, happens, total, Occurs, Event, Shown}
+use Rattle.seam_law_calls.proofs.Prelude.{RealView, Msg, Tick, Here, cell_count, SlotStep, tick_to, Known, numbered, World, node_steps}
+use Rattle.seam_law_calls.proofs.Prelude.{letter_in, IsSilent, Frame, here_at, IsInFrame, Has, AtCell, AtBase, mine, concerning, has_of}
+use Rattle.seam_law_calls.proofs.Prelude.{unlisted_if, Does, Acts, surveys, CellMoves, BaseMoves, Moves, at_a_cell, at_a_base, tick_in}
+use Rattle.seam_law_calls.proofs.Prelude.{order_looks, node_looks, mine_looks, looks_left, weight_or, sound_sends, weight_moves}
 use Rattle.std.proofs.lemmas.List.FromFn.{length-range_with_len}
-use Rattle.seam_law_flow.proofs.Following.{all_append}
-use Rattle.seam_node_steps.specs.Prelude.{Division, cells_of, happens, total, Occurs, Event, Shown, RealView, Msg, Tick, Here, base_numbers}
-use Rattle.seam_node_steps.specs.Prelude.{cell_count, SlotStep, haunts_at, ghost_messages, current_to, tick_to, Known, numbered, World}
-use Rattle.seam_node_steps.specs.Prelude.{node_steps}
-use Rattle.seam_law_flow.specs.Prelude.{letter_in, IsSilent}
-use Rattle.seam_law_calls.specs.Prelude.{Frame, here_at, IsInFrame, Has, AtCell, AtBase, mine, concerning, has_of, unlisted_if, Does, Acts}
-use Rattle.seam_law_calls.specs.Prelude.{surveys, calls, readies, CellMoves, has_witness, BaseMoves, Moves, at_a_cell, at_a_base, tick_in}
-use Rattle.seam_law_calls.specs.Prelude.{order_looks, node_looks, mine_looks, looks_left}
-use Rattle.seam_net_runs.specs.Sums.{weight_or}
-use Rattle.seam_net_runs.proofs.Soundness.{sound_sends}
-use Rattle.seam_net_runs.proofs.Weighing.{weight_moves}
-use Rattle.seam_law_calls.specs.CellMoves as move
+use Rattle.seam_law_calls.specs.Prelude.{has_witness}
+use Rattle.seam_law_calls.proofs.CellDeeds as deed
+use Rattle.seam_law_calls.proofs.CellDeeds.{CellDeeds, cell_deeds}
 use Rattle.seam_law_calls.proofs.Classify.{node_laws, node_moves}
 use Rattle.seam_law_calls.proofs.Easing.{sent_is, event_eases}
 use Rattle.seam_law_calls.proofs.Paying.{OrdersPay, base_paid}
-use Rattle.seam_law_calls.proofs.Plain.{ghosts_silent, drops_silent, mapped_silent}
-use Rattle.seam_law_calls.proofs.NoLooks.{no_tick}
+use Rattle.seam_law_calls.proofs.NoLooks.{ticks_silent}
 use Rattle.seam_law_calls.specs.Telling.{letter_looks, has_looks}
 use Rattle.seam_law_calls.proofs.Looking.{LooksAt}
 
@@ -62,56 +54,44 @@ module _ (f : Frame) (e k : ℕ) (s : Has) (i : Option Msg) (t : Has) (sent : Li
     cell_by : t.cell.looks + sent_looks sent ≤ s.cell.looks + came → Eased
     cell_by less = let orders = ap (λ (b : AtBase). total order_looks b.orders) same in omega (arith, less, orders)
 
-    cell_step : (x : SlotStep) (u : AtCell) → Does u x t.cell sent → u.looks ≤ s.cell.looks → IsSilent tick_in x.sent → Eased
-    cell_step x u d few z =
-        let is = ap (λ (c : AtCell). c.looks) d.state in
-        let less = unlisted_less x.unlisted u.looks in
-        let none = light sent (subst (IsSilent tick_in) (sym d.sends) z) in
-        cell_by (omega (arith, is, less, few, none))
-
     acts_keep : (u : AtCell) (r q : RealView) (changed : Bool) → Acts (here_at f k) e s.cell i r u q changed → u.looks ≤ s.cell.looks
     acts_keep u r q changed (surveys n a b c) = omega arith
     acts_keep u r q changed _ = omega arith
 
-    cell_eases : {tree : Division} → CellMoves (here_at f k) tree e s.cell i t.cell sent → Eased
-    cell_eases (move.rests n d) = cell_step _ s.cell d (omega arith) tt
-    cell_eases (move.strays m n b d) = cell_step _ s.cell d (omega arith) tt
-    cell_eases {tree} (move.stays u r q changed has own acts at d) =
-        cell_step _ u d (acts_keep u r q changed acts)
-        (ghosts_silent tick_in no_tick (here_at f k) q k (haunts_at (here_at f k) tree q.state.pos k q.haunts) changed)
-    cell_eases {tree} (move.goes u r q changed j has own acts at n d) =
-        let haunts = haunts_at (here_at f k) tree q.state.pos j (set.insert q.haunts k) in
-        cell_step _ u d (acts_keep u r q changed acts)
-        (all_append (λ p. tick_in p.1 ≡ None) (ghost_messages (here_at f k) q j haunts changed) _
-        (ghosts_silent tick_in no_tick (here_at f k) q j haunts changed) (refl, tt))
-    cell_eases (move.late c r n has may lt d) = cell_step _ s.cell d (omega arith) tt
-    cell_eases (move.holds c r n own has mine may lt d) = cell_step _ s.cell d (omega arith) tt
-    cell_eases (move.passes c p n own has at d) = cell_step _ s.cell d (omega arith) (refl, tt)
-    cell_eases (move.lands r n own has may d) =
-        cell_step _ s.cell d (omega arith) (mapped_silent tick_in (current_to (here_at f k) r) (λ b. refl) (base_numbers (here_at f k)))
-    cell_eases (move.hears_set n c h has d) = cell_step _ s.cell d (omega arith) tt
-    cell_eases (move.ignores_set n c r h has d) = cell_step _ s.cell d (omega arith) tt
-    cell_eases (move.hears_drop n h d) = cell_step _ s.cell d (omega arith) tt
-    cell_eases (move.reaped r n has own may d) = cell_step _ s.cell d (omega arith) (drops_silent tick_in no_tick r)
-    cell_eases (move.ticks n st z) =
-        let is = ap (λ (c : AtCell). c.looks) st in
-        let one = once (has_witness s.cell.slot.real) in
-        let pay = ap (weight_or letter_looks) n in
-        let none = ap sent_looks z in
-        cell_by (omega (arith, is, one, pay, none))
-      where
-        once : (b : Bool) → cond {A = ℕ} b 1 0 ≤ 1
-        once true = omega arith
-        once false = omega arith
-    cell_eases (move.unlists n h at b d) =
-        cell_step _ (record { slot = s.cell.slot; survey = n; looks = s.cell.looks }) d (omega arith) tt
-    cell_eases (move.looks n r w known h at has own v small d) =
-        let is = ap (λ (c : AtCell). c.looks) d.state in
-        let none = ap sent_looks d.sends ∙ numbered_light _ r.entity w.sent _ in
-        cell_by (omega (arith, is, at, none))
-    cell_eases (move.overlooks n known h at b d) =
-        cell_step _ (record { slot = s.cell.slot; survey = s.cell.survey; looks = n }) d (omega (arith, at)) tt
-    cell_eases (move.stuck r h has ready may d) = cell_step _ s.cell d (omega arith) tt
+    module _ {tree : Division} (m : CellMoves (here_at f k) tree e s.cell i t.cell sent) where
+      cell_step : t.cell.looks ≤ s.cell.looks → Eased
+      cell_step less = let none = light sent (ticks_silent m) in cell_by (omega (arith, less, none))
+
+      now : (x : SlotStep) (u : AtCell) → Does u x t.cell sent → u.looks ≤ s.cell.looks → Eased
+      now x u d few =
+          let is = ap (λ (c : AtCell). c.looks) d.state in
+          let less = unlisted_less x.unlisted u.looks in
+          cell_step (omega (arith, is, less, few))
+
+      once : (b : Bool) → cond {A = ℕ} b 1 0 ≤ 1
+      once true = omega arith
+      once false = omega arith
+
+      eases : CellDeeds (here_at f k) tree e s.cell i t.cell sent → Eased
+      eases (deed.idles a z) = elim a.looks [
+        | inl le ↦ cell_step le
+        | inr tick ↦
+            let is = tick.1 in
+            let one = once (has_witness s.cell.slot.real) in
+            let pay = ap (weight_or letter_looks) tick.0 in
+            let none = ap sent_looks z in
+            cell_by (omega (arith, is, one, pay, none))
+      ]
+      eases (deed.stays u r q changed has own acts at d) = now _ u d (acts_keep u r q changed acts)
+      eases (deed.goes u r q changed j has own acts at n d) = now _ u d (acts_keep u r q changed acts)
+      eases (deed.holds c r n own has mine may lt d) = now _ s.cell d (omega arith)
+      eases (deed.passes c p n own has at d) = now _ s.cell d (omega arith)
+      eases (deed.lands r n own has may d) = now _ s.cell d (omega arith)
+      eases (deed.reaped r n has own may d) = now _ s.cell d (omega arith)
+      eases (deed.looks n r w known h at has own v small d) = now _ _ d (omega (arith, at))
+
+      cell_eases : Eased
+      cell_eases = eases (cell_deeds m)
 
   base_eases : (cells : ℕ) → cells ≤ cell_count → t.cell ≡ s.cell → BaseMoves (here_at f k) cells e s.base i t.base sent → Eased
   base_eases cells most same m =

@@ -1,25 +1,16 @@
 -- A witness tells only in looks: without them, what it told is all.
-use Rattle.std.proofs.Common.{◌≡◌, ℕ, ◌≤◌, Bool, true, false, List, Option, None, Some, refl, sym, ap, ◌∙◌, subst, arith}
-use Rattle.std.specs.List.{AllByRecursion}
-use Rattle.std.specs.FinSet as set
-use Rattle.seam_node_steps.specs.Prelude.{Division, happens, enabled, Event, Order, RealView, Msg, Tick, base_numbers, SlotStep, haunts_at}
-use Rattle.seam_node_steps.specs.Prelude.{ghost_messages, current_to, World, node_steps, node_has_work}
-use Rattle.seam_law_flow.specs.Prelude.{comes, IsSilent}
-use Rattle.seam_law_calls.specs.Prelude.{Frame, here_at, IsInFrame, Has, AtCell, entity_flow, unlisted_if, Does, Acts, surveys, calls}
-use Rattle.seam_law_calls.specs.Prelude.{CellMoves, Moves, at_a_cell, at_a_base, sent_of, sent_by, is_tick_order, tick_in, HasToldAtMost}
-use Rattle.seam_law_calls.specs.Prelude.{HasNoLooks, RunsTo}
-use Rattle.seam_machine.proofs.Occurring.{occurs}
-use Rattle.seam_net_runs.proofs.Runs.{leads_keeps}
-use Rattle.seam_law_flow.proofs.Following.{all_append, slots_kept, letters_kept, came}
-use Rattle.seam_law_calls.specs.CellMoves as move
+use Rattle.seam_law_calls.proofs.Prelude.{◌≡◌, ℕ, ◌≤◌, Bool, true, false, List, Option, None, Some, refl, sym, ap, ◌∙◌, subst, arith, inl}
+use Rattle.seam_law_calls.proofs.Prelude.{inr, AllByRecursion, Division, happens, enabled, Event, Order, RealView, Msg, Tick, SlotStep}
+use Rattle.seam_law_calls.proofs.Prelude.{Here, World, node_steps, node_has_work, comes, IsSilent, Frame, here_at, IsInFrame, Has, AtCell}
+use Rattle.seam_law_calls.proofs.Prelude.{entity_flow, unlisted_if, Does, Acts, surveys, CellMoves, Moves, at_a_cell, at_a_base, sent_of}
+use Rattle.seam_law_calls.proofs.Prelude.{sent_by, is_tick_order, tick_in, HasToldAtMost, HasNoLooks, RunsTo, occurs, leads_keeps}
+use Rattle.seam_law_calls.proofs.Prelude.{slots_kept, letters_kept, came}
+use Rattle.seam_law_calls.proofs.CellDeeds as deed
 use Rattle.seam_law_calls.proofs.Classify.{event_moves, frame_happens}
-use Rattle.seam_law_calls.proofs.Plain.{SeesNoGhost, ghosts_silent, drops_silent, mapped_silent}
 use Rattle.seam_law_calls.proofs.Sparing.{items_all}
 use Rattle.seam_law_calls.proofs.WitnessKept.{each_happens}
 use Rattle.seam_law_calls.proofs.BaseDeeds.{base_keeps}
-
-pub no_tick : SeesNoGhost tick_in
-no_tick = record { sets = λ e n c. refl; drops = λ e n. refl }
+use Rattle.seam_law_calls.proofs.CellDeeds.{CellDeeds, cell_deeds, cell_says, plain_says}
 
 abbrev pub NoTicks : List Order → Type 0
 NoTicks os = AllByRecursion (λ o. is_tick_order o ≡ false) os
@@ -27,6 +18,14 @@ NoTicks os = AllByRecursion (λ o. is_tick_order o ≡ false) os
 unlisted_none : (b : Bool) (n : ℕ) → n ≡ 0 → unlisted_if b n ≡ 0
 unlisted_none true n is = refl
 unlisted_none false n is = is
+
+-- no cell sends a tick
+pub ticks_silent : {h : Here} {tree : Division} {e : ℕ} {s : AtCell} {i : Option Msg} {v : AtCell} {sent : List (ℕ × Msg)} →
+    CellMoves h tree e s i v sent → IsSilent tick_in sent
+ticks_silent {h} {tree} {e} {s} {i} m =
+    cell_says (λ j m. tick_in m ≡ None)
+    (plain_says tick_in h tree e s i (λ x b c. refl) (λ x b. refl) (λ r. refl) (λ c. refl) (λ x j g. refl) (λ u. refl))
+    (cell_deeds m)
 
 module _ (f : Frame) (e k : ℕ) (s : Has) (i : Option Msg) (t : Has) (sent : List (ℕ × Msg)) (calm : i ≡ Some Tick → ⊥) where
   -- ---- ticks and look lists
@@ -44,35 +43,18 @@ module _ (f : Frame) (e k : ℕ) (s : Has) (i : Option Msg) (t : Has) (sent : Li
     acts_keep u r q changed (surveys n a b c) = none
     acts_keep u r q changed _ = none
 
-    module _ (base : NoTicks t.base.orders) where
-      calm_step : (x : SlotStep) (u : AtCell) → Does u x t.cell sent → u.looks ≡ 0 → IsSilent tick_in x.sent → Calm
-      calm_step x u d is z = record { cell = looks_are x u d is; orders = base; silent = subst (IsSilent tick_in) (sym d.sends) z }
+    none_left : {tree : Division} → CellDeeds (here_at f k) tree e s.cell i t.cell sent → t.cell.looks ≡ 0
+    none_left (deed.idles a z) = elim a.looks [ inl le ↦ omega (arith, le, none) | inr tick ↦ absurd (calm tick.0) ]
+    none_left (deed.stays u r q changed has own acts at d) = looks_are _ u d (acts_keep u r q changed acts)
+    none_left (deed.goes u r q changed j has own acts at n d) = looks_are _ u d (acts_keep u r q changed acts)
+    none_left (deed.holds c r n own has mine may lt d) = looks_are _ s.cell d none
+    none_left (deed.passes c p n own has at d) = looks_are _ s.cell d none
+    none_left (deed.lands r n own has may d) = looks_are _ s.cell d none
+    none_left (deed.reaped r n has own may d) = looks_are _ s.cell d none
+    none_left (deed.looks n r w known h at has own v small d) = absurd (omega (arith, at, none))
 
-      cell_calm : {tree : Division} → CellMoves (here_at f k) tree e s.cell i t.cell sent → Calm
-      cell_calm (move.rests n d) = calm_step _ s.cell d none tt
-      cell_calm (move.strays m n b d) = calm_step _ s.cell d none tt
-      cell_calm {tree} (move.stays u r q changed has own acts at d) =
-          calm_step _ u d (acts_keep u r q changed acts)
-          (ghosts_silent tick_in no_tick (here_at f k) q k (haunts_at (here_at f k) tree q.state.pos k q.haunts) changed)
-      cell_calm {tree} (move.goes u r q changed j has own acts at n d) =
-          let haunts = haunts_at (here_at f k) tree q.state.pos j (set.insert q.haunts k) in
-          calm_step _ u d (acts_keep u r q changed acts)
-          (all_append (λ p. tick_in p.1 ≡ None) (ghost_messages (here_at f k) q j haunts changed) _
-          (ghosts_silent tick_in no_tick (here_at f k) q j haunts changed) (refl, tt))
-      cell_calm (move.late c r n has may lt d) = calm_step _ s.cell d none tt
-      cell_calm (move.holds c r n own has mine may lt d) = calm_step _ s.cell d none tt
-      cell_calm (move.passes c p n own has at d) = calm_step _ s.cell d none (refl, tt)
-      cell_calm (move.lands r n own has may d) =
-          calm_step _ s.cell d none (mapped_silent tick_in (current_to (here_at f k) r) (λ b. refl) (base_numbers (here_at f k)))
-      cell_calm (move.hears_set n c h has d) = calm_step _ s.cell d none tt
-      cell_calm (move.ignores_set n c r h has d) = calm_step _ s.cell d none tt
-      cell_calm (move.hears_drop n h d) = calm_step _ s.cell d none tt
-      cell_calm (move.reaped r n has own may d) = calm_step _ s.cell d none (drops_silent tick_in no_tick r)
-      cell_calm (move.ticks n st z) = absurd (calm n)
-      cell_calm (move.unlists n h at b d) = calm_step _ (record { slot = s.cell.slot; survey = n; looks = s.cell.looks }) d none tt
-      cell_calm (move.looks n r w known h at has own v small d) = absurd (omega (arith, at, none))
-      cell_calm (move.overlooks n known h at b d) = absurd (omega (arith, at, none))
-      cell_calm (move.stuck r h has ready may d) = calm_step _ s.cell d none tt
+    cell_calm : NoTicks t.base.orders → {tree : Division} → CellMoves (here_at f k) tree e s.cell i t.cell sent → Calm
+    cell_calm base m = record { cell = none_left (cell_deeds m); orders = base; silent = ticks_silent m }
 
   calm_moves : s.cell.looks ≡ 0 → NoTicks s.base.orders → Moves f e k s i t sent → Calm
   calm_moves none before (at_a_cell tree of low m same) = cell_calm none (subst NoTicks (sym (ap (λ b. b.orders) same)) before) m

@@ -1,23 +1,16 @@
 -- Nothing about the entity is stray at a base node.
-use Rattle.std.proofs.Common.{◌≡◌, ℕ, ◌+◌, ◌<◌, ◌≤◌, Bool, true, false, not, ◌&&◌, is_none, List, ◌∷◌, length, Option, None, Some, refl}
-use Rattle.std.proofs.Common.{sym, ap, ◌∙◌, subst, arith, inl, inr}
-use Rattle.std.specs.Prelude.{slice_get}
-use Rattle.std.specs.List.{All, AllByRecursion}
-use Rattle.std.proofs.lemmas.Bool.{cases_eq, eqb-true}
-use Rattle.std.proofs.lemmas.List.Elements.{All-nil, All-head, All-get_or, filter_passes}
+use Rattle.seam_law_calls.proofs.Prelude.{◌≡◌, ℕ, ◌+◌, ◌<◌, ◌≤◌, Bool, true, false, not, ◌&&◌, is_none, List, ◌∷◌, length, Option, None}
+use Rattle.seam_law_calls.proofs.Prelude.{Some, refl, sym, ap, ◌∙◌, subst, arith, inl, inr, slice_get, All, AllByRecursion, cases_eq}
+use Rattle.seam_law_calls.proofs.Prelude.{eqb-true, All-nil, All-head, All-get_or, filter_passes, Call as CallData, Order, Msg, BaseCall}
+use Rattle.seam_law_calls.proofs.Prelude.{Current, Update, limit, cell_count, peers_of, BaseView, PartView, RouteView, may_show}
+use Rattle.seam_law_calls.proofs.Prelude.{stray_base_call, stray_current, stray_update, stray_proxy_update, is_base_node_of, NodeView}
+use Rattle.seam_law_calls.proofs.Prelude.{World, node_peers, Cell, Base, letters_of, slot_at, Frame, here_at, IsInFrame, Has, has_of}
+use Rattle.seam_law_calls.proofs.Prelude.{has_none, order_concerns, entity_flow, strays_at, is_stuck, base_call_of, calls_ordered}
+use Rattle.seam_law_calls.proofs.Prelude.{HasNoProxy, home_of, FindsPart, HasBaseCalls, IsBaseNumber, is_for_cells, IsForNode, HasRoutes}
+use Rattle.seam_law_calls.proofs.Prelude.{LinesHaveRoom, no_client, client, NothingIsStray, may_execute}
 use Rattle.std.proofs.lemmas.Option.{slice_get_within, get_or_from_slice_get}
-use Rattle.seam_node_steps.specs.Prelude.{Call as CallData, Order, Msg, BaseCall, Hand, Current, GhostSet, GhostDrop, Tick, Reap, Update}
-use Rattle.seam_node_steps.specs.Prelude.{limit, cell_count, peers_of, BaseView, PartView, RouteView, may_show, stray_base_call}
-use Rattle.seam_node_steps.specs.Prelude.{stray_current, stray_update, stray_proxy_update, is_base_node_of, NodeView, World, node_peers}
-use Rattle.seam_node_steps.specs.Prelude.{Cell, Base}
-use Rattle.seam_law_flow.specs.Prelude.{letters_of, slot_at}
-use Rattle.seam_law_calls.specs.Prelude.{Frame, here_at, IsInFrame, Has, has_of, has_none, order_concerns, entity_flow, strays_at, is_stuck}
-use Rattle.seam_law_calls.specs.Prelude.{base_call_of, calls_ordered, HasNoProxy, home_of, FindsPart, HasBaseCalls, IsBaseNumber}
-use Rattle.seam_law_calls.specs.Prelude.{is_for_cells, IsForNode, HasRoutes, LinesHaveRoom, no_client, client, NothingIsStray}
 use Rattle.seam_call.specs.declared.order.Order.TheVariants as order
 use Rattle.seam_call.specs.declared.shown.Update.{Update as UpdateData}
-use Rattle.seam_entity.specs.declared.message.Msg.TheVariants.{Call}
-use Rattle.seam_node_steps.specs.BaseCases.{may_execute}
 use Rattle.seam_law_calls.proofs.ExampleMet.{slots}
 use Rattle.seam_law_calls.proofs.Holds.{all_two, below_is}
 use Rattle.seam_law_calls.proofs.BaseRuns.{finds, finds_ordered, version_may_rise}

@@ -1,12 +1,10 @@
 -- What is not stray about an entity is not stray to the base node, by its own tests.
-use Rattle.std.proofs.Common.{◌≡◌, ℕ, ◌&&◌, is_none, Some, refl, sym, ap, ◌∙◌}
-use Rattle.std.specs.Prelude.{slice_get}
+use Rattle.seam_law_calls.proofs.Prelude.{◌≡◌, ℕ, ◌&&◌, is_none, Some, refl, sym, ap, ◌∙◌, slice_get, Order, Msg, BaseCall, Current, Update}
+use Rattle.seam_law_calls.proofs.Prelude.{about, BaseView, stray_order, stray_base_call, stray_current, stray_update, is_base_node_of}
+use Rattle.seam_law_calls.proofs.Prelude.{World, Base, letters_of, more_letter, slot_at, Frame, here_at, IsInFrame, mine, order_about}
+use Rattle.seam_law_calls.proofs.Prelude.{orders_of, at_base, has_of, has_none, entity_flow, strays_at, is_stuck, NothingIsStray}
+use Rattle.seam_law_calls.proofs.Prelude.{NoneIsStray}
 use Rattle.std.specs.FinMap as table
-use Rattle.seam_node_steps.specs.Prelude.{Order, Msg, BaseCall, Current, Update, about, BaseView, stray_order, stray_base_call}
-use Rattle.seam_node_steps.specs.Prelude.{stray_current, stray_update, is_base_node_of, World, Base}
-use Rattle.seam_law_flow.specs.Prelude.{letters_of, more_letter, slot_at}
-use Rattle.seam_law_calls.specs.Prelude.{Frame, here_at, IsInFrame, mine, order_about, orders_of, at_base, has_of, has_none, entity_flow}
-use Rattle.seam_law_calls.specs.Prelude.{strays_at, is_stuck, NothingIsStray, NoneIsStray}
 use Rattle.seam_call.specs.declared.order.Order.TheVariants as order
 use Rattle.seam_node_steps.specs.BaseCases.{is_stray}
 use Rattle.seam_law_calls.proofs.Lists.{concerned_own, mine_own, orders_own}

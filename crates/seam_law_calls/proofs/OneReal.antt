@@ -1,26 +1,17 @@
 -- Exactly one real: each event leaves the one real at a place that is known, and it replays its calls.
-use Rattle.std.proofs.Common.{◌≡◌, ℕ, ◌<◌, Bool, true, false, ◌&&◌, is_some, List, [], ◌∷◌, length, ◌⊎◌, Option, None, Some, refl, sym, ap}
-use Rattle.std.proofs.Common.{◌∙◌, subst, arith, inl, inr}
-use Rattle.std.specs.List.{AllByRecursion, list_all}
+use Rattle.seam_law_calls.proofs.Prelude.{◌≡◌, ℕ, ◌<◌, Bool, true, false, List, [], ◌∷◌, length, ◌⊎◌, Option, None, Some, refl, sym, ap}
+use Rattle.seam_law_calls.proofs.Prelude.{◌∙◌, subst, arith, inl, inr, AllByRecursion, list_all, cases_eq, Division, cells_of, happens}
+use Rattle.seam_law_calls.proofs.Prelude.{enabled, run, AllEnabled, Occurs, items_to, Input, Task, From, Event, RealView, Msg, Hand, Reap}
+use Rattle.seam_law_calls.proofs.Prelude.{limit, cell_numbers, properties, is_cell_if, may_come, World, node_steps, node_has_work, Goes}
+use Rattle.seam_law_calls.proofs.Prelude.{comes, letter_in, letters_of, carried_in, TokenPlace, On, Sole, Handles, still, turns, lands}
+use Rattle.seam_law_calls.proofs.Prelude.{leaves, relays, place_after, token_after, Frame, IsTreeOf, here_at, IsInFrame, Has, concerns}
+use Rattle.seam_law_calls.proofs.Prelude.{kept_if, mine, entity_flow, MovesTo, Replays, RealFits, IsFitReal, IsFitHand, real_burden}
+use Rattle.seam_law_calls.proofs.Prelude.{real_in, real_of, reaped_by, HasNoReaps, IsSpared, AllFits, IsFrame, HasOne, OneFrom, reaps}
+use Rattle.seam_law_calls.proofs.Prelude.{NoReapComes, RunsTo, real_at, of_group-Decides, occurs, leads_keeps, slots_kept, letters_kept}
+use Rattle.seam_law_calls.proofs.Prelude.{came, sole_came, sole_goes, token_turns, haunts_cell}
 use Rattle.std.specs.FinSet as set
-use Rattle.std.proofs.lemmas.Bool.{cases_eq}
-use Rattle.seam_node_steps.specs.Prelude.{Division, cells_of, happens, enabled, run, AllEnabled, Occurs, items_to, Input, Task, From, Event}
-use Rattle.seam_node_steps.specs.Prelude.{RealView, Msg, Hand, Reap, limit, cell_numbers, properties, is_cell_if, may_come, World}
-use Rattle.seam_node_steps.specs.Prelude.{node_steps, node_has_work}
-use Rattle.seam_law_flow.specs.Prelude.{Goes, comes, letter_in, letters_of, carried_in, TokenPlace, On, Sole, Handles, still, turns, lands}
-use Rattle.seam_law_flow.specs.Prelude.{leaves, relays, place_after, token_after}
-use Rattle.seam_law_calls.specs.Prelude.{Frame, IsTreeOf, here_at, IsInFrame, Has, concerns, kept_if, mine, entity_flow, MovesTo, Replays}
-use Rattle.seam_law_calls.specs.Prelude.{RealFits}
-use Rattle.seam_law_calls.specs.Prelude.{IsFitReal, IsFitHand, real_burden, real_in, real_of, reaped_by, HasNoReaps, IsSpared, AllFits}
-use Rattle.seam_law_calls.specs.Prelude.{IsFrame, HasOne, OneFrom, reaps, NoReapComes, RunsTo, real_at}
 use Rattle.seam_defs.specs.declared.flags.Group.TheVariants as group
-use Rattle.seam_defs.proofs.TestLemmas.{of_group-Decides}
-use Rattle.seam_machine.proofs.Occurring.{occurs}
-use Rattle.seam_net_runs.proofs.Runs.{leads_keeps}
-use Rattle.seam_law_flow.proofs.Following.{slots_kept, letters_kept, came}
-use Rattle.seam_law_flow.proofs.TokenLemmas.{sole_came, sole_goes, token_turns}
 use Rattle.seam_entity.specs.declared.message.Msg.TheVariants.{Call}
-use Rattle.seam_node_steps.specs.CellCases.{haunts_cell}
 use Rattle.seam_law_calls.proofs.Keeping.{run_keeps}
 use Rattle.seam_law_calls.proofs.Classify.{frame_happens, event_moves_with}
 use Rattle.seam_law_calls.proofs.Trees.{cells_alike}

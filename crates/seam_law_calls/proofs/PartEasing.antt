@@ -1,15 +1,13 @@
 -- No move raises what the base part has yet to do.
-use Rattle.std.proofs.Common.{◌≡◌, ℕ, ◌+◌, ◌≤◌, List, [], ◌∷◌, length, Option, None, Some, refl, ap, arith}
-use Rattle.seam_node_steps.specs.Prelude.{happens, Occurs, total, Event, Call as CallData, rank_of, Msg, PartView, Here, World, node_steps}
-use Rattle.seam_law_flow.specs.Prelude.{letter_in, IsSilent, one_if}
-use Rattle.seam_law_calls.specs.Prelude.{Frame, here_at, IsInFrame, AtBase, mine, concerning, has_of, base_call_in, calls_ordered, called}
-use Rattle.seam_law_calls.specs.Prelude.{Offered, now, early, late, PartMoves, rests, refuses, offers, sends, serves, executes, misses}
-use Rattle.seam_law_calls.specs.Prelude.{updates, shows, ends, part_burden, base_burden}
-use Rattle.seam_net_runs.specs.Sums.{weight_or}
+use Rattle.seam_law_calls.proofs.Prelude.{◌≡◌, ℕ, ◌+◌, ◌≤◌, List, [], ◌∷◌, length, Option, None, Some, refl, ap, arith, happens, Occurs}
+use Rattle.seam_law_calls.proofs.Prelude.{total, Event, Call as CallData, rank_of, Msg, PartView, Here, World, node_steps, letter_in}
+use Rattle.seam_law_calls.proofs.Prelude.{IsSilent, one_if, Frame, here_at, IsInFrame, AtBase, mine, concerning, has_of, base_call_in}
+use Rattle.seam_law_calls.proofs.Prelude.{calls_ordered, called, Offered, now, early, late, PartMoves, rests, refuses, offers, sends}
+use Rattle.seam_law_calls.proofs.Prelude.{serves, executes, misses, updates, shows, ends, part_burden, base_burden, weight_or}
+use Rattle.seam_law_calls.proofs.Prelude.{has_base_burden, asks}
 use Rattle.seam_law_calls.proofs.Classify.{node_moves}
 use Rattle.seam_law_calls.proofs.Easing.{event_eases}
 use Rattle.seam_law_calls.proofs.HeldCounts.{turn_counts, early_counts, taken_counts}
-use Rattle.seam_law_calls.specs.BaseTurns.{has_base_burden, asks}
 use Rattle.seam_law_calls.proofs.PartSteps.{part_moves}
 
 abbrev sent_asks : List (ℕ × Msg) → ℕ

@@ -1,13 +1,9 @@
 -- Where the base part is: at the entity's base node after each move, unless the entity leaves the world; and calls go there.
-use Rattle.std.proofs.Common.{◌≡◌, ℕ, Bool, true, false, cond, eqb, List, [], ◌∷◌, Option, None, Some, refl, sym, ap, ◌∙◌, subst, inl, inr}
-use Rattle.std.specs.List.{AllByRecursion}
-use Rattle.std.proofs.lemmas.Bool.{cases_eq, eqb-true}
-use Rattle.seam_node_steps.specs.Prelude.{items_to, Call as CallData, Order, Msg, Here, PartView, World}
-use Rattle.seam_law_flow.specs.Prelude.{Goes, comes, IsSilent}
-use Rattle.seam_law_calls.specs.Prelude.{Frame, here_at, IsInFrame, AtBase, entity_flow, MovesTo, base_call_in, Offered, now, early, late}
-use Rattle.seam_law_calls.specs.Prelude.{PartMoves, rests, refuses, offers, sends, serves, executes, misses, updates, shows, ends, home_of}
-use Rattle.seam_law_calls.specs.Prelude.{IsHomeward, HasPart}
-use Rattle.seam_law_flow.proofs.Following.{slots_kept, letters_kept}
+use Rattle.seam_law_calls.proofs.Prelude.{◌≡◌, ℕ, Bool, true, false, cond, eqb, List, [], ◌∷◌, Option, None, Some, refl, sym, ap, ◌∙◌}
+use Rattle.seam_law_calls.proofs.Prelude.{subst, inl, inr, AllByRecursion, cases_eq, eqb-true, items_to, Call as CallData, Order, Msg, Here}
+use Rattle.seam_law_calls.proofs.Prelude.{PartView, World, Goes, comes, IsSilent, Frame, here_at, IsInFrame, AtBase, entity_flow, MovesTo}
+use Rattle.seam_law_calls.proofs.Prelude.{base_call_in, Offered, now, early, late, PartMoves, rests, refuses, offers, sends, serves}
+use Rattle.seam_law_calls.proofs.Prelude.{executes, misses, updates, shows, ends, home_of, IsHomeward, HasPart, slots_kept, letters_kept}
 use Rattle.seam_call.specs.declared.order.Order.TheVariants as order
 use Rattle.seam_law_calls.proofs.PartSteps.{part_moves}
 

@@ -1,24 +1,19 @@
 -- Each step of a node is, for one sender, one of the moves of its calls to the entity's base part.
-use Rattle.std.proofs.Common.{◌≡◌, ℕ, ◌<◌, true, not, cond, List, [], ◌∷◌, ◌++◌, Option, None, Some, refl, sym, ap, ◌∙◌, arith, inl, inr}
+use Rattle.seam_law_calls.proofs.Prelude.{◌≡◌, ℕ, ◌<◌, true, not, cond, List, [], ◌∷◌, ◌++◌, Option, None, Some, refl, sym, ap, ◌∙◌, arith}
+use Rattle.seam_law_calls.proofs.Prelude.{inl, inr, cases_eq, ne_eqb, append-nil, found, items_to, OrderView, next_item, after_offer}
+use Rattle.seam_law_calls.proofs.Prelude.{Call as CallData, Order, rank_of, order_or, Msg, BaseCall, Here, base_of, order_is_ready}
+use Rattle.seam_law_calls.proofs.Prelude.{ready_order, PartView, stray_base_call, letters_of, more_letter, IsSilent, carried_in, Desk, Post}
+use Rattle.seam_law_calls.proofs.Prelude.{Mail, Item, Quiet, Only, Passes, Frame, here_at, Has, AtBase, numbered_from, desk_for}
+use Rattle.seam_law_calls.proofs.Prelude.{base_call_in, calls_ordered, called, Offered, now, early, late, PartMoves, rests, refuses, offers}
+use Rattle.seam_law_calls.proofs.Prelude.{sends, serves, executes, misses, updates, shows, ends, part_desk, base_post, base_mail, FindsPart}
+use Rattle.seam_law_calls.proofs.Prelude.{sees_none, sees_one_here, sees_one_there, offer_late, item_from}
 use Rattle.std.specs.FinMap as table
-use Rattle.std.proofs.lemmas.Bool.{cases_eq, ne_eqb}
-use Rattle.std.proofs.lemmas.List.{append-nil}
-use Rattle.seam_table.proofs.Found.{found}
-use Rattle.seam_node_steps.specs.Prelude.{items_to, OrderView, next_item, after_offer, Call as CallData, Order, rank_of, order_or, Msg}
-use Rattle.seam_node_steps.specs.Prelude.{BaseCall, Here, base_of, order_is_ready, ready_order, PartView, stray_base_call}
-use Rattle.seam_law_flow.specs.Prelude.{letters_of, more_letter, IsSilent, carried_in, Desk, Post, Mail, Item, Quiet, Only, Passes}
-use Rattle.seam_law_calls.specs.Prelude.{Frame, here_at, Has, AtBase, numbered_from, desk_for, base_call_in, calls_ordered, called, Offered}
-use Rattle.seam_law_calls.specs.Prelude.{now, early, late, PartMoves, rests, refuses, offers, sends, serves, executes, misses, updates}
-use Rattle.seam_law_calls.specs.Prelude.{shows, ends, part_desk, base_post, base_mail, FindsPart}
-use Rattle.seam_law_flow.proofs.SendLists.{sees_none, sees_one_here, sees_one_there}
-use Rattle.seam_law_flow.proofs.Delivering.{offer_late}
 use Rattle.seam_law_flow.specs.CallMoves as turn
 use Rattle.seam_call.specs.declared.order.Order.TheVariants as order
 use Rattle.seam_node_steps.specs.BaseCases.{may_call}
 use Rattle.seam_law_calls.proofs.Holds.{not_both}
 use Rattle.seam_law_calls.proofs.DeskLemmas.{from_same, from_other, desk_executes, desk_holds, desk_keeps, desk_stays, desk_takes}
 use Rattle.seam_law_calls.specs.PartMoves.{Refused}
-use Rattle.seam_law_calls.specs.BaseTurns.{item_from}
 
 -- a ready call is of the sender under whose place it is held
 abbrev pub HoldsOwnCalls : AtBase → Type 0

@@ -1,32 +1,18 @@
 -- Each move of a node is one of the base part's.
-use Rattle.std.proofs.Common.{◌≡◌, ℕ, ◌<◌, Bool, true, List, [], ◌∷◌, Option, None, Some, refl, sym, ap, ◌∙◌, subst, arith, inl, inr}
-use Rattle.std.specs.List.{range_with_len}
-use Rattle.std.specs.Ordering.{nat_cmp}
-use Rattle.std.specs.declared.cmp.Ordering.{Ordering}
-use Rattle.std.specs.declared.cmp.Ordering.TheVariants.{Less, Equal, Greater}
-use Rattle.std.specs.FinSet as set
-use Rattle.std.proofs.lemmas.Bool.Decides.{nat_tests}
-use Rattle.seam_node_steps.specs.Prelude.{Division, Call as CallData, Order, order_of, RealView, Msg, BaseCall, Hand, Current, GhostSet}
-use Rattle.seam_node_steps.specs.Prelude.{GhostDrop}
-use Rattle.seam_node_steps.specs.Prelude.{Tick, Reap, Update, Here, cell_count, base_numbers, base_of, PartView, ProxyView, offered}
-use Rattle.seam_node_steps.specs.Prelude.{after_showing, tick_to, SlotStep, haunts_at, ghost_messages, current_to}
-use Rattle.seam_law_flow.specs.Prelude.{letters_of, more_letter, IsSilent}
-use Rattle.seam_law_calls.specs.Prelude.{Frame, here_at, Has, AtCell, Does, Acts, surveys, calls, readies, CellMoves, BaseMoves, strays_at}
-use Rattle.seam_law_calls.specs.Prelude.{updated, Moves, at_a_cell, at_a_base, base_call_in, update_in, base_call_of, calls_ordered, called}
-use Rattle.seam_law_calls.specs.Prelude.{told, Offered, now, early, late, PartMoves, rests, refuses, offers, sends, serves, executes}
-use Rattle.seam_law_calls.specs.Prelude.{misses, updates, shows, ends}
-use Rattle.seam_law_flow.proofs.Following.{all_append}
+use Rattle.seam_law_calls.proofs.Prelude.{◌≡◌, ℕ, ◌<◌, true, List, [], ◌∷◌, Option, None, Some, refl, sym, ap, ◌∙◌, subst, arith, inl, inr}
+use Rattle.seam_law_calls.proofs.Prelude.{range_with_len, nat_cmp, Ordering, Less, Equal, Greater, nat_tests, Division, Call as CallData}
+use Rattle.seam_law_calls.proofs.Prelude.{Order, order_of, Msg, BaseCall, Update, Here, cell_count, PartView, ProxyView, after_showing}
+use Rattle.seam_law_calls.proofs.Prelude.{tick_to, letters_of, more_letter, IsSilent, Frame, here_at, Has, CellMoves, BaseMoves, strays_at}
+use Rattle.seam_law_calls.proofs.Prelude.{updated, Moves, at_a_cell, at_a_base, base_call_in, update_in, base_call_of, calls_ordered}
+use Rattle.seam_law_calls.proofs.Prelude.{called, told, Offered, now, early, late, PartMoves, rests, refuses, offers, sends, serves}
+use Rattle.seam_law_calls.proofs.Prelude.{executes, misses, updates, shows, ends}
+use Rattle.seam_node_steps.specs.Prelude.{offered}
 use Rattle.seam_call.specs.declared.order.Order.TheVariants as order
 use Rattle.seam_call.specs.declared.shown.Update.{Update as UpdateData}
-use Rattle.seam_entity.specs.declared.message.Msg.TheVariants.{Call}
-use Rattle.seam_node_steps.specs.Slots as slot_step
-use Rattle.seam_law_calls.specs.CellMoves as move
+use Rattle.seam_law_calls.proofs.CellDeeds.{cell_deeds, cell_says, plain_says}
 use Rattle.seam_law_calls.specs.BaseMoves as base_move
 use Rattle.seam_law_calls.specs.BaseMoves.{proxy_updated, client_is_ready}
-use Rattle.seam_law_calls.proofs.Plain.{SeesNoGhost, ghosts_silent, drops_silent, mapped_silent, numbered_silent}
-
-no_ghosts : SeesNoGhost base_call_in
-no_ghosts = record { sets = λ e n c. refl; drops = λ e n. refl }
+use Rattle.seam_law_calls.proofs.Plain.{mapped_silent}
 
 less_of : (a b : ℕ) → nat_cmp a b ≡ Less → a < b
 less_of a b is = grind (arith, nat_tests)
@@ -61,50 +47,16 @@ module _ (f : Frame) (e k : ℕ) (s : Has) (i : Option Msg) (t : Has) (sent : Li
   -- ---- a cell
 
   module _ (low : k < cell_count) (same : t.base ≡ s.base) where
-    of : (x : SlotStep) (u : AtCell) → Does u x t.cell sent → (called i ≡ None) × (told i ≡ None) → IsSilent base_call_in x.sent → Its
-    of x u d n q = rests n.0 n.1 (ap calls_ordered same) (ap (λ b. b.part) same) (subst (IsSilent base_call_in) (sym d.sends) q)
-
-    strays : (m : Msg) → i ≡ Some m → Does s.cell slot_step.rests t.cell sent → Its
-    strays (BaseCall c) a d = refuses c a (inl low) same (subst (IsSilent base_call_in) (sym d.sends) tt)
-    strays (Update u) a d =
-        misses u a (inl low) (ap calls_ordered same) (ap (λ b. b.part) same) (subst (IsSilent base_call_in) (sym d.sends) tt)
-    strays m a d = of _ s.cell d (other m a refl refl) tt
-
-    acts_unseen : (u : AtCell) (r q : RealView) (changed : Bool) → Acts (here_at f k) e s.cell i r u q changed →
-        (called i ≡ None) × (told i ≡ None)
-    acts_unseen u r q changed (surveys n a b c) = none a
-    acts_unseen u r q changed (calls c a x m d) = other (Call c) a refl refl
-    acts_unseen u r q changed (readies o c a m at item) = none a
+    cell_by : (j : Option Msg) → i ≡ j → IsSilent base_call_in sent → Its
+    cell_by None n z = rests (ap called n) (ap told n) (ap calls_ordered same) (ap (λ b. b.part) same) z
+    cell_by (Some (BaseCall c)) n z = refuses c n (inl low) same z
+    cell_by (Some (Update u)) n z = misses u n (inl low) (ap calls_ordered same) (ap (λ b. b.part) same) z
+    cell_by (Some m) n z = rests (ap called n) (ap told n) (ap calls_ordered same) (ap (λ b. b.part) same) z
 
     cell_part : {tree : Division} → CellMoves (here_at f k) tree e s.cell i t.cell sent → Its
-    cell_part (move.rests n d) = of _ s.cell d (none n) tt
-    cell_part (move.strays m n b d) = strays m n d
-    cell_part {tree} (move.stays u r q changed has own acts at d) =
-        of _ u d (acts_unseen u r q changed acts)
-        (ghosts_silent base_call_in no_ghosts (here_at f k) q k (haunts_at (here_at f k) tree q.state.pos k q.haunts) changed)
-    cell_part {tree} (move.goes u r q changed j has own acts at n d) =
-        let haunts = haunts_at (here_at f k) tree q.state.pos j (set.insert q.haunts k) in
-        of _ u d (acts_unseen u r q changed acts)
-        (all_append (λ p. base_call_in p.1 ≡ None) (ghost_messages (here_at f k) q j haunts changed) _
-        (ghosts_silent base_call_in no_ghosts (here_at f k) q j haunts changed) (refl, tt))
-    cell_part (move.late c r n has may lt d) = of _ s.cell d (other (Call c) n refl refl) tt
-    cell_part (move.holds c r n own has mine may lt d) = of _ s.cell d (other (Call c) n refl refl) tt
-    cell_part (move.passes c p n own has at d) = of _ s.cell d (other (Call c) n refl refl) (refl, tt)
-    cell_part (move.lands r n own has may d) =
-        of _ s.cell d (other (Hand r) n refl refl)
-        (mapped_silent base_call_in (current_to (here_at f k) r) (λ b. refl) (base_numbers (here_at f k)))
-    cell_part (move.hears_set n c h has d) = of _ s.cell d (other (GhostSet e n c) h refl refl) tt
-    cell_part (move.ignores_set n c r h has d) = of _ s.cell d (other (GhostSet e n c) h refl refl) tt
-    cell_part (move.hears_drop n h d) = of _ s.cell d (other (GhostDrop e n) h refl refl) tt
-    cell_part (move.reaped r n has own may d) =
-        of _ s.cell d (other (Reap e) n refl refl) (drops_silent base_call_in no_ghosts r)
-    cell_part (move.ticks n st z) =
-        rests (ap called n) (ap told n) (ap calls_ordered same) (ap (λ b. b.part) same) (subst (IsSilent base_call_in) (sym z) tt)
-    cell_part (move.unlists n h at b d) = of _ _ d (none h) tt
-    cell_part (move.looks n r w known h at has own v small d) =
-        of _ _ d (none h) (numbered_silent base_call_in (base_of (here_at f k) r.entity) r.entity w.sent _ (λ u. refl))
-    cell_part (move.overlooks n known h at b d) = of _ _ d (none h) tt
-    cell_part (move.stuck r h has ready may d) = of _ s.cell d (none h) tt
+    cell_part {tree} m =
+        cell_by i refl (cell_says (λ j m. base_call_in m ≡ None) (plain_says base_call_in (here_at f k) tree e s.cell i (λ x b c. refl)
+        (λ x b. refl) (λ r. refl) (λ c. refl) (λ x j g. refl) (λ u. refl)) (cell_deeds m))
 
   -- ---- a base node
 

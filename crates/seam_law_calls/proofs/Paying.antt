@@ -1,8 +1,6 @@
 -- Where no order weighs less than what is sent for it, no move of a base node raises what its orders and its sends weigh.
-use Rattle.std.proofs.Common.{◌≡◌, ℕ, ◌+◌, ◌≤◌, List, ◌∷◌, map, Option, ap, arith}
-use Rattle.std.specs.List.{range_with_len}
-use Rattle.seam_node_steps.specs.Prelude.{total, Call as CallData, Order, Here, Msg, BaseCall, Reap, tick_to}
-use Rattle.seam_law_calls.specs.Prelude.{AtBase, BaseMoves}
+use Rattle.seam_law_calls.proofs.Prelude.{◌≡◌, ℕ, ◌+◌, ◌≤◌, List, ◌∷◌, map, Option, ap, arith, range_with_len, total, Call as CallData}
+use Rattle.seam_law_calls.proofs.Prelude.{Order, Here, Msg, BaseCall, Reap, tick_to, AtBase, BaseMoves}
 use Rattle.seam_call.specs.declared.order.Order.TheVariants as order
 use Rattle.seam_entity.specs.declared.message.Msg.TheVariants.{Call}
 use Rattle.seam_law_calls.proofs.BaseDeeds as base

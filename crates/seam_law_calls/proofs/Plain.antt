@@ -1,10 +1,10 @@
 -- What a step sends beside a hand-over carries no real and is no reap.
-use Rattle.std.proofs.Common.{◌≡◌, ℕ, ◌+◌, Bool, true, false, ◌==◌, ◌||◌, List, [], ◌∷◌, map, Option, None, Some, sym, ap, ◌∙◌}
+use Rattle.seam_law_calls.proofs.Prelude.{◌≡◌, ℕ, ◌+◌, Bool, true, false, ◌==◌, ◌||◌, List, [], ◌∷◌, map, Option, None, Some, sym, ap, ◌∙◌}
+use Rattle.seam_law_calls.proofs.Prelude.{Cells, GhostCopy, Shown, RealView, Msg, GhostSet, GhostDrop, Update, Here, cell_numbers}
+use Rattle.seam_law_calls.proofs.Prelude.{copy_of_real, told_unless, ghost_message, ghost_messages, drop_if, drop_at, drops, numbered}
+use Rattle.seam_law_calls.proofs.Prelude.{IsSilent, silent_chosen}
 use Rattle.std.specs.FinSet as set
-use Rattle.seam_node_steps.specs.Prelude.{Cells, GhostCopy, Shown, RealView, Msg, GhostSet, GhostDrop, Update, Here, cell_numbers}
-use Rattle.seam_node_steps.specs.Prelude.{copy_of_real, told, told_unless, ghost_message, ghost_messages, drop_if, drop_at, drops, numbered}
-use Rattle.seam_law_flow.specs.Prelude.{IsSilent}
-use Rattle.seam_law_flow.proofs.SendLists.{silent_chosen}
+use Rattle.seam_node_steps.specs.Prelude.{told}
 
 -- eyes that see no ghost message, no route, no update and no tick
 pub record SeesNoGhost {L : Type 0} (mine : Msg → Option L) : Type 0 where

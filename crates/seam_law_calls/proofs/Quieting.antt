@@ -1,19 +1,12 @@
 -- In a quiet world nothing waits: no message, no order, and no held call whose turn it is.
-use Rattle.std.proofs.Common.{◌≡◌, ℕ, Bool, true, false, cond, not, ◌&&◌, ◌||◌, is_some, List, [], ◌∷◌, find, Option, None, Some, refl, sym}
-use Rattle.std.proofs.Common.{ap, ◌∙◌}
-use Rattle.std.specs.Prelude.{option_map}
-use Rattle.std.specs.List.{list_all}
-use Rattle.std.specs.Ordering.{nat_cmp}
+use Rattle.seam_law_calls.proofs.Prelude.{◌≡◌, ℕ, Bool, true, false, cond, not, ◌&&◌, ◌||◌, is_some, List, [], ◌∷◌, find, Option, None}
+use Rattle.seam_law_calls.proofs.Prelude.{Some, refl, sym, ap, ◌∙◌, option_map, list_all, nat_cmp, IsQuiet, OrderView, next_item}
+use Rattle.seam_law_calls.proofs.Prelude.{Call as CallData, Orders, order_or, RealView, number_of, has_any, order_is_ready, has_ready}
+use Rattle.seam_law_calls.proofs.Prelude.{CellView, real_is_ready, cell_has_work, BaseView, base_has_work, NodeView, World, node_has_work}
+use Rattle.seam_law_calls.proofs.Prelude.{Cell, Base, letters_of, Desk, desk_of, parcel_of, IsStill, Frame, IsInFrame, Has, mine, has_of}
+use Rattle.seam_law_calls.proofs.Prelude.{has_none, orders_of, entity_flow, real_in, from_sender, desk_for, cell_order_from, real_desk}
+use Rattle.seam_law_calls.proofs.Prelude.{cell_mail, as_sender, CellCallsInTurn, real_at, quiet_links, quiet_tasks, sole_here, all_done}
 use Rattle.std.specs.FinMap as table
-use Rattle.seam_node_steps.specs.Prelude.{IsQuiet, OrderView, next_item, Call as CallData, Orders, order_or, RealView, number_of, has_any}
-use Rattle.seam_node_steps.specs.Prelude.{order_is_ready, has_ready, CellView, real_is_ready, cell_has_work, BaseView, base_has_work}
-use Rattle.seam_node_steps.specs.Prelude.{NodeView, World, node_has_work, Cell, Base}
-use Rattle.seam_law_flow.specs.Prelude.{letters_of, Desk, desk_of, parcel_of, IsStill}
-use Rattle.seam_law_calls.specs.Prelude.{Frame, IsInFrame, Has, mine, has_of, has_none, orders_of, entity_flow, real_in, from_sender}
-use Rattle.seam_law_calls.specs.Prelude.{desk_for, cell_order_from, real_desk, cell_mail, as_sender, CellCallsInTurn, real_at}
-use Rattle.seam_machine.proofs.Quiet.{quiet_links, quiet_tasks}
-use Rattle.seam_law_flow.proofs.TokenLemmas.{sole_here}
-use Rattle.seam_law_flow.proofs.Ends.{all_done}
 use Rattle.seam_law_calls.proofs.ExampleMet.{slots}
 use Rattle.seam_law_calls.proofs.Holds.{got_passes}
 

@@ -1,16 +1,13 @@
 -- A real that fits still fits after a call that fits, and where it settles.
-use Rattle.std.proofs.Common.{◌≡◌, ℕ, ◌+◌, ◌<◌, Bool, true, false, ◌&&◌, nat_lt, nat_le, length, Some, cond, refl, sym, ◌∙◌, subst, arith}
+use Rattle.seam_law_calls.proofs.Prelude.{◌≡◌, ℕ, ◌+◌, ◌<◌, Bool, true, false, ◌&&◌, nat_lt, nat_le, length, Some, cond, refl, sym, ◌∙◌}
+use Rattle.seam_law_calls.proofs.Prelude.{subst, arith, nat_tests, Pos, Division, leaf_at, cells_of, Cells, haunts_of, Part, TypeDef, State}
+use Rattle.seam_law_calls.proofs.Prelude.{Deed, Move, Method, method_of, AreDefs, IsType, fits_deed, fit_values, after, IsOfGroup}
+use Rattle.seam_law_calls.proofs.Prelude.{OrderView, next_item, Call, rank_of, is_for, order_of, RealView, is_inside, can_do, Here, type_at}
+use Rattle.seam_law_calls.proofs.Prelude.{order_passes, order_is_ready, ready_order, fits_cell_part, may_call, with_offer, executed}
+use Rattle.seam_law_calls.proofs.Prelude.{executed_ready, settled_to, home_after, haunts_at, Frame, IsTreeOf, here_at, RealFits, IsFrame}
+use Rattle.seam_law_calls.proofs.Prelude.{leaf_is_cell, fit-Decides}
 use Rattle.std.specs.FinMap as table
 use Rattle.std.specs.FinSet as set
-use Rattle.std.proofs.lemmas.Bool.Decides.{nat_tests}
-use Rattle.seam_node_steps.specs.Prelude.{Pos, Division, leaf_at, cells_of, Cells, haunts_of, Part, TypeDef, State, Deed, Move, Method}
-use Rattle.seam_node_steps.specs.Prelude.{method_of}
-use Rattle.seam_node_steps.specs.Prelude.{AreDefs, IsType, fits_deed, fit_values, after, IsOfGroup, OrderView, next_item, Call, rank_of}
-use Rattle.seam_node_steps.specs.Prelude.{is_for, order_of, RealView, is_inside, can_do, Here, type_at, order_passes, order_is_ready}
-use Rattle.seam_node_steps.specs.Prelude.{ready_order, fits_cell_part, may_call, with_offer, executed, executed_ready, settled_to}
-use Rattle.seam_node_steps.specs.Prelude.{home_after, haunts_at}
-use Rattle.seam_law_calls.specs.Prelude.{Frame, IsTreeOf, here_at, RealFits, IsFrame}
-use Rattle.seam_tree.proofs.Leaves.{leaf_is_cell}
 use Rattle.seam_haunt.specs.Haunts.{is_haunt}
 use Rattle.seam_haunt.proofs.Chosen.{contains_chosen}
 use Rattle.seam_defs.specs.declared.flags.Part.TheVariants as part
@@ -19,7 +16,6 @@ use Rattle.seam_defs.specs.Groups.{held_by}
 use Rattle.seam_defs.specs.Tests.{same_part}
 use Rattle.seam_defs.proofs.Numbers.{type_of-is}
 use Rattle.seam_defs.proofs.Keeping.{method-keeps}
-use Rattle.seam_defs.proofs.TestLemmas.{fit-Decides}
 use Rattle.seam_law_calls.proofs.Trees.{cells_alike}
 use Rattle.seam_law_calls.proofs.Holds.{both, picked_passes, item_passes_too, held_offered, held_taken}
 

@@ -1,19 +1,14 @@
 -- After a reap: the base part is gone and stays gone, and no call to it is left.
-use Rattle.std.proofs.Common.{◌≡◌, ℕ, zero, suc, Bool, true, false, is_some, is_none, cond, eqb, List, [], ◌∷◌, ◌++◌, map, filter, Option}
-use Rattle.std.proofs.Common.{None, Some, refl, sym, ap, ◌∙◌}
-use Rattle.std.specs.Prelude.{slice_get}
-use Rattle.std.specs.Cmp.{nat_cmp_total, unsigned_tied}
+use Rattle.seam_law_calls.proofs.Prelude.{◌≡◌, ℕ, zero, suc, Bool, true, false, is_some, is_none, cond, eqb, List, [], ◌∷◌, ◌++◌, map}
+use Rattle.seam_law_calls.proofs.Prelude.{filter, Option, None, Some, refl, sym, ap, ◌∙◌, slice_get, nat_cmp_total, unsigned_tied, eq-eqb}
+use Rattle.seam_law_calls.proofs.Prelude.{Task, Event, Call as CallData, Order, Msg, Reap, Here, base_of, order_if, reap_ordered_at}
+use Rattle.seam_law_calls.proofs.Prelude.{with_reap, reaps_loaded, BaseView, RouteView, on_route, base_task, base_steps, NodeView, World}
+use Rattle.seam_law_calls.proofs.Prelude.{Cell, Base, letters_of, more_letter, slot_at, IsSilent, Frame, here_at, IsInFrame, AtBase}
+use Rattle.seam_law_calls.proofs.Prelude.{order_concerns, at_base, has_of, has_none, entity_flow, base_call_in, base_call_of, calls_ordered}
+use Rattle.seam_law_calls.proofs.Prelude.{PartMoves, rests, refuses, offers, sends, serves, executes, misses, updates, shows, ends}
+use Rattle.seam_law_calls.proofs.Prelude.{HasNoBaseCalls, HasNoPart, RunsTo, unless_stray}
 use Rattle.std.specs.FinMap as table
-use Rattle.std.proofs.lemmas.Bool.{eq-eqb}
-use Rattle.seam_node_steps.specs.Prelude.{Task, Event, Call as CallData, Order, Msg, Reap, Here, base_of, order_if, reap_ordered_at}
-use Rattle.seam_node_steps.specs.Prelude.{with_reap, reaps_loaded, BaseView, RouteView, on_route, base_task, base_steps, NodeView, World}
-use Rattle.seam_node_steps.specs.Prelude.{Cell, Base}
-use Rattle.seam_law_flow.specs.Prelude.{letters_of, more_letter, slot_at, IsSilent}
-use Rattle.seam_law_calls.specs.Prelude.{Frame, here_at, IsInFrame, AtBase, order_concerns, at_base, has_of, has_none, entity_flow}
-use Rattle.seam_law_calls.specs.Prelude.{base_call_in, base_call_of, calls_ordered, PartMoves, rests, refuses, offers, sends, serves}
-use Rattle.seam_law_calls.specs.Prelude.{executes, misses, updates, shows, ends, HasNoBaseCalls, HasNoPart, RunsTo}
 use Rattle.seam_call.specs.declared.order.Order.TheVariants as order
-use Rattle.seam_node_steps.specs.BaseCases.{unless_stray}
 use Rattle.seam_law_calls.proofs.PartSteps.{part_moves}
 use Rattle.seam_law_calls.proofs.Keeping.{all_lead, units}
 

@@ -1,8 +1,7 @@
 -- Reals replay their calls.
-use Rattle.std.proofs.Common.{◌≡◌, ℕ, Bool, List, [], ◌∷◌, ◌++◌, Option, refl, sym, ap, ◌∙◌}
-use Rattle.seam_node_steps.specs.Prelude.{TypeDef, type_of, Call, RealView, Msg}
-use Rattle.seam_law_calls.specs.Prelude.{Frame, here_at, AtCell, Acts, surveys, calls, readies, Account, account_of, after_call}
-use Rattle.seam_law_calls.specs.Prelude.{after_calls, Replays}
+use Rattle.seam_law_calls.proofs.Prelude.{◌≡◌, ℕ, Bool, List, [], ◌∷◌, ◌++◌, Option, refl, sym, ap, ◌∙◌, TypeDef, type_of, Call, RealView}
+use Rattle.seam_law_calls.proofs.Prelude.{Msg, Frame, here_at, AtCell, Acts, surveys, calls, readies, Account, account_of, after_call}
+use Rattle.seam_law_calls.proofs.Prelude.{after_calls, Replays}
 
 after_more : (t : TypeDef) (a : Account) (ks ls : List Call) → after_calls t a (ks ++ ls) ≡ after_calls t (after_calls t a ks) ls
 after_more t a [] ls = refl

@@ -1,13 +1,10 @@
 -- Each base node keeps a route to the entity, and messages go where they belong, after each event.
-use Rattle.std.proofs.Common.{◌≡◌, ℕ, ◌<◌, ◌≤◌, List, length, Option, Some, sym, ap, ◌∙◌, subst, arith}
-use Rattle.std.specs.List.{AllByRecursion}
-use Rattle.seam_node_steps.specs.Prelude.{happens, Occurs, Event, Msg, Reap, Here, cell_count, NextPlace, RouteView, NodeView, World}
-use Rattle.seam_node_steps.specs.Prelude.{node_steps, Cell, Base, IsNode}
-use Rattle.seam_law_flow.specs.Prelude.{comes, letter_in}
-use Rattle.seam_law_calls.specs.Prelude.{Frame, here_at, IsAt, IsInFrame, Has, AtBase, mine, has_of, has_none, entity_flow, BaseMoves}
-use Rattle.seam_law_calls.specs.Prelude.{Moves, at_a_cell, at_a_base, IsFrame, HasOne, IsBaseNumber, IsForNode, HasRoutes}
-use Rattle.seam_law_flow.proofs.Following.{slots_kept, letters_kept}
-use Rattle.seam_law_calls.specs.BaseMoves as move
+use Rattle.seam_law_calls.proofs.Prelude.{◌≡◌, ℕ, ◌<◌, ◌≤◌, List, length, Option, Some, sym, ap, ◌∙◌, subst, arith, AllByRecursion, happens}
+use Rattle.seam_law_calls.proofs.Prelude.{Occurs, Event, Msg, Reap, cell_count, NextPlace, RouteView, NodeView, World, node_steps}
+use Rattle.seam_law_calls.proofs.Prelude.{Cell, Base, IsNode, comes, letter_in, Frame, IsAt, IsInFrame, Has, AtBase, mine, has_of}
+use Rattle.seam_law_calls.proofs.Prelude.{has_none, entity_flow, Moves, at_a_cell, at_a_base, IsFrame, HasOne, IsBaseNumber}
+use Rattle.seam_law_calls.proofs.Prelude.{IsForNode, HasRoutes, slots_kept, letters_kept}
+use Rattle.seam_law_calls.proofs.BaseDeeds.{RouteAfter, same_route, newer_of, base_route}
 use Rattle.seam_law_calls.proofs.ExampleMet.{slots}
 use Rattle.seam_law_calls.proofs.OneReal.{goes}
 use Rattle.seam_law_calls.proofs.PartKept.{targets_all}
@@ -17,31 +14,14 @@ abbrev pub HasRoute : AtBase → Type 0
 HasRoute b = (r : RouteView) × (b.route ≡ Some r)
 
 -- a route stays one
-module _ (h : Here) (cells e : ℕ) (s : AtBase) (i : Option Msg) (t : AtBase) (sent : List (ℕ × Msg)) where
-  kept : t.route ≡ s.route → HasRoute s → HasRoute t
-  kept is r = (r.0, is ∙ r.1)
-
-  route_stays : BaseMoves h cells e s i t sent → HasRoute s → HasRoute t
-  route_stays (move.rests n a z) r = kept (ap (λ b. b.route) a) r
-  route_stays (move.strays m n b a z) r = kept (ap (λ b. b.route) a) r
-  route_stays (move.reroutes new x n has b a z) r = (_, ap (λ b. b.route) a)
-  route_stays (move.offers c p n own has may a z) r = kept (ap (λ b. b.route) a) r
-  route_stays (move.updates u n own b a z) r = kept (ap (λ b. b.route) a) r
-  route_stays (move.orders_call c os x n at own has a z) r = kept (ap (λ b. b.route) a) r
-  route_stays (move.orders_base_call c os n at own b a z) r = kept (ap (λ b. b.route) a) r
-  route_stays (move.offers_own c os p n at own b has may a z) r = kept (ap (λ b. b.route) a) r
-  route_stays (move.orders_tick os n at a z) r = kept (ap (λ b. b.route) a) r
-  route_stays (move.orders_reap os x n at has a z) r = kept (ap (λ b. b.route) a) r
-  route_stays (move.stuck_order o os n at b a z) r = kept (ap (λ b. b.route) a) r
-  route_stays (move.executes p o c n has may at item a z) r = kept (ap (λ b. b.route) a) r
-  route_stays (move.stuck_part p n has v may a z) r = kept (ap (λ b. b.route) a) r
-  route_stays (move.shows p n has v may a z) r = kept (ap (λ b. b.route) a) r
-  route_stays (move.stuck_client p n has v may a z) r = kept (ap (λ b. b.route) a) r
+route_after : {e : ℕ} {s : AtBase} {i : Option Msg} {t : AtBase} → RouteAfter e s i t → HasRoute s → HasRoute t
+route_after (same_route is stray) r = (r.0, is ∙ r.1)
+route_after (newer_of new x n has is) r = (_, is)
 
 pub route_moves : (f : Frame) (e k : ℕ) (s : Has) (i : Option Msg) (t : Has) (sent : List (ℕ × Msg)) → Moves f e k s i t sent →
     HasRoute s.base → HasRoute t.base
 route_moves f e k s i t sent (at_a_cell tree of low m same) r = (r.0, ap (λ b. b.route) same ∙ r.1)
-route_moves f e k s i t sent (at_a_base high m same) r = route_stays (here_at f k) _ e s.base i t.base sent m r
+route_moves f e k s i t sent (at_a_base high m same) r = route_after (base_route m) r
 
 -- ---- what is true of every node
 

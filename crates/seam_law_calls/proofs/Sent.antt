@@ -1,20 +1,16 @@
 -- What a step of one entity's slot sends is about that entity.
-use Rattle.std.proofs.Common.{◌≡◌, ℕ, ◌+◌, Bool, true, false, ◌==◌, ◌||◌, List, [], ◌∷◌, map, Option, None, Some, refl, ap}
-use Rattle.std.specs.Prelude.{filter_map}
-use Rattle.std.specs.List.{cons_option}
-use Rattle.std.specs.Ordering.{nat_cmp}
-use Rattle.std.specs.declared.cmp.Ordering.{Ordering}
-use Rattle.std.specs.declared.cmp.Ordering.TheVariants.{Less, Equal, Greater}
+use Rattle.seam_law_calls.proofs.Prelude.{◌≡◌, ℕ, ◌+◌, Bool, true, false, ◌==◌, ◌||◌, List, [], ◌∷◌, map, Option, None, Some, refl, ap}
+use Rattle.seam_law_calls.proofs.Prelude.{filter_map, cons_option, nat_cmp, Ordering, Less, Equal, Greater, Division, Cells, OrderView}
+use Rattle.seam_law_calls.proofs.Prelude.{next_item, Call as CallData, GhostCopy, Shown, order_of, RealView, WitnessView, Msg, Hand}
+use Rattle.seam_law_calls.proofs.Prelude.{GhostSet, GhostDrop, Reap, Here, cell_numbers, base_numbers, base_of, ready_order, executed}
+use Rattle.seam_law_calls.proofs.Prelude.{executed_ready, copy_of_real, settled_to, Slot, NextPlace, SlotStep, home_after, haunts_at}
+use Rattle.seam_law_calls.proofs.Prelude.{told_unless, ghost_message, ghost_messages, settled_by, settled, stays, goes, about, slot_steps}
+use Rattle.seam_law_calls.proofs.Prelude.{is_stray, Known, numbered, look_by, look_task, all_append, case_of}
 use Rattle.std.specs.FinSet as set
-use Rattle.seam_node_steps.specs.Prelude.{Division, Cells, OrderView, next_item, Call as CallData, GhostCopy, Shown, order_of, RealView}
-use Rattle.seam_node_steps.specs.Prelude.{WitnessView, Msg, Hand, GhostSet, GhostDrop, Reap, Here, cell_numbers, base_numbers, base_of}
-use Rattle.seam_node_steps.specs.Prelude.{ready_order, executed, executed_ready, shows, copy_of_real, settled_to, Slot, NextPlace, SlotStep}
-use Rattle.seam_node_steps.specs.Prelude.{unless_stray, home_after, haunts_at, told, told_unless, ghost_message, ghost_messages, settled_by}
-use Rattle.seam_node_steps.specs.Prelude.{settled, stays, goes, about, slot_steps, is_stray, Known, numbered, look_by, look_task}
-use Rattle.seam_law_flow.proofs.Following.{all_append}
+use Rattle.seam_node_steps.specs.Prelude.{shows}
+use Rattle.seam_node_steps.specs.Prelude.{unless_stray, told}
 use Rattle.seam_entity.specs.declared.message.Msg.TheVariants.{Call}
 use Rattle.seam_node_steps.specs.CellCases
-use Rattle.seam_node_steps.specs.CellCases.{case_of}
 use Rattle.seam_law_calls.proofs.Lists.{AllAbout}
 
 abbrev IsAbout : ℕ → Option (ℕ × Msg) → Type 0

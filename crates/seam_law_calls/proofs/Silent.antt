@@ -1,13 +1,10 @@
 -- Where no look is left, or the entity has no witness, its client is told nothing.
-use Rattle.std.proofs.Common.{◌≡◌, ℕ, ◌+◌, ◌≤◌, false, is_some, List, Option, None, Some, refl, sym, ap, ◌∙◌, subst, arith}
-use Rattle.std.specs.List.{AllByRecursion}
-use Rattle.seam_node_steps.specs.Prelude.{cells_of, happens, Occurs, Event, RealView, WitnessView, Msg, cell_count, World, node_steps}
-use Rattle.seam_law_flow.specs.Prelude.{letter_in, slot_at, IsSilent}
-use Rattle.seam_law_calls.specs.Prelude.{Frame, here_at, IsInFrame, Has, AtCell, mine, concerning, has_of, has_none, Moves, at_a_cell}
-use Rattle.seam_law_calls.specs.Prelude.{at_a_base, real_in, update_in, WitnessMoves, EachReal, node_looks, mine_looks, looks_left}
-use Rattle.seam_law_calls.specs.Prelude.{NoUpdateComes, RunsTo}
-use Rattle.seam_net_runs.proofs.Weighing.{weight_bounds}
-use Rattle.seam_law_flow.proofs.Following.{all_append, letters_kept}
+use Rattle.seam_law_calls.proofs.Prelude.{◌≡◌, ℕ, ◌+◌, ◌≤◌, false, is_some, List, Option, None, Some, refl, sym, ap, ◌∙◌, subst, arith}
+use Rattle.seam_law_calls.proofs.Prelude.{AllByRecursion, cells_of, happens, Occurs, Event, RealView, WitnessView, Msg, cell_count, World}
+use Rattle.seam_law_calls.proofs.Prelude.{node_steps, letter_in, slot_at, IsSilent, Frame, here_at, IsInFrame, Has, AtCell, mine}
+use Rattle.seam_law_calls.proofs.Prelude.{concerning, has_of, has_none, Moves, at_a_cell, at_a_base, real_in, update_in, WitnessMoves}
+use Rattle.seam_law_calls.proofs.Prelude.{EachReal, node_looks, mine_looks, looks_left, NoUpdateComes, RunsTo, weight_bounds, all_append}
+use Rattle.seam_law_calls.proofs.Prelude.{letters_kept}
 use Rattle.seam_law_calls.proofs.Classify.{node_moves}
 use Rattle.seam_law_calls.proofs.Sparing.{items_all}
 use Rattle.seam_law_calls.specs.WitnessMoves as witness

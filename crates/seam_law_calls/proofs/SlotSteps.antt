@@ -1,19 +1,15 @@
 -- A step of the entity's own slot is one of the moves.
-use Rattle.std.proofs.Common.{◌≡◌, ℕ, ◌+◌, ◌<◌, Bool, true, false, not, eqb, ◌==◌, List, length, Option, None, Some, refl, ap, ◌∙◌, arith}
-use Rattle.std.specs.Ordering.{nat_cmp}
-use Rattle.std.specs.declared.cmp.Ordering.{Ordering}
-use Rattle.std.specs.declared.cmp.Ordering.TheVariants.{Less, Equal, Greater}
-use Rattle.std.proofs.lemmas.Bool.{eqb-true, eqb-false}
-use Rattle.std.proofs.lemmas.Bool.Decides.{nat_tests}
-use Rattle.seam_node_steps.specs.Prelude.{Division, OrderView, next_item, Call as CallData, GhostCopy, order_of, RealView, WitnessView, Msg}
-use Rattle.seam_node_steps.specs.Prelude.{Hand, GhostSet, GhostDrop, Reap, is_small, may_rise, Here, has_ready, ready_order, may_settle}
-use Rattle.seam_node_steps.specs.Prelude.{may_execute, may_call, executed, executed_ready, shows, Slot, NextPlace, unless_stray, home_after}
-use Rattle.seam_node_steps.specs.Prelude.{settled_by, settled, about, slot_steps, is_stray, may_come, stray_survey, stray_ready_call}
-use Rattle.seam_node_steps.specs.Prelude.{survey_task, ready_call_task, Known, shown_of, look_by, look_task, stray_look, stray_look_by}
-use Rattle.seam_law_calls.specs.Prelude.{AtCell, Does, Acts, CellMoves, surveys, calls, readies}
+use Rattle.seam_law_calls.proofs.Prelude.{◌≡◌, ℕ, ◌+◌, ◌<◌, Bool, true, false, not, eqb, ◌==◌, List, length, Option, None, Some, refl, ap}
+use Rattle.seam_law_calls.proofs.Prelude.{◌∙◌, arith, nat_cmp, Ordering, Less, Equal, Greater, eqb-true, eqb-false, nat_tests, Division}
+use Rattle.seam_law_calls.proofs.Prelude.{OrderView, next_item, Call as CallData, GhostCopy, order_of, RealView, WitnessView, Msg, Hand}
+use Rattle.seam_law_calls.proofs.Prelude.{GhostSet, GhostDrop, Reap, is_small, may_rise, Here, has_ready, ready_order, may_settle, may_call}
+use Rattle.seam_law_calls.proofs.Prelude.{executed, executed_ready, Slot, NextPlace, home_after, settled_by, settled, about, slot_steps}
+use Rattle.seam_law_calls.proofs.Prelude.{is_stray, may_come, stray_survey, stray_ready_call, survey_task, ready_call_task, Known, shown_of}
+use Rattle.seam_law_calls.proofs.Prelude.{look_by, look_task, stray_look, stray_look_by, AtCell, Does, Acts, CellMoves, surveys, calls}
+use Rattle.seam_law_calls.proofs.Prelude.{readies, case_of}
+use Rattle.seam_node_steps.specs.Prelude.{may_execute, shows, unless_stray}
 use Rattle.seam_entity.specs.declared.message.Msg.TheVariants.{Call}
 use Rattle.seam_node_steps.specs.CellCases
-use Rattle.seam_node_steps.specs.CellCases.{case_of}
 use Rattle.seam_law_calls.specs.CellMoves as move
 
 less_of : (a b : ℕ) → nat_cmp a b ≡ Less → a < b

@@ -1,8 +1,7 @@
 -- Nothing about the entity is stray at a base node, over every list of events.
-use Rattle.std.proofs.Common.{ℕ, ◌<◌, ◌≤◌, List, length, arith}
-use Rattle.seam_node_steps.specs.Prelude.{Event, Call as CallData, World}
-use Rattle.seam_law_calls.specs.Prelude.{Frame, IsInFrame, IsFrame, IsSpared, HasOne, base_burden, HasBaseCalls, HasNoClient, HasClient}
-use Rattle.seam_law_calls.specs.Prelude.{HasToldAtMost, HasRoomFor, HasRoutes, no_client, client, NothingIsStray, RunsTo}
+use Rattle.seam_law_calls.proofs.Prelude.{ℕ, ◌<◌, ◌≤◌, List, length, arith, Event, Call as CallData, World, Frame, IsInFrame, IsFrame}
+use Rattle.seam_law_calls.proofs.Prelude.{IsSpared, HasOne, base_burden, HasBaseCalls, HasNoClient, HasClient, HasToldAtMost, HasRoomFor}
+use Rattle.seam_law_calls.proofs.Prelude.{HasRoutes, no_client, client, NothingIsStray, RunsTo}
 use Rattle.seam_law_calls.proofs.Easing.{falls_lead}
 use Rattle.seam_law_calls.proofs.PartEasing.{base_burden_happens}
 use Rattle.seam_law_calls.proofs.RoutesKept.{routes_happen}

@@ -1,28 +1,19 @@
 -- What a witness told stays within what it told at the start and what its looks may tell.
-use Rattle.std.proofs.Common.{◌≡◌, ℕ, ◌+◌, ◌*◌, ◌<◌, ◌≤◌, Bool, true, false, List, [], ◌∷◌, length, map, filter_map, Option, None, Some}
-use Rattle.std.proofs.Common.{refl, sym, ap, ◌∙◌, subst, arith, inl, inr}
-use Rattle.std.specs.Prelude.{slice_get}
-use Rattle.std.specs.List.{AllByRecursion}
+use Rattle.seam_law_calls.proofs.Prelude.{◌≡◌, ℕ, ◌+◌, ◌*◌, ◌<◌, ◌≤◌, Bool, true, false, List, [], ◌∷◌, length, map, filter_map, Option}
+use Rattle.seam_law_calls.proofs.Prelude.{None, Some, refl, sym, ap, ◌∙◌, subst, arith, inl, inr, slice_get, AllByRecursion, cases_lt}
+use Rattle.seam_law_calls.proofs.Prelude.{length-map, Division, cells_of, happens, enabled, Occurs, Event, copy_in, GhostCopy, Shown}
+use Rattle.seam_law_calls.proofs.Prelude.{RealView, WitnessView, Msg, Hand, Here, base_numbers, base_of, cell_count, SlotStep, slot_after}
+use Rattle.seam_law_calls.proofs.Prelude.{haunts_at, ghost_messages, current_to, Known, seen_as, shown_for, own_due, looks_of, shown_of}
+use Rattle.seam_law_calls.proofs.Prelude.{after_looking, CellView, known_to, NodeView, World, node_steps, node_has_work, Cell, Base, IsNode}
+use Rattle.seam_law_calls.proofs.Prelude.{Goes, comes, letter_in, slot_at, IsSilent, Frame, here_at, IsInFrame, Has, AtCell, mine}
+use Rattle.seam_law_calls.proofs.Prelude.{concerning, has_of, has_none, entity_flow, Does, Acts, surveys, Moves, at_a_cell, at_a_base}
+use Rattle.seam_law_calls.proofs.Prelude.{MovesTo, real_in, real_of, sent_of, sent_by, EachReal, HasToldAtMost, most_entities}
+use Rattle.seam_law_calls.proofs.Prelude.{HasFewEntities, IsFewView, SeesFew, looks_left, most_shown, RunsTo, real_at, occurs, leads_keeps}
+use Rattle.seam_law_calls.proofs.Prelude.{sound_sends, event_goes, all_append, slots_kept, letters_kept, came}
 use Rattle.std.specs.FinMap as table
 use Rattle.std.specs.FinSet as set
-use Rattle.std.proofs.lemmas.Bool.{cases_lt}
-use Rattle.std.proofs.lemmas.List.{length-map}
-use Rattle.seam_node_steps.specs.Prelude.{Division, cells_of, happens, enabled, Occurs, Event, copy_in, GhostCopy, Shown, RealView}
-use Rattle.seam_node_steps.specs.Prelude.{WitnessView, Msg}
-use Rattle.seam_node_steps.specs.Prelude.{Hand, Here, base_numbers, base_of, cell_count, SlotStep, slot_after, haunts_at, ghost_messages}
-use Rattle.seam_node_steps.specs.Prelude.{current_to, Known, seen_as, shown_for, own_due, looks_of, shown_of, after_looking, CellView}
-use Rattle.seam_node_steps.specs.Prelude.{known_to, NodeView, World, node_steps, node_has_work, Cell, Base, IsNode}
-use Rattle.seam_law_flow.specs.Prelude.{Goes, comes, letter_in, slot_at, IsSilent}
-use Rattle.seam_law_calls.specs.Prelude.{Frame, here_at, IsInFrame, Has, AtCell, mine, concerning, has_of, has_none, entity_flow, Does}
-use Rattle.seam_law_calls.specs.Prelude.{Acts, surveys, calls, readies, CellMoves, Moves, at_a_cell, at_a_base, MovesTo, real_in, real_of}
-use Rattle.seam_law_calls.specs.Prelude.{sent_of, sent_by, EachReal, HasToldAtMost, most_entities, HasFewEntities, IsFewView, SeesFew}
-use Rattle.seam_law_calls.specs.Prelude.{looks_left, most_shown, RunsTo, real_at}
-use Rattle.seam_machine.proofs.Occurring.{occurs}
-use Rattle.seam_net_runs.proofs.Runs.{leads_keeps}
-use Rattle.seam_net_runs.proofs.Soundness.{sound_sends}
-use Rattle.seam_law_flow.proofs.Bridge.{event_goes}
-use Rattle.seam_law_flow.proofs.Following.{all_append, slots_kept, letters_kept, came}
-use Rattle.seam_law_calls.specs.CellMoves as move
+use Rattle.seam_law_calls.proofs.CellDeeds as deed
+use Rattle.seam_law_calls.proofs.CellDeeds.{CellDeeds, cell_deeds}
 use Rattle.seam_law_calls.proofs.Classify.{node_laws, node_moves, frame_happens}
 use Rattle.seam_law_calls.proofs.Lists.{letters_are}
 use Rattle.seam_law_calls.proofs.Plain.{SeesNoGhost, ghosts_silent, drops_silent, mapped_silent}
@@ -70,13 +61,12 @@ module _ (P : RealView → Type 0) (by_witness : ByWitness P) (f : Frame) (e k :
   takes_it n q none at is now (gone none_now) = let z = sym none_now ∙ now in cc
   takes_it n q none at is now (ticked fed) = let z = sym none ∙ fed in cc
 
-  cell_holds : NotTaken s.cell i t.cell → {tree : Division} → CellMoves (here_at f k) tree e s.cell i t.cell sent → Holds
-  cell_holds not (move.rests n d) = same (is_now _ s.cell d) (silent _ s.cell d tt)
-  cell_holds not (move.strays m n b d) = same (is_now _ s.cell d) (silent _ s.cell d tt)
-  cell_holds not {tree} (move.stays u r q changed has own acts at d) =
+  cell_holds : NotTaken s.cell i t.cell → {tree : Division} → CellDeeds (here_at f k) tree e s.cell i t.cell sent → Holds
+  cell_holds not (deed.idles a z) = same a.real (subst (IsSilent real_of) (sym z) tt)
+  cell_holds not {tree} (deed.stays u r q changed has own acts at d) =
       turned r _ has (is_now _ u d) (acts_keep u r q changed acts)
       (silent _ u d (ghosts_silent real_of no_real (here_at f k) q k (haunts_at (here_at f k) tree q.state.pos k q.haunts) changed))
-  cell_holds not {tree} (move.goes u r q changed j has own acts at n d) =
+  cell_holds not {tree} (deed.goes u r q changed j has own acts at n d) =
       let haunts = haunts_at (here_at f k) tree q.state.pos j (set.insert q.haunts k) in
       record {
         slot = λ x now. absurd (let z = sym (is_now _ u d) ∙ now in cc);
@@ -93,35 +83,23 @@ module _ (P : RealView → Type 0) (by_witness : ByWitness P) (f : Frame) (e k :
       witness_of : Option RealView → Option WitnessView
       witness_of None = None
       witness_of (Some r) = r.witness
-  cell_holds not (move.late c r n has may lt d) = same (is_now _ s.cell d) (silent _ s.cell d tt)
-  cell_holds not (move.holds c r n own has mine may lt d) = turned r _ has (is_now _ s.cell d) refl (silent _ s.cell d tt)
-  cell_holds not (move.passes c p n own has at d) = same (is_now _ s.cell d) (silent _ s.cell d (refl, tt))
-  cell_holds not (move.lands r n own has may d) = record {
+  cell_holds not (deed.holds c r n own has mine may lt d) = turned r _ has (is_now _ s.cell d) refl (silent _ s.cell d tt)
+  cell_holds not (deed.passes c p n own has at d) = same (is_now _ s.cell d) (silent _ s.cell d (refl, tt))
+  cell_holds not (deed.lands r n own has may d) = record {
     slot = λ x now. let one : r ≡ x = let y = sym (is_now _ s.cell d) ∙ now in cc in subst P one (comes r n);
     sends =
         none_carried P sent
         (silent _ s.cell d (mapped_silent real_of (current_to (here_at f k) r) (λ b. refl) (base_numbers (here_at f k))));
   }
-  cell_holds not (move.hears_set n c h has d) = same (is_now _ s.cell d) (silent _ s.cell d tt)
-  cell_holds not (move.ignores_set n c r h has d) = same (is_now _ s.cell d) (silent _ s.cell d tt)
-  cell_holds not (move.hears_drop n h d) = same (is_now _ s.cell d) (silent _ s.cell d tt)
-  cell_holds not (move.reaped r n has own may d) = record {
+  cell_holds not (deed.reaped r n has own may d) = record {
     slot = λ x now. absurd (let z = sym (is_now _ s.cell d) ∙ now in cc);
     sends = none_carried P sent (silent _ s.cell d (drops_silent real_of no_real r));
   }
-  cell_holds not (move.ticks n st z) = same (ap (λ a. a.slot.real) st) (subst (IsSilent real_of) (sym z) tt)
-  cell_holds not (move.unlists n h at b d) =
-      same (is_now _ (record { slot = s.cell.slot; survey = n; looks = s.cell.looks }) d)
-      (silent _ (record { slot = s.cell.slot; survey = n; looks = s.cell.looks }) d tt)
-  cell_holds not (move.looks n r w known h at has own v small d) =
+  cell_holds not (deed.looks n r w known h at has own v small d) =
       absurd (takes_it n _ h at (ap (λ a. a.looks) d.state) (ap (λ a. a.slot.real) d.state) not)
-  cell_holds not (move.overlooks n known h at b d) =
-      same (is_now _ (record { slot = s.cell.slot; survey = s.cell.survey; looks = n }) d)
-      (silent _ (record { slot = s.cell.slot; survey = s.cell.survey; looks = n }) d tt)
-  cell_holds not (move.stuck r h has ready may d) = same (is_now _ s.cell d) (silent _ s.cell d tt)
 
   moves_hold : NotTaken s.cell i t.cell → Moves f e k s i t sent → Holds
-  moves_hold not (at_a_cell tree of low m base) = cell_holds not m
+  moves_hold not (at_a_cell tree of low m base) = cell_holds not (cell_deeds m)
   moves_hold not (at_a_base high m cell) =
       same (ap (λ c. c.slot.real) cell) (base_silent real_of sees_no_real _ _ e _ i _ sent m)
 

@@ -1,16 +1,11 @@
 -- The look list after a tick has each entity that has a witness once.
-use Rattle.std.proofs.Common.{◌≡◌, ℕ, ◌+◌, Bool, true, false, cond, T, ◌&&◌, List, [], ◌∷◌, map, filter, Option, Some, refl, sym, ap, ◌∙◌}
-use Rattle.std.proofs.Common.{subst, arith, inl, inr}
-use Rattle.std.specs.Ordering.{nat_cmp, is_lt}
-use Rattle.std.specs.Cmp.{unsigned_tied}
+use Rattle.seam_law_calls.proofs.Prelude.{◌≡◌, ℕ, ◌+◌, Bool, true, false, cond, T, ◌&&◌, List, [], ◌∷◌, map, filter, Option, Some, refl}
+use Rattle.seam_law_calls.proofs.Prelude.{sym, ap, ◌∙◌, subst, arith, inl, inr, nat_cmp, is_lt, unsigned_tied, is_sorted, below_all}
+use Rattle.seam_law_calls.proofs.Prelude.{cases_eq, eq-eqb, ne_eqb, RealView, number_of, CellView, witnesses}
+use Rattle.seam_law_calls.proofs.Prelude.{has_witness as entry_has_witness, times, one_more_if, looks_after_tick, Ordering, Less, Equal}
+use Rattle.seam_law_calls.proofs.Prelude.{Greater, nat_tests}
 use Rattle.std.specs.FinMap as table
-use Rattle.std.specs.FinMap.Entries.{is_sorted, below_all, find as key_find}
-use Rattle.std.proofs.lemmas.Bool.{cases_eq, eq-eqb, ne_eqb}
-use Rattle.seam_node_steps.specs.Prelude.{RealView, number_of, CellView, witnesses, has_witness as entry_has_witness}
-use Rattle.seam_law_calls.specs.Prelude.{times, one_more_if, looks_after_tick}
-use Rattle.std.specs.declared.cmp.Ordering.{Ordering}
-use Rattle.std.specs.declared.cmp.Ordering.TheVariants.{Less, Equal, Greater}
-use Rattle.std.proofs.lemmas.Bool.Decides.{nat_tests}
+use Rattle.std.specs.FinMap.Entries.{find as key_find}
 
 less_apart : (e y : ℕ) → nat_cmp e y ≡ Less → y ≡ e → ⊥
 less_apart e y is same = grind (arith, nat_tests, is)

@@ -1,8 +1,6 @@
 -- For callers: the trees of a frame.
-use Rattle.std.proofs.Common.{◌≡◌, ℕ, zero, suc, List, [], ◌∷◌, Some, slice_get, refl, sym, subst}
-use Rattle.std.specs.List.{AllByRecursion}
-use Rattle.seam_node_steps.specs.Prelude.{Division, cells_of, IsTree}
-use Rattle.seam_law_calls.specs.Prelude.{Frame, HasOneTree, IsTreeOf, trees_of, IsFrame, IsLaterTree}
+use Rattle.seam_law_calls.proofs.Prelude.{◌≡◌, ℕ, zero, suc, List, [], ◌∷◌, Some, slice_get, refl, sym, subst, AllByRecursion, Division}
+use Rattle.seam_law_calls.proofs.Prelude.{cells_of, IsTree, Frame, HasOneTree, IsTreeOf, trees_of, IsFrame, IsLaterTree}
 
 -- the tree at the start is one of them
 pub first_tree : (f : Frame) → IsTreeOf f f.tree

@@ -1,11 +1,9 @@
 -- What is true of each real of an entity by its witness stays true.
-use Rattle.std.proofs.Common.{◌≡◌, ℕ, ◌+◌, Bool, is_some, List, [], ◌∷◌, length, Option, Some, refl, sym, ap, ◌∙◌, subst}
-use Rattle.std.specs.List.{AllByRecursion}
-use Rattle.seam_node_steps.specs.Prelude.{happens, Occurs, Event, Shown, RealView, WitnessView, Msg, Hand, World, node_steps}
-use Rattle.seam_law_flow.specs.Prelude.{comes, IsSilent}
-use Rattle.seam_law_calls.specs.Prelude.{Frame, here_at, IsInFrame, Has, AtCell, entity_flow, Moves, at_a_cell, at_a_base, real_in, real_of}
-use Rattle.seam_law_calls.specs.Prelude.{WitnessMoves, EachReal, RunsTo}
-use Rattle.seam_law_flow.proofs.Following.{all_append, slots_kept, letters_kept, came}
+use Rattle.seam_law_calls.proofs.Prelude.{◌≡◌, ℕ, ◌+◌, Bool, is_some, List, [], ◌∷◌, length, Option, Some, refl, sym, ap, ◌∙◌, subst}
+use Rattle.seam_law_calls.proofs.Prelude.{AllByRecursion, happens, Occurs, Event, Shown, RealView, WitnessView, Msg, Hand, World}
+use Rattle.seam_law_calls.proofs.Prelude.{node_steps, comes, IsSilent, Frame, here_at, IsInFrame, Has, AtCell, entity_flow, Moves}
+use Rattle.seam_law_calls.proofs.Prelude.{at_a_cell, at_a_base, real_in, real_of, WitnessMoves, EachReal, RunsTo, all_append, slots_kept}
+use Rattle.seam_law_calls.proofs.Prelude.{letters_kept, came}
 use Rattle.seam_law_calls.proofs.Classify.{event_moves}
 use Rattle.seam_law_calls.proofs.Sparing.{items_all}
 use Rattle.seam_law_calls.specs.WitnessMoves as witness

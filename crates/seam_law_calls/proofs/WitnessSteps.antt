@@ -1,14 +1,11 @@
 -- Each move of a cell is one of the witness's.
-use Rattle.std.proofs.Common.{◌≡◌, ℕ, ◌+◌, ◌<◌, Bool, true, nat_lt, List, length, Option, None, Some, refl, sym, ap, ◌∙◌, subst, arith}
+use Rattle.seam_law_calls.proofs.Prelude.{◌≡◌, ℕ, ◌+◌, ◌<◌, Bool, true, nat_lt, List, length, Option, None, Some, refl, sym, ap, ◌∙◌, subst}
+use Rattle.seam_law_calls.proofs.Prelude.{arith, nat_tests, Division, RealView, Msg, limit, base_numbers, base_of, SlotStep, slot_after}
+use Rattle.seam_law_calls.proofs.Prelude.{haunts_at, ghost_messages, current_to, numbered, shown_of, IsSilent, Frame, here_at, Has, AtCell}
+use Rattle.seam_law_calls.proofs.Prelude.{Does, Acts, surveys, CellMoves, real_of, update_in, WitnessMoves}
 use Rattle.std.specs.FinSet as set
-use Rattle.std.proofs.lemmas.Bool.Decides.{nat_tests}
-use Rattle.seam_node_steps.specs.Prelude.{Division, RealView, Msg, limit, base_numbers, base_of, SlotStep, slot_after, haunts_at}
-use Rattle.seam_node_steps.specs.Prelude.{ghost_messages}
-use Rattle.seam_node_steps.specs.Prelude.{current_to, numbered, shown_of}
-use Rattle.seam_law_flow.specs.Prelude.{IsSilent}
-use Rattle.seam_law_calls.specs.Prelude.{Frame, here_at, Has, AtCell, Does, Acts, surveys, calls, readies, CellMoves, real_of, update_in}
-use Rattle.seam_law_calls.specs.Prelude.{WitnessMoves}
-use Rattle.seam_law_calls.specs.CellMoves as move
+use Rattle.seam_law_calls.proofs.CellDeeds as deed
+use Rattle.seam_law_calls.proofs.CellDeeds.{CellDeeds, cell_deeds}
 use Rattle.seam_law_calls.proofs.Plain.{SeesNoGhost, ghosts_silent, drops_silent, mapped_silent}
 use Rattle.seam_law_calls.specs.WitnessMoves.{rests, lands, leaves, looks}
 
@@ -58,41 +55,34 @@ module _ (f : Frame) (e k : ℕ) (s : Has) (i : Option Msg) (t : Has) (sent : Li
   acts_keep u r q changed (surveys n a b c) = refl
   acts_keep u r q changed _ = refl
 
-  pub witness_moves : {tree : Division} → CellMoves (here_at f k) tree e s.cell i t.cell sent → Its
-  witness_moves (move.rests n d) = still _ s.cell d refl tt tt
-  witness_moves (move.strays m n b d) = still _ s.cell d refl tt tt
-  witness_moves {tree} (move.stays u r q changed has own acts at d) =
+  by_deed : {tree : Division} → CellDeeds (here_at f k) tree e s.cell i t.cell sent → Its
+  by_deed (deed.idles a z) =
+      rests (keeps_same was is_now a.real) (subst (IsSilent update_in) (sym z) tt) (subst (IsSilent real_of) (sym z) tt)
+  by_deed {tree} (deed.stays u r q changed has own acts at d) =
       let haunts = haunts_at (here_at f k) tree q.state.pos k q.haunts in
       of _ u d (keeps_turned was is_now r _ has (real_is _ u d) (acts_keep u r q changed acts))
       (ghosts_silent update_in no_update (here_at f k) q k haunts changed)
       (ghosts_silent real_of no_real (here_at f k) q k haunts changed)
-  witness_moves {tree} (move.goes u r q changed j has own acts at n d) =
+  by_deed {tree} (deed.goes u r q changed j has own acts at n d) =
       let haunts = haunts_at (here_at f k) tree q.state.pos j (set.insert q.haunts k) in
       leaves r _ j (ghost_messages (here_at f k) q j haunts changed) has (real_is _ u d) (acts_keep u r q changed acts) d.sends
       (ghosts_silent update_in no_update (here_at f k) q j haunts changed)
       (ghosts_silent real_of no_real (here_at f k) q j haunts changed)
-  witness_moves (move.late c r n has may lt d) = still _ s.cell d refl tt tt
-  witness_moves (move.holds c r n own has mine may lt d) =
+  by_deed (deed.holds c r n own has mine may lt d) =
       of _ s.cell d (keeps_turned was is_now r _ has (real_is _ s.cell d) refl) tt tt
-  witness_moves (move.passes c p n own has at d) = still _ s.cell d refl (refl, tt) (refl, tt)
-  witness_moves (move.lands r n own has may d) =
+  by_deed (deed.passes c p n own has at d) = still _ s.cell d refl (refl, tt) (refl, tt)
+  by_deed (deed.lands r n own has may d) =
       lands r n (real_is _ s.cell d)
       (subst (IsSilent update_in) (sym d.sends)
       (mapped_silent update_in (current_to (here_at f k) r) (λ b. refl) (base_numbers (here_at f k))))
       (subst (IsSilent real_of) (sym d.sends) (mapped_silent real_of (current_to (here_at f k) r) (λ b. refl) (base_numbers (here_at f k))))
-  witness_moves (move.hears_set n c h has d) = still _ s.cell d refl tt tt
-  witness_moves (move.ignores_set n c r h has d) = still _ s.cell d refl tt tt
-  witness_moves (move.hears_drop n h d) = still _ s.cell d refl tt tt
-  witness_moves (move.reaped r n has own may d) =
+  by_deed (deed.reaped r n has own may d) =
       of _ s.cell d (keeps_none was is_now (real_is _ s.cell d)) (drops_silent update_in no_update r) (drops_silent real_of no_real r)
-  witness_moves (move.ticks n st z) =
-      rests (keeps_same was is_now (ap (λ a. a.slot.real) st)) (subst (IsSilent update_in) (sym z) tt) (subst (IsSilent real_of) (sym z) tt)
-  witness_moves (move.unlists n h at b d) = still _ (record { slot = s.cell.slot; survey = n; looks = s.cell.looks }) d refl tt tt
-  witness_moves (move.looks n r w known h at has own v small d) =
+  by_deed (deed.looks n r w known h at has own v small d) =
       looks n r _ w _ (shown_of (here_at f k) r w known) at has v
       (real_is _ (record { slot = s.cell.slot; survey = s.cell.survey; looks = n }) d) refl refl
       (lt_of (w.sent + length (shown_of (here_at f k) r w known)) limit small)
       (d.sends ∙ ap (λ x. numbered (base_of (here_at f k) x) x w.sent (shown_of (here_at f k) r w known)) own)
-  witness_moves (move.overlooks n known h at b d) =
-      still _ (record { slot = s.cell.slot; survey = s.cell.survey; looks = n }) d refl tt tt
-  witness_moves (move.stuck r h has ready may d) = still _ s.cell d refl tt tt
+
+  pub witness_moves : {tree : Division} → CellMoves (here_at f k) tree e s.cell i t.cell sent → Its
+  witness_moves m = by_deed (cell_deeds m)

@@ -2,8 +2,8 @@
 use Rattle.std.specs.Prelude.{◌≡◌, ℕ, Bool, true, false, ◌&&◌, nat_lt, is_none, if◌then◌else◌, List, [], ◌∷◌, map, Option, None, Some}
 use Rattle.std.specs.List.{range_with_len}
 use Rattle.std.specs.Ordering.{nat_cmp}
-use Rattle.seam_node_steps.specs.Prelude.{OrderView, next_item, after_taking, Call as CallData, Order, order_of, Msg, BaseCall, Hand}
-use Rattle.seam_node_steps.specs.Prelude.{Current, GhostSet, GhostDrop, Tick, Reap, Update, Here, base_of, is_ready, has_ready, ready_order}
+use Rattle.seam_node_steps.specs.Prelude.{OrderView, next_item, after_taking, Call as CallData, Order, order_of, Msg, BaseCall}
+use Rattle.seam_node_steps.specs.Prelude.{Current, Reap, Update, Here, base_of, is_ready, has_ready, ready_order}
 use Rattle.seam_node_steps.specs.Prelude.{RouteView, PartView, ProxyView, may_show, offered, with_order, after_showing, offered_update}
 use Rattle.seam_node_steps.specs.Prelude.{is_base_node_of, tick_to, stray_base_call, stray_current, stray_update}
 use Rattle.seam_call.specs.declared.order.Order.TheVariants as order

@@ -2,8 +2,7 @@
 use Rattle.std.specs.Prelude.{◌≡◌, ℕ, ◌<◌, ◌==◌, Bool, false, List, [], ◌∷◌, Option, None, Some}
 use Rattle.std.specs.List.{AllByRecursion}
 use Rattle.seam_node_steps.specs.Prelude.{Division, cells_of, IsTree, AreDefs, Order, RealView, Msg, Hand, Reap, limit, input_from, happens}
-use Rattle.seam_node_steps.specs.Prelude.{Input, Task, From}
-use Rattle.seam_node_steps.specs.Prelude.{Event, World, node_steps}
+use Rattle.seam_node_steps.specs.Prelude.{Input, From, Event, World, node_steps}
 use Rattle.seam_law_flow.specs.Prelude.{TokenPlace, Sole}
 use Rattle.seam_call.specs.declared.order.Order.TheVariants as order
 use Rattle.seam_law_calls.specs.Frames.{Frame, IsInFrame}

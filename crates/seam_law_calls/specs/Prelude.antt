@@ -16,8 +16,7 @@ pub use Rattle.seam_law_calls.specs.Frames.{Frame, HasOneTree, IsAt, IsBaseAt, I
 pub use Rattle.seam_law_calls.specs.HandOverExample.{events_of, frame}
 pub use Rattle.seam_law_calls.specs.Moves.{Moves, MovesTo, at_a_base, at_a_cell}
 pub use Rattle.seam_law_calls.specs.Ones.{AllFits, HasNoReaps, HasOne, IsFrame, IsLaterTree, IsOne, IsSpared, NoReapComes, OneFrom, real_at}
-pub use Rattle.seam_law_calls.specs.Ones.{real_in}
-pub use Rattle.seam_law_calls.specs.Ones.{real_of, reaped_by, reaped_by_order, reaps}
+pub use Rattle.seam_law_calls.specs.Ones.{real_in, real_of, reaped_by, reaped_by_order, reaps}
 pub use Rattle.seam_law_calls.specs.PartMoves.{HasNoProxy, Missed, Offered, PartMoves, base_call_in, base_call_of, called, calls_ordered}
 pub use Rattle.seam_law_calls.specs.PartMoves.{early, ends, executes, late, misses, now, offers, refuses, rests, sends, serves, shows, told}
 pub use Rattle.seam_law_calls.specs.PartMoves.{update_in, updates}
@@ -30,7 +29,6 @@ pub use Rattle.seam_law_calls.specs.Sights.{orders_of, times}
 pub use Rattle.seam_law_calls.specs.Strays.{HasRoutes, IsBaseNumber, IsForNode, LinesHaveRoom, NoneIsStray, NothingIsStray, client}
 pub use Rattle.seam_law_calls.specs.Strays.{is_for_cells, no_client}
 pub use Rattle.seam_law_calls.specs.Telling.{CarriesNoEntity, HasFewEntities, IsAbsent, IsBlank, IsFewView, NoUpdateComes, SeesFew}
-pub use Rattle.seam_law_calls.specs.Telling.{looks_left}
-pub use Rattle.seam_law_calls.specs.Telling.{mine_looks, most_entities, most_shown, node_looks, order_looks}
+pub use Rattle.seam_law_calls.specs.Telling.{looks_left, mine_looks, most_entities, most_shown, node_looks, order_looks}
 pub use Rattle.seam_law_calls.specs.Ways.{AllLead, NamesVisited, follow, has_hand, is_call, is_hand, is_visited}
 pub use Rattle.seam_law_calls.specs.WitnessMoves.{WitnessMoves, sent_by, sent_of}

@@ -2,9 +2,8 @@
 use Rattle.std.specs.Prelude.{◌≡◌, ℕ, ◌+◌, ◌<◌, ◌≤◌, Bool, true, false, List, ◌∷◌, Some}
 use Rattle.std.specs.List.{AllByRecursion}
 use Rattle.std.specs.FinMap as table
-use Rattle.seam_node_steps.specs.Prelude.{link, Order, Msg, BaseCall, Hand, Current, GhostSet, GhostDrop, Tick, Reap, Update, limit}
+use Rattle.seam_node_steps.specs.Prelude.{link, Order, Msg, BaseCall, Current, Update, limit}
 use Rattle.seam_node_steps.specs.Prelude.{cell_count, about, BaseView, PartView, RouteView, stray_order, World}
-use Rattle.seam_entity.specs.declared.message.Msg.TheVariants.{Call}
 use Rattle.seam_node_steps.specs.BaseCases.{may_execute, is_stray}
 use Rattle.seam_law_calls.specs.Frames.{Frame, here_at}
 use Rattle.seam_law_calls.specs.Sights.{order_about, entity_flow}

@@ -5,8 +5,9 @@
 //! so a law of one entity is proved over moves alone, and the cases of the steps are taken apart here only.
 //!
 //! For callers, of `proofs/`: `Trees` (the trees of a frame), `Classify` (a step and an event are moves, nodes as machines, the frame is
-//! kept), `Keeping` (what each move keeps of slots and messages, or each event of a world, every list of events keeps) and `BaseDeeds` (a
-//! base node's moves in six kinds: what it does with orders, and sends for them).
+//! kept), `Keeping` (what each move keeps of slots and messages, or each event of a world, every list of events keeps), `CellDeeds` (a
+//! cell's moves in eight kinds, and what it sends, by kind) and `BaseDeeds` (a base node's moves in six kinds: what it does with orders,
+//! and sends for them; and what it does with its route).
 
 ghost use Rattle.std.specs.Prelude.{◌≡◌, ℕ, true};
 ghost use Rattle.seam_node_steps.specs.Prelude.{happens, enabled, Occurs, Input, Event, Msg, NodeView, World, node_steps, IsNode};

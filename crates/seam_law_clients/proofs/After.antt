@@ -1,28 +1,17 @@
 -- What a look leaves of a client: it fits what the look leaves of the witness.
-use Rattle.std.proofs.Common.{◌≡◌, ℕ, ◌≤◌, ◌⊎◌, Bool, true, false, cond, List, [], ◌∷◌, ◌++◌, map, Option, None, Some, refl, sym, ap, ◌∙◌}
-use Rattle.std.proofs.Common.{subst, arith, inl, inr}
-use Rattle.std.specs.Prelude.{option_map, slice_get}
-use Rattle.std.specs.List.{filter_map, cons_option}
-use Rattle.std.specs.Ordering.{nat_cmp, eq_by_cmp}
-use Rattle.std.specs.Cmp.{nat_cmp_total}
+use Rattle.seam_law_clients.proofs.Prelude.{◌≡◌, ℕ, ◌≤◌, ◌⊎◌, Bool, true, false, cond, List, [], ◌∷◌, ◌++◌, map, Option, None, Some, refl}
+use Rattle.seam_law_clients.proofs.Prelude.{sym, ap, ◌∙◌, subst, arith, inl, inr, option_map, slice_get, filter_map, cons_option, nat_cmp}
+use Rattle.seam_law_clients.proofs.Prelude.{eq_by_cmp, nat_cmp_total, Seen, Look, Replica, IsView, seen_of, after_showing, after_look}
+use Rattle.seam_law_clients.proofs.Prelude.{after_looks, State, Property, ghost_of, other_of, own_of, projected, type_of, GhostCopy, Shown}
+use Rattle.seam_law_clients.proofs.Prelude.{Own, Set, Enter, Leave, RealView, WitnessView, Known, seen_as, known_of, shown_for, own_due}
+use Rattle.seam_law_clients.proofs.Prelude.{after_looking, looks_of, shown_of, CellView, known_to, is_another, RouteView, World, Cell}
+use Rattle.seam_law_clients.proofs.Prelude.{Frame, here_at, entity_flow, IsBaseNumber, real_at, IsBetweenRounds, AreCopiesBetweenRounds}
+use Rattle.seam_law_clients.proofs.Prelude.{version_in, own_now, FitsWitness, Somewhere, Nowhere, search_real, ClientReplica}
+use Rattle.seam_law_clients.proofs.Prelude.{with_copy_shown, after_shown, after_all_shown, tied_same, known_at, known_to_is}
 use Rattle.std.specs.FinMap as table
-use Rattle.seam_view.specs.declared.Seen.{Seen}
-use Rattle.seam_view.specs.declared.Look.{Look}
 use Rattle.seam_view.specs.declared.Look.TheVariants as look
-use Rattle.seam_view.specs.Replica.{Replica, IsView, seen_of, after_showing, after_look, after_looks}
-use Rattle.seam_node_steps.specs.Prelude.{State, Property, ghost_of, other_of, own_of, projected, type_of, GhostCopy, Shown, Own, Set}
-use Rattle.seam_node_steps.specs.Prelude.{Enter, Leave, RealView, WitnessView, Known, seen_as, known_of, shown_for, own_due, after_looking}
-use Rattle.seam_node_steps.specs.Prelude.{looks_of, shown_of, CellView, known_to, is_another, RouteView, World, Cell}
-use Rattle.seam_law_calls.specs.Prelude.{Frame, here_at, entity_flow, IsBaseNumber, real_at}
-use Rattle.seam_law_rounds.specs.Prelude.{IsBetweenRounds}
-use Rattle.seam_law_ghosts.specs.Prelude.{AreCopiesBetweenRounds}
-use Rattle.seam_law_clients.specs.Prelude.{version_in, own_now, FitsWitness}
 use Rattle.seam_defs.specs.declared.flags.Group.TheVariants as group
-use Rattle.seam_law_rounds.proofs.Shape.{Somewhere, Nowhere, search_real}
-use Rattle.seam_rule_clients.specs.Clients.{ClientReplica, with_copy_shown, after_shown, after_all_shown}
-use Rattle.seam_node_steps.proofs.Sorted.{tied_same}
 use Rattle.seam_law_clients.proofs.Near.{as_seen, seen_found, known_found}
-use Rattle.seam_node_steps.proofs.Knowing.{known_at, known_to_is}
 use Rattle.seam_law_clients.proofs.OneLook.{shown_now, same_real, known_nowhere, IsKnown, knows, knows_not, known_there, own_by}
 
 -- ---- looks

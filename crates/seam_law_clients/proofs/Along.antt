@@ -1,11 +1,8 @@
 -- A witness tells rightly, over every list of events.
-use Rattle.std.proofs.Common.{ℕ, List, Some, sym, subst}
-use Rattle.std.proofs.lemmas.List.Sums.{fold-append}
-use Rattle.seam_node_steps.specs.Prelude.{Event, Shown, RealView, WitnessView, shown_of, looks_of, after_looking, known_to, World}
-use Rattle.seam_law_calls.specs.Prelude.{Frame, IsSpared, HasClient, HasToldAtMost, HasRoomFor, RunsTo}
-use Rattle.seam_law_clients.specs.Prelude.{FitsWithin, ComesBetween, IsTrueBetween, TellsRightly}
-use Rattle.seam_rule_clients.specs.Clients.{ClientReplica, after_shown, after_all_shown}
-use Rattle.seam_rule_clients.specs.Lines.{Truth, ShowsRightly}
+use Rattle.seam_law_clients.proofs.Prelude.{ℕ, List, Some, sym, subst, fold-append, Event, Shown, RealView, WitnessView, shown_of, looks_of}
+use Rattle.seam_law_clients.proofs.Prelude.{after_looking, known_to, World, Frame, IsSpared, HasClient, HasToldAtMost, HasRoomFor, RunsTo}
+use Rattle.seam_law_clients.proofs.Prelude.{FitsWithin, ComesBetween, IsTrueBetween, TellsRightly, ClientReplica, after_shown}
+use Rattle.seam_law_clients.proofs.Prelude.{after_all_shown, Truth, ShowsRightly}
 use Rattle.seam_law_clients.proofs.Looking.{look_shows, look_fits}
 use Rattle.seam_law_clients.proofs.Reals.{fits_on}
 use Rattle.seam_law_clients.proofs.InTurn.{rightly_append}

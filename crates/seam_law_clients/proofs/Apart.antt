@@ -1,19 +1,11 @@
 -- Looks at different entities do not meet: what may be shown for each of them at once may be shown for one after another.
-use Rattle.std.proofs.Common.{◌≡◌, ℕ, ◌+◌, Bool, true, false, cond, eqb, ◌||◌, List, [], ◌∷◌, ◌++◌, map, Option, None, Some, refl, sym, ap}
-use Rattle.std.proofs.Common.{◌∙◌, subst, arith}
-use Rattle.std.specs.Prelude.{option_map}
-use Rattle.std.specs.List.{AllByRecursion, filter, filter_map, cons_option, list_any}
+use Rattle.seam_law_clients.proofs.Prelude.{◌≡◌, ℕ, ◌+◌, Bool, true, false, cond, eqb, ◌||◌, List, [], ◌∷◌, ◌++◌, map, Option, None, Some}
+use Rattle.seam_law_clients.proofs.Prelude.{refl, sym, ap, ◌∙◌, subst, arith, option_map, AllByRecursion, filter, filter_map, cons_option}
+use Rattle.seam_law_clients.proofs.Prelude.{list_any, nat_tests, all_append, Look, placed, without, entity_of, in_view, get_by_shown}
+use Rattle.seam_law_clients.proofs.Prelude.{GhostCopy, Shown, Enter, Set, Leave, Known, known_of, shown_for, ClientReplica, after_shown}
+use Rattle.seam_law_clients.proofs.Prelude.{IsNear, MayEnter, MaySet, MayShow, MayShowAll}
 use Rattle.std.specs.FinMap as table
-use Rattle.std.proofs.lemmas.Bool.Decides.{nat_tests}
-use Rattle.seam_law_flow.proofs.Following.{all_append}
-use Rattle.seam_view.specs.declared.Look.{Look}
 use Rattle.seam_view.specs.declared.Look.TheVariants as look
-use Rattle.seam_view.specs.Replica.{placed, without, entity_of}
-use Rattle.seam_view.specs.ViewLooks.{in_view}
-use Rattle.seam_view.proofs.Kept.{get_by_shown}
-use Rattle.seam_node_steps.specs.Prelude.{GhostCopy, Shown, Enter, Set, Leave, Known, known_of, shown_for}
-use Rattle.seam_rule_clients.specs.Clients.{ClientReplica, after_shown}
-use Rattle.seam_rule_clients.specs.Lines.{IsNear, MayEnter, MaySet, MayShow, MayShowAll}
 
 no_eq : (a b : ℕ) → (a ≡ b → ⊥) → eqb a b ≡ false
 no_eq a b n = elim (eqb a b) as (λ t. eqb a b ≡ t → eqb a b ≡ false) [

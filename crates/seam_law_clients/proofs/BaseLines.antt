@@ -1,33 +1,19 @@
 -- Base lines: a client is shown the base part where it is attached, and after each call that changes what it is shown.
-use Rattle.std.proofs.Common.{◌≡◌, ℕ, zero, suc, ◌+◌, Bool, true, false, List, [], ◌∷◌, ◌++◌, map, length, Option, None, Some, refl, sym}
-use Rattle.std.proofs.Common.{ap, ◌∙◌, subst, arith, append_assoc, length-append}
-use Rattle.std.specs.Prelude.{option_map}
-use Rattle.std.specs.List.{range_with_len}
-use Rattle.std.specs.Ordering.{nat_cmp}
-use Rattle.std.specs.declared.cmp.Ordering.{Ordering}
-use Rattle.std.specs.declared.cmp.Ordering.TheVariants.{Less, Equal, Greater}
-use Rattle.std.proofs.lemmas.List.{append-nil, map-append}
-use Rattle.std.proofs.lemmas.List.Sums.{fold-append}
-use Rattle.seam_node_steps.specs.Prelude.{happens, enabled, Event, State, client_of, changes, next_item, after_offer, after_taking}
-use Rattle.seam_node_steps.specs.Prelude.{Call as CallData, Order, Shown, Line, ClientText, Msg, Here, type_at, properties, Orders}
-use Rattle.seam_node_steps.specs.Prelude.{PartView, ProxyView, base_text, with_line, line_if, with_deed, with_order, offered_update}
-use Rattle.seam_node_steps.specs.Prelude.{shows_next, World, node_steps, node_has_work}
-use Rattle.seam_law_flow.specs.Prelude.{comes, more_letter}
-use Rattle.seam_law_calls.specs.Prelude.{Frame, here_at, IsInFrame, AtBase, entity_flow, IsSpared, Offered, now, early, late, PartMoves}
-use Rattle.seam_law_calls.specs.Prelude.{rests, refuses, offers, sends, serves, executes, misses, updates, shows, ends, RunsTo}
-use Rattle.seam_law_clients.specs.Prelude.{base_in, base_lines, number_of_line, line_where, state_with, state_after, lines_after}
-use Rattle.seam_law_clients.specs.Prelude.{ShowsItsPart}
-use Rattle.seam_machine.proofs.Occurring.{occurs}
-use Rattle.seam_net_runs.proofs.Runs.{leads_keeps}
-use Rattle.seam_law_flow.proofs.Following.{slots_kept}
+use Rattle.seam_law_clients.proofs.Prelude.{◌≡◌, ℕ, zero, suc, ◌+◌, Bool, true, false, List, [], ◌∷◌, ◌++◌, map, length, Option, None, Some}
+use Rattle.seam_law_clients.proofs.Prelude.{refl, sym, ap, ◌∙◌, subst, arith, append_assoc, option_map, range_with_len, nat_cmp, Ordering}
+use Rattle.seam_law_clients.proofs.Prelude.{Less, Equal, Greater, append-nil, fold-append, happens, enabled, Event, State, client_of}
+use Rattle.seam_law_clients.proofs.Prelude.{changes, next_item, after_offer, after_taking, Call as CallData, Order, Shown, Line, ClientText}
+use Rattle.seam_law_clients.proofs.Prelude.{Msg, Here, type_at, properties, Orders, PartView, ProxyView, base_text, with_line, line_if}
+use Rattle.seam_law_clients.proofs.Prelude.{with_deed, with_order, offered_update, shows_next, World, node_steps, node_has_work, comes}
+use Rattle.seam_law_clients.proofs.Prelude.{more_letter, Frame, here_at, IsInFrame, AtBase, entity_flow, IsSpared, Offered, now, early}
+use Rattle.seam_law_clients.proofs.Prelude.{late, PartMoves, rests, refuses, offers, sends, serves, executes, misses, updates, shows, ends}
+use Rattle.seam_law_clients.proofs.Prelude.{RunsTo, base_in, base_lines, number_of_line, line_where, state_with, state_after, lines_after}
+use Rattle.seam_law_clients.proofs.Prelude.{ShowsItsPart, occurs, leads_keeps, slots_kept, Update as UpdateData, executed, with_offer}
+use Rattle.seam_law_clients.proofs.Prelude.{event_moves, frame_happens, spared_happens, part_moves, unordered}
+use Rattle.std.proofs.Common.{length-append}
+use Rattle.std.proofs.lemmas.List.{map-append}
 use Rattle.seam_call.specs.declared.order.Order.TheVariants as order
-use Rattle.seam_call.specs.declared.shown.Update.{Update as UpdateData}
 use Rattle.seam_call.specs.declared.shown.ClientText.TheVariants as text
-use Rattle.seam_node_steps.specs.BaseCases.{executed, with_offer}
-use Rattle.seam_law_calls.proofs.Classify.{event_moves, frame_happens}
-use Rattle.seam_law_calls.proofs.OneReal.{spared_happens}
-use Rattle.seam_law_calls.proofs.PartSteps.{part_moves}
-use Rattle.seam_law_calls.proofs.BaseRuns.{unordered}
 
 -- ---- lists
 

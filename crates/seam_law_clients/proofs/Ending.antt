@@ -1,28 +1,17 @@
 -- Where a round's calls end a client fits its witness, also in what it was shown of others.
-use Rattle.std.proofs.Common.{◌≡◌, ℕ, ◌+◌, ◌≤◌, ◌⊎◌, Bool, true, false, cond, is_some, List, [], ◌∷◌, Option, None, Some, refl, sym, ap}
-use Rattle.std.proofs.Common.{◌∙◌, subst, arith, inl, inr}
-use Rattle.std.specs.List.{AllByRecursion}
-use Rattle.std.specs.Ordering.{nat_cmp, eq_by_cmp}
-use Rattle.std.specs.Cmp.{nat_cmp_total}
+use Rattle.seam_law_clients.proofs.Prelude.{◌≡◌, ℕ, ◌+◌, ◌≤◌, ◌⊎◌, Bool, true, false, cond, is_some, List, [], ◌∷◌, Option, None, Some}
+use Rattle.seam_law_clients.proofs.Prelude.{refl, sym, ap, ◌∙◌, subst, arith, inl, inr, AllByRecursion, nat_cmp, eq_by_cmp, nat_cmp_total}
+use Rattle.seam_law_clients.proofs.Prelude.{IsQuiet, Event, TypeDef, changes, type_of, Call, Batch, GhostCopy, Shown, Own, Enter, Set}
+use Rattle.seam_law_clients.proofs.Prelude.{Leave, public_after, RealView, WitnessView, RouteView, loaded, World, node_has_work, Frame}
+use Rattle.seam_law_clients.proofs.Prelude.{IsInFrame, entity_flow, real_in, real_of, HasOne, Account, account_of, after_call, after_calls}
+use Rattle.seam_law_clients.proofs.Prelude.{Replays, IsBaseNumber, home_of, shown_at, HasClient, IsAbsent, RunsTo, real_at, framed}
+use Rattle.seam_law_clients.proofs.Prelude.{MayBegin, IsTrue, present, FitsWitness, FitsWithin, TellsRightly, WasOther, true_between}
+use Rattle.seam_law_clients.proofs.Prelude.{sole_here, one_leads, all_lead, units, route_moves, frame_loaded, settled_loaded, spared_loaded}
+use Rattle.seam_law_clients.proofs.Prelude.{Somewhere, Nowhere, search_real, ClientReplica, after_shown, after_all_shown, Truth, ShowsTruth}
+use Rattle.seam_law_clients.proofs.Prelude.{tied_same, absent_leads}
 use Rattle.std.specs.FinMap as table
-use Rattle.seam_node_steps.specs.Prelude.{IsQuiet, Event, TypeDef, changes, type_of, Call, Batch, GhostCopy, Shown, Own, Enter, Set, Leave}
-use Rattle.seam_node_steps.specs.Prelude.{public_after, RealView, WitnessView, RouteView, loaded, World, node_has_work}
-use Rattle.seam_law_calls.specs.Prelude.{Frame, IsInFrame, entity_flow, real_in, real_of, HasOne, Account, account_of, after_call}
-use Rattle.seam_law_calls.specs.Prelude.{after_calls, Replays, IsBaseNumber, home_of, shown_at, HasClient, IsAbsent, RunsTo, real_at}
-use Rattle.seam_law_rounds.specs.Prelude.{framed, MayBegin}
-use Rattle.seam_law_ghosts.specs.Prelude.{IsTrue, present}
-use Rattle.seam_law_clients.specs.Prelude.{FitsWitness, FitsWithin, TellsRightly, WasOther, true_between}
-use Rattle.seam_law_flow.proofs.TokenLemmas.{sole_here}
-use Rattle.seam_law_calls.proofs.OneReal.{one_leads, spared_leads}
-use Rattle.seam_law_calls.proofs.Keeping.{all_lead, units}
-use Rattle.seam_law_calls.proofs.RoutesKept.{route_moves}
-use Rattle.seam_law_rounds.proofs.Going.{frame_loaded, settled_loaded, spared_loaded}
-use Rattle.seam_law_rounds.proofs.Shape.{Somewhere, Nowhere, search_real}
-use Rattle.seam_rule_clients.specs.Clients.{ClientReplica, after_shown, after_all_shown}
-use Rattle.seam_rule_clients.specs.Lines.{Truth, ShowsTruth}
-use Rattle.seam_node_steps.proofs.Sorted.{tied_same}
+use Rattle.seam_law_calls.proofs.OneReal.{spared_leads}
 use Rattle.seam_law_clients.proofs.Starts.{shown_rightly, fits_shown}
-use Rattle.seam_law_calls.proofs.Absent.{absent_leads}
 
 -- ---- where a version shown is from
 

@@ -1,7 +1,6 @@
 -- The batch of the crossing fits an opened world, and so what the laws of clients ask is true of it.
-use Rattle.std.proofs.Common.{◌≡◌, ℕ, zero, suc, ◌+◌, Bool, true, false, eqb, List, [], ◌∷◌, ◌++◌, map, length, None, Some, refl, sym, ap}
-use Rattle.std.proofs.Common.{◌∙◌, subst, arith, inl, inr}
-use Rattle.std.specs.List.{IsDistinct, range_with_len}
+use Rattle.std.proofs.Common.{◌≡◌, ℕ, ◌+◌, Bool, true, false, eqb, [], ◌∷◌, length, None, Some, refl, sym, ap, ◌∙◌, subst, arith, inl, inr}
+use Rattle.std.specs.List.{IsDistinct}
 use Rattle.std.specs.FinMap as table
 use Rattle.std.proofs.lemmas.Bool.{cases_eq, ne_eqb}
 use Rattle.seam_node_steps.specs.Prelude.{builtin, standard, fits_cell_part, RealView, Map, PartView, holders, new_part, with_proxy, loaded}
@@ -14,7 +13,7 @@ use Rattle.seam_law_ghosts.specs.Prelude.{GoesThroughRound, AreCopiesBetweenRoun
 use Rattle.seam_law_clients.specs.Prelude.{ClientsFit, clients_loaded, batch, steps, look_0, look_11, look_steps}
 use Rattle.seam_net_runs.proofs.Runs.{leads_nowhere}
 use Rattle.seam_call.specs.declared.order.Order.TheVariants as order
-use Rattle.seam_law_calls.proofs.ExampleMet.{EachFrom, each_node, slots, none_there, row_leads, frame_is}
+use Rattle.seam_law_calls.proofs.ExampleMet.{EachFrom, idle_each, each_node, slots, none_there, row_leads, frame_is}
 use Rattle.seam_law_rounds.proofs.Loading.{set_keeps}
 use Rattle.seam_law_rounds.proofs.ExampleOpening.{between, is_new, no_real, parts_between}
 use Rattle.seam_law_rounds.proofs.ExampleRound.{next_is_one}
@@ -26,7 +25,8 @@ use Rattle.seam_law_clients.specs.Crossing.{base_17, route, world_0, world_9}
 use Rattle.seam_law_clients.proofs.Loading.{clients_fit_loaded}
 use Rattle.seam_law_clients.proofs.CrossingLooks as looks
 use Rattle.seam_law_clients.proofs.Room.{small_of}
-use Rattle.seam_law_clients.proofs.Crossing.{of_three, load, row, quiet}
+use Rattle.seam_node_steps.proofs.Tables.{computing}
+use Rattle.seam_law_clients.proofs.Crossing.{load, row, quiet}
 
 -- ---- what the loaded world has
 
@@ -90,24 +90,14 @@ module _ (e : ℕ) where
     part = of_two (λ p. p.orders ≡ table.empty) 1 (with_proxy (here 17) (new_part (here 17) 0)) (new_part (here 17) 0) refl refl e;
   }
 
-  idle_each : (a n : ℕ) (ys : List NodeView) → EachFrom Y (a + n) ys → EachFrom Y a (map (idle two_cells) (range_with_len a n) ++ ys)
-  idle_each a zero ys rest = let same : a + 0 ≡ a = omega arith in subst (λ j. EachFrom Y j ys) same rest
-  idle_each a (suc n) ys rest =
-      let same : a + suc n ≡ a + 1 + n = omega arith in
-      let next : a + 1 ≡ suc a = omega arith in (
-        idle_is a,
-        subst (λ j. EachFrom Y j (map (idle two_cells) (range_with_len (a + 1) n) ++ ys)) next
-            (idle_each (a + 1) n ys (subst (λ j. EachFrom Y j ys) same rest)),
-      )
-
   nodes_are : EachFrom Y 0 world_0.nodes
   unfolding world_0
   nodes_are = (
     first_cell,
     (
       second_cell,
-      idle_each 2 14 (base_16 (order.Cell the_move ∷ []) (route 0 0)
-          ∷ base_17 (route 0 0) ∷ []) (first_base, (second_base, tt)),
+      idle_each Y two_cells 2 14 (base_16 (order.Cell the_move ∷ []) (route 0 0) ∷ base_17 (route 0 0) ∷ []) (λ k low. idle_is k)
+          (first_base, (second_base, tt)),
     ),
   )
 
@@ -135,7 +125,7 @@ none_numbered : (e s : ℕ) → (eqb 3 e ≡ true → s ≡ 1 → ⊥) → Numbe
 none_numbered e s n = record {
   node = 16;
   is_base = omega arith;
-  is_there = omega arith;
+  in_net = omega arith;
   calls =
       none_called_at e s 16 (eqb 3 e) (eqb 16 16) refl refl n ∙ sym (ap (number_from 1) (none_called e s (eqb 3 e) refl n));
   others = λ j m. none_called_at e s j (eqb 3 e) (eqb 16 j) refl refl n;
@@ -146,7 +136,7 @@ one_numbered : Numbers 3 1
 one_numbered = record {
   node = 16;
   is_base = omega arith;
-  is_there = omega arith;
+  in_net = omega arith;
   calls = refl;
   others = λ j n. rw (ne_eqb 16 j (λ x. n (sym x))) refl;
   room = omega arith;
@@ -191,7 +181,7 @@ for_part e p at = record {
       subst (AreBaseNumbered opening batch e s) (sym (next_is_one p.orders s ((young_loaded e (home_of opening e)).part p at))) (record {
         node = 16;
         is_base = omega arith;
-        is_there = omega arith;
+        in_net = omega arith;
         calls =
             no_base_call_at e s 16 (eqb 3 e) (eqb 16 16) refl refl ∙ sym (ap (number_from 1) (no_base_call e s (eqb 3 e) refl));
         others = λ j n. no_base_call_at e s j (eqb 3 e) (eqb 16 j) refl refl;
@@ -206,15 +196,15 @@ holder_of e one = ap (λ w. holders w e) load ∙ one
 
 holds_1 : holders world_0 1 ≡ 1
 unfolding world_0
-holds_1 = simp of_three
+holds_1 = simp computing
 
 holds_2 : holders world_0 2 ≡ 1
 unfolding world_0
-holds_2 = simp of_three
+holds_2 = simp computing
 
 holds_3 : holders world_0 3 ≡ 1
 unfolding world_0
-holds_3 = simp of_three
+holds_3 = simp computing
 
 fits : IsFitting opening empty_world batch
 unfolding IsDistinct
@@ -270,15 +260,15 @@ clients_fit = clients_fit_loaded opening empty_world batch may_be_loaded (λ e. 
 
 first_there : real_at 1 world_0 0 ≡ Some watcher_1
 unfolding world_0
-first_there = simp of_three
+first_there = simp computing
 
 second_there : real_at 2 world_0 1 ≡ Some watcher_2
 unfolding world_0
-second_there = simp of_three
+second_there = simp computing
 
 third_there : real_at 3 world_0 0 ≡ Some walker
 unfolding world_0
-third_there = simp of_three
+third_there = simp computing
 
 pub witnesses : (real_at 1 (loaded empty_world batch) 0 ≡ Some watcher_1) × (real_at 2 (loaded empty_world batch) 1 ≡ Some watcher_2)
 witnesses = (
@@ -291,7 +281,7 @@ before = ap (λ w. real_at 3 w 0) load ∙ third_there
 
 pub after : real_at 3 world_9 1 ≡ Some crossed
 unfolding world_9
-after = simp of_three
+after = simp computing
 
 -- ---- the calls
 

@@ -1,20 +1,11 @@
 -- No update comes without a client: of an entity that is there, by the laws of its client; of one that is not, since none tells it.
-use Rattle.std.proofs.Common.{◌≡◌, ℕ, ◌⊎◌, List, [], ◌∷◌, None, Some, sym, ap, ◌∙◌, subst, inl, inr}
-use Rattle.std.specs.List.{AllByRecursion}
-use Rattle.seam_node_steps.specs.Prelude.{Event, Batch, RealView, Msg, Update, World, node_has_work, ordered_at, loaded, look_loaded}
-use Rattle.seam_law_flow.specs.Prelude.{letters_of}
-use Rattle.seam_law_calls.specs.Prelude.{Frame, IsInFrame, mine, entity_flow, real_of, update_in, FindsClient, RunsTo, real_at}
-use Rattle.seam_law_rounds.specs.Prelude.{IsBetweenRounds, framed, HasPartsBetweenRounds, MayBeLoaded, HasSmallNumbers}
-use Rattle.seam_machine.proofs.Quiet.{quiet_links}
-use Rattle.seam_call.specs.declared.shown.Update.{Update as UpdateData}
-use Rattle.seam_law_rounds.proofs.Framing.{in_frame}
-use Rattle.seam_law_rounds.proofs.Loaded.{no_mail}
-use Rattle.seam_law_rounds.proofs.Shape.{Somewhere, Nowhere, search_real}
-use Rattle.seam_law_rounds.proofs.Giving.{look_framed, look_cell, reals_stay}
-use Rattle.seam_law_rounds.proofs.Looking.{tick}
-use Rattle.seam_law_calls.proofs.Silent.{unseen_told_none}
-use Rattle.seam_law_rounds.proofs.PartsGoing.{update_finds_it}
-use Rattle.seam_law_rounds.proofs.Calms.{look_finds}
+use Rattle.seam_law_clients.proofs.Prelude.{◌≡◌, ℕ, ◌⊎◌, List, [], ◌∷◌, None, Some, sym, ap, ◌∙◌, subst, inl, inr, AllByRecursion, Event}
+use Rattle.seam_law_clients.proofs.Prelude.{Batch, RealView, Msg, World, node_has_work, ordered_at, loaded, look_loaded, letters_of, Frame}
+use Rattle.seam_law_clients.proofs.Prelude.{IsInFrame, mine, entity_flow, real_of, update_in, FindsClient, RunsTo, real_at, IsBetweenRounds}
+use Rattle.seam_law_clients.proofs.Prelude.{framed, HasPartsBetweenRounds, MayBeLoaded, HasSmallNumbers, quiet_links, Update as UpdateData}
+use Rattle.seam_law_clients.proofs.Prelude.{in_frame, no_mail, Somewhere, Nowhere, search_real, look_framed, look_cell, reals_stay, tick}
+use Rattle.seam_law_clients.proofs.Prelude.{unseen_told_none, update_finds_it, look_finds}
+use Rattle.seam_node_steps.specs.Prelude.{Update}
 
 -- one that is nowhere, with nothing on its way, is told nothing
 module _ (f : Frame) (e : ℕ) (w v : World) (es : List Event) (frame : IsInFrame f w) (run : RunsTo w es v)

@@ -1,21 +1,13 @@
 -- What a client was shown of the base part where a batch is loaded: the part, where it was just attached, and nothing else.
-use Rattle.std.proofs.Common.{◌≡◌, ℕ, Bool, true, false, cond, eqb, List, [], ◌++◌, Option, None, Some, refl, sym, ap, ◌∙◌, subst}
-use Rattle.std.specs.Prelude.{option_map, slice_get}
-use Rattle.std.specs.List.{AllByRecursion, list_any}
-use Rattle.seam_node_steps.specs.Prelude.{IsQuiet, Event, properties_of, Batch, Here, properties, RealView, has_any, PartView, ProxyView}
-use Rattle.seam_node_steps.specs.Prelude.{line_if, base_text, World, node_has_work, new_proxy, proxy_begins, part_begins, loaded}
-use Rattle.seam_law_flow.specs.Prelude.{slot_at, letters_of}
-use Rattle.seam_law_calls.specs.Prelude.{Frame, here_at, has_of, has_none, entity_flow, from_sender, home_of, RunsTo, real_at}
-use Rattle.seam_law_rounds.specs.Prelude.{MayBeMade, framed, base_calls_of, MayBeLoaded}
-use Rattle.seam_law_clients.specs.Prelude.{base_lines, line_where, first_lines, ShowsItsPart}
+use Rattle.seam_law_clients.proofs.Prelude.{◌≡◌, ℕ, Bool, true, false, cond, eqb, List, [], ◌++◌, Option, None, Some, refl, sym, ap, ◌∙◌}
+use Rattle.seam_law_clients.proofs.Prelude.{subst, option_map, slice_get, AllByRecursion, list_any, IsQuiet, Event, properties_of, Batch}
+use Rattle.seam_law_clients.proofs.Prelude.{Here, properties, RealView, has_any, PartView, ProxyView, line_if, base_text, World}
+use Rattle.seam_law_clients.proofs.Prelude.{node_has_work, new_proxy, proxy_begins, part_begins, loaded, slot_at, letters_of, Frame}
+use Rattle.seam_law_clients.proofs.Prelude.{here_at, has_of, has_none, entity_flow, from_sender, home_of, RunsTo, real_at, MayBeMade}
+use Rattle.seam_law_clients.proofs.Prelude.{framed, base_calls_of, MayBeLoaded, base_lines, line_where, first_lines, ShowsItsPart, in_frame}
+use Rattle.seam_law_clients.proofs.Prelude.{spared_loaded, Creation, nowhere, once, creation_of, middle, part_at, is_among, part_peopled}
+use Rattle.seam_law_clients.proofs.Prelude.{bare_peopled, part_if, PartFrom, part_there, its_part, executed_then}
 use Rattle.seam_defs.specs.declared.flags.Group.TheVariants as group
-use Rattle.seam_law_rounds.proofs.Framing.{in_frame}
-use Rattle.seam_law_rounds.proofs.Going.{spared_loaded}
-use Rattle.seam_law_rounds.proofs.Making.{Creation, nowhere, once, creation_of, middle}
-use Rattle.seam_law_rounds.proofs.PartLoads.{part_at}
-use Rattle.seam_law_rounds.proofs.Joining.{is_among, part_peopled, bare_peopled}
-use Rattle.seam_law_rounds.proofs.Attaching.{part_if, PartFrom, part_there}
-use Rattle.seam_law_rounds.proofs.PartsGoing.{its_part, executed_then}
 use Rattle.seam_law_clients.proofs.BaseLines.{shows_its_part}
 use Rattle.seam_law_clients.proofs.Loading.{among_is}
 

@@ -1,21 +1,11 @@
 -- After one look a further one shows nothing.
-use Rattle.std.proofs.Common.{◌≡◌, ℕ, ◌≤◌, ◌⊎◌, Bool, true, false, cond, not, ◌&&◌, ◌||◌, eqb, List, [], ◌∷◌, ◌++◌, map, Option, None, Some}
-use Rattle.std.proofs.Common.{refl, sym, ap, ◌∙◌, subst, arith, inl, inr}
-use Rattle.std.specs.Prelude.{nat_lt, nat_le}
-use Rattle.std.specs.Map.{keys_of, lookup}
-use Rattle.std.specs.List.{AllByRecursion, IsDistinct, list_any, filter}
-use Rattle.std.proofs.lemmas.Bool.Decides.{nat_tests}
-use Rattle.std.proofs.lemmas.Map.Keys.{IsDistinct-head, IsDistinct-tail}
-use Rattle.seam_node_steps.specs.Prelude.{Pos, distance}
-use Rattle.seam_law_flow.proofs.Following.{all_append}
-use Rattle.seam_view.specs.declared.Seen.{Seen}
-use Rattle.seam_view.specs.declared.Look.{Look}
+use Rattle.seam_law_clients.proofs.Prelude.{◌≡◌, ℕ, ◌≤◌, ◌⊎◌, Bool, true, false, cond, not, ◌&&◌, ◌||◌, eqb, List, [], ◌∷◌, ◌++◌, map}
+use Rattle.seam_law_clients.proofs.Prelude.{Option, None, Some, refl, sym, ap, ◌∙◌, subst, arith, inl, inr, nat_lt, nat_le, keys_of, lookup}
+use Rattle.seam_law_clients.proofs.Prelude.{AllByRecursion, IsDistinct, list_any, filter, nat_tests, IsDistinct-head, IsDistinct-tail, Pos}
+use Rattle.seam_law_clients.proofs.Prelude.{distance, all_append, Seen, Look, Replica, IsView, seen_of, placed, without, after_showing}
+use Rattle.seam_law_clients.proofs.Prelude.{after_look, after_looks, entity_of, is_far, has_changed, in_view, is_gone, is_new, plain_look}
+use Rattle.seam_law_clients.proofs.Prelude.{view_after_looks, all_of, turned}
 use Rattle.seam_view.specs.declared.Look.TheVariants.{Leave, Set, Enter}
-use Rattle.seam_view.specs.Replica.{Replica, IsView, seen_of, placed, without, after_showing, after_look, after_looks, entity_of}
-use Rattle.seam_view.specs.ViewLooks.{is_far, has_changed, in_view}
-use Rattle.seam_view.specs.Plain.{is_gone, is_new, plain_look}
-use Rattle.seam_view.proofs.Kept.{view_after_looks}
-use Rattle.seam_rule_clients.proofs.EachOne.{all_of, turned}
 use Rattle.seam_law_clients.proofs.Near.{all_filtered}
 use Rattle.seam_law_clients.proofs.After.{same_distances}
 

@@ -1,31 +1,15 @@
 -- After one look a client is shown nothing by a further one, of the same flat table; and the looks leave that table.
-use Rattle.std.proofs.Common.{◌≡◌, ℕ, ◌⊎◌, Bool, true, false, cond, List, [], ◌∷◌, ◌++◌, map, Option, None, Some, refl, sym, ap, ◌∙◌, arith}
-use Rattle.std.proofs.Common.{inl, inr}
-use Rattle.std.specs.Prelude.{option_map, slice_get, nat_lt}
-use Rattle.std.specs.List.{AllByRecursion, filter_map, flat_map}
-use Rattle.std.specs.Ordering.{nat_cmp}
-use Rattle.std.specs.Cmp.{nat_cmp_total}
+use Rattle.seam_law_clients.proofs.Prelude.{◌≡◌, ℕ, ◌⊎◌, Bool, true, false, cond, List, [], ◌∷◌, ◌++◌, map, Option, None, Some, refl, sym}
+use Rattle.seam_law_clients.proofs.Prelude.{ap, ◌∙◌, arith, inl, inr, option_map, slice_get, nat_lt, AllByRecursion, filter_map, flat_map}
+use Rattle.seam_law_clients.proofs.Prelude.{nat_cmp, nat_cmp_total, same_entries, nat_tests, fold-append, IsQuiet, Event, Shown, Own}
+use Rattle.seam_law_clients.proofs.Prelude.{RealView, WitnessView, Known, seen_as, shown_for, CellView, look_loaded, World, node_has_work}
+use Rattle.seam_law_clients.proofs.Prelude.{Frame, here_at, RunsTo, real_at, IsBetweenRounds, HadSameReal, row_of_real, rows_at, row_in}
+use Rattle.seam_law_clients.proofs.Prelude.{rows_of, looked_by, having_looked, HaveRoomToLook, Seen, Look, IsView, seen_of, after_looks}
+use Rattle.seam_law_clients.proofs.Prelude.{plain_look, Somewhere, Nowhere, search_real, look_ends_between, ClientReplica, after_shown}
+use Rattle.seam_law_clients.proofs.Prelude.{after_all_shown, Row, row_of, rows_but, seen, is_newer, own_shown, look_at, look_by, one_look}
+use Rattle.seam_law_clients.proofs.Prelude.{turned, each_found, find_entries}
 use Rattle.std.specs.FinMap as table
-use Rattle.std.specs.FinMap.Entries.{same_entries}
-use Rattle.std.proofs.lemmas.Bool.Decides.{nat_tests}
-use Rattle.std.proofs.lemmas.List.Sums.{fold-append}
-use Rattle.seam_node_steps.specs.Prelude.{IsQuiet, Event, Shown, Own, RealView, WitnessView, Known, seen_as, shown_for, CellView}
-use Rattle.seam_node_steps.specs.Prelude.{look_loaded, World, node_has_work}
-use Rattle.seam_law_calls.specs.Prelude.{Frame, here_at, RunsTo, real_at}
-use Rattle.seam_law_rounds.specs.Prelude.{IsBetweenRounds}
-use Rattle.seam_law_ghosts.specs.Prelude.{HadSameReal}
-use Rattle.seam_law_clients.specs.Prelude.{row_of_real, rows_at, row_in, rows_of, looked_by, having_looked, HaveRoomToLook}
-use Rattle.seam_view.specs.declared.Seen.{Seen}
-use Rattle.seam_view.specs.declared.Look.{Look}
-use Rattle.seam_view.specs.Replica.{IsView, seen_of, after_looks}
-use Rattle.seam_view.specs.Plain.{plain_look}
-use Rattle.seam_law_rounds.proofs.Shape.{Somewhere, Nowhere, search_real}
-use Rattle.seam_law_rounds.proofs.Looking.{look_ends_between}
-use Rattle.seam_rule_clients.specs.Clients.{ClientReplica, after_shown, after_all_shown}
 use Rattle.seam_rule_clients.specs.Looks as replica
-use Rattle.seam_rule_clients.specs.Looks.{Row, row_of, rows_but, seen, is_newer, own_shown, look_at, look_by, one_look}
-use Rattle.seam_rule_clients.proofs.EachOne.{turned}
-use Rattle.seam_node_steps.proofs.Sorted.{each_found, find_entries}
 use Rattle.seam_law_clients.proofs.Near.{as_seen, seen_found}
 use Rattle.seam_law_clients.proofs.Rows.{found_in, others, others_rise, seen_others, lines_of_others}
 use Rattle.seam_law_clients.proofs.OneLook.{row_there, row_nowhere}

@@ -1,10 +1,6 @@
 -- Lines that may be shown in parts.
-use Rattle.std.proofs.Common.{ℕ, List, [], ◌∷◌, ◌++◌}
-use Rattle.std.specs.List.{AllByRecursion}
-use Rattle.seam_law_flow.proofs.Following.{all_append}
-use Rattle.seam_call.specs.declared.shown.Shown.{Shown}
-use Rattle.seam_rule_clients.specs.Clients.{ClientReplica, after_shown, after_all_shown}
-use Rattle.seam_rule_clients.specs.Lines.{MayShowAll, Truth, ShowsTruth, ShowsRightly}
+use Rattle.seam_law_clients.proofs.Prelude.{ℕ, List, [], ◌∷◌, ◌++◌, AllByRecursion, all_append, Shown, ClientReplica, after_shown}
+use Rattle.seam_law_clients.proofs.Prelude.{after_all_shown, MayShowAll, Truth, ShowsTruth, ShowsRightly}
 
 may_append : (me : ℕ) (c : ClientReplica) (xs ys : List Shown) → MayShowAll me c xs → MayShowAll me (after_all_shown c xs) ys →
     MayShowAll me c (xs ++ ys)

@@ -1,37 +1,19 @@
 -- Clients in a round: what the records between rounds say of each entity is what its witness needs, to tell its client rightly.
-use Rattle.std.proofs.Common.{◌≡◌, ℕ, ◌+◌, ◌⊎◌, Bool, true, false, is_some, List, [], length, Option, None, Some, refl, sym, ap, ◌∙◌, subst}
-use Rattle.std.proofs.Common.{arith, inl, inr}
-use Rattle.std.specs.Prelude.{option_map, slice_get}
-use Rattle.std.specs.List.{AllByRecursion}
-use Rattle.seam_node_steps.specs.Prelude.{Event, properties_of, Batch, Shown, RealView, WitnessView, Here, properties, has_any, PartView}
-use Rattle.seam_node_steps.specs.Prelude.{ProxyView, line_if, base_text, new_proxy, proxy_begins, part_begins, loaded, World, node_steps}
-use Rattle.seam_node_steps.specs.Prelude.{node_has_work}
-use Rattle.seam_law_flow.specs.Prelude.{slot_at, letters_of}
-use Rattle.seam_law_calls.specs.Prelude.{Frame, here_at, has_of, has_none, entity_flow, real_in, real_of, HasNoProxy, sent_by, home_of}
-use Rattle.seam_law_calls.specs.Prelude.{proxy_of, order_in, updates_at, shown_in, lines_in, shown_at, HasClient, HasRoomFor, RunsTo}
-use Rattle.seam_law_calls.specs.Prelude.{real_at}
-use Rattle.seam_law_rounds.specs.Prelude.{MayBeMade, framed, AreInStep, AreFor, MayBeLoaded, IsServed, bare, served}
-use Rattle.seam_law_clients.specs.Prelude.{FitsWitness, ClientsFit, FitsWithin, IsTrueBetween, TellsRightly, true_between}
-use Rattle.seam_net_runs.proofs.Runs.{leads_nowhere}
-use Rattle.seam_law_flow.proofs.TokenLemmas.{sole_here}
+use Rattle.seam_law_clients.proofs.Prelude.{◌≡◌, ℕ, ◌+◌, ◌⊎◌, Bool, true, false, is_some, List, [], length, Option, None, Some, refl, sym}
+use Rattle.seam_law_clients.proofs.Prelude.{ap, ◌∙◌, subst, arith, inl, inr, option_map, slice_get, AllByRecursion, Event, properties_of}
+use Rattle.seam_law_clients.proofs.Prelude.{Batch, Shown, RealView, WitnessView, Here, properties, has_any, PartView, ProxyView, line_if}
+use Rattle.seam_law_clients.proofs.Prelude.{base_text, new_proxy, proxy_begins, part_begins, loaded, World, node_steps, node_has_work}
+use Rattle.seam_law_clients.proofs.Prelude.{slot_at, letters_of, Frame, here_at, has_of, has_none, entity_flow, real_in, real_of}
+use Rattle.seam_law_clients.proofs.Prelude.{HasNoProxy, sent_by, home_of, proxy_of, order_in, updates_at, shown_in, lines_in, shown_at}
+use Rattle.seam_law_clients.proofs.Prelude.{HasClient, HasRoomFor, RunsTo, real_at, MayBeMade, framed, AreInStep, AreFor, MayBeLoaded}
+use Rattle.seam_law_clients.proofs.Prelude.{IsServed, bare, served, FitsWitness, ClientsFit, FitsWithin, IsTrueBetween, TellsRightly}
+use Rattle.seam_law_clients.proofs.Prelude.{true_between, leads_nowhere, sole_here, gone_leads, in_frame, frame_loaded, spared_loaded}
+use Rattle.seam_law_clients.proofs.Prelude.{no_mail, Creation, nowhere, once, creation_of, middle, Somewhere, Nowhere, search_real}
+use Rattle.seam_law_clients.proofs.Prelude.{bare_leads, client_leads, seen_leads, part_at, is_among, part_peopled, bare_peopled, part_if}
+use Rattle.seam_law_clients.proofs.Prelude.{PartFrom, part_there, are_for_loaded, most_told, its_part, few_lines, told, serves_after}
+use Rattle.seam_law_clients.proofs.Prelude.{ClientReplica, after_all_shown, ShowsRightly}
 use Rattle.seam_defs.specs.declared.flags.Group.TheVariants as group
-use Rattle.seam_law_calls.proofs.Gone.{gone_leads}
-use Rattle.seam_law_rounds.proofs.Framing.{in_frame}
-use Rattle.seam_law_rounds.proofs.Going.{frame_loaded, spared_loaded}
-use Rattle.seam_law_rounds.proofs.Loaded.{no_mail}
-use Rattle.seam_law_rounds.proofs.Making.{Creation, nowhere, once, creation_of, middle}
-use Rattle.seam_law_rounds.proofs.Shape.{Somewhere, Nowhere, search_real}
-use Rattle.seam_law_calls.proofs.AloneRuns.{bare_leads}
-use Rattle.seam_law_calls.proofs.ClientLeads.{client_leads}
-use Rattle.seam_law_calls.proofs.WitnessKept.{seen_leads}
-use Rattle.seam_law_rounds.proofs.PartLoads.{part_at}
-use Rattle.seam_law_rounds.proofs.Joining.{is_among, part_peopled, bare_peopled}
-use Rattle.seam_law_rounds.proofs.Attaching.{part_if, PartFrom, part_there, are_for_loaded}
-use Rattle.seam_law_rounds.proofs.Ticking.{most_told}
 use Rattle.seam_law_rounds.proofs.PartTurns.{few_more}
-use Rattle.seam_law_rounds.proofs.PartsGoing.{its_part, few_lines, told, serves_after}
-use Rattle.seam_rule_clients.specs.Clients.{ClientReplica, after_all_shown}
-use Rattle.seam_rule_clients.specs.Lines.{ShowsRightly}
 use Rattle.seam_law_clients.proofs.Starts.{rightly_starts, shown_rightly}
 use Rattle.seam_law_clients.proofs.Along.{rightly_leads}
 

@@ -1,32 +1,25 @@
 -- Where entities are reaped, and where witnesses look, no call to a base part waits, and nothing is stray at a base node.
-use Rattle.std.proofs.Common.{◌≡◌, ℕ, ◌+◌, ◌^◌, ◌<◌, ◌≤◌, ◌++◌, Bool, true, false, is_none, List, [], ◌∷◌, Option, None, Some, refl, sym}
-use Rattle.std.proofs.Common.{ap, ◌∙◌, subst, arith, inl, inr}
-use Rattle.std.specs.List.{AllByRecursion}
+use Rattle.seam_law_clients.proofs.Prelude.{◌≡◌, ℕ, ◌+◌, ◌^◌, ◌<◌, ◌≤◌, ◌++◌, Bool, true, false, is_none, List, [], ◌∷◌, Option, None, Some}
+use Rattle.seam_law_clients.proofs.Prelude.{refl, sym, ap, ◌∙◌, subst, arith, inl, inr, AllByRecursion, cases_eq, LeadsTo, Event, item_at}
+use Rattle.seam_law_clients.proofs.Prelude.{Order, order_or, RealView, WitnessView, Msg, BaseCall, Hand, Current, GhostSet, GhostDrop, Tick}
+use Rattle.seam_law_clients.proofs.Prelude.{Reap, limit, may_rise, may_show, stray_update, cell_count, PartView, ProxyView, holders, World}
+use Rattle.seam_law_clients.proofs.Prelude.{node_steps, node_has_work, reaps_loaded, look_loaded, letters_of, more_letter, packed, bears}
+use Rattle.seam_law_clients.proofs.Prelude.{of_number, Frame, here_at, entity_flow, real_in, strays_at, is_stuck, numbered_from, base_mail}
+use Rattle.seam_law_clients.proofs.Prelude.{part_desk, sent_of, home_of, update_in, NoUpdateComes, NothingIsStray, IsSettled}
+use Rattle.seam_law_clients.proofs.Prelude.{IsBetweenRounds, AreReapable, AreFor, HasSettledPart, HasPartsBetweenRounds, HasSmallNumbers}
+use Rattle.seam_law_clients.proofs.Prelude.{Update as UpdateData, may_execute, all_two, below_is, quiet_home, IsCalmOrder, IsCalmTo, IsCalm}
+use Rattle.seam_law_clients.proofs.Prelude.{calm_leads, reaps_tell_none, look_settles, look_finds, look_acts, slice_get}
 use Rattle.std.specs.FinMap as table
-use Rattle.std.proofs.lemmas.Bool.{cases_eq}
-use Rattle.seam_node_steps.specs.Prelude.{LeadsTo, Event, item_at, Order, order_or, RealView, WitnessView, Msg, BaseCall, Hand, Current}
-use Rattle.seam_node_steps.specs.Prelude.{GhostSet, GhostDrop, Tick, Reap, Update, limit, may_rise, may_show, stray_update, cell_count}
-use Rattle.seam_node_steps.specs.Prelude.{PartView, ProxyView, holders, World, node_steps, node_has_work, reaps_loaded, look_loaded}
-use Rattle.seam_law_flow.specs.Prelude.{letters_of, more_letter, held_in, packed, bears, of_number}
-use Rattle.seam_law_calls.specs.Prelude.{Frame, here_at, entity_flow, real_in, strays_at, is_stuck, numbered_from, base_mail, part_desk}
-use Rattle.seam_law_calls.specs.Prelude.{sent_of, home_of, update_in, NoUpdateComes, NothingIsStray}
-use Rattle.seam_law_rounds.specs.Prelude.{IsSettled, IsBetweenRounds, AreReapable, AreFor, HasSettledPart, HasPartsBetweenRounds}
-use Rattle.seam_law_rounds.specs.Prelude.{HasSmallNumbers, HasNoCallsToBase}
+use Rattle.seam_node_steps.specs.Prelude.{Update}
+use Rattle.seam_law_flow.specs.Prelude.{held_in}
+use Rattle.seam_law_rounds.specs.Prelude.{HasNoCallsToBase}
 use Rattle.seam_call.specs.declared.order.Order.TheVariants as order
-use Rattle.seam_call.specs.declared.shown.Update.{Update as UpdateData}
 use Rattle.seam_entity.specs.declared.message.Msg.TheVariants.{Call}
-use Rattle.seam_node_steps.specs.BaseCases.{may_execute}
-use Rattle.seam_law_calls.proofs.Holds.{all_two, below_is}
 use Rattle.seam_law_calls.proofs.NoStray.{ordered_by}
-use Rattle.seam_law_rounds.proofs.Ready.{quiet_home}
-use Rattle.seam_law_rounds.proofs.Calm.{IsCalmOrder, IsCalmTo, IsCalm}
-use Rattle.seam_law_rounds.proofs.Phases.{calm_leads}
 use Rattle.seam_law_rounds.proofs.Still.{none_calls}
 use Rattle.seam_law_rounds.proofs.Reaping as reaping
 use Rattle.seam_law_rounds.proofs.Looking as looking
-use Rattle.seam_law_rounds.proofs.Calms.{reaps_tell_none, look_settles, look_finds, look_acts}
 use Rattle.seam_law_clients.proofs.Reaped.{part_same}
-use Rattle.std.specs.Prelude.{slice_get}
 
 -- a part that holds no call, and may execute one
 record IsAtRest (p : PartView) : Type 0 where

@@ -1,3 +1,4 @@
+pub mod Prelude
 pub mod Near
 pub mod Rows
 pub mod OneLook

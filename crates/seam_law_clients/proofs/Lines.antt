@@ -1,24 +1,15 @@
 -- What a look tells of others may be shown, and is true.
-use Rattle.std.proofs.Common.{◌≡◌, ℕ, ◌+◌, ◌<◌, ◌≤◌, Bool, true, false, not, eqb, leb, ltb, ◌&&◌, ◌||◌, T, List, [], ◌∷◌, ◌++◌, map, Option}
-use Rattle.std.proofs.Common.{None, Some, refl, sym, ap, ◌∙◌, subst, arith, unwrap_or}
-use Rattle.std.specs.Prelude.{option_map}
-use Rattle.std.specs.List.{AllByRecursion, IsDistinct, filter_map, cons_option, list_any}
-use Rattle.std.specs.Ordering.{nat_cmp, is_lt}
-use Rattle.std.specs.Map.{keys_of}
+use Rattle.seam_law_clients.proofs.Prelude.{◌≡◌, ℕ, ◌+◌, ◌<◌, ◌≤◌, Bool, true, false, not, eqb, leb, ltb, ◌&&◌, ◌||◌, T, List, [], ◌∷◌}
+use Rattle.seam_law_clients.proofs.Prelude.{◌++◌, map, Option, None, Some, refl, sym, ap, ◌∙◌, subst, arith, unwrap_or, option_map}
+use Rattle.seam_law_clients.proofs.Prelude.{AllByRecursion, IsDistinct, filter_map, cons_option, list_any, nat_cmp, keys_of, is_sorted}
+use Rattle.seam_law_clients.proofs.Prelude.{below_all, nat_tests, IsDistinct-head, IsDistinct-tail, Pos, distance, State, GhostCopy, Shown}
+use Rattle.seam_law_clients.proofs.Prelude.{Enter, Set, Leave, Known, seen_as, shown_for, all_append, Seen, Look, Replica, IsView, seen_of}
+use Rattle.seam_law_clients.proofs.Prelude.{entity_of, is_far, leaves, has_changed, in_view, not_older, enters, leaving, changed, entering}
+use Rattle.seam_law_clients.proofs.Prelude.{ClientReplica, IsNear, MayShow, MayShowAll, Truth, ShowsTruth, each_found}
+use Rattle.std.specs.Ordering.{is_lt}
 use Rattle.std.specs.FinMap as table
-use Rattle.std.specs.FinMap.Entries.{is_sorted, below_all}
-use Rattle.std.proofs.lemmas.Bool.Decides.{nat_tests}
-use Rattle.std.proofs.lemmas.Map.Keys.{IsDistinct-head, IsDistinct-tail}
-use Rattle.seam_node_steps.specs.Prelude.{Pos, distance, State, GhostCopy, Shown, Enter, Set, Leave, Known, seen_as, shown_for}
-use Rattle.seam_law_flow.proofs.Following.{all_append}
-use Rattle.seam_view.specs.declared.Seen.{Seen}
-use Rattle.seam_view.specs.declared.Look.{Look}
 use Rattle.seam_view.specs.declared.Look.TheVariants as look
-use Rattle.seam_view.specs.Replica.{Replica, IsView, seen_of, entity_of}
-use Rattle.seam_view.specs.ViewLooks.{is_far, leaves, has_changed, in_view, not_older, enters, leaving, changed, entering, one_look}
-use Rattle.seam_rule_clients.specs.Clients.{ClientReplica}
-use Rattle.seam_rule_clients.specs.Lines.{IsNear, MayShow, MayShowAll, Truth, ShowsTruth}
-use Rattle.seam_node_steps.proofs.Sorted.{each_found}
+use Rattle.seam_view.specs.ViewLooks.{one_look}
 use Rattle.seam_law_clients.proofs.Near.{as_seen, seen_found, known_found}
 use Rattle.seam_law_clients.proofs.Apart.{MayLook, AreApart, AreApartBy, may_show_looks, all_turn, picked_all, picked_apart, apart_append}
 

@@ -1,25 +1,17 @@
 -- A load keeps the record of clients: one that it attaches shows nothing, and each other shows what it did.
-use Rattle.std.proofs.Common.{◌≡◌, ℕ, ◌≤◌, Bool, true, false, cond, eqb, ◌||◌, is_some, List, [], ◌∷◌, ◌++◌, Option, None, Some, refl, sym}
-use Rattle.std.proofs.Common.{ap, ◌∙◌, subst, arith}
-use Rattle.std.specs.Prelude.{option_map, slice_get}
-use Rattle.std.specs.List.{AllByRecursion, list_any, IsDistinct}
-use Rattle.std.specs.Ordering.{nat_cmp, eq_by_cmp}
+use Rattle.seam_law_clients.proofs.Prelude.{◌≡◌, ℕ, ◌≤◌, Bool, true, false, cond, eqb, ◌||◌, is_some, List, [], ◌∷◌, ◌++◌, Option, None}
+use Rattle.seam_law_clients.proofs.Prelude.{Some, refl, sym, ap, ◌∙◌, subst, arith, option_map, slice_get, AllByRecursion, list_any}
+use Rattle.seam_law_clients.proofs.Prelude.{nat_cmp, eq_by_cmp, Division, leaf_at, cells_of, Create, Order, Batch, real_begins, Here}
+use Rattle.seam_law_clients.proofs.Prelude.{cell_count, base_of, new_witness, RealView, WitnessView, Map, set_at, BaseView, RouteView}
+use Rattle.seam_law_clients.proofs.Prelude.{NodeView, World, Cell, Base, with_route, created_at, attached, cell_round, base_round, order_if}
+use Rattle.seam_law_clients.proofs.Prelude.{ordered_at, loaded, slot_at, Frame, here_at, has_of, has_none, entity_flow, real_in}
+use Rattle.seam_law_clients.proofs.Prelude.{IsBaseNumber, real_at, MayBeMade, framed, each, node_loaded, MayBeLoaded, FitsWitness}
+use Rattle.seam_law_clients.proofs.Prelude.{ClientsFit, clients_loaded, get-set_at, each_keeps, Any, any, slot_is, Creation, nowhere, once}
+use Rattle.seam_law_clients.proofs.Prelude.{creation_of, middle, some_base, is_among, real_peopled, unseen_peopled, real_if, RealFrom}
+use Rattle.seam_law_clients.proofs.Prelude.{real_there, ClientReplica, new_client}
+use Rattle.std.specs.List.{IsDistinct}
 use Rattle.std.specs.FinMap as table
-use Rattle.seam_node_steps.specs.Prelude.{Division, leaf_at, cells_of, Create, Order, Batch, real_begins, Here, cell_count, base_of}
-use Rattle.seam_node_steps.specs.Prelude.{new_witness, RealView, WitnessView, Map, set_at, BaseView, RouteView, NodeView, World, Cell, Base}
-use Rattle.seam_node_steps.specs.Prelude.{part_if, with_route, created_at, attached, cell_round, base_round, order_if, ordered_at, loaded}
-use Rattle.seam_law_flow.specs.Prelude.{slot_at}
-use Rattle.seam_law_calls.specs.Prelude.{Frame, here_at, has_of, has_none, entity_flow, real_in, IsBaseNumber, real_at}
-use Rattle.seam_law_rounds.specs.Prelude.{MayBeMade, framed, each, node_loaded, MayBeLoaded}
-use Rattle.seam_law_clients.specs.Prelude.{FitsWitness, ClientsFit, clients_loaded}
-use Rattle.seam_node_steps.proofs.Slots.{get-set_at}
-use Rattle.seam_law_rounds.proofs.Loading.{each_keeps, Any, any}
-use Rattle.seam_law_rounds.proofs.Loaded.{slot_is}
-use Rattle.seam_law_rounds.proofs.Making.{Creation, nowhere, once, creation_of, middle}
-use Rattle.seam_law_rounds.proofs.Giving.{some_base}
-use Rattle.seam_law_rounds.proofs.Joining.{is_among, real_peopled, unseen_peopled}
-use Rattle.seam_law_rounds.proofs.Attaching.{real_if, RealFrom, real_there}
-use Rattle.seam_rule_clients.specs.Clients.{ClientReplica, new_client}
+use Rattle.seam_node_steps.specs.Prelude.{part_if}
 use Rattle.seam_law_clients.proofs.Ending.{some_route}
 
 -- ---- a new client fits a new witness

@@ -1,17 +1,16 @@
 -- A base node in the phase of looks: but for the tick that is ordered it sends nothing, and gets no order.
-use Rattle.std.proofs.Common.{◌≡◌, ℕ, zero, suc, ◌+◌, ◌<◌, ◌≤◌, Bool, true, false, cond, not, List, [], ◌∷◌, map, Option, None, Some, refl}
-use Rattle.std.proofs.Common.{ap, ◌∙◌, arith, inl, inr}
-use Rattle.std.specs.List.{range_with_len}
+use Rattle.seam_law_clients.proofs.Prelude.{◌≡◌, ℕ, zero, suc, ◌+◌, ◌<◌, ◌≤◌, Bool, true, false, cond, not, List, [], ◌∷◌, map, Option}
+use Rattle.seam_law_clients.proofs.Prelude.{None, Some, refl, ap, ◌∙◌, arith, inl, inr, range_with_len, cases_eq, cases_lt, ne_eqb, eq-eqb}
+use Rattle.seam_law_clients.proofs.Prelude.{Stepped, items_to, Task, From, Call as CallData, Shown, Msg, BaseCall, Current, Tick, Here}
+use Rattle.seam_law_clients.proofs.Prelude.{cell_count, base_of, numbered, BaseView, PartView, ProxyView, RouteView, with_part, sends_none}
+use Rattle.seam_law_clients.proofs.Prelude.{part_called, newer_route, current, updated_proxy, update, case_of, ready_part, ready_proxy}
+use Rattle.seam_law_clients.proofs.Prelude.{proxy_task, task_without_orders, base_task, base_steps, tick_to, may_show, after_ready}
+use Rattle.seam_law_clients.proofs.Prelude.{ready_order, Update as UpdateData, is_stray, may_execute}
 use Rattle.std.specs.FinMap as table
-use Rattle.std.proofs.lemmas.Bool.{cases_eq, cases_lt, ne_eqb, eq-eqb}
-use Rattle.seam_node_steps.specs.Prelude.{Stepped, items_to, Task, From, Call as CallData, Shown, Msg, BaseCall, Current, Tick, Update}
-use Rattle.seam_node_steps.specs.Prelude.{Here, cell_count, base_of, numbered, BaseView, PartView, ProxyView, RouteView, with_part}
-use Rattle.seam_node_steps.specs.Prelude.{sends_none, part_called, newer_route, current, updated_proxy, update, case_of, ready_part}
-use Rattle.seam_node_steps.specs.Prelude.{ready_proxy, proxy_task, task_without_orders, base_task, base_steps, tick_to, may_show}
-use Rattle.seam_node_steps.specs.Prelude.{after_ready, after_showing, ready_order}
+use Rattle.seam_node_steps.specs.Prelude.{Update}
+use Rattle.seam_node_steps.specs.Prelude.{after_showing}
 use Rattle.seam_call.specs.declared.order.Order.TheVariants as order
-use Rattle.seam_call.specs.declared.shown.Update.{Update as UpdateData}
-use Rattle.seam_node_steps.specs.BaseCases.{unless_stray, is_stray, may_execute}
+use Rattle.seam_node_steps.specs.BaseCases.{unless_stray}
 
 -- the step leaves the orders, and sends nothing
 abbrev pub IsStill : BaseView → Stepped BaseView Msg → Type 0

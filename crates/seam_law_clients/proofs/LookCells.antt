@@ -1,23 +1,18 @@
 -- A cell in the phase of looks: some of its witnesses have looked, and the others wait in its look list.
-use Rattle.std.proofs.Common.{◌≡◌, ℕ, ◌+◌, Bool, true, false, cond, not, ◌||◌, is_some, T, List, [], ◌∷◌, map, filter, find, length, Option}
-use Rattle.std.proofs.Common.{None, Some, refl, sym, ap, ◌∙◌, arith}
-use Rattle.std.specs.Prelude.{option_map}
-use Rattle.std.specs.List.{AllByRecursion, list_any}
-use Rattle.std.specs.Ordering.{nat_cmp, eq_by_cmp}
-use Rattle.std.specs.Cmp.{nat_cmp_total}
+use Rattle.seam_law_clients.proofs.Prelude.{◌≡◌, ℕ, ◌+◌, Bool, true, false, cond, not, ◌||◌, is_some, T, List, [], ◌∷◌, map, find, length}
+use Rattle.seam_law_clients.proofs.Prelude.{Option, None, Some, refl, sym, ap, ◌∙◌, arith, option_map, AllByRecursion, list_any, nat_cmp}
+use Rattle.seam_law_clients.proofs.Prelude.{eq_by_cmp, nat_cmp_total, is_sorted, is_some-find, same_entries, nat_tests, found, Stepped}
+use Rattle.seam_law_clients.proofs.Prelude.{copy_in, Here, base_of, is_small, has_ready, RealView, WitnessView, Msg, number_of, has_any}
+use Rattle.seam_law_clients.proofs.Prelude.{unless_stray, other_of_real, other_of_copy, looks_of, shown_of, after_looking, looks_with}
+use Rattle.seam_law_clients.proofs.Prelude.{stray_look_by, numbered, CellView, slot_of, stepped, known_to, has_witness, witnesses}
+use Rattle.seam_law_clients.proofs.Prelude.{cell_task, ready_next, look_next, ready_entity, real_is_ready, looks_around, cell_has_work}
+use Rattle.seam_law_clients.proofs.Prelude.{witness_looked, looked_by, having_looked, get-set_at, first, second, tied_same, none_below}
+use Rattle.seam_law_clients.proofs.Prelude.{passing, find_filter, sorted_filter, or_else, known_by, known_at, unless_self, known_rises}
+use Rattle.seam_law_clients.proofs.Prelude.{known_to_is}
+use Rattle.std.proofs.Common.{filter}
 use Rattle.std.specs.FinMap as table
-use Rattle.std.specs.FinMap.Entries.{is_sorted, is_some-find, same_entries}
-use Rattle.std.proofs.lemmas.Bool.Decides.{nat_tests}
-use Rattle.seam_table.proofs.Found.{found}
-use Rattle.seam_node_steps.specs.Prelude.{Stepped, copy_in, Here, base_of, is_small, has_ready, RealView, WitnessView, Msg, number_of}
-use Rattle.seam_node_steps.specs.Prelude.{has_any, unless_stray, other_of_real, other_of_copy, looks_of, shown_of, after_looking}
-use Rattle.seam_node_steps.specs.Prelude.{looks_with, look_by, stray_look_by, numbered, CellView, slot_of, stepped, known_to, has_witness}
-use Rattle.seam_node_steps.specs.Prelude.{witnesses, tick, cell_task, ready_next, look_next, ready_entity, real_is_ready, looks_around}
-use Rattle.seam_node_steps.specs.Prelude.{cell_has_work}
-use Rattle.seam_law_clients.specs.Prelude.{witness_looked, looked_by, having_looked}
-use Rattle.seam_node_steps.proofs.Slots.{get-set_at}
-use Rattle.seam_node_steps.proofs.Sorted.{first, second, tied_same, none_below, passing, find_filter, sorted_filter, or_else}
-use Rattle.seam_node_steps.proofs.Knowing.{known_by, known_at, unless_self, known_rises, known_to_is}
+use Rattle.seam_node_steps.specs.Prelude.{look_by}
+use Rattle.seam_node_steps.specs.Prelude.{tick}
 
 -- whether the entity is in the list
 abbrev pub is_in : ℕ → List ℕ → Bool

@@ -1,27 +1,15 @@
 -- The phase of looks from its load to its quiet end: each witness has looked once.
-use Rattle.std.proofs.Common.{◌≡◌, ℕ, ◌<◌, ◌≤◌, ◌⊎◌, Bool, true, false, cond, eqb, is_some, List, [], ◌∷◌, ◌++◌, length, Option, None, Some}
-use Rattle.std.proofs.Common.{refl, sym, ap, ◌∙◌, subst, arith, inl, inr}
-use Rattle.std.specs.Prelude.{option_map, slice_get, slice_index_or}
-use Rattle.std.specs.List.{AllByRecursion}
-use Rattle.std.specs.Ordering.{nat_cmp}
+use Rattle.seam_law_clients.proofs.Prelude.{◌≡◌, ℕ, ◌<◌, ◌≤◌, ◌⊎◌, Bool, true, false, cond, eqb, is_some, List, [], ◌∷◌, ◌++◌, length}
+use Rattle.seam_law_clients.proofs.Prelude.{Option, None, Some, refl, sym, ap, ◌∙◌, subst, arith, inl, inr, option_map, slice_get}
+use Rattle.seam_law_clients.proofs.Prelude.{slice_index_or, AllByRecursion, nat_cmp, eq-eqb, slice_get-map, slice_get_cases, length-map}
+use Rattle.seam_law_clients.proofs.Prelude.{IsQuiet, Event, RealView, WitnessView, cell_count, number_of, has_any, BaseView, CellView}
+use Rattle.seam_law_clients.proofs.Prelude.{has_witness, witnesses, NodeView, World, node_steps, node_has_work, Cell, Base, order_if}
+use Rattle.seam_law_clients.proofs.Prelude.{ordered_at, look_loaded, slot_at, Frame, has_of, has_none, real_in, RunsTo, real_at}
+use Rattle.seam_law_clients.proofs.Prelude.{IsBetweenRounds, having_looked, HaveRoomToLook, quiet_links, quiet_tasks, leads_keeps, neither}
+use Rattle.seam_law_clients.proofs.Prelude.{none_left, look_framed, some_base, each_found}
 use Rattle.std.specs.FinMap as table
-use Rattle.std.proofs.lemmas.Bool.{eq-eqb}
-use Rattle.std.proofs.lemmas.Option.{slice_get-map, slice_get_cases}
-use Rattle.std.proofs.lemmas.List.{length-map}
-use Rattle.seam_node_steps.specs.Prelude.{IsQuiet, Event, RealView, WitnessView, cell_count, number_of, has_any, BaseView, CellView}
-use Rattle.seam_node_steps.specs.Prelude.{has_witness, witnesses, NodeView, World, node_steps, node_has_work, Cell, Base, order_if}
-use Rattle.seam_node_steps.specs.Prelude.{ordered_at, look_loaded}
-use Rattle.seam_law_flow.specs.Prelude.{slot_at}
-use Rattle.seam_law_calls.specs.Prelude.{Frame, has_of, has_none, real_in, RunsTo, real_at}
-use Rattle.seam_law_rounds.specs.Prelude.{IsBetweenRounds}
-use Rattle.seam_law_clients.specs.Prelude.{having_looked, HaveRoomToLook}
-use Rattle.seam_machine.proofs.Quiet.{quiet_links, quiet_tasks}
-use Rattle.seam_net_runs.proofs.Runs.{leads_keeps}
 use Rattle.seam_call.specs.declared.order.Order.TheVariants as order
-use Rattle.seam_law_calls.proofs.Quieting.{neither, none_left}
 use Rattle.seam_law_rounds.proofs.Shape.{many_leads}
-use Rattle.seam_law_rounds.proofs.Giving.{look_framed, some_base}
-use Rattle.seam_node_steps.proofs.Sorted.{each_found}
 use Rattle.seam_law_clients.proofs.Near.{all_filtered}
 use Rattle.seam_law_clients.proofs.LookCells.{MayLook, IsMidway, work_is}
 use Rattle.seam_law_clients.proofs.LookRuns.{tick_order, unready, CellAt, ordered, told, midway, IsLooking, looking_more}

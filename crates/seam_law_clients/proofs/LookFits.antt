@@ -1,22 +1,14 @@
 -- After the phase of looks each client, which was shown one look at the flat table, fits its witness again.
-use Rattle.std.proofs.Common.{◌≡◌, ℕ, Bool, true, false, List, Option, None, Some, refl, sym, ap, ◌∙◌, subst, arith}
-use Rattle.std.specs.Prelude.{option_map, slice_get}
-use Rattle.std.proofs.lemmas.Option.{slice_get-map}
-use Rattle.seam_node_steps.specs.Prelude.{IsQuiet, Event, RealView, WitnessView, BaseView, CellView, NodeView, World, node_has_work, Cell}
-use Rattle.seam_node_steps.specs.Prelude.{Base, order_if, ordered_at, look_loaded}
-use Rattle.seam_law_flow.specs.Prelude.{slot_at}
-use Rattle.seam_law_calls.specs.Prelude.{Frame, IsInFrame, has_of, has_none, entity_flow, real_in, RunsTo, real_at}
-use Rattle.seam_law_rounds.specs.Prelude.{IsBetweenRounds}
-use Rattle.seam_law_ghosts.specs.Prelude.{HadSameReal}
-use Rattle.seam_law_clients.specs.Prelude.{rows_of, FitsWitness, ClientsFit, witness_looked, looked_by, having_looked, HaveRoomToLook}
+use Rattle.seam_law_clients.proofs.Prelude.{◌≡◌, ℕ, Bool, true, false, List, Option, None, Some, refl, sym, ap, ◌∙◌, subst, arith}
+use Rattle.seam_law_clients.proofs.Prelude.{option_map, slice_get, slice_get-map, IsQuiet, Event, RealView, WitnessView, BaseView, CellView}
+use Rattle.seam_law_clients.proofs.Prelude.{NodeView, World, node_has_work, Cell, Base, order_if, ordered_at, look_loaded, slot_at, Frame}
+use Rattle.seam_law_clients.proofs.Prelude.{IsInFrame, has_of, has_none, entity_flow, real_in, RunsTo, real_at, IsBetweenRounds}
+use Rattle.seam_law_clients.proofs.Prelude.{HadSameReal, rows_of, FitsWitness, ClientsFit, witness_looked, looked_by, having_looked}
+use Rattle.seam_law_clients.proofs.Prelude.{HaveRoomToLook, look_framed, HasRoute, route_moves, ClientReplica, after_all_shown, one_look}
+use Rattle.seam_law_clients.proofs.Prelude.{all_lead, units}
 use Rattle.seam_call.specs.declared.order.Order.TheVariants as order
-use Rattle.seam_law_rounds.proofs.Giving.{look_framed}
-use Rattle.seam_law_calls.proofs.RoutesKept.{HasRoute, route_moves}
-use Rattle.seam_rule_clients.specs.Clients.{ClientReplica, after_all_shown}
-use Rattle.seam_rule_clients.specs.Looks.{one_look}
 use Rattle.seam_law_clients.proofs.LookRuns.{tick_order}
 use Rattle.seam_law_clients.proofs.LookEnds.{looked}
-use Rattle.seam_law_calls.proofs.Keeping.{all_lead, units}
 
 -- ---- a route stays one
 

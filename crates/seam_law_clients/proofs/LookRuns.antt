@@ -1,26 +1,19 @@
 -- The phase of looks over every list of events: each cell waits for its tick, or some of its witnesses have looked.
-use Rattle.std.proofs.Common.{◌≡◌, ℕ, ◌<◌, ◌≤◌, ◌⊎◌, Bool, true, false, cond, eqb, ◌&&◌, is_some, List, [], ◌∷◌, ◌++◌, map, find, Option}
-use Rattle.std.proofs.Common.{None, Some, refl, sym, ap, ◌∙◌, subst, arith, inl, inr}
-use Rattle.std.specs.Prelude.{option_map, slice_get, drop}
-use Rattle.std.specs.List.{AllByRecursion, range_with_len}
+use Rattle.seam_law_clients.proofs.Prelude.{◌≡◌, ℕ, ◌<◌, ◌≤◌, ◌⊎◌, Bool, true, false, cond, eqb, ◌&&◌, is_some, List, [], ◌∷◌, ◌++◌, map}
+use Rattle.seam_law_clients.proofs.Prelude.{find, Option, None, Some, refl, sym, ap, ◌∙◌, subst, arith, inl, inr, option_map, slice_get}
+use Rattle.seam_law_clients.proofs.Prelude.{drop, AllByRecursion, range_with_len, cases_eq, cases_lt, ne_eqb, eq-eqb, cells_of, link}
+use Rattle.seam_law_clients.proofs.Prelude.{letter, input_from, happens, enabled, Occurs, items_to, Event, Input, Task, From, Order}
+use Rattle.seam_law_clients.proofs.Prelude.{RealView, has_ready, Msg, Tick, cell_count, base_of, number_of, has_any, BaseView, base_steps}
+use Rattle.seam_law_clients.proofs.Prelude.{tick_to, CellView, cell_steps, cell_has_work, ready_entity, real_is_ready, witnesses, NodeView}
+use Rattle.seam_law_clients.proofs.Prelude.{World, node_steps, node_has_work, Cell, Base, slot_at, Frame, IsInFrame, has_of, has_none}
+use Rattle.seam_law_clients.proofs.Prelude.{real_in, IsBetweenRounds, having_looked, occurs, quiet_tasks, sound_sends, node_laws}
+use Rattle.seam_law_clients.proofs.Prelude.{frame_happens, neither, none_left, none_some, got_fails}
 use Rattle.std.specs.FinMap as table
-use Rattle.std.proofs.lemmas.Bool.{cases_eq, cases_lt, ne_eqb, eq-eqb}
-use Rattle.seam_node_steps.specs.Prelude.{cells_of, link, letter, input_from, happens, enabled, Occurs, items_to, Event, Input, Task, From}
-use Rattle.seam_node_steps.specs.Prelude.{Order, RealView, has_ready, Msg, Tick, cell_count, base_of, number_of, has_any, BaseView}
-use Rattle.seam_node_steps.specs.Prelude.{base_steps, tick_to, CellView, cell_steps, cell_has_work, ready_entity, real_is_ready, witnesses}
-use Rattle.seam_node_steps.specs.Prelude.{tick, NodeView, World, node_steps, node_has_work, Cell, Base}
-use Rattle.seam_law_flow.specs.Prelude.{slot_at}
-use Rattle.seam_law_calls.specs.Prelude.{Frame, IsInFrame, has_of, has_none, real_in}
-use Rattle.seam_law_rounds.specs.Prelude.{IsBetweenRounds}
-use Rattle.seam_law_clients.specs.Prelude.{having_looked}
+use Rattle.seam_node_steps.specs.Prelude.{tick}
 use Rattle.seam_machine.specs.Events.{is_from, link_left, link_added}
-use Rattle.seam_machine.proofs.Occurring.{occurs, occurs_works, node_here, node_there}
-use Rattle.seam_machine.proofs.Quiet.{quiet_tasks}
+use Rattle.seam_machine.proofs.Occurring.{occurs_works, node_here, node_there}
 use Rattle.seam_net_runs.proofs.Keeping.{link_is_exact}
-use Rattle.seam_net_runs.proofs.Soundness.{sound_sends}
 use Rattle.seam_call.specs.declared.order.Order.TheVariants as order
-use Rattle.seam_law_calls.proofs.Classify.{node_laws, frame_happens}
-use Rattle.seam_law_calls.proofs.Quieting.{neither, none_left, none_some, got_fails}
 use Rattle.seam_law_clients.proofs.LookCells.{MayLook, IsMidway, work_is, step_is, now, next_midway, tick_midway}
 use Rattle.seam_law_clients.proofs.LookBases.{hears_still, task_still, tick_sends, ticks_beyond, ticks_within, updates_away, base_is_high}
 

@@ -1,23 +1,12 @@
 -- A look: what it tells may be shown and is true, and what the client shows after it fits what it leaves of the witness.
-use Rattle.std.proofs.Common.{◌≡◌, ℕ, ◌≤◌, Bool, true, false, not, cond, eqb, ltb, List, [], ◌∷◌, ◌++◌, map, Option, None, Some, refl, sym}
-use Rattle.std.proofs.Common.{ap, ◌∙◌, subst, arith}
-use Rattle.std.specs.Prelude.{option_map}
-use Rattle.std.specs.List.{filter_map}
-use Rattle.std.specs.Ordering.{nat_cmp}
+use Rattle.seam_law_clients.proofs.Prelude.{◌≡◌, ℕ, ◌≤◌, Bool, true, false, not, cond, eqb, ltb, List, [], ◌∷◌, ◌++◌, map, Option, None}
+use Rattle.seam_law_clients.proofs.Prelude.{Some, refl, sym, ap, ◌∙◌, subst, arith, option_map, filter_map, nat_cmp, nat_tests, Look}
+use Rattle.seam_law_clients.proofs.Prelude.{after_looks, view_after_looks, State, GhostCopy, Shown, Own, RealView, WitnessView, Known}
+use Rattle.seam_law_clients.proofs.Prelude.{seen_as, shown_for, own_due, after_looking, looks_of, shown_of, CellView, known_to, Frame}
+use Rattle.seam_law_clients.proofs.Prelude.{here_at, version_in, own_now, FitsWithin, KnowsTruth, ClientReplica, after_shown}
+use Rattle.seam_law_clients.proofs.Prelude.{after_all_shown, is_newer, Truth, ShowsRightly, known_at, known_rises, known_to_is}
 use Rattle.std.specs.FinMap as table
-use Rattle.std.proofs.lemmas.Bool.Decides.{nat_tests}
-use Rattle.seam_view.specs.declared.Look.{Look}
-use Rattle.seam_view.specs.Replica.{after_looks}
-use Rattle.seam_view.proofs.Kept.{view_after_looks}
-use Rattle.seam_node_steps.specs.Prelude.{State, GhostCopy, Shown, Own, RealView, WitnessView, Known, seen_as, shown_for, own_due}
-use Rattle.seam_node_steps.specs.Prelude.{after_looking, looks_of, shown_of, CellView, known_to}
-use Rattle.seam_law_calls.specs.Prelude.{Frame, here_at}
-use Rattle.seam_law_clients.specs.Prelude.{version_in, own_now, FitsWithin, KnowsTruth}
-use Rattle.seam_rule_clients.specs.Clients.{ClientReplica, after_shown, after_all_shown}
-use Rattle.seam_rule_clients.specs.Looks.{is_newer}
-use Rattle.seam_rule_clients.specs.Lines.{Truth, ShowsRightly}
 use Rattle.seam_law_clients.proofs.Near.{known_found}
-use Rattle.seam_node_steps.proofs.Knowing.{known_at, known_rises, known_to_is}
 use Rattle.seam_law_clients.proofs.OneLook.{own_by}
 use Rattle.seam_law_clients.proofs.After.{same_distances, follows}
 use Rattle.seam_law_clients.proofs.Lines.{looks_may_be_shown, looks_are_true}

@@ -1,23 +1,13 @@
 -- A look at a flat table depends on those that are near alone.
-use Rattle.std.proofs.Common.{◌≡◌, ℕ, ◌+◌, Bool, true, false, not, cond, ◌&&◌, T, List, [], ◌∷◌, ◌++◌, map, Option, None, Some, refl, sym}
-use Rattle.std.proofs.Common.{ap, ◌∙◌, subst, arith}
-use Rattle.std.specs.Prelude.{nat_lt, nat_le, nat_eq, option_map}
-use Rattle.std.specs.List.{AllByRecursion, filter, filter_map, cons_option}
-use Rattle.std.specs.Ordering.{nat_cmp, eq_by_cmp}
-use Rattle.std.specs.Cmp.{nat_cmp_total}
+use Rattle.seam_law_clients.proofs.Prelude.{◌≡◌, ℕ, ◌+◌, Bool, true, false, not, cond, ◌&&◌, T, List, [], ◌∷◌, ◌++◌, map, Option, None}
+use Rattle.seam_law_clients.proofs.Prelude.{Some, refl, sym, ap, ◌∙◌, subst, arith, nat_lt, nat_le, nat_eq, option_map, AllByRecursion}
+use Rattle.seam_law_clients.proofs.Prelude.{filter, filter_map, cons_option, nat_cmp, eq_by_cmp, nat_cmp_total, is_sorted, same_entries}
+use Rattle.seam_law_clients.proofs.Prelude.{nat_tests, all_append, Pos, distance, GhostCopy, Shown, Set, Enter, Known, seen_as, known_of}
+use Rattle.seam_law_clients.proofs.Prelude.{shown_for, Seen, Look, Replica, seen_of, is_far, has_changed, in_view, is_gone, is_new}
+use Rattle.seam_law_clients.proofs.Prelude.{plain_look, tied_same, passing, find_filter, sorted_filter, each_found}
 use Rattle.std.specs.FinMap as table
-use Rattle.std.specs.FinMap.Entries.{is_sorted, same_entries}
-use Rattle.std.proofs.lemmas.Bool.Decides.{nat_tests}
-use Rattle.seam_law_flow.proofs.Following.{all_append}
-use Rattle.seam_node_steps.specs.Prelude.{Pos, distance, GhostCopy, Shown, Set, Enter, Known, seen_as, known_of, shown_for}
-use Rattle.seam_view.specs.declared.Seen.{Seen}
-use Rattle.seam_view.specs.declared.Look.{Look}
 use Rattle.seam_view.specs.declared.Look.TheVariants as look
-use Rattle.seam_view.specs.Replica.{Replica, seen_of}
-use Rattle.seam_view.specs.ViewLooks.{is_far, has_changed, in_view}
-use Rattle.seam_view.specs.Plain.{is_gone, is_new, plain_look}
 pub use Rattle.seam_node_steps.proofs.Knowing.{known_found}
-use Rattle.seam_node_steps.proofs.Sorted.{tied_same, passing, find_filter, sorted_filter, each_found}
 
 -- ---- what is known, by number
 

@@ -1,39 +1,24 @@
 -- In a world between rounds a witness tells one look at the flat table.
-use Rattle.std.proofs.Common.{◌≡◌, ℕ, ◌+◌, ◌<◌, ◌≤◌, ◌⊎◌, Bool, true, false, cond, List, [], ◌∷◌, ◌++◌, map, Option, None, Some, refl, sym}
-use Rattle.std.proofs.Common.{ap, ◌∙◌, arith, inl, inr}
-use Rattle.std.specs.Prelude.{option_map, slice_get, nat_lt, max}
-use Rattle.std.specs.List.{AllByRecursion, filter_map}
-use Rattle.std.specs.Ordering.{nat_cmp}
+use Rattle.seam_law_clients.proofs.Prelude.{◌≡◌, ℕ, ◌+◌, ◌<◌, ◌≤◌, ◌⊎◌, Bool, true, false, cond, List, [], ◌∷◌, ◌++◌, map, Option, None}
+use Rattle.seam_law_clients.proofs.Prelude.{Some, refl, sym, ap, ◌∙◌, arith, inl, inr, option_map, slice_get, nat_lt, max, AllByRecursion}
+use Rattle.seam_law_clients.proofs.Prelude.{filter_map, nat_cmp, cases_eq, nat_tests, Pos, distance, State, Property, ghost_of, other_of}
+use Rattle.seam_law_clients.proofs.Prelude.{own_of, projected, type_of, copy_in, GhostCopy, Own, Here, cell_count, properties, RealView}
+use Rattle.seam_law_clients.proofs.Prelude.{WitnessView, Known, seen_as, other_of_real, other_of_copy, shown_for, own_due, shown_of}
+use Rattle.seam_law_clients.proofs.Prelude.{CellView, known_to, is_another, copy_if, holders, World, node_has_work, Cell, slot_at}
+use Rattle.seam_law_clients.proofs.Prelude.{letters_of, Frame, here_at, has_of, has_none, mine, real_in, real_of, real_at, IsBetweenRounds}
+use Rattle.seam_law_clients.proofs.Prelude.{present, copy_at, AreCopiesBetweenRounds, row_of_real, rows_of, version_in, FitsWitness}
+use Rattle.seam_law_clients.proofs.Prelude.{quiet_links, Seen, Look, Replica, IsView, is_far, not_older, plain_look, AreNotOlder}
+use Rattle.seam_law_clients.proofs.Prelude.{none_counts, Somewhere, Nowhere, search_real, ClientReplica, Row, row_of, rows_but, seen}
+use Rattle.seam_law_clients.proofs.Prelude.{is_newer, own_shown, look_at, look_by, one_look, each_found, known_by, known_at, known_rises}
+use Rattle.seam_law_clients.proofs.Prelude.{known_to_is}
 use Rattle.std.specs.FinMap as table
 use Rattle.std.specs.FinSet as set
-use Rattle.std.proofs.lemmas.Bool.{cases_eq}
-use Rattle.std.proofs.lemmas.Bool.Decides.{nat_tests}
-use Rattle.seam_node_steps.specs.Prelude.{Pos, distance, State, Property, ghost_of, other_of, own_of, projected, type_of, copy_in}
-use Rattle.seam_node_steps.specs.Prelude.{GhostCopy, Own, Here, cell_count, properties, RealView, WitnessView, Known, seen_as}
-use Rattle.seam_node_steps.specs.Prelude.{other_of_real, other_of_copy, shown_for, own_due, all_shown, shown_of, CellView, known_to}
-use Rattle.seam_node_steps.specs.Prelude.{is_another, copy_if, holders, World, node_has_work, Cell}
-use Rattle.seam_law_flow.specs.Prelude.{slot_at, letters_of}
-use Rattle.seam_law_calls.specs.Prelude.{Frame, here_at, has_of, has_none, mine, real_in, real_of, real_at}
-use Rattle.seam_law_rounds.specs.Prelude.{IsBetweenRounds}
-use Rattle.seam_law_ghosts.specs.Prelude.{present, copy_at, AreCopiesBetweenRounds}
-use Rattle.seam_law_clients.specs.Prelude.{row_of_real, rows_of, version_in, FitsWitness}
+use Rattle.seam_node_steps.specs.Prelude.{all_shown}
 use Rattle.seam_geo.specs.Pos.{gap}
-use Rattle.seam_machine.proofs.Quiet.{quiet_links}
-use Rattle.seam_view.specs.declared.Seen.{Seen}
-use Rattle.seam_view.specs.declared.Look.{Look}
-use Rattle.seam_view.specs.Replica.{Replica, IsView}
 use Rattle.seam_view.specs.ViewLooks as view
-use Rattle.seam_view.specs.ViewLooks.{is_far, not_older}
-use Rattle.seam_view.specs.Plain.{plain_look, AreNotOlder}
 use Rattle.seam_defs.specs.declared.flags.Group.TheVariants as group
-use Rattle.seam_law_calls.proofs.Counting.{none_counts}
-use Rattle.seam_law_rounds.proofs.Shape.{Somewhere, Nowhere, search_real}
-use Rattle.seam_rule_clients.specs.Clients.{ClientReplica}
 use Rattle.seam_rule_clients.specs.Looks as replica
-use Rattle.seam_rule_clients.specs.Looks.{Row, row_of, rows_but, seen, is_newer, own_shown, look_at, look_by, one_look}
-use Rattle.seam_node_steps.proofs.Sorted.{each_found}
 use Rattle.seam_law_clients.proofs.Near.{near, AreAlike, lines_alike}
-use Rattle.seam_node_steps.proofs.Knowing.{known_by, known_at, known_rises, known_to_is}
 use Rattle.seam_law_clients.proofs.Rows.{found_in, IsRowIn, real_among, searched, row_found, others, others_rise, others_found, seen_others}
 use Rattle.seam_law_clients.proofs.Rows.{lines_of_others}
 

@@ -1,16 +1,9 @@
 -- What is true of an entity's one real is true of each; and a client fits a witness as its real goes on.
-use Rattle.std.proofs.Common.{◌≡◌, ℕ, ◌+◌, List, [], ◌∷◌, length, Option, None, Some, refl, sym, ap, ◌∙◌, subst, arith, inl, inr}
-use Rattle.std.specs.Prelude.{option_map}
-use Rattle.std.specs.List.{AllByRecursion}
-use Rattle.std.proofs.lemmas.Bool.{cases_eq}
-use Rattle.seam_node_steps.specs.Prelude.{State, own_of, type_of, Call, RealView, WitnessView, Msg, World}
-use Rattle.seam_law_flow.specs.Prelude.{letters_of, more_letter, TokenPlace, In, On}
-use Rattle.seam_law_calls.specs.Prelude.{Frame, entity_flow, real_in, real_of, IsOne, Replays, account_of, after_calls, EachReal}
-use Rattle.seam_law_clients.specs.Prelude.{version_in, own_now, FitsWithin}
-use Rattle.seam_law_flow.proofs.TokenLemmas.{sole_here}
-use Rattle.seam_law_ghosts.proofs.Present.{replay_version}
-use Rattle.seam_law_calls.proofs.WitnessKept.{OfReal}
-use Rattle.seam_rule_clients.specs.Clients.{ClientReplica}
+use Rattle.seam_law_clients.proofs.Prelude.{◌≡◌, ℕ, ◌+◌, List, [], ◌∷◌, length, Option, None, Some, refl, sym, ap, ◌∙◌, subst, arith, inl}
+use Rattle.seam_law_clients.proofs.Prelude.{inr, option_map, AllByRecursion, cases_eq, State, own_of, type_of, Call, RealView, WitnessView}
+use Rattle.seam_law_clients.proofs.Prelude.{Msg, World, letters_of, more_letter, TokenPlace, In, On, Frame, entity_flow, real_in, real_of}
+use Rattle.seam_law_clients.proofs.Prelude.{IsOne, Replays, account_of, after_calls, EachReal, version_in, own_now, FitsWithin, sole_here}
+use Rattle.seam_law_clients.proofs.Prelude.{replay_version, OfReal, ClientReplica}
 
 module _ (P : RealView → Type 0) where
   hands_by : (m : Msg) (ms : List Msg) (o : Option RealView) → real_of m ≡ o → AllByRecursion P (more_letter o (letters_of real_of ms)) →

@@ -1,39 +1,24 @@
 -- Where entities are reaped, each base part stays as it is, with its client and what that was shown, until it is gone.
-use Rattle.std.proofs.Common.{◌≡◌, ℕ, ◌+◌, ◌≤◌, Bool, true, false, cond, eqb, List, [], ◌∷◌, Option, None, Some, refl, sym, ap, ◌∙◌, ◌++◌}
-use Rattle.std.proofs.Common.{subst, arith, inl, inr, append_assoc}
-use Rattle.std.specs.Prelude.{option_map, slice_get}
-use Rattle.std.specs.List.{AllByRecursion}
+use Rattle.seam_law_clients.proofs.Prelude.{◌≡◌, ℕ, ◌+◌, ◌≤◌, Bool, true, false, cond, eqb, List, [], ◌∷◌, Option, None, Some, refl, sym}
+use Rattle.seam_law_clients.proofs.Prelude.{ap, ◌∙◌, ◌++◌, subst, arith, inl, inr, append_assoc, option_map, slice_get, AllByRecursion}
+use Rattle.seam_law_clients.proofs.Prelude.{cases_eq, eq-eqb, slice_get-map, happens, enabled, IsQuiet, total, Event, OrderView}
+use Rattle.seam_law_clients.proofs.Prelude.{Call as CallData, Order, Shown, is_ready, order_or, RealView, WitnessView, Msg, BaseCall, Here}
+use Rattle.seam_law_clients.proofs.Prelude.{PartView, ProxyView, holders, NodeView, World, node_steps, node_has_work, with_nodes}
+use Rattle.seam_law_clients.proofs.Prelude.{reap_ordered_at, reaps_loaded, comes, slot_at, Frame, here_at, IsInFrame, Has, AtBase, times}
+use Rattle.seam_law_clients.proofs.Prelude.{has_of, has_none, entity_flow, BaseMoves, updated, Moves, at_a_cell, at_a_base, base_call_in}
+use Rattle.seam_law_clients.proofs.Prelude.{update_in, calls_ordered, PartMoves, rests, refuses, offers, sends, serves, executes, misses}
+use Rattle.seam_law_clients.proofs.Prelude.{updates, shows, ends, home_of, HasNoBaseCalls, HasNoPart, RunsTo, real_at, IsBetweenRounds}
+use Rattle.seam_law_clients.proofs.Prelude.{each, AreReapable, AreFor, HasSettledPart, HasPartsBetweenRounds, occurs, quiet_tasks}
+use Rattle.seam_law_clients.proofs.Prelude.{leads_nowhere, leads_extend, leads_keeps, slots_kept, came, Update as UpdateData, event_moves}
+use Rattle.seam_law_clients.proofs.Prelude.{frame_happens, quiet_home, order_reaps, none_ready, idle_orders, reaps_framed, reaps_given}
+use Rattle.seam_law_clients.proofs.Prelude.{part_moves, reaps_part, reaps_tell_none, all_lead, units}
 use Rattle.std.specs.FinMap as table
-use Rattle.std.proofs.lemmas.Bool.{cases_eq, eq-eqb}
-use Rattle.std.proofs.lemmas.Option.{slice_get-map}
-use Rattle.seam_node_steps.specs.Prelude.{happens, enabled, IsQuiet, total, Event, OrderView, Call as CallData, Order, Shown, is_ready}
-use Rattle.seam_node_steps.specs.Prelude.{order_or, RealView, WitnessView, Msg, BaseCall, Update, Here, PartView, ProxyView, holders}
-use Rattle.seam_node_steps.specs.Prelude.{NodeView, World, node_steps, node_has_work, with_nodes, reap_ordered_at, reaps_loaded}
-use Rattle.seam_law_flow.specs.Prelude.{comes, slot_at}
-use Rattle.seam_law_calls.specs.Prelude.{Frame, here_at, IsInFrame, Has, AtBase, times, has_of, has_none, entity_flow, BaseMoves, updated}
-use Rattle.seam_law_calls.specs.Prelude.{Moves, at_a_cell, at_a_base, base_call_in, update_in, calls_ordered, PartMoves, rests, refuses}
-use Rattle.seam_law_calls.specs.Prelude.{offers, sends, serves, executes, misses, updates, shows, ends, home_of, HasNoBaseCalls, HasNoPart}
-use Rattle.seam_law_calls.specs.Prelude.{RunsTo, real_at}
-use Rattle.seam_law_rounds.specs.Prelude.{IsBetweenRounds, each, AreReapable, AreFor, HasSettledPart, HasPartsBetweenRounds}
-use Rattle.seam_machine.proofs.Occurring.{occurs}
-use Rattle.seam_machine.proofs.Quiet.{quiet_tasks}
-use Rattle.seam_net_runs.proofs.Runs.{leads_nowhere, leads_extend, leads_keeps}
-use Rattle.seam_law_flow.proofs.Following.{slots_kept, came}
+use Rattle.seam_node_steps.specs.Prelude.{Update}
 use Rattle.seam_call.specs.declared.order.Order.TheVariants as order
-use Rattle.seam_call.specs.declared.shown.Update.{Update as UpdateData}
 use Rattle.seam_law_calls.specs.BaseMoves as move
-use Rattle.seam_law_calls.proofs.Classify.{event_moves, frame_happens}
-use Rattle.seam_law_rounds.proofs.Ready.{quiet_home}
-use Rattle.seam_law_rounds.proofs.Calm.{order_reaps}
-use Rattle.seam_law_rounds.proofs.CalmMoves.{none_ready}
-use Rattle.seam_law_rounds.proofs.Starting.{idle_orders}
-use Rattle.seam_law_rounds.proofs.Giving.{reaps_framed, reaps_given}
 use Rattle.seam_law_rounds.proofs.Reaping as reaping
-use Rattle.seam_law_calls.proofs.PartSteps.{part_moves}
 use Rattle.seam_law_calls.proofs.BaseQuiet.{no_call_left}
 use Rattle.seam_law_calls.proofs.Reaped.{no_call_comes, reaps_without_calls}
-use Rattle.seam_law_rounds.proofs.Calms.{reaps_part, reaps_tell_none}
-use Rattle.seam_law_calls.proofs.Keeping.{all_lead, units}
 
 -- ---- a part for which nothing waits stays, or ends
 

@@ -1,28 +1,14 @@
 -- Reaps keep the record of clients: no witness tells anything, and the entities that are left are what they were.
-use Rattle.std.proofs.Common.{◌≡◌, ℕ, ◌≤◌, true, is_some, List, [], ◌∷◌, Option, None, Some, refl, sym, ap, ◌∙◌, subst, arith}
-use Rattle.std.specs.Prelude.{option_map, slice_get}
-use Rattle.std.specs.List.{AllByRecursion}
-use Rattle.std.proofs.lemmas.Option.{slice_get-map}
-use Rattle.seam_node_steps.specs.Prelude.{happens, enabled, Event, RealView, WitnessView, NodeView, World, node_steps, node_has_work}
-use Rattle.seam_node_steps.specs.Prelude.{with_nodes, reap_ordered_at, reaps_loaded}
-use Rattle.seam_law_flow.specs.Prelude.{slot_at, letters_of}
-use Rattle.seam_law_calls.specs.Prelude.{Frame, IsInFrame, mine, has_of, has_none, entity_flow, real_of, sent_by, tick_in, EachReal}
-use Rattle.seam_law_calls.specs.Prelude.{HasToldAtMost, HasNoLooks, RunsTo, real_at}
-use Rattle.seam_law_rounds.specs.Prelude.{IsBetweenRounds, each, AreReapable}
-use Rattle.seam_law_ghosts.specs.Prelude.{HadSameReal}
-use Rattle.seam_law_clients.specs.Prelude.{FitsWitness, ClientsFit}
-use Rattle.seam_machine.proofs.Occurring.{occurs}
-use Rattle.seam_machine.proofs.Quiet.{quiet_links, quiet_tasks}
-use Rattle.seam_net_runs.proofs.Runs.{leads_keeps}
-use Rattle.seam_law_rounds.proofs.Starting.{idle_orders}
-use Rattle.seam_law_rounds.proofs.Giving.{reaps_framed, reaps_given, reaps_cell, reals_stay}
+use Rattle.seam_law_clients.proofs.Prelude.{◌≡◌, ℕ, ◌≤◌, true, is_some, List, [], ◌∷◌, Option, None, Some, refl, sym, ap, ◌∙◌, subst, arith}
+use Rattle.seam_law_clients.proofs.Prelude.{option_map, slice_get, AllByRecursion, slice_get-map, happens, enabled, Event, RealView}
+use Rattle.seam_law_clients.proofs.Prelude.{WitnessView, NodeView, World, node_steps, node_has_work, with_nodes, reap_ordered_at}
+use Rattle.seam_law_clients.proofs.Prelude.{reaps_loaded, slot_at, letters_of, Frame, IsInFrame, mine, has_of, has_none, entity_flow}
+use Rattle.seam_law_clients.proofs.Prelude.{real_of, sent_by, tick_in, EachReal, HasToldAtMost, HasNoLooks, RunsTo, real_at}
+use Rattle.seam_law_clients.proofs.Prelude.{IsBetweenRounds, each, AreReapable, HadSameReal, FitsWitness, ClientsFit, occurs, quiet_links}
+use Rattle.seam_law_clients.proofs.Prelude.{quiet_tasks, leads_keeps, idle_orders, reaps_framed, reaps_given, reaps_cell, reals_stay}
+use Rattle.seam_law_clients.proofs.Prelude.{NoTicks, each_happens, reaps_without_ticks, idle_looks, reaps_leave, ClientReplica}
 use Rattle.seam_law_rounds.proofs.Reaping as reaping
-use Rattle.seam_law_calls.proofs.NoLooks.{NoTicks, WithoutLooks, looks_lead}
-use Rattle.seam_law_calls.proofs.WitnessKept.{each_happens}
-use Rattle.seam_law_rounds.proofs.Calms.{reaps_without_ticks}
-use Rattle.seam_law_rounds.proofs.Ticking.{idle_looks}
-use Rattle.seam_law_ghosts.proofs.Ends.{reaps_leave}
-use Rattle.seam_rule_clients.specs.Clients.{ClientReplica}
+use Rattle.seam_law_calls.proofs.NoLooks.{WithoutLooks, looks_lead}
 use Rattle.seam_law_clients.proofs.OneLook.{same_real}
 use Rattle.seam_law_clients.proofs.Ending.{some_route, routes_stay}
 

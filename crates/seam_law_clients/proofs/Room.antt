@@ -1,16 +1,10 @@
 -- In a world that keeps the record of base parts each witness has room to look.
-use Rattle.std.proofs.Common.{◌≡◌, ℕ, ◌+◌, ◌<◌, true, length, Some, sym, ap, ◌∙◌, arith, inl, inr}
-use Rattle.std.specs.Prelude.{slice_get}
+use Rattle.seam_law_clients.proofs.Prelude.{◌≡◌, ℕ, ◌+◌, ◌<◌, true, length, Some, sym, ap, ◌∙◌, arith, inl, inr, slice_get, cases_lt}
+use Rattle.seam_law_clients.proofs.Prelude.{nat_tests, copy_in, GhostCopy, limit, is_small, RealView, shown_of, CellView, known_to, World}
+use Rattle.seam_law_clients.proofs.Prelude.{Cell, slot_at, Frame, has_of, has_none, real_in, sent_of, most_entities, HasPartsBetweenRounds}
+use Rattle.seam_law_clients.proofs.Prelude.{HasSmallNumbers, HaveRoomToLook, told_few}
 use Rattle.std.specs.FinMap as table
-use Rattle.std.proofs.lemmas.Bool.{cases_lt}
-use Rattle.std.proofs.lemmas.Bool.Decides.{nat_tests}
-use Rattle.seam_node_steps.specs.Prelude.{copy_in, GhostCopy, limit, is_small, RealView, shown_of, CellView, known_to, World, Cell}
-use Rattle.seam_law_flow.specs.Prelude.{slot_at}
-use Rattle.seam_law_calls.specs.Prelude.{Frame, has_of, has_none, real_in, sent_of, most_entities}
-use Rattle.seam_law_rounds.specs.Prelude.{HasPartsBetweenRounds, HasSmallNumbers}
-use Rattle.seam_law_clients.specs.Prelude.{HaveRoomToLook}
 use Rattle.seam_law_calls.proofs.Below.{known_to_few}
-use Rattle.seam_law_calls.proofs.Telling.{told_few}
 
 pub small_of : (n : ℕ) → n < limit → is_small n ≡ true
 small_of n lt = grind (arith, nat_tests, lt)

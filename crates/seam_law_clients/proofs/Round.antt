@@ -1,22 +1,14 @@
 -- A whole round keeps the record of clients.
-use Rattle.std.proofs.Common.{◌≡◌, ℕ, ◌++◌, Option, None, Some, refl, sym, ap, ◌∙◌, subst}
-use Rattle.std.specs.Prelude.{slice_get}
-use Rattle.std.proofs.lemmas.List.Sums.{fold-append}
-use Rattle.seam_node_steps.specs.Prelude.{IsQuiet, Batch, RealView, WitnessView, World, node_has_work}
-use Rattle.seam_law_flow.specs.Prelude.{letters_of}
-use Rattle.seam_law_calls.specs.Prelude.{Frame, entity_flow, home_of, proxy_of, shown_in, lines_in, shown_at, real_at}
-use Rattle.seam_law_rounds.specs.Prelude.{IsBetweenRounds, framed, MayBeLoaded, HasPartsBetweenRounds, HasSmallNumbers}
-use Rattle.seam_law_ghosts.specs.Prelude.{AreCopiesBetweenRounds, GoesThroughRound, HadSameReal, ArePlaced}
-use Rattle.seam_law_clients.specs.Prelude.{rows_of, FitsWitness, ClientsFit, looked_by, having_looked, HaveRoomToLook, clients_shown}
-use Rattle.seam_law_rounds.proofs.CallsEnd.{calls_end_between}
+use Rattle.seam_law_clients.proofs.Prelude.{◌≡◌, ℕ, ◌++◌, Option, None, Some, refl, sym, ap, ◌∙◌, subst, slice_get, fold-append, IsQuiet}
+use Rattle.seam_law_clients.proofs.Prelude.{Batch, RealView, WitnessView, World, node_has_work, letters_of, Frame, entity_flow, home_of}
+use Rattle.seam_law_clients.proofs.Prelude.{proxy_of, shown_in, lines_in, shown_at, real_at, IsBetweenRounds, framed, MayBeLoaded}
+use Rattle.seam_law_clients.proofs.Prelude.{HasPartsBetweenRounds, HasSmallNumbers, AreCopiesBetweenRounds, GoesThroughRound, HadSameReal}
+use Rattle.seam_law_clients.proofs.Prelude.{ArePlaced, rows_of, FitsWitness, ClientsFit, looked_by, having_looked, HaveRoomToLook}
+use Rattle.seam_law_clients.proofs.Prelude.{clients_shown, calls_end_between, calls_end_with_parts, calls_end_small, reaps_end_with_parts}
+use Rattle.seam_law_clients.proofs.Prelude.{reaps_end_small, reaps_end_copied, calls_place, reaps_leave, looks_leave, stays_placed}
+use Rattle.seam_law_clients.proofs.Prelude.{ClientReplica, after_shown, after_all_shown, one_look}
 use Rattle.seam_law_rounds.proofs.Reaping.{reaps_end_between}
-use Rattle.seam_law_rounds.proofs.BaseCallsEnd.{calls_end_with_parts, calls_end_small}
-use Rattle.seam_law_rounds.proofs.Calms.{reaps_end_with_parts, reaps_end_small}
 use Rattle.seam_law_ghosts.proofs.Rounding.{calls_end_copied}
-use Rattle.seam_law_ghosts.proofs.Ending.{reaps_end_copied}
-use Rattle.seam_law_ghosts.proofs.Ends.{calls_place, reaps_leave, looks_leave, stays_placed}
-use Rattle.seam_rule_clients.specs.Clients.{ClientReplica, after_shown, after_all_shown}
-use Rattle.seam_rule_clients.specs.Looks.{one_look}
 use Rattle.seam_law_clients.proofs.LookEnds.{looked}
 use Rattle.seam_law_clients.proofs.ShownOnce.{cell_at}
 use Rattle.seam_law_clients.proofs.Reaping.{clients_fit_reaped}

@@ -1,30 +1,16 @@
 -- In a round each cell knows of others only what they were since the load.
-use Rattle.std.proofs.Common.{◌≡◌, ℕ, ◌≤◌, ◌⊎◌, Bool, true, false, cond, List, [], Option, None, Some, refl, sym, ap, ◌∙◌, subst, arith}
-use Rattle.std.proofs.Common.{inl, inr}
-use Rattle.std.specs.Prelude.{slice_get}
-use Rattle.std.specs.List.{AllByRecursion}
+use Rattle.seam_law_clients.proofs.Prelude.{◌≡◌, ℕ, ◌≤◌, ◌⊎◌, Bool, true, false, cond, List, [], Option, None, Some, refl, sym, ap, ◌∙◌}
+use Rattle.seam_law_clients.proofs.Prelude.{subst, arith, inl, inr, slice_get, AllByRecursion, cases_lt, Event, State, Property, ghost_of}
+use Rattle.seam_law_clients.proofs.Prelude.{other_of, projected, type_of, copy_in, Batch, GhostCopy, RealView, cell_count, other_of_real}
+use Rattle.seam_law_clients.proofs.Prelude.{other_of_copy, CellView, known_to, is_another, holders, loaded, NodeView, World, Cell, Base}
+use Rattle.seam_law_clients.proofs.Prelude.{slot_at, letters_of, Frame, here_at, IsInFrame, has_of, has_none, entity_flow, real_in, real_of}
+use Rattle.seam_law_clients.proofs.Prelude.{IsAbsent, CarriesNoEntity, RunsTo, real_at, framed, MayBegin, book_entry, IsTrueCopy, IsTrue}
+use Rattle.seam_law_clients.proofs.Prelude.{present, copy_at, AreCopiesBetweenRounds, ComesBetween, IsTrueBetween, WasOther, true_between}
+use Rattle.seam_law_clients.proofs.Prelude.{sole_here, none_counts, no_mail, settled_loaded, Somewhere, Nowhere, search_real, frame_leads}
+use Rattle.seam_law_clients.proofs.Prelude.{true_more, present_first, absent_leads, known_by, known_at, known_to_is}
 use Rattle.std.specs.FinMap as table
-use Rattle.std.proofs.lemmas.Bool.{cases_lt}
-use Rattle.seam_node_steps.specs.Prelude.{Event, State, Property, ghost_of, other_of, projected, type_of, copy_in, Batch, GhostCopy}
-use Rattle.seam_node_steps.specs.Prelude.{RealView, cell_count, other_of_real, other_of_copy, CellView, known_to, is_another, holders}
-use Rattle.seam_node_steps.specs.Prelude.{loaded, NodeView, World, Cell, Base}
-use Rattle.seam_law_flow.specs.Prelude.{slot_at, letters_of}
-use Rattle.seam_law_calls.specs.Prelude.{Frame, here_at, IsInFrame, has_of, has_none, entity_flow, real_in, real_of, IsAbsent}
-use Rattle.seam_law_calls.specs.Prelude.{CarriesNoEntity}
-use Rattle.seam_law_calls.specs.Prelude.{RunsTo, real_at}
-use Rattle.seam_law_rounds.specs.Prelude.{framed, MayBegin}
-use Rattle.seam_law_ghosts.specs.Prelude.{book_entry, IsTrueCopy, IsTrue, present, copy_at, AreCopiesBetweenRounds}
-use Rattle.seam_law_clients.specs.Prelude.{ComesBetween, IsTrueBetween, WasOther, true_between}
-use Rattle.seam_law_flow.proofs.TokenLemmas.{sole_here}
 use Rattle.seam_defs.specs.declared.flags.Group.TheVariants as group
-use Rattle.seam_law_calls.proofs.Counting.{none_counts}
-use Rattle.seam_law_rounds.proofs.Loaded.{no_mail}
-use Rattle.seam_law_rounds.proofs.Going.{settled_loaded}
-use Rattle.seam_law_rounds.proofs.Shape.{Somewhere, Nowhere, search_real, frame_leads}
-use Rattle.seam_law_ghosts.proofs.Present.{true_more, present_first}
-use Rattle.seam_law_calls.proofs.Absent.{absent_leads}
 use Rattle.seam_law_clients.proofs.Near.{known_found}
-use Rattle.seam_node_steps.proofs.Knowing.{known_by, known_at, known_to_is}
 
 -- ---- an entity that is nowhere
 

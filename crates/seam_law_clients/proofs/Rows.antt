@@ -1,26 +1,16 @@
 -- The rows of a world's flat table, by entity.
-use Rattle.std.proofs.Common.{◌≡◌, ℕ, zero, suc, ◌⊎◌, Bool, true, false, cond, not, eqb, T, List, [], ◌∷◌, map, find, Option, None, Some}
-use Rattle.std.proofs.Common.{refl, sym, ap, ◌∙◌, arith, inl, inr}
-use Rattle.std.specs.Prelude.{option_map, slice_get}
-use Rattle.std.specs.List.{AllByRecursion, filter, flat_map, filter_map}
-use Rattle.std.specs.Ordering.{nat_cmp, eq_by_cmp}
+use Rattle.seam_law_clients.proofs.Prelude.{◌≡◌, ℕ, zero, suc, ◌⊎◌, Bool, true, false, cond, not, eqb, T, List, [], ◌∷◌, map, find, Option}
+use Rattle.seam_law_clients.proofs.Prelude.{None, Some, refl, sym, ap, ◌∙◌, arith, inl, inr, option_map, slice_get, AllByRecursion, filter}
+use Rattle.seam_law_clients.proofs.Prelude.{flat_map, filter_map, nat_cmp, eq_by_cmp, is_sorted, nat_tests, Shown, Set, Enter, RealView}
+use Rattle.seam_law_clients.proofs.Prelude.{CellView, is_another, is_of_another, Known, seen_as, known_of, shown_of_known, NodeView, World}
+use Rattle.seam_law_clients.proofs.Prelude.{Cell, Base, slot_at, has_of, has_none, real_in, row_of_real, rows_at, row_in, rows_of, Look}
+use Rattle.seam_law_clients.proofs.Prelude.{Row, row_of, rows_but, seen, passing, find_filter, sorted_filter, each_found, or_else}
+use Rattle.seam_law_clients.proofs.Prelude.{find_mapped, sorted_mapped, find_append, find_entries, unless_self, passing_others}
 use Rattle.std.specs.FinMap as table
-use Rattle.std.specs.FinMap.Entries.{is_sorted}
-use Rattle.std.proofs.lemmas.Bool.Decides.{nat_tests}
-use Rattle.seam_node_steps.specs.Prelude.{Shown, Set, Enter, RealView, CellView, is_another, is_of_another, Known, seen_as, known_of}
-use Rattle.seam_node_steps.specs.Prelude.{shown_of_known, NodeView, World, Cell, Base}
-use Rattle.seam_law_flow.specs.Prelude.{slot_at}
-use Rattle.seam_law_calls.specs.Prelude.{has_of, has_none, real_in}
-use Rattle.seam_law_clients.specs.Prelude.{row_of_real, rows_at, row_in, rows_of}
-use Rattle.seam_view.specs.declared.Look.{Look}
 use Rattle.seam_view.specs.declared.Look.TheVariants as look
 use Rattle.seam_node_steps.specs.CellLooks as known
 use Rattle.seam_rule_clients.specs.Looks as replica
-use Rattle.seam_rule_clients.specs.Looks.{Row, row_of, rows_but, seen}
-use Rattle.seam_node_steps.proofs.Sorted.{passing, find_filter, sorted_filter, each_found, or_else, find_mapped, sorted_mapped, find_append}
-use Rattle.seam_node_steps.proofs.Sorted.{find_entries}
 use Rattle.seam_law_clients.proofs.Near.{lines_agree}
-use Rattle.seam_node_steps.proofs.Knowing.{unless_self, passing_others}
 
 -- ---- where a row is from
 

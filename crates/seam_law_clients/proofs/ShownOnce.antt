@@ -1,35 +1,21 @@
 -- In the phase of looks each client is shown exactly one look.
-use Rattle.std.proofs.Common.{◌≡◌, ℕ, ◌+◌, ◌⊎◌, Bool, true, false, cond, eqb, ◌||◌, is_some, List, [], ◌∷◌, ◌++◌, length, Option, None}
-use Rattle.std.proofs.Common.{Some, refl, sym, ap, ◌∙◌, subst, arith, inl, inr}
-use Rattle.std.specs.Prelude.{option_map, slice_get}
-use Rattle.std.specs.Ordering.{nat_cmp, eq_by_cmp}
+use Rattle.seam_law_clients.proofs.Prelude.{◌≡◌, ℕ, ◌+◌, ◌⊎◌, Bool, true, false, cond, eqb, ◌||◌, is_some, List, [], ◌∷◌, ◌++◌, length}
+use Rattle.seam_law_clients.proofs.Prelude.{Option, None, Some, refl, sym, ap, ◌∙◌, subst, arith, inl, inr, option_map, slice_get, nat_cmp}
+use Rattle.seam_law_clients.proofs.Prelude.{eq_by_cmp, nat_tests, length-append, append-nil, IsQuiet, Event, Shown, cell_count, RealView}
+use Rattle.seam_law_clients.proofs.Prelude.{WitnessView, has_any, ProxyView, shown_of, CellView, known_to, cell_has_work, ready_entity}
+use Rattle.seam_law_clients.proofs.Prelude.{ordered_at, look_loaded, NodeView, World, node_steps, node_has_work, Cell, Base, slot_at}
+use Rattle.seam_law_clients.proofs.Prelude.{letters_of, Frame, Has, one_more_if, times, has_of, has_none, entity_flow, real_in, real_of}
+use Rattle.seam_law_clients.proofs.Prelude.{home_of, sent_of, sent_by, proxy_of, order_in, shown_in, lines_in, shown_at, HasClient}
+use Rattle.seam_law_clients.proofs.Prelude.{HasToldAtMost, RunsTo, real_at, IsBetweenRounds, HasSettledPart, HasPartsBetweenRounds}
+use Rattle.seam_law_clients.proofs.Prelude.{HasSmallNumbers, AreInStep, AreFor, IsServed, bare, served, witness_looked, looked_by}
+use Rattle.seam_law_clients.proofs.Prelude.{having_looked, HaveRoomToLook, ComesBetween, quiet_tasks, leads_nowhere, sole_here, neither}
+use Rattle.seam_law_clients.proofs.Prelude.{none_left, look_framed, look_given, tick, client_leads, one_of, parts_ordered, most_told}
+use Rattle.seam_law_clients.proofs.Prelude.{look_serves, look_numbers}
 use Rattle.std.specs.FinMap as table
-use Rattle.std.proofs.lemmas.Bool.Decides.{nat_tests}
-use Rattle.std.proofs.lemmas.List.{length-append, append-nil, append_assoc}
-use Rattle.seam_node_steps.specs.Prelude.{IsQuiet, Event, Shown, cell_count, RealView, WitnessView, has_any, ProxyView, shown_of, CellView}
-use Rattle.seam_node_steps.specs.Prelude.{known_to, cell_has_work, ready_entity, ordered_at, look_loaded, NodeView, World, node_steps}
-use Rattle.seam_node_steps.specs.Prelude.{node_has_work, Cell, Base}
-use Rattle.seam_law_flow.specs.Prelude.{slot_at, letters_of}
-use Rattle.seam_law_calls.specs.Prelude.{Frame, Has, one_more_if, times, has_of, has_none, entity_flow, real_in, real_of, home_of, sent_of}
-use Rattle.seam_law_calls.specs.Prelude.{sent_by, proxy_of, order_in, shown_in, lines_in, shown_at, HasClient, HasToldAtMost, RunsTo}
-use Rattle.seam_law_calls.specs.Prelude.{real_at}
-use Rattle.seam_law_rounds.specs.Prelude.{IsBetweenRounds, HasSettledPart, HasPartsBetweenRounds, HasSmallNumbers, AreInStep, AreFor}
-use Rattle.seam_law_rounds.specs.Prelude.{IsServed, bare, served}
-use Rattle.seam_law_clients.specs.Prelude.{witness_looked, looked_by, having_looked, HaveRoomToLook, ComesBetween}
-use Rattle.seam_machine.proofs.Quiet.{quiet_tasks}
-use Rattle.seam_net_runs.proofs.Runs.{leads_nowhere}
-use Rattle.seam_law_flow.proofs.TokenLemmas.{sole_here}
-use Rattle.seam_law_calls.proofs.Quieting.{neither, none_left}
-use Rattle.seam_law_rounds.proofs.Giving.{look_framed, look_given}
+use Rattle.std.proofs.lemmas.List.{append_assoc}
 use Rattle.seam_law_rounds.proofs.Looking as looking
-use Rattle.seam_law_rounds.proofs.Looking.{tick}
-use Rattle.seam_law_calls.proofs.ClientLeads.{client_leads}
-use Rattle.seam_law_calls.proofs.ClientRuns.{one_of}
-use Rattle.seam_law_rounds.proofs.PartLoads.{parts_ordered}
-use Rattle.seam_law_rounds.proofs.Ticking.{most_told}
 use Rattle.seam_law_rounds.proofs.Serving.{HasItStill, HasNumbers, each_real}
 use Rattle.seam_law_rounds.proofs.Idling.{still_then}
-use Rattle.seam_law_rounds.proofs.Calms.{look_serves, look_numbers}
 use Rattle.seam_law_clients.proofs.OneLook.{same_real}
 use Rattle.seam_law_clients.proofs.LookCells.{is_in, IsMidway, known_to_same}
 use Rattle.seam_law_clients.proofs.LookRuns.{unready, CellAt, ordered, told, midway, IsLooking}

@@ -1,23 +1,18 @@
 -- Where no entry of the look list is taken each real keeps its witness, and nothing is told; and what a step told is what its letters tell.
-use Rattle.std.proofs.Common.{◌≡◌, ℕ, ◌+◌, Bool, List, [], ◌∷◌, map, Option, None, Some, refl, sym, ap, ◌∙◌, subst, arith}
-use Rattle.std.specs.Prelude.{option_map}
-use Rattle.std.specs.List.{AllByRecursion}
+use Rattle.seam_law_clients.proofs.Prelude.{◌≡◌, ℕ, ◌+◌, Bool, List, [], ◌∷◌, map, Option, None, Some, refl, sym, ap, ◌∙◌, subst, arith}
+use Rattle.seam_law_clients.proofs.Prelude.{option_map, AllByRecursion, eq-eqb, Division, items_to, OrderView, Shown, RealView, WitnessView}
+use Rattle.seam_law_clients.proofs.Prelude.{Msg, Hand, base_numbers, SlotStep, slot_after, haunts_at, ghost_messages, current_to, numbered}
+use Rattle.seam_law_clients.proofs.Prelude.{letters_of, IsSilent, more_issued, number_from, Frame, here_at, Has, AtCell, Does, Acts}
+use Rattle.seam_law_clients.proofs.Prelude.{surveys, calls, readies, CellMoves, Moves, at_a_cell, at_a_base, real_in, real_of, update_in}
+use Rattle.seam_law_clients.proofs.Prelude.{with_number, tells, all_append, SeesNoGhost, ghosts_silent, mapped_silent, OfReal, none_carried}
+use Rattle.seam_law_clients.proofs.Prelude.{NotTaken, as_often, gone, ticked}
 use Rattle.std.specs.FinSet as set
-use Rattle.std.proofs.lemmas.Bool.{eq-eqb}
-use Rattle.seam_node_steps.specs.Prelude.{Division, items_to, OrderView, Shown, RealView, WitnessView, Msg, Hand, base_numbers, SlotStep}
-use Rattle.seam_node_steps.specs.Prelude.{slot_after}
-use Rattle.seam_node_steps.specs.Prelude.{haunts_at, ghost_messages, current_to, numbered}
-use Rattle.seam_law_flow.specs.Prelude.{letters_of, IsSilent, more_issued, number_from}
-use Rattle.seam_law_calls.specs.Prelude.{Frame, here_at, Has, AtCell, Does, Acts, surveys, calls, readies, CellMoves, Moves, at_a_cell}
-use Rattle.seam_law_calls.specs.Prelude.{at_a_base, real_in, real_of, update_in, with_number, tells}
-use Rattle.seam_law_flow.proofs.Following.{all_append}
 use Rattle.seam_law_flow.specs.Deliveries.{Passes}
 use Rattle.seam_law_flow.specs.Deliveries as pass
-use Rattle.seam_law_calls.specs.CellMoves as move
-use Rattle.seam_law_calls.proofs.Plain.{SeesNoGhost, ghosts_silent, drops_silent, mapped_silent}
+use Rattle.seam_law_calls.proofs.CellDeeds as deed
+use Rattle.seam_law_calls.proofs.CellDeeds.{CellDeeds, cell_deeds}
+use Rattle.seam_law_calls.proofs.Plain.{drops_silent}
 use Rattle.seam_law_calls.proofs.BaseSilent.{sees_no_update, sees_no_real, base_silent}
-use Rattle.seam_law_calls.proofs.WitnessKept.{OfReal, none_carried}
-use Rattle.seam_law_calls.proofs.Looking.{NotTaken, as_often, gone, ticked}
 
 no_update : SeesNoGhost update_in
 no_update = record { sets = λ e n c. refl; drops = λ e n. refl }
@@ -80,13 +75,12 @@ module _ (seen : Option WitnessView) where
     takes_it n q none at is now (gone none_now) = let z = sym none_now ∙ now in cc
     takes_it n q none at is now (ticked fed) = let z = sym none ∙ fed in cc
 
-    cell_holds : NotTaken s.cell i t.cell → {tree : Division} → CellMoves (here_at f k) tree e s.cell i t.cell sent → Holds
-    cell_holds not (move.rests n d) = still _ s.cell d refl (tt, tt)
-    cell_holds not (move.strays m n b d) = still _ s.cell d refl (tt, tt)
-    cell_holds not {tree} (move.stays u r q changed has own acts at d) =
+    cell_holds : NotTaken s.cell i t.cell → {tree : Division} → CellDeeds (here_at f k) tree e s.cell i t.cell sent → Holds
+    cell_holds not (deed.idles a z) = holds (λ r now. here r (sym a.real ∙ now)) (subst SendsNeither (sym z) (tt, tt))
+    cell_holds not {tree} (deed.stays u r q changed has own acts at d) =
         turned _ u d r _ has refl (acts_keep u r q changed acts)
         (ghosts_neither q k (haunts_at (here_at f k) tree q.state.pos k q.haunts) changed)
-    cell_holds not {tree} (move.goes u r q changed j has own acts at n d) =
+    cell_holds not {tree} (deed.goes u r q changed j has own acts at n d) =
         let haunts = haunts_at (here_at f k) tree q.state.pos j (set.insert q.haunts k) in
         let none = ghosts_neither q j haunts changed in
         record {
@@ -101,32 +95,21 @@ module _ (seen : Option WitnessView) where
               subst (IsSilent update_in) (sym d.sends)
               (all_append (λ p. update_in p.1 ≡ None) (ghost_messages (here_at f k) q j haunts changed) _ none.0 (refl, tt));
         }
-    cell_holds not (move.late c r n has may lt d) = still _ s.cell d refl (tt, tt)
-    cell_holds not (move.holds c r n own has mine may lt d) = turned _ s.cell d r _ has refl refl (tt, tt)
-    cell_holds not (move.passes c p n own has at d) = still _ s.cell d refl ((refl, tt), (refl, tt))
-    cell_holds not (move.lands r n own has may d) =
+    cell_holds not (deed.holds c r n own has mine may lt d) = turned _ s.cell d r _ has refl refl (tt, tt)
+    cell_holds not (deed.passes c p n own has at d) = still _ s.cell d refl ((refl, tt), (refl, tt))
+    cell_holds not (deed.lands r n own has may d) =
         of _ s.cell d (λ x now. let one : r ≡ x = let z = sym (is_now _ s.cell d) ∙ now in cc in subst HasSeen one (comes r n)) (
           mapped_silent update_in (current_to (here_at f k) r) (λ b. refl) (base_numbers (here_at f k)),
           mapped_silent real_of (current_to (here_at f k) r) (λ b. refl) (base_numbers (here_at f k)),
         )
-    cell_holds not (move.hears_set n c h has d) = still _ s.cell d refl (tt, tt)
-    cell_holds not (move.ignores_set n c r h has d) = still _ s.cell d refl (tt, tt)
-    cell_holds not (move.hears_drop n h d) = still _ s.cell d refl (tt, tt)
-    cell_holds not (move.reaped r n has own may d) =
+    cell_holds not (deed.reaped r n has own may d) =
         of _ s.cell d (λ x now. absurd (let z = sym (is_now _ s.cell d) ∙ now in cc))
         (drops_silent update_in no_update r, drops_silent real_of no_real r)
-    cell_holds not (move.ticks n st z) =
-        holds (λ r now. here r (sym (ap (λ a. a.slot.real) st) ∙ now)) (subst SendsNeither (sym z) (tt, tt))
-    cell_holds not (move.unlists n h at b d) =
-        still _ (record { slot = s.cell.slot; survey = n; looks = s.cell.looks }) d refl (tt, tt)
-    cell_holds not (move.looks n r w known h at has own v small d) =
+    cell_holds not (deed.looks n r w known h at has own v small d) =
         absurd (takes_it n _ h at (ap (λ a. a.looks) d.state) (ap (λ a. a.slot.real) d.state) not)
-    cell_holds not (move.overlooks n known h at b d) =
-        still _ (record { slot = s.cell.slot; survey = s.cell.survey; looks = n }) d refl (tt, tt)
-    cell_holds not (move.stuck r h has ready may d) = still _ s.cell d refl (tt, tt)
 
     pub moves_hold : NotTaken s.cell i t.cell → Moves f e k s i t sent → Holds
-    moves_hold not (at_a_cell tree of low m base) = cell_holds not m
+    moves_hold not (at_a_cell tree of low m base) = cell_holds not (cell_deeds m)
     moves_hold not (at_a_base high m cell) =
         holds (λ r now. here r (sym (ap (λ c. c.slot.real) cell) ∙ now))
         (base_silent update_in sees_no_update _ _ e _ i _ sent m, base_silent real_of sees_no_real _ _ e _ i _ sent m)

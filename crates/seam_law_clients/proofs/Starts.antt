@@ -1,16 +1,9 @@
 -- Where a client's witness begins to tell, and where it was shown all.
-use Rattle.std.proofs.Common.{◌≡◌, ℕ, ◌+◌, List, [], ◌∷◌, length, Some, refl, sym, ap, ◌∙◌, subst, arith}
-use Rattle.seam_node_steps.specs.Prelude.{IsQuiet, Shown, RealView, WitnessView, World, node_has_work}
-use Rattle.seam_law_flow.specs.Prelude.{Delivery}
-use Rattle.seam_law_calls.specs.Prelude.{Frame, entity_flow, real_in, real_of, sent_of, sent_by, home_of, updates_at, shown_at, tells}
-use Rattle.seam_law_calls.specs.Prelude.{HasClient, real_at}
-use Rattle.seam_law_clients.specs.Prelude.{FitsWithin, TellsRightly}
-use Rattle.seam_law_flow.proofs.TokenLemmas.{sole_here}
-use Rattle.seam_law_calls.proofs.WitnessKept.{each_weaker}
-use Rattle.seam_law_calls.proofs.ClientRuns.{one_of}
-use Rattle.seam_law_calls.proofs.BaseQuiet.{all_shown}
-use Rattle.seam_rule_clients.specs.Clients.{ClientReplica, after_all_shown}
-use Rattle.seam_rule_clients.specs.Lines.{Truth, ShowsRightly}
+use Rattle.seam_law_clients.proofs.Prelude.{◌≡◌, ℕ, ◌+◌, List, [], ◌∷◌, length, Some, refl, sym, ap, ◌∙◌, subst, arith, IsQuiet, Shown}
+use Rattle.seam_law_clients.proofs.Prelude.{RealView, WitnessView, World, node_has_work, Delivery, Frame, entity_flow, real_in, real_of}
+use Rattle.seam_law_clients.proofs.Prelude.{sent_of, sent_by, home_of, updates_at, shown_at, tells, HasClient, real_at, FitsWithin}
+use Rattle.seam_law_clients.proofs.Prelude.{TellsRightly, sole_here, each_weaker, one_of, all_shown, ClientReplica, after_all_shown, Truth}
+use Rattle.seam_law_clients.proofs.Prelude.{ShowsRightly}
 use Rattle.seam_law_clients.proofs.Reals.{each_of}
 use Rattle.seam_law_clients.proofs.Tells.{Tells}
 use Rattle.seam_law_clients.proofs.InTurn.{rightly_first}

@@ -1,33 +1,21 @@
 -- What a witness tells over every list of events: what is true of it stays so where each look keeps it.
-use Rattle.std.proofs.Common.{◌≡◌, ℕ, ◌+◌, true, List, [], ◌∷◌, ◌++◌, length, Option, None, Some, refl, sym, ap, ◌∙◌, subst, arith}
-use Rattle.std.specs.Prelude.{slice_get}
-use Rattle.std.specs.List.{AllByRecursion}
-use Rattle.std.proofs.lemmas.List.{length-append, append-nil}
-use Rattle.seam_node_steps.specs.Prelude.{happens, enabled, Occurs, items_to, Event, Shown, RealView, WitnessView, Msg, Hand, Update}
-use Rattle.seam_node_steps.specs.Prelude.{base_of, Known, numbered, shown_of, looks_of, after_looking, CellView, known_to, NodeView, World}
-use Rattle.seam_node_steps.specs.Prelude.{node_steps, node_has_work, Cell, Base, IsNode}
-use Rattle.seam_law_flow.specs.Prelude.{Goes, comes, letter_in, letters_of, IsSilent, carried_in, Delivery, more_issued, number_from}
-use Rattle.seam_law_flow.specs.Prelude.{slot_at}
-use Rattle.seam_law_calls.specs.Prelude.{Frame, here_at, Has, mine, concerning, has_of, entity_flow, MovesTo, real_in, real_of, IsSpared}
-use Rattle.seam_law_calls.specs.Prelude.{OneFrom, update_in, sent_of, sent_by, home_of, updates_at, shown_at, tells, EachReal, HasClient}
-use Rattle.seam_law_calls.specs.Prelude.{HasToldAtMost, HasRoomFor, FindsClient, HasOne, Replays, has_none, RunsTo, real_at}
-use Rattle.seam_law_clients.specs.Prelude.{ComesBetween}
-use Rattle.seam_machine.proofs.Occurring.{occurs}
-use Rattle.seam_net_runs.proofs.Runs.{leads_nowhere, leads_by_one, leads_join}
-use Rattle.seam_law_flow.proofs.Following.{slots_kept, letters_kept, came}
-use Rattle.seam_law_flow.proofs.SendLists.{sees_none}
-use Rattle.seam_law_flow.proofs.TokenLemmas.{first_is, sole_here}
-use Rattle.seam_law_flow.proofs.Delivering.{delivery_goes}
-use Rattle.seam_call.specs.declared.shown.Update.{Update as UpdateData}
-use Rattle.seam_law_calls.proofs.Sparing.{items_all}
-use Rattle.seam_law_calls.proofs.OneReal.{one_happens, calm_of, spared_happens}
+use Rattle.seam_law_clients.proofs.Prelude.{◌≡◌, ℕ, ◌+◌, true, List, [], ◌∷◌, ◌++◌, length, Option, None, Some, refl, sym, ap, ◌∙◌, subst}
+use Rattle.seam_law_clients.proofs.Prelude.{arith, slice_get, AllByRecursion, length-append, append-nil, happens, enabled, Occurs, items_to}
+use Rattle.seam_law_clients.proofs.Prelude.{Event, Shown, RealView, WitnessView, Msg, Hand, base_of, Known, numbered, shown_of, looks_of}
+use Rattle.seam_law_clients.proofs.Prelude.{after_looking, CellView, known_to, NodeView, World, node_steps, node_has_work, Cell, Base}
+use Rattle.seam_law_clients.proofs.Prelude.{IsNode, Goes, comes, letter_in, letters_of, IsSilent, carried_in, Delivery, more_issued}
+use Rattle.seam_law_clients.proofs.Prelude.{number_from, slot_at, Frame, here_at, Has, mine, concerning, has_of, entity_flow, MovesTo}
+use Rattle.seam_law_clients.proofs.Prelude.{real_in, real_of, IsSpared, OneFrom, update_in, sent_of, sent_by, home_of, updates_at, shown_at}
+use Rattle.seam_law_clients.proofs.Prelude.{tells, EachReal, HasClient, HasToldAtMost, HasRoomFor, FindsClient, HasOne, Replays, has_none}
+use Rattle.seam_law_clients.proofs.Prelude.{RunsTo, real_at, ComesBetween, occurs, leads_nowhere, leads_by_one, leads_join, slots_kept}
+use Rattle.seam_law_clients.proofs.Prelude.{letters_kept, came, sees_none, first_is, sole_here, delivery_goes, Update as UpdateData}
+use Rattle.seam_law_clients.proofs.Prelude.{items_all, one_happens, calm_of, spared_happens, OfReal, unordered, one_of, finds_client}
+use Rattle.seam_law_clients.proofs.Prelude.{never_missed, client_happens, NotTaken, as_often, LooksAt, still, elsewhere, looks, cell_looks}
+use Rattle.seam_law_clients.proofs.Prelude.{event_fact}
+use Rattle.seam_node_steps.specs.Prelude.{Update}
 use Rattle.seam_law_calls.proofs.PartEasing.{base_burden_happens}
-use Rattle.seam_law_calls.proofs.WitnessKept.{OfReal}
-use Rattle.seam_law_calls.proofs.BaseRuns.{unordered}
 use Rattle.seam_law_calls.proofs.ClientTold.{Told, told_by}
-use Rattle.seam_law_calls.proofs.ClientRuns.{one_of, finds_client, never_missed, client_happens}
-use Rattle.seam_law_calls.proofs.Looking.{NotTaken, as_often, LooksAt, Look, still, elsewhere, looks, cell_looks}
-use Rattle.seam_law_calls.proofs.Telling.{event_fact}
+use Rattle.seam_law_calls.proofs.Looking.{Look}
 use Rattle.seam_law_clients.proofs.Silent.{moves_hold, untold, numbered_here, same_items, issued_is}
 use Rattle.seam_law_clients.proofs.Reals.{each_of}
 

@@ -93,7 +93,7 @@ module _ {V : Type 0} where
       -- with nothing on its way, the register has the newest entry
       pub newest_rests : (w : Flow S L) (k key : ℕ) (c : V) → Newest entry brings w k key c → ((x : ℕ) → w.mail x k ≡ []) →
           entry (w.slot k) ≡ (key, c)
-      newest_rests w k key c n empty = rests_by w k key c empty n.is_there
+      newest_rests w k key c n empty = rests_by w k key c empty n.found
 
       module _ {Moves : ℕ → S → Option L → S → (ℕ → List L) → Type 0} where
         away_goes : (Q : ℕ × V → Type 0) {w v : Flow S L} (g : Goes Moves w v) (k : ℕ) → ((x : ℕ) → AllBring brings Q (w.mail x k)) →
@@ -156,7 +156,7 @@ module _ {V : Type 0} where
         newest_stays {w} {v} g k key c n takes new = record {
           here = here_stays g k key c n takes;
           away = away_goes (NotAbove key c) g k n.away new;
-          is_there = there_goes g k key c n takes n.is_there;
+          found = there_goes g k key c n takes n.found;
         }
 
         sent_there : {w v : Flow S L} (g : Goes Moves w v) (k : ℕ) (next : ℕ) (d : V) (l m : List L) → v.mail g.k k ≡ l ++ m →
@@ -181,5 +181,5 @@ module _ {V : Type 0} where
                 (not_above_rises key next c d (entry (w.slot k)) lt n.here)
           ];
           away = away_goes (NotAbove next d) g k (λ x. all_rise key next c d (w.mail x k) lt (n.away x)) new;
-          is_there = rises_there g k next d st;
+          found = rises_there g k next d st;
         }

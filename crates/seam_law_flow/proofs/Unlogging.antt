@@ -6,7 +6,7 @@ use Rattle.seam_law_flow.specs.Flows.{Flow, Goes, comes}
 use Rattle.seam_order.specs.Held.{OrderView}
 use Rattle.seam_law_flow.specs.Deliveries.{Delivery, Passes, more_issued}
 use Rattle.seam_law_flow.specs.Deliveries as step
-use Rattle.seam_law_flow.specs.Unlogged.{beside, DeliveryOf, Takes, rests, issues, offers, gives}
+use Rattle.seam_law_flow.specs.Unlogged.{beside, DeliveryOf, IssuesOrDelivers, rests, issues, offers, gives}
 use Rattle.seam_law_flow.proofs.Delivering.{delivery_goes}
 
 module _ {S L U : Type 0} (order : S → OrderView U) (brings : L → Option (ℕ × U)) {Moves : ℕ → S → Option L → S → (ℕ → List L) → Type 0}
@@ -59,7 +59,8 @@ module _ {S L U : Type 0} (order : S → OrderView U) (brings : L → Option (�
   at_b more e =
       subst (λ x. longer more x ≡ d.log x ++ more) e (longer_here more) ∙ ap (λ l. l ++ more) d.here
 
-  pub takes_go : (us gs : List U) → Takes order brings b (first + length issued) g.k (w.slot g.k) (comes g.input) (v.slot g.k) g.out us gs →
+  pub takes_go : (us gs : List U) →
+      IssuesOrDelivers order brings b (first + length issued) g.k (w.slot g.k) (comes g.input) (v.slot g.k) g.out us gs →
       DeliveryOf order brings v b first (issued ++ us) (given ++ gs)
   takes_go us gs (rests eo nh o) = taken [] [] (step.rests eo (longer_none g.k (eqb g.k g.k)) nh o) refl none_more
   takes_go us gs (issues ms eo nh o z few) = taken [] ms (step.issues ms eo (longer_none g.k (eqb g.k g.k)) nh o z few) refl none_more

@@ -35,4 +35,4 @@ greater_entry e (Some p) = if nat_lt e.0 p.0 then p else e
 pub record Newest {S L V : Type 0} (entry : S → ℕ × V) (brings : L → Option (ℕ × V)) (w : Flow S L) (k key : ℕ) (c : V) : Type 0 where
   pub here : NotAbove key c (entry (w.slot k))
   pub away : (x : ℕ) → AllBring brings (NotAbove key c) (w.mail x k)
-  pub is_there : (entry (w.slot k) ≡ (key, c)) ⊎ ((a : ℕ) × Has brings (key, c) (w.mail a k))
+  pub found : (entry (w.slot k) ≡ (key, c)) ⊎ ((a : ℕ) × Has brings (key, c) (w.mail a k))

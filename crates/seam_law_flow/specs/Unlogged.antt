@@ -19,13 +19,14 @@ pub record DeliveryOf {S L U : Type 0} (order : S → OrderView U) (brings : L �
   pub delivery : Delivery (λ s. order s.0) (λ s. s.1) brings (beside w log) b first issued
 
 -- what a step of node k issues and what it delivers
-pub data Takes {S L U : Type 0} (order : S → OrderView U) (brings : L → Option (ℕ × U)) (b number k : ℕ) (s : S) (i : Option L) (t : S)
+pub data IssuesOrDelivers {S L U : Type 0} (order : S → OrderView U) (brings : L → Option (ℕ × U)) (b number k : ℕ) (s : S) (i : Option L)
+    (t : S)
     (out : ℕ → List L) : List U → List U → Type 0 where
-  rests : order t ≡ order s → carried_in brings i ≡ None → SendsNone brings out → Takes order brings b number k s i t out [] []
+  rests : order t ≡ order s → carried_in brings i ≡ None → SendsNone brings out → IssuesOrDelivers order brings b number k s i t out [] []
   issues : (us : List U) → order t ≡ order s → carried_in brings i ≡ None → letters_of brings (out b) ≡ number_from number us
       → ((j : ℕ) → (j ≡ b → ⊥) → letters_of brings (out j) ≡ []) → number + length us ≤ 2 ^ 62
-      → Takes order brings b number k s i t out us []
+      → IssuesOrDelivers order brings b number k s i t out us []
   offers : (n : ℕ) (u : U) → k ≡ b → carried_in brings i ≡ Some (n, u) → order t ≡ after_offer (order s) n u → SendsNone brings out
-      → Takes order brings b number k s i t out [] (at_once (order s).next n u)
+      → IssuesOrDelivers order brings b number k s i t out [] (at_once (order s).next n u)
   gives : (u : U) → k ≡ b → next_item (order s) ≡ Some u → order t ≡ after_taking (order s) → carried_in brings i ≡ None
-      → SendsNone brings out → Takes order brings b number k s i t out [] (u ∷ [])
+      → SendsNone brings out → IssuesOrDelivers order brings b number k s i t out [] (u ∷ [])

@@ -15,7 +15,7 @@ ghost use Rattle.seam_law_flow.specs.Tokens.{carried_in, TokenPlace, On, Sole, N
 ghost use Rattle.seam_order.specs.Held.{OrderView};
 ghost use Rattle.seam_order.specs.Offers.{next_item};
 ghost use Rattle.seam_law_flow.specs.Deliveries.{Delivery, Passes, more_issued};
-ghost use Rattle.seam_law_flow.specs.Unlogged.{DeliveryOf, Takes};
+ghost use Rattle.seam_law_flow.specs.Unlogged.{DeliveryOf, IssuesOrDelivers};
 
 use crate::Moves;
 
@@ -61,6 +61,6 @@ pub fn items_are_delivered_without_a_list<S, L, U, A: Moves<S, L>>()
     ensures { (order : S → OrderView U) (brings : L → Option (ℕ × U)) (w v : Flow S L)
         (g : Goes A.are w v) (b first : ℕ) (issued given us gs : List U) →
         DeliveryOf order brings w b first issued given →
-        Takes order brings b (first + length issued) g.k (w.slot g.k) (comes g.input) (v.slot g.k)
-        g.out us gs → DeliveryOf order brings v b first (issued ++ us) (given ++ gs) }
+        IssuesOrDelivers order brings b (first + length issued) g.k (w.slot g.k) (comes g.input)
+        (v.slot g.k) g.out us gs → DeliveryOf order brings v b first (issued ++ us) (given ++ gs) }
 {}

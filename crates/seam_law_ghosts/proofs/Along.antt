@@ -1,20 +1,14 @@
 -- The place of a real stays on its way after each event, and so after every list of events.
-use Rattle.std.proofs.Common.{◌≡◌, ℕ, ◌<◌, ◌≤◌, true, List, [], ◌∷◌, ◌++◌, length, Option, Some, refl, sym, ap, ◌∙◌, subst, inl, inr}
-use Rattle.std.proofs.lemmas.Bool.{cases_eq}
-use Rattle.seam_node_steps.specs.Prelude.{Pos, Distances, Place, last_of, after, type_of, happens, enabled, Occurs, Event, Call}
-use Rattle.seam_node_steps.specs.Prelude.{RealView, limit, Msg, Hand, Reap, World, node_steps, node_has_work}
-use Rattle.seam_law_flow.specs.Prelude.{Flow, Goes, comes, letter_in, In, On, Sole, Turned, Handles, still, turns, lands, leaves, relays}
-use Rattle.seam_law_flow.specs.Prelude.{place_after, token_after}
-use Rattle.seam_law_calls.specs.Prelude.{Frame, HasOneTree, Has, mine, entity_flow, MovesTo, real_burden, Replays, real_in}
-use Rattle.seam_law_calls.specs.Prelude.{real_of, IsOne, IsSpared, AllFits, IsFrame, HasOne, OneFrom, RunsTo}
-use Rattle.seam_law_ghosts.specs.Prelude.{distances_of, place_of, path_of, home_of, IsDue, IsOnItsWay, waits, IsPlaced}
-use Rattle.seam_haunt.specs.Places.{settled}
-use Rattle.seam_machine.proofs.Occurring.{occurs}
-use Rattle.seam_net_runs.proofs.Runs.{leads_keeps}
+use Rattle.seam_law_ghosts.proofs.Prelude.{◌≡◌, ℕ, ◌<◌, ◌≤◌, true, List, [], ◌∷◌, ◌++◌, length, Option, Some, refl, sym, ap, ◌∙◌, subst}
+use Rattle.seam_law_ghosts.proofs.Prelude.{inl, inr, cases_eq, Pos, Distances, Place, last_of, after, type_of, happens, enabled, Occurs}
+use Rattle.seam_law_ghosts.proofs.Prelude.{Event, Call, RealView, limit, Msg, Hand, Reap, World, node_steps, node_has_work, Flow, Goes}
+use Rattle.seam_law_ghosts.proofs.Prelude.{comes, letter_in, In, On, Sole, Turned, Handles, still, turns, lands, leaves, relays}
+use Rattle.seam_law_ghosts.proofs.Prelude.{place_after, token_after, Frame, HasOneTree, Has, mine, entity_flow, MovesTo, real_burden}
+use Rattle.seam_law_ghosts.proofs.Prelude.{Replays, real_in, real_of, IsOne, IsSpared, AllFits, IsFrame, HasOne, OneFrom, RunsTo}
+use Rattle.seam_law_ghosts.proofs.Prelude.{distances_of, place_of, path_of, home_of, IsDue, IsOnItsWay, waits, IsPlaced, settled, occurs}
+use Rattle.seam_law_ghosts.proofs.Prelude.{leads_keeps, sole_here, sole_came, sole_goes, token_turns, goes, one_happens, calm_of}
+use Rattle.seam_law_ghosts.proofs.Prelude.{spared_happens, replays_none, replays_on}
 use Rattle.seam_law_flow.specs.Tokens as token
-use Rattle.seam_law_flow.proofs.TokenLemmas.{sole_here, sole_came, sole_goes, token_turns}
-use Rattle.seam_law_calls.proofs.OneReal.{goes, one_happens, calm_of, spared_happens}
-use Rattle.seam_law_calls.proofs.Replaying.{replays_none, replays_on}
 use Rattle.seam_law_ghosts.proofs.Ways.{way_due, way_survey, way_call}
 use Rattle.seam_law_ghosts.proofs.Paths.{is_at_last, path_more, same_further, more_further}
 use Rattle.seam_law_ghosts.proofs.Placing.{Settles, by_survey, by_call, PlacesBy, Placed}

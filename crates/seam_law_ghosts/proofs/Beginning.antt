@@ -1,23 +1,13 @@
 -- What a loaded world has in its lists, and of entities that are not there.
-use Rattle.std.proofs.Common.{◌≡◌, ℕ, ◌≤◌, Bool, true, false, cond, eqb, is_some, ◌||◌, List, [], ◌∷◌, Option, None, Some, refl, sym, ap}
-use Rattle.std.proofs.Common.{◌∙◌, subst, arith, inl, inr}
-use Rattle.std.specs.Prelude.{option_map, slice_get}
-use Rattle.std.specs.List.{AllByRecursion}
-use Rattle.std.proofs.lemmas.Bool.{cases_lt, eqb-true}
-use Rattle.seam_node_steps.specs.Prelude.{cells_of, leaf_at, items_to, Create, Order, Batch, RealView, has_any, cell_count, CellView}
-use Rattle.seam_node_steps.specs.Prelude.{holders, NodeView, World, node_has_work, Cell, Base, real_if, created_at, attached, cell_round}
-use Rattle.seam_node_steps.specs.Prelude.{base_round, ordered_at, loaded}
-use Rattle.seam_law_flow.specs.Prelude.{slot_at}
-use Rattle.seam_law_calls.specs.Prelude.{Frame, has_of, has_none, times, order_about, order_concerns, orders_of, real_in}
-use Rattle.seam_law_rounds.specs.Prelude.{framed, made, node_loaded, MayBegin}
-use Rattle.seam_machine.proofs.Quiet.{quiet_tasks}
+use Rattle.seam_law_ghosts.proofs.Prelude.{◌≡◌, ℕ, ◌≤◌, Bool, true, false, cond, eqb, is_some, ◌||◌, List, [], ◌∷◌, Option, None, Some}
+use Rattle.seam_law_ghosts.proofs.Prelude.{refl, sym, ap, ◌∙◌, subst, arith, inl, inr, option_map, slice_get, AllByRecursion, cases_lt}
+use Rattle.seam_law_ghosts.proofs.Prelude.{eqb-true, cells_of, leaf_at, items_to, Create, Order, Batch, RealView, has_any, cell_count}
+use Rattle.seam_law_ghosts.proofs.Prelude.{CellView, holders, NodeView, World, node_has_work, Cell, Base, real_if, created_at, attached}
+use Rattle.seam_law_ghosts.proofs.Prelude.{cell_round, base_round, ordered_at, loaded, slot_at, Frame, has_of, has_none, times, order_about}
+use Rattle.seam_law_ghosts.proofs.Prelude.{order_concerns, orders_of, real_in, framed, made, node_loaded, MayBegin, quiet_tasks}
+use Rattle.seam_law_ghosts.proofs.Prelude.{counted_none, each_keeps, Any, any, in_frame, slot_is, no_mail, node_orders, node_none}
 use Rattle.seam_call.specs.declared.order.Order.TheVariants as order
-use Rattle.seam_law_calls.proofs.Counting.{counted_none}
-use Rattle.seam_law_rounds.proofs.Loading.{each_keeps, Any, any}
-use Rattle.seam_law_rounds.proofs.Framing.{in_frame}
-use Rattle.seam_law_rounds.proofs.Loaded.{slot_is, no_mail}
 use Rattle.seam_law_rounds.proofs.Room.{one_if, loaded_surveys}
-use Rattle.seam_law_rounds.proofs.Turns.{node_orders, node_none}
 use Rattle.seam_law_ghosts.proofs.Listing.{IsListed}
 use Rattle.seam_law_ghosts.proofs.Lasting.{AreListed}
 use Rattle.seam_law_ghosts.proofs.Unknown.{IsTickOrder, IsTick, IsUnknown}

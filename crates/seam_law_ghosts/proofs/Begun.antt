@@ -1,25 +1,15 @@
 -- Where a batch is loaded, each entity is on the survey list of its real's cell; and where reals come from.
-use Rattle.std.proofs.Common.{◌≡◌, ℕ, ◌≤◌, false, cond, eqb, List, [], ◌∷◌, ◌++◌, map, Option, None, Some, refl, sym, ap, ◌∙◌, subst, arith}
-use Rattle.std.proofs.Common.{inl, inr}
-use Rattle.std.specs.Prelude.{option_map, slice_get}
-use Rattle.std.specs.List.{AllByRecursion, IsDistinct}
-use Rattle.std.specs.Ordering.{nat_cmp}
-use Rattle.std.specs.Cmp.{unsigned_tied}
+use Rattle.seam_law_ghosts.proofs.Prelude.{◌≡◌, ℕ, ◌≤◌, false, cond, eqb, List, [], ◌∷◌, ◌++◌, map, Option, None, Some, refl, sym, ap, ◌∙◌}
+use Rattle.seam_law_ghosts.proofs.Prelude.{subst, arith, inl, inr, option_map, slice_get, AllByRecursion, nat_cmp, unsigned_tied, cases_eq}
+use Rattle.seam_law_ghosts.proofs.Prelude.{eq-eqb, ne_eqb, append_assoc, slice_get_cases, leaf_at, Create, Order, Batch, RealView}
+use Rattle.seam_law_ghosts.proofs.Prelude.{WitnessView, real_begins, NodeView, World, Cell, Base, cell_round, ordered_at, loaded, slot_at}
+use Rattle.seam_law_ghosts.proofs.Prelude.{Frame, has_of, has_none, times, one_more_if, entity_flow, real_in, real_at, created_entity}
+use Rattle.seam_law_ghosts.proofs.Prelude.{MayBeMade, made, node_loaded, MayBegin, made_real, BeginsAt, leaf_is_cell, each_keeps, Any, any}
+use Rattle.seam_law_ghosts.proofs.Prelude.{get-each_value, kept_some, slot_is, slot_becomes}
+use Rattle.std.specs.List.{IsDistinct}
 use Rattle.std.specs.FinMap as table
 use Rattle.std.specs.FinMap.Entries.{find as key_find}
-use Rattle.std.proofs.lemmas.Bool.{cases_eq, eq-eqb, ne_eqb}
-use Rattle.std.proofs.lemmas.List.{append_assoc}
-use Rattle.std.proofs.lemmas.Option.{slice_get_cases}
-use Rattle.seam_node_steps.specs.Prelude.{leaf_at, Create, Order, Batch, RealView, WitnessView, real_begins, NodeView, World, Cell, Base}
-use Rattle.seam_node_steps.specs.Prelude.{cell_round, ordered_at, loaded}
-use Rattle.seam_law_flow.specs.Prelude.{slot_at}
-use Rattle.seam_law_calls.specs.Prelude.{Frame, has_of, has_none, times, one_more_if, entity_flow, real_in, real_at}
-use Rattle.seam_law_rounds.specs.Prelude.{created_entity, MayBeMade, made, node_loaded, MayBegin}
-use Rattle.seam_law_ghosts.specs.Prelude.{made_real, BeginsAt}
-use Rattle.seam_tree.proofs.Leaves.{leaf_is_cell}
-use Rattle.seam_law_rounds.proofs.Loading.{each_keeps, Any, any, get-each_value}
 use Rattle.seam_law_rounds.proofs.Making.{AreOthers, Creation, nowhere, once, creation_of, middle, until, node_made, node_after}
-use Rattle.seam_law_rounds.proofs.Loaded.{kept_some, slot_is, slot_becomes}
 
 -- ---- survey lists
 

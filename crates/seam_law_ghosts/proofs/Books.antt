@@ -1,13 +1,9 @@
 -- The beats of books never fall, and so versions of copies do not.
-use Rattle.std.proofs.Common.{◌≡◌, ℕ, ◌+◌, ◌<◌, ◌≤◌, true, List, length, Option, None, Some, sym, ap, ◌∙◌, subst, inl, inr, arith}
-use Rattle.std.proofs.lemmas.Bool.{cases_eq}
-use Rattle.seam_node_steps.specs.Prelude.{happens, enabled, Event, GhostCopy, RealView, Msg, World, node_steps, node_has_work}
-use Rattle.seam_law_flow.specs.Prelude.{comes, greater_entry}
-use Rattle.seam_law_calls.specs.Prelude.{Frame, Has, entity_flow, IsSpared, IsFrame, RunsTo}
-use Rattle.seam_law_ghosts.specs.Prelude.{Entry, book_entry, GhostMoves, IsTable, IsTrue}
-use Rattle.seam_machine.proofs.Occurring.{occurs}
-use Rattle.seam_net_runs.proofs.Runs.{leads_keeps}
-use Rattle.seam_law_calls.proofs.OneReal.{goes, room, calm_of, spared_happens}
+use Rattle.seam_law_ghosts.proofs.Prelude.{◌≡◌, ℕ, ◌+◌, ◌<◌, ◌≤◌, true, List, length, Option, None, Some, sym, ap, ◌∙◌, subst, inl, inr}
+use Rattle.seam_law_ghosts.proofs.Prelude.{arith, cases_eq, happens, enabled, Event, GhostCopy, RealView, Msg, World, node_steps}
+use Rattle.seam_law_ghosts.proofs.Prelude.{node_has_work, comes, greater_entry, Frame, Has, entity_flow, IsSpared, IsFrame, RunsTo, Entry}
+use Rattle.seam_law_ghosts.proofs.Prelude.{book_entry, GhostMoves, IsTable, IsTrue, occurs, leads_keeps, goes, room, calm_of}
+use Rattle.seam_law_ghosts.proofs.Prelude.{spared_happens}
 use Rattle.seam_law_ghosts.specs.GhostMoves as ghost
 use Rattle.seam_law_ghosts.proofs.Greater.{greater_up}
 use Rattle.seam_law_ghosts.proofs.Steps.{ghost_moves}

@@ -1,26 +1,17 @@
 -- Where entities are reaped, and where witnesses look, a cell gets no copy: each that it has is the one that it had.
-use Rattle.std.proofs.Common.{◌≡◌, ℕ, ◌+◌, ◌<◌, Bool, true, false, ltb, cond, List, [], ◌∷◌, Option, None, Some, refl, sym, ap, ◌∙◌, arith}
+use Rattle.seam_law_ghosts.proofs.Prelude.{◌≡◌, ℕ, ◌+◌, Bool, true, false, ltb, cond, List, [], ◌∷◌, Option, None, Some, refl, sym, ap}
+use Rattle.seam_law_ghosts.proofs.Prelude.{◌∙◌, arith, Division, happens, enabled, LeadsTo, Ghost, copy_in, beat_in, ghost_after, GhostCopy}
+use Rattle.seam_law_ghosts.proofs.Prelude.{RealView, Msg, Hand, GhostSet, SlotStep, slot_after, order_or, may_rise, Event, holders}
+use Rattle.seam_law_ghosts.proofs.Prelude.{NodeView, World, node_steps, node_has_work, reap_ordered_at, ordered_at}
+use Rattle.seam_law_ghosts.proofs.Prelude.{reaps_loaded, look_loaded, Goes, comes, Frame, here_at, Has, AtCell, entity_flow, Does, Acts}
+use Rattle.seam_law_ghosts.proofs.Prelude.{surveys, calls, readies, Moves, MovesTo, at_a_cell, at_a_base, real_in, IsFrame}
+use Rattle.seam_law_ghosts.proofs.Prelude.{IsSettled, IsBetweenRounds, each, AreReapable, book_entry, copy_at, occurs, leads_keeps}
+use Rattle.seam_law_ghosts.proofs.Prelude.{slots_kept, came, event_moves, quiet_home, IsSame, IsCalmTo, IsCalm, none_ready, calm_leads}
+use Rattle.seam_law_ghosts.proofs.Prelude.{reaps_cell, look_cell}
 use Rattle.std.specs.FinMap as table
-use Rattle.seam_node_steps.specs.Prelude.{Division, happens, enabled, LeadsTo, Ghost, copy_in, beat_in, ghost_after, GhostCopy, RealView}
-use Rattle.seam_node_steps.specs.Prelude.{Msg}
-use Rattle.seam_node_steps.specs.Prelude.{Hand, GhostSet, SlotStep, slot_after, order_or, may_rise, Event, holders, NodeView, World}
-use Rattle.seam_node_steps.specs.Prelude.{node_steps, node_has_work, with_nodes, reap_ordered_at, ordered_at, reaps_loaded, look_loaded}
-use Rattle.seam_law_flow.specs.Prelude.{Goes, comes}
-use Rattle.seam_law_calls.specs.Prelude.{Frame, here_at, Has, AtCell, entity_flow, Does, Acts, surveys, calls, readies, CellMoves, Moves}
-use Rattle.seam_law_calls.specs.Prelude.{MovesTo, at_a_cell, at_a_base, real_in, IsFrame}
-use Rattle.seam_law_rounds.specs.Prelude.{IsSettled, IsBetweenRounds, each, AreReapable}
-use Rattle.seam_law_ghosts.specs.Prelude.{book_entry, copy_at}
 use Rattle.seam_entity.specs.declared.message.Msg.TheVariants.{Call}
-use Rattle.seam_law_calls.specs.CellMoves as move
-use Rattle.seam_machine.proofs.Occurring.{occurs}
-use Rattle.seam_net_runs.proofs.Runs.{leads_keeps}
-use Rattle.seam_law_flow.proofs.Following.{slots_kept, came}
-use Rattle.seam_law_calls.proofs.Classify.{event_moves}
-use Rattle.seam_law_rounds.proofs.Ready.{quiet_home}
-use Rattle.seam_law_rounds.proofs.Calm.{IsSame, IsCalmTo, IsCalm}
-use Rattle.seam_law_rounds.proofs.CalmMoves.{none_ready}
-use Rattle.seam_law_rounds.proofs.Phases.{calm_leads}
-use Rattle.seam_law_rounds.proofs.Giving.{reaps_cell, look_cell}
+use Rattle.seam_law_calls.proofs.CellDeeds as deed
+use Rattle.seam_law_calls.proofs.CellDeeds.{CellDeeds, cell_deeds}
 use Rattle.seam_law_rounds.proofs.Reaping as reaping
 use Rattle.seam_law_rounds.proofs.Looking as looking
 use Rattle.seam_law_ghosts.proofs.Loading.{books_turned}
@@ -58,27 +49,23 @@ module _ (f : Frame) (e home : ℕ) (r : RealView) (told : Bool) (k : ℕ) (s : 
   same : Copies (copy_in s.cell.slot.ghost) (copy_in s.cell.slot.ghost)
   same c is = is
 
-  cell_keeps : {tree : Division} → CellMoves (here_at f k) tree e s.cell i t.cell sent → Kept
-  cell_keeps (move.rests n d) = steps _ s.cell d same
-  cell_keeps (move.strays m n b d) = steps _ s.cell d same
-  cell_keeps (move.stays u p q changed has own acts at d) = absurd (acts_never u p q changed has acts)
-  cell_keeps (move.goes u p q changed j has own acts at n d) = absurd (acts_never u p q changed has acts)
-  cell_keeps (move.late c p n has may lt d) = absurd (come (Call c) n)
-  cell_keeps (move.holds c p n is has own may lt d) = absurd (come (Call c) n)
-  cell_keeps (move.passes c p n is has at d) = absurd (come (Call c) n)
-  cell_keeps (move.lands p n own has may d) = absurd (come (Hand p) n)
-  cell_keeps (move.hears_set n c h has d) = absurd (come (GhostSet e n c) h)
-  cell_keeps (move.ignores_set n c p h has d) = absurd (come (GhostSet e n c) h)
-  cell_keeps (move.hears_drop n h d) = steps _ s.cell d (dropped s.cell.slot.ghost n)
-  cell_keeps (move.reaped q n has own may d) = steps _ s.cell d (dropped s.cell.slot.ghost (q.beat + 1))
-  cell_keeps (move.ticks n st z) = λ c is. sym (ap (λ a. copy_in a.slot.ghost) st) ∙ is
-  cell_keeps (move.unlists n h at b d) = steps _ _ d same
-  cell_keeps (move.looks n q w known h at has own is small d) = steps _ _ d same
-  cell_keeps (move.overlooks n known h at b d) = steps _ _ d same
-  cell_keeps (move.stuck p h has ready may d) = steps _ s.cell d same
+  cell_keeps : {tree : Division} → CellDeeds (here_at f k) tree e s.cell i t.cell sent → Kept
+  cell_keeps (deed.idles a z) = kept a.heard
+    where
+      kept : deed.HeardOf e s.cell i t.cell → Kept
+      kept (deed.as_before is) = λ c at. sym (ap copy_in is) ∙ at
+      kept (deed.set_to n c is none book) = absurd (come (GhostSet e n c) is)
+      kept (deed.dropped n is book) = λ c at. dropped s.cell.slot.ghost n c (sym (ap copy_in book) ∙ at)
+  cell_keeps (deed.stays u p q changed has own acts at d) = absurd (acts_never u p q changed has acts)
+  cell_keeps (deed.goes u p q changed j has own acts at n d) = absurd (acts_never u p q changed has acts)
+  cell_keeps (deed.holds c p n is has own may lt d) = absurd (come (Call c) n)
+  cell_keeps (deed.passes c p n is has at d) = absurd (come (Call c) n)
+  cell_keeps (deed.lands p n own has may d) = absurd (come (Hand p) n)
+  cell_keeps (deed.reaped q n has own may d) = steps _ s.cell d (dropped s.cell.slot.ghost (q.beat + 1))
+  cell_keeps (deed.looks n q w known h at has own is small d) = steps _ _ d same
 
   keeps_copies : Moves f e k s i t sent → Kept
-  keeps_copies (at_a_cell tree of low m is) = cell_keeps m
+  keeps_copies (at_a_cell tree of low m is) = cell_keeps (cell_deeds m)
   keeps_copies (at_a_base high m is) = λ c at. sym (ap (λ (x : AtCell). copy_in x.slot.ghost) is) ∙ at
 
 -- ---- a list of events

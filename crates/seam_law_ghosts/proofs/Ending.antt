@@ -1,16 +1,12 @@
 -- The record of copies holds of an opened world, and again at the end of each phase; and what a phase of reaps leaves.
-use Rattle.std.proofs.Common.{◌≡◌, ℕ, ◌<◌, ◌≤◌, false, List, [], ◌∷◌, None, Some, sym, ap, ◌∙◌}
-use Rattle.std.specs.List.{AllByRecursion}
-use Rattle.seam_node_steps.specs.Prelude.{IsQuiet, Event, Settings, TypeDef, RealView, cell_count, holders, NodeView, World, node_has_work}
-use Rattle.seam_node_steps.specs.Prelude.{with_nodes, reap_ordered_at, ordered_at, opened, reaps_loaded, look_loaded}
-use Rattle.seam_law_flow.specs.Prelude.{In}
-use Rattle.seam_law_calls.specs.Prelude.{Frame, entity_flow, real_in, IsFrame, RunsTo, real_at}
-use Rattle.seam_law_rounds.specs.Prelude.{IsBetweenRounds, each, first_frame, AreReapable}
-use Rattle.seam_law_ghosts.specs.Prelude.{book_entry, copy_at, NewestAreWanted, IsForgotten, AreCopiesBetweenRounds}
-use Rattle.seam_law_rounds.proofs.Giving.{reaps_cell, look_cell, reals_stay}
+use Rattle.seam_law_ghosts.proofs.Prelude.{◌≡◌, ℕ, ◌<◌, ◌≤◌, false, List, [], ◌∷◌, None, Some, sym, ap, ◌∙◌, AllByRecursion, IsQuiet, Event}
+use Rattle.seam_law_ghosts.proofs.Prelude.{Settings, TypeDef, RealView, cell_count, holders, NodeView, World, node_has_work, with_nodes}
+use Rattle.seam_law_ghosts.proofs.Prelude.{reap_ordered_at, ordered_at, opened, reaps_loaded, look_loaded, In, Frame, entity_flow, real_in}
+use Rattle.seam_law_ghosts.proofs.Prelude.{IsFrame, RunsTo, real_at, IsBetweenRounds, each, first_frame, AreReapable, book_entry, copy_at}
+use Rattle.seam_law_ghosts.proofs.Prelude.{NewestAreWanted, IsForgotten, AreCopiesBetweenRounds, reaps_cell, look_cell, reals_stay}
+use Rattle.seam_law_ghosts.proofs.Prelude.{opened_is_new}
 use Rattle.seam_law_rounds.proofs.Reaping as reaping
 use Rattle.seam_law_rounds.proofs.Looking as looking
-use Rattle.seam_law_rounds.proofs.Opened.{opened_is_new}
 use Rattle.seam_law_ghosts.proofs.NoStrays.{frame_reaps, unknown_reaps, frame_look, unknown_look}
 use Rattle.seam_law_ghosts.proofs.Still.{quiet_mail}
 use Rattle.seam_law_ghosts.proofs.Phasing.{phase_told, phase_forgotten, phase_ends_copied, phase_stays}

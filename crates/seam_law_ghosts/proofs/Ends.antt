@@ -1,27 +1,14 @@
 -- Where a loaded world is quiet again, each place is one that the rounds allow; and the last phases leave places.
-use Rattle.std.proofs.Common.{◌≡◌, ℕ, ◌≤◌, ◌⊎◌, Bool, false, List, [], ◌∷◌, ◌++◌, Some, refl, sym, ap, ◌∙◌, subst, arith, inl, inr}
-use Rattle.std.specs.List.{AllByRecursion}
-use Rattle.seam_node_steps.specs.Prelude.{leaf_at, Place, IsPlaceAfter, IsQuiet, Event, Create, Batch, RealView, holders, NodeView}
-use Rattle.seam_node_steps.specs.Prelude.{World, node_has_work, Cell, Base, loaded, reaps_loaded, look_loaded}
-use Rattle.seam_law_flow.specs.Prelude.{letters_of, In}
-use Rattle.seam_law_calls.specs.Prelude.{Frame, mine, times, has_of, entity_flow, real_in, real_of, HasOne, RunsTo, real_at}
-use Rattle.seam_law_rounds.specs.Prelude.{IsBetweenRounds, framed, AreReapable, MayBegin}
-use Rattle.seam_law_ghosts.specs.Prelude.{distances_of, place_of, first_place, path_of, made_real, home_of, IsDue, IsPlaced, IsRestful}
-use Rattle.seam_law_ghosts.specs.Prelude.{IsRightPlace}
-use Rattle.seam_law_ghosts.specs.Prelude.{BeginsAt, HadSameReal, ArePlaced}
-use Rattle.seam_machine.proofs.Quiet.{quiet_links, quiet_tasks}
+use Rattle.seam_law_ghosts.proofs.Prelude.{◌≡◌, ℕ, ◌≤◌, ◌⊎◌, Bool, false, List, [], ◌∷◌, ◌++◌, Some, refl, sym, ap, ◌∙◌, subst, arith, inl}
+use Rattle.seam_law_ghosts.proofs.Prelude.{inr, AllByRecursion, leaf_at, Place, IsPlaceAfter, IsQuiet, Event, Create, Batch, RealView}
+use Rattle.seam_law_ghosts.proofs.Prelude.{holders, NodeView, World, node_has_work, Cell, Base, loaded, reaps_loaded, look_loaded}
+use Rattle.seam_law_ghosts.proofs.Prelude.{letters_of, In, Frame, mine, times, has_of, entity_flow, real_in, real_of, HasOne, RunsTo}
+use Rattle.seam_law_ghosts.proofs.Prelude.{real_at, IsBetweenRounds, framed, AreReapable, MayBegin, distances_of, place_of, first_place}
+use Rattle.seam_law_ghosts.proofs.Prelude.{path_of, made_real, home_of, IsDue, IsPlaced, IsRestful, IsRightPlace, BeginsAt, HadSameReal}
+use Rattle.seam_law_ghosts.proofs.Prelude.{ArePlaced, quiet_links, quiet_tasks, sole_here, counted_none, none_counts, slots, gone_leads}
+use Rattle.seam_law_ghosts.proofs.Prelude.{in_frame, no_items, no_mail, one_at_home, its, frame_loaded, settled_loaded, one_loaded}
+use Rattle.seam_law_ghosts.proofs.Prelude.{spared_loaded, Somewhere, Nowhere, search_real, IsCalm, calm_leads}
 use Rattle.seam_law_flow.specs.Tokens as token
-use Rattle.seam_law_flow.proofs.TokenLemmas.{sole_here}
-use Rattle.seam_law_calls.proofs.Counting.{counted_none, none_counts}
-use Rattle.seam_law_calls.proofs.ExampleMet.{slots}
-use Rattle.seam_law_calls.proofs.Gone.{gone_leads}
-use Rattle.seam_law_rounds.proofs.Framing.{in_frame}
-use Rattle.seam_law_rounds.proofs.Loaded.{no_items, no_mail}
-use Rattle.seam_law_rounds.proofs.Ready.{one_at_home}
-use Rattle.seam_law_rounds.proofs.Going.{its, frame_loaded, settled_loaded, one_loaded, spared_loaded}
-use Rattle.seam_law_rounds.proofs.Shape.{Somewhere, Nowhere, search_real}
-use Rattle.seam_law_rounds.proofs.Calm.{IsCalm}
-use Rattle.seam_law_rounds.proofs.Phases.{calm_leads}
 use Rattle.seam_law_rounds.proofs.Reaping as reaping
 use Rattle.seam_law_rounds.proofs.Looking as looking
 use Rattle.seam_law_ghosts.proofs.Ways.{way_ends}

@@ -1,7 +1,7 @@
 -- A worked run from an opened world: its batch fits, and at its end a cell has the present copy of the entity.
-use Rattle.std.proofs.Common.{◌≡◌, ℕ, zero, suc, ◌+◌, ◌<◌, ◌≤◌, Bool, true, false, eqb, List, [], ◌∷◌, ◌++◌, map, length, None, Some, refl}
-use Rattle.std.proofs.Common.{sym, ap, ◌∙◌, subst, arith, inl, inr}
-use Rattle.std.specs.List.{IsDistinct, range_with_len}
+use Rattle.std.proofs.Common.{◌≡◌, ℕ, zero, suc, ◌<◌, ◌≤◌, Bool, true, false, eqb, [], ◌∷◌, length, None, Some, refl, sym, ap, ◌∙◌, subst}
+use Rattle.std.proofs.Common.{arith, inl, inr}
+use Rattle.std.specs.List.{IsDistinct}
 use Rattle.std.specs.Ordering.{nat_cmp}
 use Rattle.std.specs.FinMap as table
 use Rattle.std.proofs.lemmas.Bool.{cases_eq, ne_eqb}
@@ -18,7 +18,7 @@ use Rattle.seam_node_steps.specs.Rows as rows
 use Rattle.seam_node_steps.specs.LateGhost.{made, moved_on, at_home, left, away, heard, base_16, base_17, new_parts, with_cells, world_0}
 use Rattle.seam_node_steps.specs.LateGhost.{world_14, steps}
 use Rattle.seam_node_steps.proofs.Tables.{computing}
-use Rattle.seam_law_calls.proofs.ExampleMet.{EachFrom, each_node, slots, none_there, one_is, number_is, row_leads, frame_is}
+use Rattle.seam_law_calls.proofs.ExampleMet.{EachFrom, idle_each, each_node, slots, none_there, one_is, number_is, row_leads, frame_is}
 use Rattle.seam_law_rounds.proofs.Opened.{opened_is_new, opened_has_none, opened_between}
 use Rattle.seam_law_rounds.proofs.CallsEnd.{calls_end_between}
 use Rattle.seam_law_ghosts.proofs.Rounding.{calls_end_copied}
@@ -68,19 +68,9 @@ first_is = record { defs = frame_is.defs; tree = one_is_tree; later = tt }
 -- ---- nodes, one by one
 
 module _ (P : ℕ → NodeView → Type 0) (each : (k : ℕ) → P k (idle three_cells k)) where
-  idle_each : (a n : ℕ) (ys : List NodeView) → EachFrom P (a + n) ys → EachFrom P a (map (idle three_cells) (range_with_len a n) ++ ys)
-  idle_each a zero ys rest = let same : a + 0 ≡ a = omega arith in subst (λ j. EachFrom P j ys) same rest
-  idle_each a (suc n) ys rest =
-      let same : a + suc n ≡ a + 1 + n = omega arith in
-      let next : a + 1 ≡ suc a = omega arith in (
-        each a,
-        subst (λ j. EachFrom P j (map (idle three_cells) (range_with_len (a + 1) n) ++ ys)) next
-            (idle_each (a + 1) n ys (subst (λ j. EachFrom P j ys) same rest)),
-      )
-
   nodes_of : (c0 c1 c2 b16 b17 : NodeView) → P 0 c0 → P 1 c1 → P 2 c2 → P 16 b16 → P 17 b17 →
       EachFrom P 0 (with_cells c0 c1 c2 b16 b17 []).nodes
-  nodes_of c0 c1 c2 b16 b17 x y z u v = (x, (y, (z, idle_each 3 13 (b16 ∷ b17 ∷ []) (u, (v, tt)))))
+  nodes_of c0 c1 c2 b16 b17 x y z u v = (x, (y, (z, idle_each P three_cells 3 13 (b16 ∷ b17 ∷ []) (λ k low. each k) (u, (v, tt)))))
 
 -- the real of entity e, if the node has one, is r, and e is 1
 abbrev IsItsReal : RealView → ℕ → Has → Type 0
@@ -128,7 +118,7 @@ its_calls : AreNumbered first batch 1 1 1
 its_calls = record {
   node = 16;
   is_base = omega arith;
-  is_there = omega arith;
+  in_net = omega arith;
   calls = refl;
   others = λ j n. rw (ne_eqb 16 j (λ e. n (sym e))) refl;
   room = omega arith;
@@ -146,7 +136,7 @@ module _ (s : ℕ) (n : s ≡ 1 → ⊥) where
   other_calls = record {
     node = 16;
     is_base = omega arith;
-    is_there = omega arith;
+    in_net = omega arith;
     calls = none_by 16 true refl ∙ sym (ap (number_from 1) no_calls);
     others = λ j m. none_by j (eqb 16 j) refl;
     room = let none = ap length no_calls in omega (arith, none);

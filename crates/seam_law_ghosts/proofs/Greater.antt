@@ -1,8 +1,5 @@
 -- An entry that comes to a book.
-use Rattle.std.proofs.Common.{◌≡◌, ◌≤◌, ◌<◌, Bool, true, false, ltb, cond, Some, refl, arith}
-use Rattle.std.proofs.lemmas.Bool.Decides.{nat_tests}
-use Rattle.seam_law_flow.specs.Newest.{greater_entry}
-use Rattle.seam_law_ghosts.specs.Entries.{Entry}
+use Rattle.seam_law_ghosts.proofs.Prelude.{◌≡◌, ◌≤◌, ◌<◌, Bool, true, false, ltb, cond, Some, refl, arith, nat_tests, greater_entry, Entry}
 
 -- the beat does not fall
 greater_up_by : (a : Entry) (p : Entry) (t : Bool) → ltb a.0 p.0 ≡ t → a.0 ≤ (cond t p a).0

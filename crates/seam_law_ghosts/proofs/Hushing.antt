@@ -1,17 +1,11 @@
 -- What comes to the cell where the real is has no newer beat than the book there.
-use Rattle.std.proofs.Common.{◌≡◌, ℕ, ◌<◌, ◌≤◌, true, List, [], ◌∷◌, length, Option, None, Some, refl, sym, ap, subst, inl, inr, arith}
-use Rattle.std.proofs.lemmas.Bool.{cases_eq}
-use Rattle.std.specs.List.{AllByRecursion}
-use Rattle.seam_node_steps.specs.Prelude.{happens, enabled, items_to, Event, GhostCopy, RealView, Msg, World, node_steps, node_has_work}
-use Rattle.seam_law_flow.specs.Prelude.{Goes, comes, OfEntry, AllBring, TokenPlace, In, On, Sole, still, turns, lands, leaves, relays}
-use Rattle.seam_law_flow.specs.Prelude.{place_after}
-use Rattle.seam_law_calls.specs.Prelude.{Frame, Has, entity_flow, real_in, real_of, IsSpared, IsFrame, RunsTo, real_at}
-use Rattle.seam_law_ghosts.specs.Prelude.{Entry, brings, book_entry, IsOfTable, IsTrue, IsHushed}
-use Rattle.seam_machine.proofs.Occurring.{occurs}
-use Rattle.seam_net_runs.proofs.Runs.{leads_keeps}
-use Rattle.seam_law_flow.proofs.Following.{letters_kept}
-use Rattle.seam_law_flow.proofs.TokenLemmas.{sole_here, sole_came}
-use Rattle.seam_law_calls.proofs.OneReal.{goes, room, one_happens, calm_of, spared_happens}
+use Rattle.seam_law_ghosts.proofs.Prelude.{◌≡◌, ℕ, ◌<◌, ◌≤◌, true, List, [], ◌∷◌, length, Option, None, Some, refl, sym, ap, subst, inl}
+use Rattle.seam_law_ghosts.proofs.Prelude.{inr, arith, cases_eq, AllByRecursion, happens, enabled, items_to, Event, GhostCopy, RealView}
+use Rattle.seam_law_ghosts.proofs.Prelude.{Msg, World, node_steps, node_has_work, Goes, comes, OfEntry, AllBring, TokenPlace, In, On, Sole}
+use Rattle.seam_law_ghosts.proofs.Prelude.{still, turns, lands, leaves, relays, place_after, Frame, Has, entity_flow, real_in, real_of}
+use Rattle.seam_law_ghosts.proofs.Prelude.{IsSpared, IsFrame, RunsTo, real_at, Entry, brings, book_entry, IsOfTable, IsTrue, IsHushed}
+use Rattle.seam_law_ghosts.proofs.Prelude.{occurs, leads_keeps, letters_kept, sole_here, sole_came, goes, room, one_happens, calm_of}
+use Rattle.seam_law_ghosts.proofs.Prelude.{spared_happens}
 use Rattle.seam_law_ghosts.proofs.Steps.{ghost_moves}
 use Rattle.seam_law_ghosts.proofs.Making.{NoEntry, Does_it, TellsBy, told_of}
 use Rattle.seam_law_ghosts.proofs.Telling.{true_after, place_then}

@@ -1,13 +1,8 @@
 -- Where entities are reaped, and where witnesses look, no message to a cell is stray.
-use Rattle.std.proofs.Common.{◌≡◌, ℕ, ◌+◌, ◌<◌, ◌≤◌, Bool, true, false, not, List, [], ◌∷◌, Option, None, Some, refl, ap, ◌∙◌, subst, arith}
-use Rattle.std.specs.Prelude.{slice_get}
-use Rattle.std.specs.List.{AllByRecursion}
-use Rattle.std.proofs.lemmas.Bool.Decides.{nat_tests}
-use Rattle.seam_node_steps.specs.Prelude.{Division, link, RealView, Msg, GhostDrop, Tick, Reap, Update, limit, is_small, may_rise}
-use Rattle.seam_node_steps.specs.Prelude.{cell_count, about}
-use Rattle.seam_node_steps.specs.Prelude.{is_stray, stray_reap, NodeView, World, RouteView, order_or}
-use Rattle.seam_law_calls.specs.Prelude.{Frame, here_at, entity_flow, real_at}
-use Rattle.seam_law_rounds.proofs.Calm.{IsCalmTo, IsCalm}
+use Rattle.seam_law_ghosts.proofs.Prelude.{◌≡◌, ℕ, ◌+◌, ◌<◌, ◌≤◌, Bool, true, false, not, List, [], ◌∷◌, Option, None, Some, refl, ap, ◌∙◌}
+use Rattle.seam_law_ghosts.proofs.Prelude.{subst, arith, slice_get, AllByRecursion, nat_tests, Division, link, RealView, Msg, GhostDrop}
+use Rattle.seam_law_ghosts.proofs.Prelude.{Tick, Reap, Update, limit, is_small, may_rise, cell_count, about, is_stray, stray_reap, NodeView}
+use Rattle.seam_law_ghosts.proofs.Prelude.{World, RouteView, order_or, Frame, here_at, entity_flow, real_at, IsCalmTo, IsCalm}
 use Rattle.seam_law_rounds.proofs.CalmRuns.{found_home}
 use Rattle.std.specs.FinMap as table
 use Rattle.seam_law_ghosts.proofs.Strays.{mine_is, seen_first, feeds}

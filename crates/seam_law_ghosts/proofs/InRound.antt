@@ -1,24 +1,14 @@
 -- In a round no message to a cell is stray.
-use Rattle.std.proofs.Common.{◌≡◌, ℕ, ◌<◌, ◌≤◌, ◌⊎◌, false, List, ◌∷◌, None, Some, refl, sym, ap, ◌∙◌, subst, inl, inr}
-use Rattle.std.specs.Prelude.{slice_get}
-use Rattle.std.specs.List.{AllByRecursion}
-use Rattle.seam_node_steps.specs.Prelude.{Division, link, Event, Batch, RealView, Msg, Hand, Tick, limit, cell_count, about, is_stray}
-use Rattle.seam_node_steps.specs.Prelude.{CellView}
-use Rattle.seam_node_steps.specs.Prelude.{slot_of, holders, NodeView, World, Cell, loaded}
-use Rattle.seam_law_flow.specs.Prelude.{letters_of, slot_at, TokenPlace, In, On}
-use Rattle.seam_law_calls.specs.Prelude.{Frame, IsTreeOf, here_at, mine, has_of, has_none, entity_flow, RealFits, IsFitHand, real_burden}
-use Rattle.seam_law_calls.specs.Prelude.{real_in}
-use Rattle.seam_law_calls.specs.Prelude.{real_of, IsOne, reaped_by, RunsTo, real_at}
-use Rattle.seam_law_rounds.specs.Prelude.{IsSettled, framed, calls_of, next_from, MayBegin}
-use Rattle.seam_law_flow.proofs.TokenLemmas.{sole_here}
-use Rattle.seam_law_calls.proofs.Counting.{none_counts}
+use Rattle.seam_law_ghosts.proofs.Prelude.{◌≡◌, ℕ, ◌<◌, ◌≤◌, ◌⊎◌, false, List, ◌∷◌, None, Some, refl, sym, ap, ◌∙◌, subst, inl, inr}
+use Rattle.seam_law_ghosts.proofs.Prelude.{slice_get, AllByRecursion, Division, link, Event, Batch, RealView, Msg, Hand, Tick, limit}
+use Rattle.seam_law_ghosts.proofs.Prelude.{cell_count, about, is_stray, CellView, slot_of, holders, NodeView, World, Cell, loaded}
+use Rattle.seam_law_ghosts.proofs.Prelude.{letters_of, slot_at, TokenPlace, In, On, Frame, IsTreeOf, here_at, mine, has_of, has_none}
+use Rattle.seam_law_ghosts.proofs.Prelude.{entity_flow, RealFits, IsFitHand, real_burden, real_in, real_of, IsOne, reaped_by, RunsTo}
+use Rattle.seam_law_ghosts.proofs.Prelude.{real_at, IsSettled, framed, calls_of, next_from, MayBegin, sole_here, none_counts, replays_none}
+use Rattle.seam_law_ghosts.proofs.Prelude.{no_mail, are_calls, frame_loaded, settled_loaded, one_loaded, spared_loaded, kept_after}
+use Rattle.seam_law_ghosts.proofs.Prelude.{Somewhere, Nowhere}
 use Rattle.seam_law_calls.proofs.Easing.{came_small}
-use Rattle.seam_law_calls.proofs.Replaying.{replays_none}
 use Rattle.seam_law_calls.proofs.CellRuns.{finds}
-use Rattle.seam_law_rounds.proofs.Loaded.{no_mail}
-use Rattle.seam_law_rounds.proofs.Turns.{are_calls}
-use Rattle.seam_law_rounds.proofs.Going.{frame_loaded, settled_loaded, one_loaded, spared_loaded, kept_after}
-use Rattle.seam_law_rounds.proofs.Shape.{Somewhere, Nowhere}
 use Rattle.seam_law_ghosts.proofs.Sending.{FitsNode}
 use Rattle.seam_law_ghosts.proofs.Lasting.{IsFair, fair_leads}
 use Rattle.seam_law_ghosts.proofs.Unknown.{IsTick, IsUnknown, unknown_leads}

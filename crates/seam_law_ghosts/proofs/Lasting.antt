@@ -1,23 +1,11 @@
 -- Over every list of events an entity that has its real is in lists only where that is, and what is on its way fits.
-use Rattle.std.proofs.Common.{◌≡◌, ℕ, ◌<◌, ◌≤◌, true, List, length, Option, None, Some, refl, sym, ap, subst, arith}
-use Rattle.std.specs.Prelude.{slice_get}
-use Rattle.std.specs.List.{AllByRecursion}
-use Rattle.seam_node_steps.specs.Prelude.{happens, enabled, Occurs, Task, Event, RealView, limit, NodeView, World, node_steps}
-use Rattle.seam_node_steps.specs.Prelude.{node_has_work}
-use Rattle.seam_law_flow.specs.Prelude.{comes, slot_at}
-use Rattle.seam_law_calls.specs.Prelude.{Frame, IsInFrame, has_of, has_none, entity_flow, real_burden, has_burden, node_burden, mine_burden}
-use Rattle.seam_law_calls.specs.Prelude.{burden, real_in, real_of, IsSpared, IsFrame, OneFrom, RunsTo, real_at}
-use Rattle.seam_machine.proofs.Occurring.{occurs}
-use Rattle.seam_net_runs.specs.Sums.{weight_or}
-use Rattle.seam_net_runs.proofs.Runs.{leads_keeps}
-use Rattle.seam_net_runs.proofs.Weighing.{weight_bounds}
-use Rattle.seam_law_flow.proofs.Following.{slots_kept, letters_kept}
-use Rattle.seam_law_flow.proofs.TokenLemmas.{sole_here}
-use Rattle.seam_law_calls.proofs.Classify.{frame_happens, event_moves}
-use Rattle.seam_law_calls.proofs.Replaying.{replays_on}
-use Rattle.seam_law_calls.proofs.OneReal.{goes, one_happens, calm_of, spared_happens}
-use Rattle.seam_law_rounds.proofs.Shape.{items_each}
-use Rattle.seam_law_rounds.proofs.Publics.{public_low}
+use Rattle.seam_law_ghosts.proofs.Prelude.{◌≡◌, ℕ, ◌<◌, ◌≤◌, true, List, length, Option, None, Some, refl, sym, ap, subst, arith, slice_get}
+use Rattle.seam_law_ghosts.proofs.Prelude.{AllByRecursion, happens, enabled, Occurs, Task, Event, RealView, limit, NodeView, World}
+use Rattle.seam_law_ghosts.proofs.Prelude.{node_steps, node_has_work, comes, slot_at, Frame, IsInFrame, has_of, has_none, entity_flow}
+use Rattle.seam_law_ghosts.proofs.Prelude.{real_burden, has_burden, node_burden, mine_burden, burden, real_in, real_of, IsSpared, IsFrame}
+use Rattle.seam_law_ghosts.proofs.Prelude.{OneFrom, RunsTo, real_at, occurs, weight_or, leads_keeps, weight_bounds, slots_kept}
+use Rattle.seam_law_ghosts.proofs.Prelude.{letters_kept, sole_here, frame_happens, event_moves, replays_on, goes, one_happens, calm_of}
+use Rattle.seam_law_ghosts.proofs.Prelude.{spared_happens, items_each, public_low}
 use Rattle.seam_law_ghosts.proofs.Sending.{FitsNode, sends_fit}
 use Rattle.seam_law_ghosts.proofs.Listing.{IsListed, stays_listed}
 

@@ -1,3 +1,4 @@
+pub mod Prelude
 pub mod Sending
 pub mod Listing
 pub mod Lasting

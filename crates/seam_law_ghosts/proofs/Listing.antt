@@ -1,10 +1,10 @@
 -- An entity in a cell's survey list has its real there, and one in its look list has a witness too.
-use Rattle.std.proofs.Common.{◌≡◌, ℕ, ◌≤◌, Bool, true, false, cond, is_some, List, Option, Some, ◌⊎◌, inl, inr, refl, sym, ap, ◌∙◌, subst}
-use Rattle.std.proofs.Common.{arith}
-use Rattle.seam_node_steps.specs.Prelude.{Division, RealView, Msg, Here, SlotStep, slot_after}
-use Rattle.seam_law_calls.specs.Prelude.{Frame, here_at, Has, AtCell, unlisted_if, Does, Acts, surveys, calls, readies, has_witness}
-use Rattle.seam_law_calls.specs.Prelude.{looks_after_tick, CellMoves, Moves, at_a_cell, at_a_base, real_in}
-use Rattle.seam_law_calls.specs.CellMoves as move
+use Rattle.seam_law_ghosts.proofs.Prelude.{◌≡◌, ℕ, ◌≤◌, Bool, true, false, cond, is_some, List, Option, Some, ◌⊎◌, inl, inr, refl, sym, ap}
+use Rattle.seam_law_ghosts.proofs.Prelude.{◌∙◌, subst, arith, Division, RealView, Msg, Here, SlotStep, slot_after, Frame, here_at, Has}
+use Rattle.seam_law_ghosts.proofs.Prelude.{AtCell, unlisted_if, Does, Acts, surveys, calls, readies, has_witness, looks_after_tick}
+use Rattle.seam_law_ghosts.proofs.Prelude.{Moves, at_a_cell, at_a_base, real_in}
+use Rattle.seam_law_calls.proofs.CellDeeds as deed
+use Rattle.seam_law_calls.proofs.CellDeeds.{CellDeeds, cell_deeds}
 
 abbrev has_one : Option RealView → Bool
 has_one o = is_some o
@@ -61,43 +61,33 @@ module _ (f : Frame) (e k : ℕ) (s : Has) (i : Option Msg) (t : Has) (sent : Li
       by true h = refl
       by false h = absurd (omega (arith, h))
 
-  cell_listed : {tree : Division} → CellMoves h tree e s.cell i t.cell sent → IsListed t.cell
-  cell_listed (move.rests n d) = same _ s.cell d (omega arith) (omega arith) refl refl
-  cell_listed (move.strays m n b d) = same _ s.cell d (omega arith) (omega arith) refl refl
-  cell_listed (move.stays u r q changed has own acts at d) =
+  cell_listed : {tree : Division} → CellDeeds h tree e s.cell i t.cell sent → IsListed t.cell
+  cell_listed (deed.idles a z) = record {
+    survey = λ some. let less = a.survey in ap is_some a.real ∙ here.survey (omega (arith, less, some));
+    looks = λ some. ap has_witness a.real ∙ elim a.looks [
+      | inl less ↦ here.looks (omega (arith, less, some))
+      | inr tick ↦ let is = tick.1 in tick_by s.cell.slot.real (omega (arith, is, some))
+    ];
+  }
+  cell_listed (deed.stays u r q changed has own acts at d) =
       let a = acts_less u r q changed acts in
       turned _ u r _ d a.0 a.1 refl has refl a.2
-  cell_listed (move.goes u r q changed j has own acts at n d) =
+  cell_listed (deed.goes u r q changed j has own acts at n d) =
       let a = acts_less u r q changed acts in
       listed _ u d a.0 a.1 (inl refl)
-  cell_listed (move.late c r n has may lt d) = same _ s.cell d (omega arith) (omega arith) refl refl
-  cell_listed (move.holds c r n own has mine may lt d) = turned _ s.cell r _ d (omega arith) (omega arith) refl has refl refl
-  cell_listed (move.passes c p n own has at d) = same _ s.cell d (omega arith) (omega arith) refl refl
-  cell_listed (move.lands r n own has may d) =
+  cell_listed (deed.holds c r n own has mine may lt d) = turned _ s.cell r _ d (omega arith) (omega arith) refl has refl refl
+  cell_listed (deed.passes c p n own has at d) = same _ s.cell d (omega arith) (omega arith) refl refl
+  cell_listed (deed.lands r n own has may d) =
       listed _ s.cell d (omega arith) (omega arith) (inr (
         refl,
         (λ one. refl),
         (λ one. absurd (let z = sym (ap has_witness has)
             ∙ one in cc)),
       ))
-  cell_listed (move.hears_set n c is has d) = same _ s.cell d (omega arith) (omega arith) refl refl
-  cell_listed (move.ignores_set n c r is has d) = same _ s.cell d (omega arith) (omega arith) refl refl
-  cell_listed (move.hears_drop n is d) = same _ s.cell d (omega arith) (omega arith) refl refl
-  cell_listed (move.reaped r n has own may d) = listed _ s.cell d (omega arith) (omega arith) (inl refl)
-  cell_listed (move.ticks n st z) = record {
-    survey = λ some.
-        let a = ap (λ c. c.survey) st in
-        ap (λ c. is_some c.slot.real) st ∙ here.survey (omega (arith, a, some));
-    looks = λ some.
-        let b = ap (λ c. c.looks) st in
-        ap (λ c. has_witness c.slot.real) st ∙ tick_by s.cell.slot.real (omega (arith, b, some));
-  }
-  cell_listed (move.unlists n is at b d) = same _ _ d (omega (arith, at)) (omega arith) refl refl
-  cell_listed (move.looks n r w known is at has own v small d) =
+  cell_listed (deed.reaped r n has own may d) = listed _ s.cell d (omega arith) (omega arith) (inl refl)
+  cell_listed (deed.looks n r w known is at has own v small d) =
       listed _ _ d (omega arith) (omega (arith, at)) (inr (refl, (λ one. refl), (λ one. refl)))
-  cell_listed (move.overlooks n known is at b d) = same _ _ d (omega arith) (omega (arith, at)) refl refl
-  cell_listed (move.stuck r is has ready may d) = same _ s.cell d (omega arith) (omega arith) refl refl
 
   pub stays_listed : Moves f e k s i t sent → IsListed t.cell
-  stays_listed (at_a_cell tree of low m is) = cell_listed m
+  stays_listed (at_a_cell tree of low m is) = cell_listed (cell_deeds m)
   stays_listed (at_a_base high m is) = subst IsListed (sym is) here

@@ -1,24 +1,16 @@
 -- What a load leaves of copies: all books, and what each real wants of them.
-use Rattle.std.proofs.Common.{◌≡◌, ◌⊎◌, inl, inr, ℕ, Bool, true, false, cond, eqb, Option, None, Some, refl, sym, ap, ◌∙◌, subst, arith}
-use Rattle.std.specs.Prelude.{option_map, slice_get}
-use Rattle.std.specs.List.{AllByRecursion}
-use Rattle.std.specs.Ordering.{nat_cmp, eq_by_cmp}
+use Rattle.seam_law_ghosts.proofs.Prelude.{◌≡◌, ◌⊎◌, inl, inr, ℕ, Bool, true, false, cond, eqb, Option, None, Some, refl, sym, ap, ◌∙◌}
+use Rattle.seam_law_ghosts.proofs.Prelude.{subst, arith, option_map, slice_get, AllByRecursion, nat_cmp, eq_by_cmp, nat_tests}
+use Rattle.seam_law_ghosts.proofs.Prelude.{slice_get-map, Division, leaf_at, cells_of, Create, Order, Batch, RealView, created, real_begins}
+use Rattle.seam_law_ghosts.proofs.Prelude.{copy_if, Map, NodeView, World, Cell, Base, with_nodes, real_if, created_at, with_witness}
+use Rattle.seam_law_ghosts.proofs.Prelude.{attached, cell_round, base_round, ordered_at, loaded, holders, slot_at, letters_of, Frame, Has}
+use Rattle.seam_law_ghosts.proofs.Prelude.{has_of, has_none, entity_flow, real_in, real_of, real_at, MayBeMade, IsFitting, framed, made}
+use Rattle.seam_law_ghosts.proofs.Prelude.{node_loaded, MayBegin, book_entry, present, wanted, AreSettled, AreCopiesBetweenRounds}
+use Rattle.seam_law_ghosts.proofs.Prelude.{get-set_at, each_keeps, Any, any, get-each_value, slot_is, no_mail, Somewhere, Nowhere}
+use Rattle.seam_law_ghosts.proofs.Prelude.{search_real, none_counts}
 use Rattle.std.specs.FinMap as table
 use Rattle.std.specs.FinSet as set
-use Rattle.std.proofs.lemmas.Bool.Decides.{nat_tests}
-use Rattle.std.proofs.lemmas.Option.{slice_get-map}
-use Rattle.seam_node_steps.specs.Prelude.{Division, leaf_at, cells_of, Create, Order, Batch, RealView, created, real_begins, copy_if, Map}
-use Rattle.seam_node_steps.specs.Prelude.{NodeView, World, Cell, Base, with_nodes, real_if, created_at, with_witness, attached, cell_round}
-use Rattle.seam_node_steps.specs.Prelude.{base_round, ordered_at, loaded, holders}
-use Rattle.seam_law_flow.specs.Prelude.{slot_at, letters_of}
-use Rattle.seam_law_calls.specs.Prelude.{Frame, Has, has_of, has_none, entity_flow, real_in, real_of, real_at}
-use Rattle.seam_law_rounds.specs.Prelude.{IsNew, MayBeMade, IsFitting, framed, made, node_loaded, MayBegin}
-use Rattle.seam_law_ghosts.specs.Prelude.{book_entry, present, wanted, AreSettled, AreCopiesBetweenRounds}
-use Rattle.seam_node_steps.proofs.Slots.{get-set_at}
-use Rattle.seam_law_rounds.proofs.Loading.{each_keeps, Any, any, get-each_value}
-use Rattle.seam_law_rounds.proofs.Loaded.{slot_is, no_mail}
-use Rattle.seam_law_rounds.proofs.Shape.{Somewhere, Nowhere, search_real}
-use Rattle.seam_law_calls.proofs.Counting.{none_counts}
+use Rattle.seam_law_rounds.specs.Prelude.{IsNew}
 
 -- ---- no book changes
 

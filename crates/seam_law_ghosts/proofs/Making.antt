@@ -1,24 +1,16 @@
 -- What a move makes of the real, and what it writes and sends to books.
-use Rattle.std.proofs.Common.{◌≡◌, ℕ, ◌+◌, ◌≤◌, ◌⊎◌, Bool, true, false, ltb, cond, eqb, ◌||◌, List, [], ◌∷◌, ◌++◌, Option, None, Some, refl}
-use Rattle.std.proofs.Common.{sym, ap, ◌∙◌, subst, inl, inr}
+use Rattle.seam_law_ghosts.proofs.Prelude.{◌≡◌, ℕ, ◌+◌, ◌≤◌, ◌⊎◌, Bool, true, false, ltb, cond, eqb, ◌||◌, List, [], ◌∷◌, ◌++◌, Option}
+use Rattle.seam_law_ghosts.proofs.Prelude.{None, Some, refl, sym, ap, ◌∙◌, subst, inl, inr, AllByRecursion, eqb-true, eqb-false, Cells}
+use Rattle.seam_law_ghosts.proofs.Prelude.{items_to, part_of_deed, type_of, Call as CallData, GhostCopy, RealView, Msg, Hand, GhostSet}
+use Rattle.seam_law_ghosts.proofs.Prelude.{GhostDrop, Reap, cell_numbers, copy_of_real, settled_to, told, told_unless, ghost_message}
+use Rattle.seam_law_ghosts.proofs.Prelude.{ghost_messages, beat_after, copy_if, letters_of, OfEntry, AllBring, entry_in, greater_entry}
+use Rattle.seam_law_ghosts.proofs.Prelude.{IsSilent, carried_in, SendsNone, Handles, still, turns, lands, leaves, relays, Frame, here_at}
+use Rattle.seam_law_ghosts.proofs.Prelude.{Has, account_of, after_call, real_in, real_of, Entry, brings, book_entry, Executes, nothing}
+use Rattle.seam_law_ghosts.proofs.Prelude.{executes, told_settling, going, left_entry, GhostMoves, shown_at, all_append, sees_none}
+use Rattle.seam_law_ghosts.proofs.Prelude.{sees_after_silent, sees_one_here, sees_one_there, reals_unseen, ghosts_silent, items_all}
 use Rattle.std.specs.Prelude.{filter_map}
-use Rattle.std.specs.List.{AllByRecursion}
 use Rattle.std.specs.FinSet as set
-use Rattle.std.proofs.lemmas.Bool.{eqb-true, eqb-false}
-use Rattle.seam_node_steps.specs.Prelude.{Cells, items_to, part_of_deed, type_of, Call as CallData, GhostCopy, RealView, Msg, Hand}
-use Rattle.seam_node_steps.specs.Prelude.{GhostSet, GhostDrop, Reap, cell_numbers, copy_of_real, settled_to, told, told_unless}
-use Rattle.seam_node_steps.specs.Prelude.{ghost_message, ghost_messages, beat_after, copy_if}
-use Rattle.seam_law_flow.specs.Prelude.{letters_of, OfEntry, AllBring, entry_in, greater_entry, IsSilent, carried_in, SendsNone, Handles}
-use Rattle.seam_law_flow.specs.Prelude.{still, turns, lands, leaves, relays}
-use Rattle.seam_law_calls.specs.Prelude.{Frame, here_at, Has, account_of, after_call, real_in, real_of}
-use Rattle.seam_law_ghosts.specs.Prelude.{Entry, brings, book_entry, Executes, nothing, executes}
-use Rattle.seam_law_ghosts.specs.Prelude.{told_settling, going, left_entry, GhostMoves, shown_at}
 use Rattle.seam_defs.specs.declared.flags.Part.TheVariants as part
-use Rattle.seam_law_flow.proofs.Following.{all_append}
-use Rattle.seam_law_flow.proofs.SendLists.{sees_none, sees_after_silent, sees_one_here, sees_one_there}
-use Rattle.seam_law_calls.proofs.Handling.{reals_unseen}
-use Rattle.seam_law_calls.proofs.Plain.{ghosts_silent}
-use Rattle.seam_law_calls.proofs.Sparing.{items_all}
 use Rattle.seam_law_ghosts.specs.GhostMoves as ghost
 use Rattle.seam_law_ghosts.proofs.Greater.{greater_has}
 

@@ -1,32 +1,21 @@
 -- Each move leaves the newest entry of each cell what the real wants.
-use Rattle.std.proofs.Common.{◌≡◌, ℕ, ◌+◌, ◌<◌, ◌≤◌, ◌⊎◌, Bool, true, false, ltb, cond, List, [], ◌∷◌, ◌++◌, Option, None, Some, refl, sym}
-use Rattle.std.proofs.Common.{ap, ◌∙◌, subst, arith, inl, inr}
+use Rattle.seam_law_ghosts.proofs.Prelude.{◌≡◌, ℕ, ◌+◌, ◌<◌, ◌≤◌, ◌⊎◌, Bool, true, false, ltb, cond, List, [], ◌∷◌, ◌++◌, Option, None}
+use Rattle.seam_law_ghosts.proofs.Prelude.{Some, refl, sym, ap, ◌∙◌, subst, arith, inl, inr, nat_cmp, cases_eq, nat_tests, append-nil}
+use Rattle.seam_law_ghosts.proofs.Prelude.{Division, Cells, items_to, GhostCopy, RealView, Msg, Hand, GhostSet, GhostDrop, Reap, cell_count}
+use Rattle.seam_law_ghosts.proofs.Prelude.{settled_to, copy_if, is_stray, drops, World, Flow, Goes, comes, letters_of, NotAbove, OfEntry}
+use Rattle.seam_law_ghosts.proofs.Prelude.{AllBring, entry_in, greater_entry, Newest, IsSilent, carried_in, TokenPlace, In, On, SendsNone}
+use Rattle.seam_law_ghosts.proofs.Prelude.{SendsOne, still, turns, lands, leaves, Frame, here_at, Has, entity_flow, account_of, real_in}
+use Rattle.seam_law_ghosts.proofs.Prelude.{real_of, IsOne, Entry, brings, book_entry, IsPlacedAlike, Executes, nothing as still_as}
+use Rattle.seam_law_ghosts.proofs.Prelude.{executes, told_settling, staying, going, left_entry, IsMissed, GhostMoves, present, wanted}
+use Rattle.seam_law_ghosts.proofs.Prelude.{NewestAreWanted, IsForgotten, newest_stays, newest_rises, not_above_rises, taken_comes}
+use Rattle.seam_law_ghosts.proofs.Prelude.{sees_none, sees_after_silent, sees_one_here, sees_one_there, one_here, one_there, sole_here}
+use Rattle.seam_law_ghosts.proofs.Prelude.{sole_came, sole_goes, reals_unseen, ghosts_silent, items_all, NewestIsWanted, IsAway}
 use Rattle.std.specs.FinSet as set
-use Rattle.std.specs.Ordering.{nat_cmp}
-use Rattle.std.proofs.lemmas.Bool.{cases_eq}
-use Rattle.std.proofs.lemmas.Bool.Decides.{nat_tests}
-use Rattle.std.proofs.lemmas.List.{append-nil}
-use Rattle.seam_node_steps.specs.Prelude.{Division, Cells, items_to, GhostCopy, RealView, Msg, Hand, GhostSet, GhostDrop, Reap, cell_count}
-use Rattle.seam_node_steps.specs.Prelude.{settled_to}
-use Rattle.seam_node_steps.specs.Prelude.{copy_if, is_stray, drops, World}
-use Rattle.seam_law_flow.specs.Prelude.{Flow, Goes, comes, letters_of, NotAbove, OfEntry, AllBring, Has as HasEntry, entry_in}
-use Rattle.seam_law_flow.specs.Prelude.{greater_entry, Newest, IsSilent, carried_in, TokenPlace, In, On, SendsNone, SendsOne, still, turns}
-use Rattle.seam_law_flow.specs.Prelude.{lands, leaves}
-use Rattle.seam_law_calls.specs.Prelude.{Frame, here_at, Has, entity_flow, account_of, real_in, real_of, IsOne}
-use Rattle.seam_law_ghosts.specs.Prelude.{Entry, brings, book_entry, IsPlacedAlike, Executes, nothing as still_as, executes}
-use Rattle.seam_law_ghosts.specs.Prelude.{told_settling, staying, going, left_entry, IsMissed, GhostMoves, present}
-use Rattle.seam_law_ghosts.specs.Prelude.{wanted, NewestAreWanted, IsForgotten}
+use Rattle.seam_law_flow.specs.Prelude.{Has as HasEntry}
 use Rattle.seam_machine.proofs.SendLemmas.{items_to-append}
-use Rattle.seam_law_flow.proofs.NewestLemmas.{newest_stays, newest_rises, not_above_rises, taken_comes}
-use Rattle.seam_law_flow.proofs.SendLists.{sees_none, sees_after_silent, sees_one_here, sees_one_there, one_here, one_there}
-use Rattle.seam_law_flow.proofs.TokenLemmas.{sole_here, sole_came, sole_goes}
-use Rattle.seam_law_calls.proofs.Handling.{reals_unseen}
-use Rattle.seam_law_calls.proofs.Plain.{ghosts_silent}
-use Rattle.seam_law_calls.proofs.Sparing.{items_all}
 use Rattle.seam_law_ghosts.specs.GhostMoves as ghost
 use Rattle.seam_law_ghosts.proofs.Making.{executes_beat, NoEntry, none_carried, all_unseen, none_brought, none_here}
 use Rattle.seam_law_ghosts.proofs.Present.{same_shown_of, unseen_same}
-use Rattle.seam_law_ghosts.specs.Copies.{NewestIsWanted, IsAway}
 use Rattle.seam_law_ghosts.proofs.NewestTelling.{Gets, nothing, entry, none_there, gets, beat_rises, beat_up, drops_to}
 
 -- an entry that is not newer does not change the book

@@ -1,17 +1,12 @@
 -- A cell knows each entity that a witness there may have in view.
-use Rattle.std.proofs.Common.{◌≡◌, ℕ, ◌+◌, ◌<◌, ◌≤◌, ◌⊎◌, Bool, true, false, cond, nat_le, Some, refl, sym, ap, ◌∙◌, subst, arith, inl, inr}
+use Rattle.seam_law_ghosts.proofs.Prelude.{◌≡◌, ℕ, ◌+◌, ◌<◌, ◌≤◌, ◌⊎◌, Bool, true, false, cond, nat_le, Some, refl, sym, ap, ◌∙◌, subst}
+use Rattle.seam_law_ghosts.proofs.Prelude.{arith, inl, inr, cases_eq, nat_tests, Pos, distance, Area, distance_to, Division, area, leaf_at}
+use Rattle.seam_law_ghosts.proofs.Prelude.{cells_of, IsInSpace, IsTree, distance_to_cell, Place, home_at, GhostsReach, RealView, is_inside}
+use Rattle.seam_law_ghosts.proofs.Prelude.{World, Frame, real_at, IsBetweenRounds, distances_of, place_of, ArePlaced, HasGhost}
+use Rattle.seam_law_ghosts.proofs.Prelude.{ghosts_settled}
 use Rattle.std.specs.FinSet as set
-use Rattle.std.proofs.lemmas.Bool.{cases_eq}
-use Rattle.std.proofs.lemmas.Bool.Decides.{nat_tests}
-use Rattle.seam_node_steps.specs.Prelude.{Pos, distance, Area, distance_to, Division, area, leaf_at, cells_of, IsInSpace, IsTree}
-use Rattle.seam_node_steps.specs.Prelude.{distance_to_cell, Place, home_at, GhostsReach, RealView, is_inside, World}
-use Rattle.seam_law_calls.specs.Prelude.{Frame, real_at}
-use Rattle.seam_law_rounds.specs.Prelude.{IsBetweenRounds}
-use Rattle.seam_law_ghosts.specs.Prelude.{distances_of, place_of, ArePlaced}
 use Rattle.seam_geo.specs.Rect.{Holds}
 use Rattle.seam_tree.proofs.Areas.{leaf_at_is}
-use Rattle.seam_haunt.specs.Places.{HasGhost}
-use Rattle.seam_haunt.proofs.Settling.{ghosts_settled}
 
 in_space : (size : ℕ) (t : Division) (p : Pos) → t.size ≡ size → is_inside size p ≡ true → IsInSpace t p
 in_space size t p same is = record { x_inside = grind (arith, nat_tests, same, is); z_inside = grind (arith, nat_tests, same, is) }

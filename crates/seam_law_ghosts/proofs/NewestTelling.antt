@@ -1,13 +1,10 @@
 -- What a settling and a reap tell each cell.
-use Rattle.std.proofs.Common.{◌≡◌, ℕ, ◌+◌, ◌<◌, ◌≤◌, Bool, true, false, not, ◌&&◌, ◌||◌, eqb, nat_lt, List, [], ◌∷◌, Option, None, Some}
-use Rattle.std.proofs.Common.{refl, sym, ap, ◌∙◌, subst, arith}
+use Rattle.seam_law_ghosts.proofs.Prelude.{◌≡◌, ℕ, ◌+◌, ◌<◌, ◌≤◌, Bool, true, false, not, ◌&&◌, ◌||◌, eqb, nat_lt, List, [], ◌∷◌, Option}
+use Rattle.seam_law_ghosts.proofs.Prelude.{None, Some, refl, sym, ap, ◌∙◌, subst, arith, eq-eqb, ne_eqb, Pos, Division, area, cells_of}
+use Rattle.seam_law_ghosts.proofs.Prelude.{Cells, items_to, GhostCopy, RealView, Msg, GhostSet, GhostDrop, Here, cell_count, copy_of_real}
+use Rattle.seam_law_ghosts.proofs.Prelude.{haunts_at, told, told_unless, ghost_message, ghost_messages, beat_after, copy_if, drop_if}
+use Rattle.seam_law_ghosts.proofs.Prelude.{drop_at, drops, item_of, brings}
 use Rattle.std.specs.FinSet as set
-use Rattle.std.proofs.lemmas.Bool.{eq-eqb, ne_eqb}
-use Rattle.seam_node_steps.specs.Prelude.{Pos, Division, area, cells_of, Cells, items_to, GhostCopy, RealView, Msg, GhostSet, GhostDrop}
-use Rattle.seam_node_steps.specs.Prelude.{Here, cell_count, copy_of_real, haunts_at, told, told_unless, ghost_message, ghost_messages}
-use Rattle.seam_node_steps.specs.Prelude.{beat_after, copy_if, drop_if, drop_at, drops}
-use Rattle.seam_law_flow.specs.Prelude.{item_of}
-use Rattle.seam_law_ghosts.specs.Prelude.{brings}
 use Rattle.seam_haunt.specs.Haunts.{is_close}
 use Rattle.seam_haunt.proofs.Chosen.{contains_haunts_of}
 use Rattle.seam_law_flow.proofs.SendLists.{chosen_at}

@@ -1,37 +1,21 @@
 -- No input of a cell is stray: in a round, where entities are reaped, and where witnesses look.
-use Rattle.std.proofs.Common.{◌≡◌, ℕ, ◌+◌, ◌<◌, ◌≤◌, ◌⊎◌, Bool, true, false, cond, eqb, not, nat_lt, is_some, List, [], ◌∷◌, Option, None}
-use Rattle.std.proofs.Common.{Some, refl, sym, ap, ◌∙◌, subst, arith, inl, inr}
-use Rattle.std.specs.Prelude.{slice_get}
-use Rattle.std.specs.List.{AllByRecursion}
+use Rattle.seam_law_ghosts.proofs.Prelude.{◌≡◌, ℕ, ◌+◌, ◌<◌, ◌≤◌, ◌⊎◌, Bool, true, false, cond, eqb, not, nat_lt, is_some, List, [], ◌∷◌}
+use Rattle.seam_law_ghosts.proofs.Prelude.{Option, None, Some, refl, sym, ap, ◌∙◌, subst, arith, inl, inr, slice_get, AllByRecursion}
+use Rattle.seam_law_ghosts.proofs.Prelude.{eq-eqb, nat_tests, slice_get-map, Division, link, total, Event, OrderView, next_item}
+use Rattle.seam_law_ghosts.proofs.Prelude.{Call as CallData, Order, Batch, Orders, order_or, RealView, Msg, limit, may_rise, cell_count}
+use Rattle.seam_law_ghosts.proofs.Prelude.{base_of, order_is_ready, has_ready, ready_order, may_settle, may_execute, about, is_stray}
+use Rattle.seam_law_ghosts.proofs.Prelude.{stray_survey, CellView, slot_of, holders, NodeView, World, node_has_work, Cell, with_nodes}
+use Rattle.seam_law_ghosts.proofs.Prelude.{ordered_at, reap_ordered_at, loaded, reaps_loaded, look_loaded, letters_of, slot_at, Frame}
+use Rattle.seam_law_ghosts.proofs.Prelude.{here_at, IsInFrame, mine, times, has_of, has_none, entity_flow, has_witness, real_burden}
+use Rattle.seam_law_ghosts.proofs.Prelude.{real_in, real_of, RunsTo, real_at, IsBetweenRounds, framed, each, AreReapable, MayBegin}
+use Rattle.seam_law_ghosts.proofs.Prelude.{HasNoStrayTask, quiet_links, quiet_tasks, found, none_counts, all_two, node_there, in_frame}
+use Rattle.seam_law_ghosts.proofs.Prelude.{kept_after, Somewhere, Nowhere, search_real, frame_leads, IsCalmOrder, order_reaps, IsCalm}
+use Rattle.seam_law_ghosts.proofs.Prelude.{none_ready, reaps_framed, look_framed, reaps_given, look_given, reaps_cell, look_cell, low}
+use Rattle.seam_law_ghosts.proofs.Prelude.{leads, calm_leads}
 use Rattle.std.specs.FinMap as table
-use Rattle.std.proofs.lemmas.Bool.{eq-eqb}
-use Rattle.std.proofs.lemmas.Bool.Decides.{nat_tests}
-use Rattle.std.proofs.lemmas.Option.{slice_get-map}
-use Rattle.seam_node_steps.specs.Prelude.{Division, link, total, Event, OrderView, next_item, Call as CallData, Order, Batch, Orders}
-use Rattle.seam_node_steps.specs.Prelude.{order_or}
-use Rattle.seam_node_steps.specs.Prelude.{RealView, Msg, limit, may_rise, cell_count, base_of, order_is_ready, has_ready, ready_order}
-use Rattle.seam_node_steps.specs.Prelude.{may_settle, may_execute, about, is_stray, stray_survey, CellView, slot_of, holders, NodeView}
-use Rattle.seam_node_steps.specs.Prelude.{World, node_has_work, Cell, with_nodes, ordered_at, reap_ordered_at, loaded, reaps_loaded}
-use Rattle.seam_node_steps.specs.Prelude.{look_loaded}
-use Rattle.seam_law_flow.specs.Prelude.{letters_of, slot_at}
-use Rattle.seam_law_calls.specs.Prelude.{Frame, here_at, IsInFrame, mine, times, has_of, has_none, entity_flow, has_witness, real_burden}
-use Rattle.seam_law_calls.specs.Prelude.{real_in, real_of, RunsTo, real_at}
-use Rattle.seam_law_rounds.specs.Prelude.{IsBetweenRounds, framed, each, AreReapable, MayBegin}
-use Rattle.seam_law_ghosts.specs.Prelude.{HasNoStrayTask}
-use Rattle.seam_machine.proofs.Quiet.{quiet_links, quiet_tasks}
-use Rattle.seam_table.proofs.Found.{found}
 use Rattle.seam_call.specs.declared.order.Order.TheVariants as order
-use Rattle.seam_law_calls.proofs.Counting.{none_counts}
-use Rattle.seam_law_calls.proofs.Holds.{all_two}
-use Rattle.seam_law_rounds.proofs.Loading.{node_there}
-use Rattle.seam_law_rounds.proofs.Framing.{in_frame}
-use Rattle.seam_law_rounds.proofs.Going.{kept_after}
-use Rattle.seam_law_rounds.proofs.Shape.{Somewhere, Nowhere, search_real, frame_leads}
-use Rattle.seam_law_rounds.proofs.Calm.{IsCalmOrder, order_reaps, IsCalm}
-use Rattle.seam_law_rounds.proofs.CalmMoves.{none_ready}
 use Rattle.seam_law_rounds.proofs.Starting.{Given}
-use Rattle.seam_law_rounds.proofs.Giving.{reaps_framed, look_framed, reaps_given, look_given, reaps_cell, look_cell}
-use Rattle.seam_law_rounds.proofs.Phases.{settled, low, leads, calm_leads}
+use Rattle.seam_law_rounds.proofs.Phases.{settled}
 use Rattle.seam_law_rounds.proofs.Reaping as reaping
 use Rattle.seam_law_rounds.proofs.Looking as looking
 use Rattle.seam_law_ghosts.proofs.Listing.{IsListed}

@@ -1,9 +1,7 @@
 -- Positions along calls.
-use Rattle.std.proofs.Common.{◌≡◌, List, [], ◌∷◌, ◌++◌, refl, sym, ap, ◌∙◌}
-use Rattle.std.proofs.lemmas.List.{append-nil, append_assoc, append_cancel_left}
-use Rattle.seam_node_steps.specs.Prelude.{Pos, last_of, TypeDef, after, type_of, Call, RealView}
-use Rattle.seam_law_calls.specs.Prelude.{Frame, Account, account_of, after_call, after_calls, Replays}
-use Rattle.seam_law_ghosts.specs.Prelude.{positions_after, path_of}
+use Rattle.seam_law_ghosts.proofs.Prelude.{◌≡◌, List, [], ◌∷◌, ◌++◌, refl, sym, ap, ◌∙◌, append-nil, append_assoc, append_cancel_left, Pos}
+use Rattle.seam_law_ghosts.proofs.Prelude.{last_of, TypeDef, after, type_of, Call, RealView, Frame, Account, account_of, after_call}
+use Rattle.seam_law_ghosts.proofs.Prelude.{after_calls, Replays, positions_after, path_of}
 
 module _ (t : TypeDef) where
   -- the last position is that of the state after the calls

@@ -1,27 +1,14 @@
 -- Where entities are reaped, and where witnesses look, copies stay what they are, but for those of an entity whose Reap comes.
-use Rattle.std.proofs.Common.{◌≡◌, ℕ, ◌<◌, ◌⊎◌, Bool, true, List, [], ◌∷◌, Option, None, Some, refl, sym, ap, ◌∙◌, subst, arith, inl, inr}
-use Rattle.seam_node_steps.specs.Prelude.{Division, happens, enabled, IsQuiet, Event, RealView, WitnessView, Msg, Hand, GhostSet, GhostDrop}
-use Rattle.seam_node_steps.specs.Prelude.{Tick}
-use Rattle.seam_node_steps.specs.Prelude.{Reap, Update, is_small, may_rise, cell_count, is_stray, holders, World, node_steps, node_has_work}
-use Rattle.seam_law_flow.specs.Prelude.{Goes, comes, TokenPlace, In, On}
-use Rattle.seam_law_calls.specs.Prelude.{Frame, here_at, IsInFrame, Has, entity_flow, MovesTo, RealFits, real_in, real_of, IsOne, IsFrame}
-use Rattle.seam_law_calls.specs.Prelude.{RunsTo, real_at}
-use Rattle.seam_law_rounds.specs.Prelude.{IsSettled, IsBetweenRounds}
-use Rattle.seam_law_ghosts.specs.Prelude.{Entry, brings, book_entry, GhostMoves, wanted, copy_at, NewestAreWanted, IsForgotten, AreSettled}
-use Rattle.seam_law_ghosts.specs.Prelude.{AreCopiesBetweenRounds}
-use Rattle.seam_machine.proofs.Occurring.{occurs}
-use Rattle.seam_net_runs.proofs.Runs.{leads_keeps}
-use Rattle.seam_law_flow.proofs.Following.{came}
-use Rattle.seam_law_flow.proofs.TokenLemmas.{sole_here}
-use Rattle.seam_law_calls.proofs.Classify.{event_moves}
-use Rattle.seam_law_calls.proofs.Counting.{one_counts, none_counts}
-use Rattle.seam_law_calls.proofs.Holds.{not_both}
-use Rattle.seam_law_calls.proofs.Gone.{gone_leads}
-use Rattle.seam_law_rounds.proofs.Ready.{quiet_home}
-use Rattle.seam_law_rounds.proofs.Shape.{Somewhere, Nowhere, search_real, frame_leads}
-use Rattle.seam_law_rounds.proofs.Calm.{IsSame, IsCalmTo, IsCalm}
+use Rattle.seam_law_ghosts.proofs.Prelude.{◌≡◌, ℕ, ◌<◌, ◌⊎◌, Bool, true, List, [], ◌∷◌, Option, None, Some, refl, sym, ap, ◌∙◌, subst}
+use Rattle.seam_law_ghosts.proofs.Prelude.{arith, inl, inr, Division, happens, enabled, IsQuiet, Event, RealView, WitnessView, Msg, Hand}
+use Rattle.seam_law_ghosts.proofs.Prelude.{GhostSet, GhostDrop, Tick, Reap, Update, is_small, may_rise, cell_count, is_stray, holders}
+use Rattle.seam_law_ghosts.proofs.Prelude.{World, node_steps, node_has_work, Goes, comes, TokenPlace, In, On, Frame, here_at, IsInFrame}
+use Rattle.seam_law_ghosts.proofs.Prelude.{Has, entity_flow, MovesTo, RealFits, real_in, real_of, IsOne, IsFrame, RunsTo, real_at}
+use Rattle.seam_law_ghosts.proofs.Prelude.{IsSettled, IsBetweenRounds, Entry, brings, book_entry, GhostMoves, wanted, copy_at}
+use Rattle.seam_law_ghosts.proofs.Prelude.{NewestAreWanted, IsForgotten, AreSettled, AreCopiesBetweenRounds, occurs, leads_keeps, came}
+use Rattle.seam_law_ghosts.proofs.Prelude.{sole_here, event_moves, one_counts, none_counts, not_both, gone_leads, quiet_home, Somewhere}
+use Rattle.seam_law_ghosts.proofs.Prelude.{Nowhere, search_real, frame_leads, IsSame, IsCalmTo, IsCalm, calm_leads}
 use Rattle.seam_law_rounds.proofs.Ending.{calm_one, calm_none}
-use Rattle.seam_law_rounds.proofs.Phases.{calm_leads}
 use Rattle.seam_law_ghosts.proofs.InPhases.{small_to}
 use Rattle.seam_law_ghosts.proofs.Unknown.{IsUnknown, unknown_leads}
 use Rattle.seam_law_ghosts.proofs.Steps.{ghost_moves}

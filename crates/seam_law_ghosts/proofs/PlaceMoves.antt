@@ -1,13 +1,9 @@
 -- What an event does with the place of an entity's one real.
-use Rattle.std.proofs.Common.{◌≡◌, ℕ, ◌+◌, ◌<◌, ◌≤◌, true, length, Option, Some, ap, subst, arith}
-use Rattle.seam_node_steps.specs.Prelude.{Division, happens, Occurs, Event, RealView, limit, Msg, Hand, Reap, may_settle, World, node_steps}
-use Rattle.seam_law_flow.specs.Prelude.{Goes, comes, letter_in}
-use Rattle.seam_law_calls.specs.Prelude.{Frame, IsTreeOf, HasOneTree, IsFrame, Has, mine, entity_flow, MovesTo, real_burden, real_in}
-use Rattle.seam_law_calls.specs.Prelude.{HasOne}
-use Rattle.seam_net_runs.specs.Sums.{weight_or}
-use Rattle.seam_law_calls.proofs.Holds.{all_two, below_is}
+use Rattle.seam_law_ghosts.proofs.Prelude.{◌≡◌, ℕ, ◌+◌, ◌<◌, ◌≤◌, true, length, Option, Some, ap, subst, arith, Division, happens, Occurs}
+use Rattle.seam_law_ghosts.proofs.Prelude.{Event, RealView, limit, Msg, Hand, Reap, may_settle, World, node_steps, Goes, comes, letter_in}
+use Rattle.seam_law_ghosts.proofs.Prelude.{Frame, IsTreeOf, HasOneTree, IsFrame, Has, mine, entity_flow, MovesTo, real_burden, real_in}
+use Rattle.seam_law_ghosts.proofs.Prelude.{HasOne, weight_or, all_two, below_is, goes, room}
 use Rattle.seam_law_calls.proofs.Trees.{only_tree}
-use Rattle.seam_law_calls.proofs.OneReal.{goes, room}
 use Rattle.seam_law_ghosts.proofs.Lasting.{slot_bound}
 use Rattle.seam_law_ghosts.proofs.Placing.{Placed, placed}
 

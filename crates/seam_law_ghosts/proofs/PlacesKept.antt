@@ -1,13 +1,9 @@
 -- A whole round leaves each entity at a place that the rounds allow, and keeps the record of places; an opened world has it.
-use Rattle.std.proofs.Common.{◌≡◌, ℕ, ◌≤◌, List, [], ◌∷◌, Some, refl, sym, ◌∙◌}
-use Rattle.std.specs.List.{AllByRecursion}
-use Rattle.seam_node_steps.specs.Prelude.{Settings, TypeDef, Place, Create, Batch, RealView, World, opened}
-use Rattle.seam_law_calls.specs.Prelude.{Frame, IsFrame, real_at}
-use Rattle.seam_law_rounds.specs.Prelude.{IsBetweenRounds, framed, first_frame, MayBegin}
-use Rattle.seam_law_ghosts.specs.Prelude.{place_of, first_place, made_real, IsRightPlace, GoesThroughRound, HadSameReal, ArePlaced}
-use Rattle.seam_law_rounds.proofs.CallsEnd.{calls_end_between}
+use Rattle.seam_law_ghosts.proofs.Prelude.{◌≡◌, ℕ, ◌≤◌, List, [], ◌∷◌, Some, refl, sym, ◌∙◌, AllByRecursion, Settings, TypeDef, Place}
+use Rattle.seam_law_ghosts.proofs.Prelude.{Create, Batch, RealView, World, opened, Frame, IsFrame, real_at, IsBetweenRounds, framed}
+use Rattle.seam_law_ghosts.proofs.Prelude.{first_frame, MayBegin, place_of, first_place, made_real, IsRightPlace, GoesThroughRound}
+use Rattle.seam_law_ghosts.proofs.Prelude.{HadSameReal, ArePlaced, calls_end_between, opened_has_none}
 use Rattle.seam_law_rounds.proofs.Reaping.{reaps_end_between}
-use Rattle.seam_law_rounds.proofs.Opened.{opened_has_none}
 use Rattle.seam_law_ghosts.proofs.Ends.{MadeRight, right_kept, right_made, calls_place, reaps_leave, looks_leave, stays_placed, stays_right}
 
 module _ (f : Frame) (w : World) (b : Batch) (begin : MayBegin f w b) (v : World) (round : GoesThroughRound w b v) where

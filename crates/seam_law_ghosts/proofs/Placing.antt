@@ -1,27 +1,18 @@
 -- What each move does with the place of the entity's real: it stays, settles in its cell, lands, or settles and leaves.
-use Rattle.std.proofs.Common.{◌≡◌, ℕ, ◌+◌, ◌≤◌, ◌⊎◌, Bool, true, List, [], ◌∷◌, ◌++◌, Option, None, Some, refl, sym, ap, ◌∙◌, subst, arith}
-use Rattle.std.proofs.Common.{inl, inr}
+use Rattle.seam_law_ghosts.proofs.Prelude.{◌≡◌, ℕ, ◌+◌, ◌≤◌, ◌⊎◌, Bool, true, List, [], ◌∷◌, ◌++◌, Option, None, Some, refl, sym, ap, ◌∙◌}
+use Rattle.seam_law_ghosts.proofs.Prelude.{subst, arith, inl, inr, Pos, Division, Cells, Place, after, type_of, items_to, Call as CallData}
+use Rattle.seam_law_ghosts.proofs.Prelude.{RealView, Msg, Hand, Reap, cell_count, may_settle, settled_to}
+use Rattle.seam_law_ghosts.proofs.Prelude.{SlotStep, slot_after, home_after, haunts_at, ghost_messages, beat_after, stray_survey}
+use Rattle.seam_law_ghosts.proofs.Prelude.{letters_of, carried_in, Handles, still, turns, lands, leaves, relays, Frame, IsTreeOf, here_at}
+use Rattle.seam_law_ghosts.proofs.Prelude.{IsFrame, Has, AtCell, Does, Acts, surveys, calls, readies, Moves, at_a_cell}
+use Rattle.seam_law_ghosts.proofs.Prelude.{at_a_base, Replays, real_in, real_of, distances_of, place_of, settled, haunts_without_home}
+use Rattle.seam_law_ghosts.proofs.Prelude.{sees_none, sees_after_silent, sees_one_here, sees_one_there, FindsRoom, not_stray, reals_unseen}
+use Rattle.seam_law_ghosts.proofs.Prelude.{handled, not_both, came_hand, first_tree, ghosts_silent, acts_replays, unlisted_if}
 use Rattle.std.specs.FinSet as set
-use Rattle.seam_node_steps.specs.Prelude.{Pos, Division, Cells, Place, after, type_of, items_to, Call as CallData, RealView, Msg, Hand}
-use Rattle.seam_node_steps.specs.Prelude.{GhostSet, GhostDrop, Tick, Reap, cell_count, may_settle, settled_to, SlotStep, slot_after}
-use Rattle.seam_node_steps.specs.Prelude.{home_after, haunts_at, ghost_messages, beat_after, is_stray, stray_survey}
-use Rattle.seam_law_flow.specs.Prelude.{letters_of, carried_in, Handles, still, turns, lands, leaves, relays}
-use Rattle.seam_law_calls.specs.Prelude.{Frame, IsTreeOf, here_at, IsFrame, Has, AtCell, Does, Acts, surveys, calls, readies, CellMoves}
-use Rattle.seam_law_calls.specs.Prelude.{Moves, at_a_cell}
-use Rattle.seam_law_calls.specs.Prelude.{at_a_base, Replays, real_in, real_of}
-use Rattle.seam_law_ghosts.specs.Prelude.{distances_of, place_of}
-use Rattle.seam_haunt.specs.Places.{settled}
-use Rattle.seam_haunt.proofs.Settling.{haunts_without_home}
-use Rattle.seam_law_flow.proofs.SendLists.{sees_none, sees_after_silent, sees_one_here, sees_one_there}
 use Rattle.seam_entity.specs.declared.message.Msg.TheVariants.{Call}
 use Rattle.seam_node_steps.specs.Settle as settle
-use Rattle.seam_law_calls.specs.CellMoves as move
-use Rattle.seam_law_calls.proofs.Handling.{FindsRoom, not_stray, reals_unseen, handled}
-use Rattle.seam_law_calls.proofs.Holds.{not_both}
-use Rattle.seam_law_calls.proofs.OneReal.{came_hand}
-use Rattle.seam_law_calls.proofs.Trees.{first_tree}
-use Rattle.seam_law_calls.proofs.Plain.{ghosts_silent}
-use Rattle.seam_law_calls.proofs.Replaying.{acts_replays}
+use Rattle.seam_law_calls.proofs.CellDeeds as deed
+use Rattle.seam_law_calls.proofs.CellDeeds.{CellDeeds, cell_deeds, not_handed}
 
 -- ---- what becomes of a real and its place
 
@@ -148,7 +139,7 @@ module _ (f : Frame) (tree : Division) (e k : ℕ) (s : Has) (i : Option Msg) (t
     real_is : real_in t ≡ (slot_after x.slot u.slot).real
     real_is = ap (λ a. a.slot.real) d.state
 
-    due_is : t.cell.survey ≡ move.unlisted_if x.unlisted u.survey
+    due_is : t.cell.survey ≡ unlisted_if x.unlisted u.survey
     due_is = ap (λ a. a.survey) d.state
 
   still_due : t.cell.survey ≡ s.cell.survey → (r : RealView) → real_in s ≡ Some r → Due
@@ -195,50 +186,32 @@ module _ (f : Frame) (tree : Division) (e k : ℕ) (s : Has) (i : Option Msg) (t
   module _ (of : IsTreeOf f tree) (room : (r : RealView) → i ≡ Some (Hand r) → FindsRoom f k s r)
       (spared : (r : RealView) → real_in s ≡ Some r → i ≡ Some (Reap e) → ⊥)
       (may : (r : RealView) → real_in s ≡ Some r → 1 ≤ s.cell.survey → may_settle r ≡ true) where
-    -- a hand-over that comes is not stray
-    stray_none : (m : Msg) → i ≡ Some m → is_stray (here_at f k) tree s.cell.slot m ≡ true → (o : Option RealView) →
-        carried_in real_of i ≡ o → carried_in real_of i ≡ None
-    stray_none m h b None is = is
-    stray_none m h b (Some r) is =
-        let same : m ≡ Hand r = let z = sym h ∙ came_hand i r is in cc in
-        absurd (not_stray f k s r (room r (came_hand i r is)) tree of (ap (is_stray (here_at f k) tree s.cell.slot) (sym same) ∙ b))
+    none_handed : (j : Option Msg) → i ≡ j → ((r : RealView) → i ≡ Some (Hand r) → ⊥) → carried_in real_of i ≡ None
+    none_handed (Some (Hand r)) is never = absurd (never r is)
+    none_handed None is never = ap (carried_in real_of) is
+    none_handed (Some m) is never = ap (carried_in real_of) is
 
-    -- a real that may settle is not taken off the list unsettled
-    not_unlisted : (n : ℕ) → s.cell.survey ≡ n + 1 → stray_survey s.cell.slot.real ≡ true → (r : RealView) → real_in s ≡ Some r → ⊥
-    not_unlisted n at b r has =
-        not_both (may_settle r) (may r has (omega (arith, at))) (sym (ap stray_survey has) ∙ b)
-
-    cell_placed : Does_it → CellMoves (here_at f k) tree e s.cell i t.cell sent → Its
-    cell_placed m (move.rests n d) = same m (none_of n) (real_is _ s.cell d) (still_due (due_is _ s.cell d))
-    cell_placed m (move.strays x n b d) =
-        same m (stray_none x n b (carried_in real_of i) refl) (real_is _ s.cell d) (still_due (due_is _ s.cell d))
-    cell_placed m (move.stays u r q changed has own acts at d) = stays_placed u r q changed has acts at d
-    cell_placed m (move.goes u r q changed j has own acts at n d) = goes_placed u r q changed j has acts at d
-    cell_placed m (move.late c r n has may lt d) =
-        same m (came_none (Call c) n refl) (real_is _ s.cell d) (still_due (due_is _ s.cell d))
-    cell_placed m (move.holds c r n is has own may lt d) =
+    cell_placed : Does_it → CellDeeds (here_at f k) tree e s.cell i t.cell sent → Its
+    cell_placed m (deed.idles a z) =
+        same m (none_handed i refl (λ r is. not_stray f k s r (room r is) tree of (not_handed a.why r is))) a.real
+        -- a real that may settle is not taken off the list unsettled
+        (λ r has some. elim a.taken [
+          | inl kept ↦ omega (arith, kept, some)
+          | inr gone ↦ absurd (not_both (may_settle r) (may r has some) (sym (ap stray_survey has) ∙ gone.1))
+        ])
+    cell_placed m (deed.stays u r q changed has own acts at d) = stays_placed u r q changed has acts at d
+    cell_placed m (deed.goes u r q changed j has own acts at n d) = goes_placed u r q changed j has acts at d
+    cell_placed m (deed.holds c r n is has own may lt d) =
         alike m (came_none (Call c) n refl)
         (alike_one r _ has (real_is _ s.cell d) (record { done = refl; state = refl; haunts = refl }))
         (still_due (due_is _ s.cell d))
-    cell_placed m (move.passes c p n is has at d) =
+    cell_placed m (deed.passes c p n is has at d) =
         same m (came_none (Call c) n refl) (real_is _ s.cell d) (still_due (due_is _ s.cell d))
-    cell_placed m (move.lands r n is has may d) = lands_by m r n has (real_is _ s.cell d)
-    cell_placed m (move.hears_set n c h has d) =
-        same m (came_none (GhostSet e n c) h refl) (real_is _ s.cell d) (still_due (due_is _ s.cell d))
-    cell_placed m (move.ignores_set n c r h has d) =
-        same m (came_none (GhostSet e n c) h refl) (real_is _ s.cell d) (still_due (due_is _ s.cell d))
-    cell_placed m (move.hears_drop n h d) =
-        same m (came_none (GhostDrop e n) h refl) (real_is _ s.cell d) (still_due (due_is _ s.cell d))
-    cell_placed m (move.reaped r n has own may d) = absurd (spared r has n)
-    cell_placed m (move.ticks n st se) =
-        same m (came_none Tick n refl) (ap (λ a. a.slot.real) st) (still_due (ap (λ a. a.survey) st))
-    cell_placed m (move.unlists n h at b d) =
-        same m (none_of h) (real_is _ _ d) (λ r has. absurd (not_unlisted n at b r has))
-    cell_placed m (move.looks n r w known h at has own is small d) =
+    cell_placed m (deed.lands r n is has may d) = lands_by m r n has (real_is _ s.cell d)
+    cell_placed m (deed.reaped r n has own may d) = absurd (spared r has n)
+    cell_placed m (deed.looks n r w known h at has own is small d) =
         alike m (none_of h) (alike_one r _ has (real_is _ _ d) (record { done = refl; state = refl; haunts = refl }))
         (still_due (due_is _ _ d))
-    cell_placed m (move.overlooks n known h at b d) = same m (none_of h) (real_is _ _ d) (still_due (due_is _ _ d))
-    cell_placed m (move.stuck r h has ready may d) = same m (none_of h) (real_is _ s.cell d) (still_due (due_is _ s.cell d))
 
     -- a base node is fed no real
     base_none : cell_count ≤ k → (o : Option RealView) → carried_in real_of i ≡ o → o ≡ None
@@ -261,6 +234,6 @@ module _ (f : Frame) (frame : IsFrame f) (e ty k : ℕ) (s : Has) (i : Option Ms
   placed moves = placed_by moves (handled f frame e ty k s i t sent out items room spared moves).0
     where
       placed_by : Moves f e k s i t sent → Handles real_in real_of (Replays f) s i t out → PlacedByOne
-      placed_by (at_a_cell tree of low x is) m = (tree, of, cell_placed f tree e k s i t sent out items of room spared may m x)
+      placed_by (at_a_cell tree of low x is) m = (tree, of, cell_placed f tree e k s i t sent out items of room spared may m (cell_deeds x))
       placed_by (at_a_base high x is) m =
           (f.tree, first_tree f, base_placed f f.tree e k s i t sent out items (first_tree f) room spared may m high is)

@@ -1,16 +1,15 @@
 -- What others may see of the real is true, and stays so.
-use Rattle.std.proofs.Common.{◌≡◌, ◌+◌, ◌-◌, ◌≤◌, Bool, true, false, not, ◌&&◌, eqb, List, [], ◌∷◌, ◌++◌, length, take, refl, sym, ap, ◌∙◌}
-use Rattle.std.proofs.Common.{subst, arith}
+use Rattle.seam_law_ghosts.proofs.Prelude.{◌≡◌, ◌+◌, ◌-◌, ◌≤◌, Bool, true, false, not, ◌&&◌, eqb, List, [], ◌∷◌, ◌++◌, length, refl, sym}
+use Rattle.seam_law_ghosts.proofs.Prelude.{ap, ◌∙◌, subst, arith, length-append, Value, Number, Text, Deed, State, TypeDef, ghost_of, after}
+use Rattle.seam_law_ghosts.proofs.Prelude.{part_of_deed, same_value, same_values, same_state, same_shown, changes, type_of, Call, GhostCopy}
+use Rattle.seam_law_ghosts.proofs.Prelude.{RealView, public_after, Frame, Account, account_of, after_call, after_calls, Replays, shown_at}
+use Rattle.seam_law_ghosts.proofs.Prelude.{IsTrueCopy, both}
+use Rattle.std.proofs.Common.{take}
 use Rattle.std.proofs.lemmas.Bool.Decides.{Decides-int_eq, Decides-eqb}
 use Rattle.std.proofs.lemmas.Slice.Eq.{slice_eq-Decides, bytes_eq-Decides}
 use Rattle.std.specs.Bool.{Decides}
-use Rattle.std.proofs.lemmas.List.{take-append-le, take_all, length-append}
-use Rattle.seam_node_steps.specs.Prelude.{Value, Number, Text, Deed, State, TypeDef, ghost_of, after, part_of_deed, same_value, same_values}
-use Rattle.seam_node_steps.specs.Prelude.{same_state, same_shown, changes, type_of, Call, GhostCopy, RealView, public_after}
-use Rattle.seam_law_calls.specs.Prelude.{Frame, Account, account_of, after_call, after_calls, Replays}
-use Rattle.seam_law_ghosts.specs.Prelude.{shown_at, IsTrueCopy}
+use Rattle.std.proofs.lemmas.List.{take-append-le, take_all}
 use Rattle.seam_defs.specs.declared.flags.Part.TheVariants as part
-use Rattle.seam_law_calls.proofs.Holds.{both}
 use Rattle.seam_law_ghosts.proofs.Making.{Did, same, one, did_calls}
 
 -- ---- states of which others see the same

@@ -1,20 +1,12 @@
 -- A real that is on no survey list needs no settling, nor does one on its way: each was settled where it is.
-use Rattle.std.proofs.Common.{◌≡◌, ℕ, zero, suc, ◌<◌, ◌≤◌, length, List, [], Option, Some, refl, sym, ap, ◌∙◌, subst, arith, inl, inr}
-use Rattle.std.specs.List.{AllByRecursion}
-use Rattle.std.proofs.lemmas.Bool.{cases_eq}
-use Rattle.seam_node_steps.specs.Prelude.{Division, Distances, Place, Settings, happens, Occurs, Event, Batch, RealView, Msg, Hand, Reap}
-use Rattle.seam_node_steps.specs.Prelude.{World, node_steps, loaded}
-use Rattle.seam_law_flow.specs.Prelude.{comes, letter_in, letters_of, SendsOne, Handles, still, turns, lands, leaves, relays}
-use Rattle.seam_law_calls.specs.Prelude.{Frame, HasOneTree, IsFrame, Has, mine, entity_flow, Replays, real_in, real_of, IsSpared}
-use Rattle.seam_law_calls.specs.Prelude.{HasOne, RunsTo, real_at}
-use Rattle.seam_law_rounds.specs.Prelude.{framed, MayBegin}
-use Rattle.seam_law_ghosts.specs.Prelude.{distances_of, place_of, IsRestful, IsRestfulHand, AreRestful}
-use Rattle.seam_haunt.specs.Places.{settled}
-use Rattle.seam_haunt.proofs.Settling.{settled_again}
-use Rattle.seam_law_flow.proofs.Following.{slots_kept, letters_kept, came}
-use Rattle.seam_law_calls.proofs.OneReal.{goes, came_hand, hands_all, one_keeps}
-use Rattle.seam_law_rounds.proofs.Loaded.{no_mail}
-use Rattle.seam_law_rounds.proofs.Going.{frame_loaded, settled_loaded, one_loaded, spared_loaded}
+use Rattle.seam_law_ghosts.proofs.Prelude.{◌≡◌, ℕ, zero, suc, ◌<◌, ◌≤◌, length, List, [], Option, Some, refl, sym, ap, ◌∙◌, subst, arith}
+use Rattle.seam_law_ghosts.proofs.Prelude.{inl, inr, AllByRecursion, cases_eq, Division, Distances, Place, Settings, happens, Occurs, Event}
+use Rattle.seam_law_ghosts.proofs.Prelude.{Batch, RealView, Msg, Hand, Reap, World, node_steps, loaded, comes, letter_in, letters_of}
+use Rattle.seam_law_ghosts.proofs.Prelude.{SendsOne, Handles, still, turns, lands, leaves, relays, Frame, HasOneTree, IsFrame, Has, mine}
+use Rattle.seam_law_ghosts.proofs.Prelude.{entity_flow, Replays, real_in, real_of, IsSpared, HasOne, RunsTo, real_at, framed, MayBegin}
+use Rattle.seam_law_ghosts.proofs.Prelude.{distances_of, place_of, IsRestful, IsRestfulHand, AreRestful, settled, settled_again, slots_kept}
+use Rattle.seam_law_ghosts.proofs.Prelude.{letters_kept, came, goes, came_hand, hands_all, one_keeps, no_mail, frame_loaded, settled_loaded}
+use Rattle.seam_law_ghosts.proofs.Prelude.{one_loaded, spared_loaded}
 use Rattle.seam_law_ghosts.proofs.Begun.{listed}
 use Rattle.seam_law_ghosts.proofs.Placing.{IsAlike, Settles, by_survey, by_call, PlacesBy}
 use Rattle.seam_law_ghosts.proofs.PlaceMoves.{by_first_tree}

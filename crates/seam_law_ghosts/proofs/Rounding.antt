@@ -1,23 +1,12 @@
 -- A loaded world, and a round's calls: each cell is told what the real wants, and has it where the world is quiet again.
-use Rattle.std.proofs.Common.{◌≡◌, ℕ, ◌<◌, ◌≤◌, ◌⊎◌, true, List, [], ◌∷◌, None, Some, refl, sym, ap, ◌∙◌, subst, arith, inl, inr}
-use Rattle.seam_node_steps.specs.Prelude.{happens, enabled, IsQuiet, Event, Batch, GhostCopy, RealView, Msg, Hand, Tick, cell_count}
-use Rattle.seam_node_steps.specs.Prelude.{holders, World, node_steps, node_has_work, loaded}
-use Rattle.seam_law_flow.specs.Prelude.{comes, letters_of, TokenPlace, In}
-use Rattle.seam_law_calls.specs.Prelude.{Frame, entity_flow, real_in, real_of, IsOne, HasOne, RunsTo, real_at}
-use Rattle.seam_law_rounds.specs.Prelude.{IsSettled, framed, MayBegin}
-use Rattle.seam_law_ghosts.specs.Prelude.{Entry, brings, IsTrue, IsHushed, present, copy_at, NewestAreWanted, IsForgotten, AreSettled}
-use Rattle.seam_law_ghosts.specs.Prelude.{AreCopiesBetweenRounds}
-use Rattle.seam_machine.proofs.Occurring.{occurs}
-use Rattle.seam_net_runs.proofs.Runs.{leads_keeps}
-use Rattle.seam_law_flow.proofs.Following.{came}
-use Rattle.seam_law_flow.proofs.TokenLemmas.{sole_here}
-use Rattle.seam_law_calls.proofs.Classify.{event_moves}
-use Rattle.seam_law_calls.proofs.Gone.{gone_leads}
-use Rattle.seam_law_rounds.proofs.Framing.{in_frame}
-use Rattle.seam_law_rounds.proofs.Loaded.{no_mail, holds_kept}
-use Rattle.seam_law_rounds.proofs.Ready.{one_holder}
-use Rattle.seam_law_rounds.proofs.Going.{frame_loaded, settled_loaded, one_loaded, spared_loaded, one_after}
-use Rattle.seam_law_rounds.proofs.Shape.{Somewhere, Nowhere, search_real, frame_leads}
+use Rattle.seam_law_ghosts.proofs.Prelude.{◌≡◌, ℕ, ◌<◌, ◌≤◌, ◌⊎◌, true, List, [], ◌∷◌, None, Some, refl, sym, ap, ◌∙◌, subst, arith, inl}
+use Rattle.seam_law_ghosts.proofs.Prelude.{inr, happens, enabled, IsQuiet, Event, Batch, GhostCopy, RealView, Msg, Hand, Tick, cell_count}
+use Rattle.seam_law_ghosts.proofs.Prelude.{holders, World, node_steps, node_has_work, loaded, comes, letters_of, TokenPlace, In, Frame}
+use Rattle.seam_law_ghosts.proofs.Prelude.{entity_flow, real_in, real_of, IsOne, HasOne, RunsTo, real_at, IsSettled, framed, MayBegin}
+use Rattle.seam_law_ghosts.proofs.Prelude.{Entry, brings, IsTrue, IsHushed, present, copy_at, NewestAreWanted, IsForgotten, AreSettled}
+use Rattle.seam_law_ghosts.proofs.Prelude.{AreCopiesBetweenRounds, occurs, leads_keeps, came, sole_here, event_moves, gone_leads, in_frame}
+use Rattle.seam_law_ghosts.proofs.Prelude.{no_mail, holds_kept, one_holder, frame_loaded, settled_loaded, one_loaded, spared_loaded}
+use Rattle.seam_law_ghosts.proofs.Prelude.{one_after, Somewhere, Nowhere, search_real, frame_leads}
 use Rattle.seam_law_ghosts.proofs.Unknown.{IsTick, IsUnknown, unknown_leads}
 use Rattle.seam_law_ghosts.proofs.Beginning.{unknown_loaded}
 use Rattle.seam_law_ghosts.proofs.InRound.{nobody}

@@ -1,12 +1,8 @@
 -- In a round the newest route of each base node leads to the real.
-use Rattle.std.proofs.Common.{◌≡◌, ℕ, ◌+◌, ◌<◌, ◌≤◌, List, Some, subst}
-use Rattle.seam_node_steps.specs.Prelude.{Event, Batch, RealView, cell_count, holders, World, loaded}
-use Rattle.seam_law_flow.specs.Prelude.{TokenPlace}
-use Rattle.seam_law_calls.specs.Prelude.{Frame, entity_flow, IsOne, RunsTo, real_at}
-use Rattle.seam_law_rounds.specs.Prelude.{framed, NewestRouteIsRight, MayBegin}
-use Rattle.seam_law_rounds.proofs.Going.{frame_loaded, settled_loaded, one_loaded, spared_loaded}
+use Rattle.seam_law_ghosts.proofs.Prelude.{◌≡◌, ℕ, ◌+◌, ◌<◌, ◌≤◌, List, Some, subst, Event, Batch, RealView, cell_count, holders, World}
+use Rattle.seam_law_ghosts.proofs.Prelude.{loaded, TokenPlace, Frame, entity_flow, IsOne, RunsTo, real_at, framed, NewestRouteIsRight}
+use Rattle.seam_law_ghosts.proofs.Prelude.{MayBegin, frame_loaded, settled_loaded, one_loaded, spared_loaded, routed_loaded}
 use Rattle.seam_law_rounds.proofs.RoadRuns.{routed_leads}
-use Rattle.seam_law_rounds.proofs.CallsEnd.{routed_loaded}
 use Rattle.seam_law_ghosts.proofs.Still.{same_one}
 use Rattle.seam_law_ghosts.proofs.Loading.{home_loaded}
 

@@ -1,27 +1,17 @@
 -- Over every list of events the newest entry of each cell is what the real wants.
-use Rattle.std.proofs.Common.{◌≡◌, ℕ, ◌<◌, ◌≤◌, true, ◌&&◌, List, [], ◌∷◌, length, Option, None, Some, refl, sym, ◌∙◌, subst, arith}
-use Rattle.std.specs.List.{AllByRecursion}
-use Rattle.seam_node_steps.specs.Prelude.{Division, happens, enabled, Event, Occurs, GhostCopy, RealView, Msg, Hand, GhostSet, GhostDrop}
-use Rattle.seam_node_steps.specs.Prelude.{Reap}
-use Rattle.seam_node_steps.specs.Prelude.{is_small, fits_copy, is_stray, World, node_steps, node_has_work, limit}
-use Rattle.seam_law_flow.specs.Prelude.{Goes, comes, letter_in, AllBring, TokenPlace, In}
-use Rattle.seam_law_calls.specs.Prelude.{Frame, here_at, Has, mine, entity_flow, MovesTo, real_in, real_of, IsOne, IsSpared, IsFrame}
-use Rattle.seam_law_calls.specs.Prelude.{HasOne, real_burden, RunsTo, real_at}
-use Rattle.seam_law_ghosts.specs.Prelude.{Entry, brings, book_entry, IsTable, IsTrue, IsHushed, present, copy_at, NewestAreWanted}
-use Rattle.seam_law_ghosts.specs.Prelude.{AreSettled}
-use Rattle.seam_machine.proofs.Occurring.{occurs}
-use Rattle.seam_net_runs.proofs.Runs.{leads_keeps}
-use Rattle.seam_law_flow.proofs.TokenLemmas.{sole_here}
-use Rattle.seam_law_flow.proofs.Following.{came}
-use Rattle.seam_law_calls.proofs.Holds.{not_both, all_two}
-use Rattle.seam_law_calls.proofs.OneReal.{goes, room, calm_of}
-use Rattle.seam_law_calls.proofs.Replaying.{replays_none}
+use Rattle.seam_law_ghosts.proofs.Prelude.{◌≡◌, ℕ, ◌<◌, ◌≤◌, true, ◌&&◌, List, [], ◌∷◌, length, Option, None, Some, refl, sym, ◌∙◌, subst}
+use Rattle.seam_law_ghosts.proofs.Prelude.{arith, AllByRecursion, Division, happens, enabled, Event, Occurs, GhostCopy, RealView, Msg, Hand}
+use Rattle.seam_law_ghosts.proofs.Prelude.{GhostSet, GhostDrop, Reap, is_small, fits_copy, is_stray, World, node_steps, node_has_work}
+use Rattle.seam_law_ghosts.proofs.Prelude.{limit, Goes, comes, letter_in, AllBring, TokenPlace, In, Frame, here_at, Has, mine, entity_flow}
+use Rattle.seam_law_ghosts.proofs.Prelude.{MovesTo, real_in, real_of, IsOne, IsSpared, IsFrame, HasOne, real_burden, RunsTo, real_at, Entry}
+use Rattle.seam_law_ghosts.proofs.Prelude.{brings, book_entry, IsTable, IsTrue, IsHushed, present, copy_at, NewestAreWanted, AreSettled}
+use Rattle.seam_law_ghosts.proofs.Prelude.{occurs, leads_keeps, sole_here, came, not_both, all_two, goes, room, calm_of, replays_none}
+use Rattle.seam_law_ghosts.proofs.Prelude.{public_low}
 use Rattle.seam_law_ghosts.proofs.Sending.{FitsNode}
 use Rattle.seam_law_ghosts.proofs.Lasting.{IsFair, fair_leads}
 use Rattle.seam_law_ghosts.proofs.Steps.{ghost_moves}
 use Rattle.seam_law_ghosts.proofs.Telling.{true_first, first_place}
 use Rattle.seam_law_ghosts.proofs.Hushing.{IsQuelled, quelled_leads, hushed_where}
-use Rattle.seam_law_rounds.proofs.Publics.{public_low}
 use Rattle.seam_law_ghosts.proofs.Books.{risen_leads, copies_rise}
 use Rattle.seam_law_ghosts.proofs.Moving.{After, here, gone, after_move}
 use Rattle.seam_law_ghosts.proofs.Still.{same_one, came_with, told_still, table_still}

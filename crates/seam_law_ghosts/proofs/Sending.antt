@@ -1,28 +1,21 @@
 -- What is sent fits where it comes: a copy fits the definitions, and each number is small.
-use Rattle.std.proofs.Common.{◌≡◌, ℕ, zero, suc, ◌+◌, ◌<◌, ◌≤◌, Bool, true, false, ◌||◌, eqb, nat_lt, List, [], ◌∷◌, map, length, Option}
-use Rattle.std.proofs.Common.{None, Some, refl, sym, subst, arith}
-use Rattle.std.specs.List.{AllByRecursion, filter_map, range_with_len}
+use Rattle.seam_law_ghosts.proofs.Prelude.{◌≡◌, ℕ, zero, suc, ◌+◌, ◌<◌, ◌≤◌, Bool, true, false, ◌||◌, eqb, nat_lt, List, [], ◌∷◌, map}
+use Rattle.seam_law_ghosts.proofs.Prelude.{length, Option, None, Some, refl, sym, subst, arith, AllByRecursion, range_with_len, nat_tests}
+use Rattle.seam_law_ghosts.proofs.Prelude.{Division, Cells, AreDefs, GhostCopy, Shown, RealView, Msg, GhostSet, GhostDrop, BaseCall}
+use Rattle.seam_law_ghosts.proofs.Prelude.{Current, Update, limit, is_small, may_rise, Here, cell_count, cell_numbers, base_of, properties}
+use Rattle.seam_law_ghosts.proofs.Prelude.{fits_copy, copy_of_real, may_settle, may_execute, fits_cell_part, shows, public_after, may_offer}
+use Rattle.seam_law_ghosts.proofs.Prelude.{order_of, haunts_at, told, told_unless, ghost_message, ghost_messages, drop_if, drop_at, drops}
+use Rattle.seam_law_ghosts.proofs.Prelude.{current_to, tick_to, numbered, shown_of, Frame, here_at, Has, AtCell, Acts, surveys, calls}
+use Rattle.seam_law_ghosts.proofs.Prelude.{readies, CellMoves, BaseMoves, Moves, at_a_cell, at_a_base, RealFits, real_in, of_group-Decides}
+use Rattle.seam_law_ghosts.proofs.Prelude.{all_append, both, all_two, base_keeps, units}
+use Rattle.std.specs.List.{filter_map}
 use Rattle.std.specs.FinSet as set
-use Rattle.std.proofs.lemmas.Bool.Decides.{nat_tests}
-use Rattle.seam_node_steps.specs.Prelude.{Division, Cells, AreDefs, GhostCopy, Shown, RealView, Msg, GhostSet, GhostDrop, BaseCall, Current}
-use Rattle.seam_node_steps.specs.Prelude.{Update}
-use Rattle.seam_node_steps.specs.Prelude.{limit, is_small, may_rise, Here, cell_count, cell_numbers, base_of, properties, fits_copy}
-use Rattle.seam_node_steps.specs.Prelude.{copy_of_real, may_settle, may_execute, fits_cell_part, shows, public_after, may_offer, order_of}
-use Rattle.seam_node_steps.specs.Prelude.{haunts_at, told, told_unless, ghost_message, ghost_messages, drop_if, drop_at, drops, current_to}
-use Rattle.seam_node_steps.specs.Prelude.{tick_to, numbered, shown_of}
-use Rattle.seam_law_calls.specs.Prelude.{Frame, here_at, Has, AtCell, Acts, surveys, calls, readies, CellMoves, BaseMoves, Moves, at_a_cell}
-use Rattle.seam_law_calls.specs.Prelude.{at_a_base, RealFits, real_in}
 use Rattle.seam_defs.specs.declared.flags.Part.TheVariants as part
 use Rattle.seam_defs.specs.declared.flags.Group.TheVariants as group
 use Rattle.seam_defs.proofs.GroupsOfGroups.{projected_of_group}
 use Rattle.seam_defs.proofs.Running.{shown-within}
-use Rattle.seam_defs.proofs.TestLemmas.{of_group-Decides}
-use Rattle.seam_law_flow.proofs.Following.{all_append}
 use Rattle.seam_law_calls.specs.CellMoves as move
-use Rattle.seam_law_calls.proofs.Holds.{both, all_two}
 use Rattle.seam_law_calls.proofs.RealsKept.{executed_fits, ready_fits}
-use Rattle.seam_law_calls.proofs.BaseDeeds.{base_keeps}
-use Rattle.seam_law_calls.proofs.Keeping.{units}
 
 -- what a message to node k brings fits: a copy fits the definitions, a beat and a version are small, and only base nodes are told what
 -- is for them

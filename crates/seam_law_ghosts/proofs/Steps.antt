@@ -1,27 +1,21 @@
 -- Each move of a node is one of those of what ghosts are told.
-use Rattle.std.proofs.Common.{◌≡◌, ℕ, ◌+◌, ◌≤◌, Bool, true, false, ltb, cond, List, [], ◌∷◌, Option, None, Some, refl, sym, ap, ◌∙◌, subst}
-use Rattle.std.proofs.Common.{inl, inr, arith}
-use Rattle.std.specs.List.{range_with_len}
+use Rattle.seam_law_ghosts.proofs.Prelude.{◌≡◌, ℕ, ◌+◌, ◌≤◌, Bool, true, false, ltb, cond, List, [], ◌∷◌, Option, None, Some, refl, sym, ap}
+use Rattle.seam_law_ghosts.proofs.Prelude.{◌∙◌, subst, inl, inr, arith, range_with_len, Division, Ghost, beat_in, copy_in, ghost_after}
+use Rattle.seam_law_ghosts.proofs.Prelude.{Part, part_of_deed, is_for, Call as CallData, GhostCopy, RealView, Msg, BaseCall, Hand, Current}
+use Rattle.seam_law_ghosts.proofs.Prelude.{GhostSet, GhostDrop, Tick, Reap, Update, can_do, Here, cell_count, base_numbers, base_of}
+use Rattle.seam_law_ghosts.proofs.Prelude.{type_at, order_passes, order_is_ready, fits_cell_part, SlotStep, slot_after, current_to}
+use Rattle.seam_law_ghosts.proofs.Prelude.{haunts_at, is_stray, tick_to, entry_in, greater_entry, IsSilent, carried_in, Frame, IsTreeOf}
+use Rattle.seam_law_ghosts.proofs.Prelude.{here_at, Has, AtCell, Does, Acts, surveys, calls, readies, CellMoves, BaseMoves, Moves}
+use Rattle.seam_law_ghosts.proofs.Prelude.{at_a_cell, at_a_base, RealFits, real_in, real_of, Entry, brings, book_entry}
+use Rattle.seam_law_ghosts.proofs.Prelude.{Executes, nothing, executes, GhostMoves, FindsRoom, not_stray, both, picked_passes}
+use Rattle.seam_law_ghosts.proofs.Prelude.{item_passes_too, mapped_silent, numbered_silent}
 use Rattle.std.specs.FinMap as table
 use Rattle.std.specs.FinSet as set
-use Rattle.seam_node_steps.specs.Prelude.{Division, Ghost, beat_in, copy_in, ghost_after, Part, part_of_deed, is_for, Call as CallData}
-use Rattle.seam_node_steps.specs.Prelude.{GhostCopy}
-use Rattle.seam_node_steps.specs.Prelude.{RealView, Msg, BaseCall, Hand, Current, GhostSet, GhostDrop, Tick, Reap, Update, can_do, Here}
-use Rattle.seam_node_steps.specs.Prelude.{cell_count, base_numbers, base_of, type_at, order_passes, order_is_ready, fits_cell_part}
-use Rattle.seam_node_steps.specs.Prelude.{SlotStep, slot_after, current_to, haunts_at, is_stray, tick_to}
-use Rattle.seam_law_flow.specs.Prelude.{entry_in, greater_entry, IsSilent, carried_in}
-use Rattle.seam_law_calls.specs.Prelude.{Frame, IsTreeOf, here_at, Has, AtCell, Does, Acts, surveys, calls, readies, CellMoves, BaseMoves}
-use Rattle.seam_law_calls.specs.Prelude.{Moves}
-use Rattle.seam_law_calls.specs.Prelude.{at_a_cell, at_a_base, RealFits, real_in, real_of}
-use Rattle.seam_law_ghosts.specs.Prelude.{Entry, brings, book_entry, IsPlacedAlike, Executes, nothing, executes, IsMissed, GhostMoves}
 use Rattle.seam_defs.specs.declared.flags.Part.TheVariants as part
 use Rattle.seam_defs.specs.Tests.{same_part}
 use Rattle.seam_entity.specs.declared.message.Msg.TheVariants.{Call}
 use Rattle.seam_law_calls.specs.CellMoves as move
 use Rattle.seam_law_calls.specs.BaseMoves as base_move
-use Rattle.seam_law_calls.proofs.Handling.{FindsRoom, not_stray}
-use Rattle.seam_law_calls.proofs.Holds.{both, picked_passes, item_passes_too}
-use Rattle.seam_law_calls.proofs.Plain.{mapped_silent, numbered_silent}
 use Rattle.seam_law_ghosts.specs.GhostMoves as ghost
 use Rattle.seam_law_ghosts.proofs.NewestTelling.{no_haunt_at_home}
 

@@ -1,22 +1,11 @@
 -- Where nothing is on its way, cells have what the real wants exactly where the newest entries are that.
-use Rattle.std.proofs.Common.{◌≡◌, ℕ, ◌<◌, ◌≤◌, Bool, true, false, List, [], ◌∷◌, Option, None, Some, refl, sym, ap, ◌∙◌, subst, arith, inl}
-use Rattle.std.proofs.Common.{inr}
-use Rattle.std.specs.Prelude.{slice_get}
-use Rattle.std.proofs.lemmas.Bool.{cases_eq, cases_lt}
-use Rattle.seam_node_steps.specs.Prelude.{GhostCopy, RealView, Msg, cell_count, copy_if, NodeView, World, node_has_work, Cell, Base}
-use Rattle.seam_node_steps.specs.Prelude.{IsQuiet, holders}
-use Rattle.seam_law_flow.specs.Prelude.{IsHead, comes, slot_at, letters_of, NotAbove, OfEntry, AllBring, Newest, TokenPlace, In, On}
-use Rattle.seam_law_calls.specs.Prelude.{Frame, IsInFrame, mine, has_of, has_none, entity_flow, real_in, real_of, IsOne}
-use Rattle.seam_law_rounds.specs.Prelude.{IsBetweenRounds}
-use Rattle.seam_law_ghosts.specs.Prelude.{Entry, brings, book_entry, IsOfTable, IsTable, present, wanted, copy_at, NewestAreWanted}
-use Rattle.seam_law_ghosts.specs.Prelude.{IsForgotten}
-use Rattle.seam_law_ghosts.specs.Prelude.{AreSettled}
-use Rattle.seam_law_flow.proofs.NewestLemmas.{newest_rests}
-use Rattle.seam_law_flow.proofs.TokenLemmas.{sole_here}
-use Rattle.seam_machine.proofs.Quiet.{quiet_links}
-use Rattle.seam_law_calls.proofs.Counting.{none_counts}
-use Rattle.seam_law_rounds.proofs.Shape.{Nowhere}
-use Rattle.seam_law_ghosts.specs.Copies.{beat_at}
+use Rattle.seam_law_ghosts.proofs.Prelude.{◌≡◌, ℕ, ◌<◌, ◌≤◌, Bool, true, false, List, [], ◌∷◌, Option, None, Some, refl, sym, ap, ◌∙◌}
+use Rattle.seam_law_ghosts.proofs.Prelude.{subst, arith, inl, inr, slice_get, cases_eq, cases_lt, GhostCopy, RealView, Msg, cell_count}
+use Rattle.seam_law_ghosts.proofs.Prelude.{copy_if, NodeView, World, node_has_work, Cell, Base, IsQuiet, holders, IsHead, comes, slot_at}
+use Rattle.seam_law_ghosts.proofs.Prelude.{letters_of, NotAbove, OfEntry, AllBring, Newest, TokenPlace, In, On, Frame, IsInFrame, mine}
+use Rattle.seam_law_ghosts.proofs.Prelude.{has_of, has_none, entity_flow, real_in, real_of, IsOne, IsBetweenRounds, Entry, brings}
+use Rattle.seam_law_ghosts.proofs.Prelude.{book_entry, IsOfTable, IsTable, present, wanted, copy_at, NewestAreWanted, IsForgotten}
+use Rattle.seam_law_ghosts.proofs.Prelude.{AreSettled, newest_rests, sole_here, quiet_links, none_counts, Nowhere, beat_at}
 
 -- ---- one real is at one place
 
@@ -84,7 +73,7 @@ module _ (f : Frame) (e : ℕ) (w : World) (still : (x y : ℕ) → (entity_flow
   newest_still k c is = record {
     here = inr (refl, is);
     away = λ x. subst (AllBring brings (NotAbove (beat_at e w k) c)) (sym (still x k)) tt;
-    is_there = inl (ap (λ d. let p : Entry = (beat_at e w k, d) in p) is);
+    found = inl (ap (λ d. let p : Entry = (beat_at e w k, d) in p) is);
   }
 
   entry_still : (k beat : ℕ) (c : Option GhostCopy) → Is k beat c → book_entry ((entity_flow e w).slot k) ≡ (beat, c)

@@ -1,19 +1,12 @@
 -- A message to a cell is never stray, nor a task of one: for an entity that no one reaps, in a round.
-use Rattle.std.proofs.Common.{◌≡◌, ℕ, ◌<◌, ◌⊎◌, Bool, true, false, not, ◌&&◌, ◌||◌, is_some, List, ◌∷◌, length, Option, None, Some, refl}
-use Rattle.std.proofs.Common.{ap, ◌∙◌, arith, inl, inr}
-use Rattle.std.specs.Prelude.{slice_get}
-use Rattle.std.proofs.lemmas.Bool.{eq-eqb}
-use Rattle.seam_node_steps.specs.Prelude.{Division, link, letter, Occurs, From, Call as CallData, RealView, Msg, BaseCall, Hand, Current}
-use Rattle.seam_node_steps.specs.Prelude.{GhostSet}
-use Rattle.seam_node_steps.specs.Prelude.{GhostDrop, Tick, Reap, Update, limit, is_small, cell_count, fits_copy, may_call, NextPlace, about}
-use Rattle.seam_node_steps.specs.Prelude.{is_stray, stray_call, stray_hand, may_come, NodeView, World}
-use Rattle.seam_law_flow.specs.Prelude.{letters_of, more_letter}
-use Rattle.seam_law_calls.specs.Prelude.{Frame, IsTreeOf, here_at, IsFrame, Has, concerned, kept_if, mine, entity_flow, RealFits}
-use Rattle.seam_law_calls.specs.Prelude.{real_burden, real_in}
-use Rattle.seam_law_calls.specs.Prelude.{reaped_by, FindsTurn}
+use Rattle.seam_law_ghosts.proofs.Prelude.{◌≡◌, ℕ, ◌<◌, ◌⊎◌, Bool, true, false, not, ◌&&◌, ◌||◌, is_some, List, ◌∷◌, length, Option, None}
+use Rattle.seam_law_ghosts.proofs.Prelude.{Some, refl, ap, ◌∙◌, arith, inl, inr, slice_get, eq-eqb, Division, link, letter, Occurs, From}
+use Rattle.seam_law_ghosts.proofs.Prelude.{Call as CallData, RealView, Msg, Hand, GhostSet, GhostDrop, Tick, Reap}
+use Rattle.seam_law_ghosts.proofs.Prelude.{limit, is_small, cell_count, fits_copy, may_call, NextPlace, about, is_stray, stray_call}
+use Rattle.seam_law_ghosts.proofs.Prelude.{stray_hand, may_come, NodeView, World, letters_of, more_letter, Frame, IsTreeOf, here_at}
+use Rattle.seam_law_ghosts.proofs.Prelude.{IsFrame, Has, concerned, kept_if, mine, entity_flow, RealFits, real_burden, real_in, reaped_by}
+use Rattle.seam_law_ghosts.proofs.Prelude.{FindsTurn, all_two, may_land}
 use Rattle.seam_entity.specs.declared.message.Msg.TheVariants.{Call}
-use Rattle.seam_law_calls.proofs.Holds.{all_two}
-use Rattle.seam_law_calls.proofs.OneReal.{may_land}
 use Rattle.seam_law_ghosts.proofs.Sending.{FitsNode}
 
 -- ---- a message on a link, as its entity sees it

@@ -1,20 +1,12 @@
 -- Over every list of events the copies that were told are true.
-use Rattle.std.proofs.Common.{◌≡◌, ℕ, ◌+◌, ◌<◌, ◌≤◌, ◌⊎◌, true, false, ltb, cond, List, [], ◌∷◌, ◌++◌, length, Option, None, Some, refl}
-use Rattle.std.proofs.Common.{sym, ap, ◌∙◌, subst, inl, inr, arith}
-use Rattle.std.proofs.lemmas.Bool.{cases_eq}
-use Rattle.std.proofs.lemmas.Bool.Decides.{nat_tests}
-use Rattle.seam_node_steps.specs.Prelude.{happens, enabled, Occurs, Event, items_to, Call, GhostCopy, RealView, Msg, Reap, World}
-use Rattle.seam_node_steps.specs.Prelude.{node_steps, node_has_work}
-use Rattle.seam_law_flow.specs.Prelude.{Goes, comes, letter_in, OfEntry, AllBring, entry_in, Turned, still, turns, lands, leaves, relays}
-use Rattle.seam_law_flow.specs.Prelude.{place_after, token_after}
-use Rattle.seam_law_calls.specs.Prelude.{Frame, Has, mine, entity_flow, real_in, real_of, IsSpared, AllFits, IsFrame, HasOne, OneFrom}
-use Rattle.seam_law_calls.specs.Prelude.{account_of, RunsTo}
-use Rattle.seam_law_ghosts.specs.Prelude.{Entry, brings, book_entry, IsTrueCopy, IsOfTable, IsTable, IsTrue}
-use Rattle.seam_machine.proofs.Occurring.{occurs}
-use Rattle.seam_net_runs.proofs.Runs.{leads_keeps}
-use Rattle.seam_law_flow.proofs.Following.{slots_kept, letters_kept, came}
-use Rattle.seam_law_flow.proofs.TokenLemmas.{sole_here, sole_came, sole_goes, token_turns}
-use Rattle.seam_law_calls.proofs.OneReal.{goes, room, one_happens, calm_of, spared_happens}
+use Rattle.seam_law_ghosts.proofs.Prelude.{◌≡◌, ℕ, ◌+◌, ◌<◌, ◌≤◌, ◌⊎◌, true, false, ltb, cond, List, [], ◌∷◌, ◌++◌, length, Option, None}
+use Rattle.seam_law_ghosts.proofs.Prelude.{Some, refl, sym, ap, ◌∙◌, subst, inl, inr, arith, cases_eq, nat_tests, happens, enabled, Occurs}
+use Rattle.seam_law_ghosts.proofs.Prelude.{Event, items_to, Call, GhostCopy, RealView, Msg, Reap, World, node_steps, node_has_work, Goes}
+use Rattle.seam_law_ghosts.proofs.Prelude.{comes, letter_in, OfEntry, AllBring, entry_in, Turned, still, turns, lands, leaves, relays}
+use Rattle.seam_law_ghosts.proofs.Prelude.{place_after, token_after, Frame, Has, mine, entity_flow, real_in, real_of, IsSpared, AllFits}
+use Rattle.seam_law_ghosts.proofs.Prelude.{IsFrame, HasOne, OneFrom, account_of, RunsTo, Entry, brings, book_entry, IsTrueCopy, IsOfTable}
+use Rattle.seam_law_ghosts.proofs.Prelude.{IsTable, IsTrue, occurs, leads_keeps, slots_kept, letters_kept, came, sole_here, sole_came}
+use Rattle.seam_law_ghosts.proofs.Prelude.{sole_goes, token_turns, goes, room, one_happens, calm_of, spared_happens}
 use Rattle.seam_law_ghosts.proofs.Steps.{ghost_moves}
 use Rattle.seam_law_ghosts.proofs.Making.{Did, same, did_calls, NoEntry, IsFresh, Makes, Tells, silent, fresh, Does_it, TellsBy, Handled}
 use Rattle.seam_law_ghosts.proofs.Making.{told_of}

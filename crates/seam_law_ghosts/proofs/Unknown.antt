@@ -1,15 +1,12 @@
 -- Of an entity that is nowhere, and that no order is about, nothing is on its way but ticks.
-use Rattle.std.proofs.Common.{◌≡◌, ℕ, List, [], Option, None, Some, sym, ap, ◌∙◌, subst}
-use Rattle.std.specs.List.{AllByRecursion}
-use Rattle.seam_node_steps.specs.Prelude.{Division, Event, Order, RealView, Msg, Hand, GhostSet, GhostDrop, Tick, World}
-use Rattle.seam_law_calls.specs.Prelude.{Frame, here_at, IsInFrame, Has, AtBase, AtCell, entity_flow, CellMoves, BaseMoves, Moves}
-use Rattle.seam_law_calls.specs.Prelude.{at_a_cell, at_a_base, real_in, RunsTo}
+use Rattle.seam_law_ghosts.proofs.Prelude.{◌≡◌, ℕ, List, [], Option, None, Some, sym, ap, ◌∙◌, subst, AllByRecursion, Division, Event}
+use Rattle.seam_law_ghosts.proofs.Prelude.{Order, RealView, Msg, Hand, Tick, World, Frame, here_at, IsInFrame, Has}
+use Rattle.seam_law_ghosts.proofs.Prelude.{AtBase, AtCell, entity_flow, BaseMoves, Moves, at_a_cell, at_a_base, real_in, RunsTo}
+use Rattle.seam_law_ghosts.proofs.Prelude.{all_lead, frame_leads, base_keeps}
 use Rattle.seam_call.specs.declared.order.Order.TheVariants as order
 use Rattle.seam_entity.specs.declared.message.Msg.TheVariants.{Call}
-use Rattle.seam_law_calls.specs.CellMoves as move
-use Rattle.seam_law_calls.proofs.Keeping.{all_lead}
-use Rattle.seam_law_rounds.proofs.Shape.{frame_leads}
-use Rattle.seam_law_calls.proofs.BaseDeeds.{base_keeps}
+use Rattle.seam_law_calls.proofs.CellDeeds as deed
+use Rattle.seam_law_calls.proofs.CellDeeds.{CellDeeds, cell_deeds}
 
 abbrev pub IsTickOrder : Order → Type 0
 IsTickOrder order.Tick = Unit {0}
@@ -37,24 +34,15 @@ module _ (f : Frame) (e k : ℕ) (s : Has) (i : Option Msg) (t : Has) (sent : Li
   never : (r : RealView) → real_in s ≡ Some r → ⊥
   never r has = let z = sym here.real ∙ has in cc
 
-  cell_silent : t.base ≡ s.base → {tree : Division} → CellMoves (here_at f k) tree e s.cell i t.cell sent → Stays
-  cell_silent base (move.rests n d) = silent (ap (λ c. c.slot.real) d.state ∙ here.real) base d.sends
-  cell_silent base (move.strays m n b d) = silent (ap (λ c. c.slot.real) d.state ∙ here.real) base d.sends
-  cell_silent base (move.stays u r q changed has own acts at d) = absurd (never r has)
-  cell_silent base (move.goes u r q changed j has own acts at n d) = absurd (never r has)
-  cell_silent base (move.late c r n has may lt d) = absurd (never r has)
-  cell_silent base (move.holds c r n own has mine may lt d) = absurd (never r has)
-  cell_silent base (move.passes c p n own has at d) = absurd (come (Call c) n)
-  cell_silent base (move.lands r n own has may d) = absurd (come (Hand r) n)
-  cell_silent base (move.hears_set n c is has d) = absurd (come (GhostSet e n c) is)
-  cell_silent base (move.ignores_set n c r is has d) = absurd (never r has)
-  cell_silent base (move.hears_drop n is d) = absurd (come (GhostDrop e n) is)
-  cell_silent base (move.reaped r n has own may d) = absurd (never r has)
-  cell_silent base (move.ticks n st z) = silent (ap (λ c. c.slot.real) st ∙ here.real) base z
-  cell_silent base (move.unlists n is at b d) = silent (ap (λ c. c.slot.real) d.state ∙ here.real) base d.sends
-  cell_silent base (move.looks n r w known is at has own v small d) = absurd (never r has)
-  cell_silent base (move.overlooks n known is at b d) = silent (ap (λ c. c.slot.real) d.state ∙ here.real) base d.sends
-  cell_silent base (move.stuck r is has ready may d) = absurd (never r has)
+  cell_silent : t.base ≡ s.base → {tree : Division} → CellDeeds (here_at f k) tree e s.cell i t.cell sent → Stays
+  cell_silent base (deed.idles a z) = silent (a.real ∙ here.real) base z
+  cell_silent base (deed.stays u r q changed has own acts at d) = absurd (never r has)
+  cell_silent base (deed.goes u r q changed j has own acts at n d) = absurd (never r has)
+  cell_silent base (deed.holds c r n own has mine may lt d) = absurd (never r has)
+  cell_silent base (deed.passes c p n own has at d) = absurd (come (Call c) n)
+  cell_silent base (deed.lands r n own has may d) = absurd (come (Hand r) n)
+  cell_silent base (deed.reaped r n has own may d) = absurd (never r has)
+  cell_silent base (deed.looks n r w known is at has own v small d) = absurd (never r has)
 
   real_of_cell : t.cell ≡ s.cell → real_in t ≡ None
   real_of_cell cell = ap (λ (c : AtCell). c.slot.real) cell ∙ here.real
@@ -70,7 +58,7 @@ module _ (f : Frame) (e k : ℕ) (s : Has) (i : Option Msg) (t : Has) (sent : Li
       (record { real = real_of_cell cell; orders = b.0 }, b.1)
 
   pub stays_silent : Moves f e k s i t sent → Stays
-  stays_silent (at_a_cell tree of low m same) = cell_silent same m
+  stays_silent (at_a_cell tree of low m same) = cell_silent same (cell_deeds m)
   stays_silent (at_a_base high m same) = base_silent _ same m
 
 module _ (f : Frame) (e : ℕ) where

@@ -1,11 +1,7 @@
 -- A place on its way stays on it where the real settles: at the position where it is, or after a call.
-use Rattle.std.proofs.Common.{◌≡◌, ◌≤◌, List, [], ◌∷◌, ◌++◌, length, refl, sym, ap, ◌∙◌, arith, inl, inr}
-use Rattle.std.proofs.lemmas.List.{length-append}
-use Rattle.seam_geo.specs.declared.pos.Pos.{Pos}
-use Rattle.seam_tree.specs.Division.{Division}
-use Rattle.seam_haunt.specs.Places.{Distances, Place, settled, settled_all, IsPlaceAfter, last_of}
-use Rattle.seam_haunt.proofs.Settling.{after_settled}
-use Rattle.seam_law_ghosts.specs.RealPlaces.{IsOnItsWay, surveyed, called, waits}
+use Rattle.seam_law_ghosts.proofs.Prelude.{◌≡◌, ◌≤◌, List, [], ◌∷◌, ◌++◌, length, refl, sym, ap, ◌∙◌, arith, inl, inr, length-append, Pos}
+use Rattle.seam_law_ghosts.proofs.Prelude.{Division, Distances, Place, settled, settled_all, IsPlaceAfter, last_of, after_settled}
+use Rattle.seam_law_ghosts.proofs.Prelude.{IsOnItsWay, surveyed, called, waits}
 
 module _ (d : Distances) (t : Division) where
   settled_last : (was : Place) (path : List Pos) (p : Pos) → settled_all d t was (path ++ p ∷ []) ≡ settled d t (settled_all d t was path) p

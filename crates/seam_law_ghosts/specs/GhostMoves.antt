@@ -2,8 +2,7 @@
 use Rattle.std.specs.Prelude.{◌≡◌, ℕ, ◌+◌, ◌≤◌, ◌⊎◌, Bool, true, false, List, [], ◌∷◌, ◌++◌, Option, None, Some}
 use Rattle.std.specs.FinSet as set
 use Rattle.seam_node_steps.specs.Prelude.{Division, Cells, part_of_deed, changes, type_of, Call as CallData, GhostCopy, RealView, Msg, Hand}
-use Rattle.seam_node_steps.specs.Prelude.{GhostSet}
-use Rattle.seam_node_steps.specs.Prelude.{Reap, cell_count, copy_of_real, settled_to, ghost_messages, beat_after, copy_if}
+use Rattle.seam_node_steps.specs.Prelude.{GhostSet, Reap, cell_count, copy_of_real, settled_to, ghost_messages, beat_after, copy_if}
 use Rattle.seam_node_steps.specs.Prelude.{is_stray, drops}
 use Rattle.seam_law_flow.specs.Prelude.{entry_in, greater_entry, IsSilent, carried_in}
 use Rattle.seam_law_calls.specs.Prelude.{Frame, here_at, Has, account_of, after_call, real_in, real_of}

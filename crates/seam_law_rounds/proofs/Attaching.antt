@@ -1,15 +1,12 @@
 -- In a loaded world each real has a witness exactly where its part has a client, in step with it.
-use Rattle.std.proofs.Common.{◌≡◌, ℕ, ◌^◌, ◌<◌, ◌≤◌, Bool, true, false, cond, [], length, Option, None, Some, refl, sym, ap, ◌∙◌, subst}
-use Rattle.std.proofs.Common.{arith}
-use Rattle.std.specs.Prelude.{option_map, slice_get}
-use Rattle.std.specs.List.{AllByRecursion, IsDistinct}
-use Rattle.seam_node_steps.specs.Prelude.{Batch, ClientText, RealView, WitnessView, Here, real_begins, PartView, ProxyView, line_if}
-use Rattle.seam_node_steps.specs.Prelude.{base_text, NodeView, World, with_witness, with_proxy, new_proxy, proxy_begins, part_begins}
-use Rattle.seam_node_steps.specs.Prelude.{loaded}
-use Rattle.seam_law_flow.specs.Prelude.{slot_at, more_letter}
-use Rattle.seam_law_calls.specs.Prelude.{Frame, here_at, Has, has_of, has_none, entity_flow, real_in, home_of, sent_of, sent_by, IsFewView}
-use Rattle.seam_law_calls.specs.Prelude.{SeesFew}
-use Rattle.seam_law_rounds.specs.Prelude.{MayBeMade, node_loaded, AreInStep, AreFor, HasPartsBetweenRounds, lines_of, FitsParts, MayBegin}
+use Rattle.seam_law_rounds.proofs.Prelude.{◌≡◌, ℕ, ◌^◌, ◌<◌, ◌≤◌, Bool, true, false, cond, [], length, Option, None, Some, refl, sym, ap}
+use Rattle.seam_law_rounds.proofs.Prelude.{◌∙◌, subst, arith, option_map, slice_get, AllByRecursion, Batch, ClientText, RealView}
+use Rattle.seam_law_rounds.proofs.Prelude.{WitnessView, Here, real_begins, PartView, ProxyView, line_if, base_text, NodeView, World}
+use Rattle.seam_law_rounds.proofs.Prelude.{with_witness, with_proxy, new_proxy, proxy_begins, part_begins, loaded, slot_at, more_letter}
+use Rattle.seam_law_rounds.proofs.Prelude.{Frame, here_at, Has, has_of, has_none, entity_flow, real_in, home_of, sent_of, sent_by}
+use Rattle.seam_law_rounds.proofs.Prelude.{IsFewView, SeesFew, MayBeMade, node_loaded, AreInStep, AreFor, HasPartsBetweenRounds, lines_of}
+use Rattle.seam_law_rounds.proofs.Prelude.{FitsParts, MayBegin}
+use Rattle.std.specs.List.{IsDistinct}
 use Rattle.seam_law_rounds.proofs.Making.{Creation, nowhere, once, creation_of, middle}
 use Rattle.seam_law_rounds.proofs.Loaded.{slot_is}
 use Rattle.seam_law_calls.specs.ClientUpdates.{shown_by}

@@ -1,28 +1,18 @@
 -- Where the calls of a batch leave the world quiet, the record of base parts holds again.
-use Rattle.std.proofs.Common.{◌≡◌, ℕ, ◌≤◌, ◌+◌, ◌^◌, ◌<◌, ◌⊎◌, cond, List, [], ◌∷◌, Some, refl, sym, ap, ◌∙◌, subst, arith, inl, inr}
+use Rattle.seam_law_rounds.proofs.Prelude.{◌≡◌, ℕ, ◌≤◌, ◌+◌, ◌^◌, ◌<◌, ◌⊎◌, cond, List, [], ◌∷◌, Some, refl, sym, ap, ◌∙◌, subst, arith}
+use Rattle.seam_law_rounds.proofs.Prelude.{inl, inr, eq-eqb, append-nil, append_cancel_left, IsQuiet, Event, item_at, Call as CallData}
+use Rattle.seam_law_rounds.proofs.Prelude.{Batch, order_or, RealView, PartView, World, node_has_work, loaded, Flow, letters_of, number_from}
+use Rattle.seam_law_rounds.proofs.Prelude.{Desk, Post, Mail, desk_of, parcel_of, AreInTurn, Frame, entity_flow, real_of, desk_for}
+use Rattle.seam_law_rounds.proofs.Prelude.{part_desk, as_base_sender, home_of, HasBaseCalls, SeesFew, RunsTo, real_at, framed, numbers_of}
+use Rattle.seam_law_rounds.proofs.Prelude.{next_to, base_calls_of, HasSettledPart, HasPartsBetweenRounds, MayBeLoaded, AreFor, lines_of}
+use Rattle.seam_law_rounds.proofs.Prelude.{HasSmallNumbers, sole_here, held_is_due, burden_leads, gone_leads, version_room}
+use Rattle.seam_law_rounds.proofs.Prelude.{base_burden_leads, all_executed, few_leads}
 use Rattle.std.specs.FinMap as table
-use Rattle.std.proofs.lemmas.Bool.{eq-eqb}
-use Rattle.std.proofs.lemmas.List.{append-nil, append_cancel_left}
-use Rattle.seam_node_steps.specs.Prelude.{IsQuiet, Event, item_at, Call as CallData, Batch, order_or, RealView, PartView, World}
-use Rattle.seam_node_steps.specs.Prelude.{node_has_work, loaded}
-use Rattle.seam_law_flow.specs.Prelude.{Flow, letters_of, number_from, Desk, Post, Mail, desk_of, parcel_of, AreInTurn}
-use Rattle.seam_law_calls.specs.Prelude.{Frame, entity_flow, real_of, desk_for, part_desk, as_base_sender, home_of, HasBaseCalls, SeesFew}
-use Rattle.seam_law_calls.specs.Prelude.{RunsTo, real_at}
-use Rattle.seam_law_rounds.specs.Prelude.{framed, numbers_of, next_to, base_calls_of, HasSettledPart, HasPartsBetweenRounds, MayBeLoaded}
-use Rattle.seam_law_rounds.specs.Prelude.{AreFor, lines_of, HasSmallNumbers}
-use Rattle.seam_law_flow.proofs.TokenLemmas.{sole_here}
-use Rattle.seam_law_flow.proofs.Ends.{held_is_due}
-use Rattle.seam_law_calls.proofs.Easing.{burden_leads}
-use Rattle.seam_law_calls.proofs.Gone.{gone_leads}
 use Rattle.seam_law_rounds.proofs.Framing.{in_frame}
 use Rattle.seam_law_rounds.proofs.Loaded.{no_mail, real_loaded}
 use Rattle.seam_law_rounds.proofs.Room.{few_more as few_burden, real_room}
 use Rattle.seam_law_rounds.proofs.Going.{frame_loaded, Keeps, kept_after}
 use Rattle.seam_law_rounds.proofs.Shape.{Somewhere, Nowhere, search_real}
-use Rattle.seam_law_calls.proofs.BaseRuns.{version_room}
-use Rattle.seam_law_calls.proofs.StrayRuns.{base_burden_leads}
-use Rattle.seam_law_calls.proofs.BaseQuiet.{all_executed}
-use Rattle.seam_law_calls.proofs.Absent.{few_leads}
 use Rattle.seam_law_rounds.proofs.Ticking.{few_loaded}
 use Rattle.seam_law_rounds.proofs.PartsLoaded.{LoadedPart}
 use Rattle.seam_law_rounds.proofs.Serving.{ends}

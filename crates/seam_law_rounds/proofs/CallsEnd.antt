@@ -1,23 +1,13 @@
 -- Where the calls of a batch leave the world quiet, the record between rounds holds again.
-use Rattle.std.proofs.Common.{◌≡◌, ℕ, ◌+◌, ◌<◌, ◌≤◌, ◌⊎◌, cond, is_some, List, [], ◌∷◌, None, Some, refl, sym, ap, ◌∙◌, subst, arith, inl}
-use Rattle.std.proofs.Common.{inr}
-use Rattle.std.specs.List.{AllByRecursion}
+use Rattle.seam_law_rounds.proofs.Prelude.{◌≡◌, ℕ, ◌+◌, ◌<◌, ◌≤◌, ◌⊎◌, cond, is_some, List, [], ◌∷◌, None, Some, refl, sym, ap, ◌∙◌, subst}
+use Rattle.seam_law_rounds.proofs.Prelude.{arith, inl, inr, AllByRecursion, eq-eqb, append-nil, append_cancel_left, IsQuiet, Event, item_at}
+use Rattle.seam_law_rounds.proofs.Prelude.{Call as CallData, Batch, order_or, RealView, Msg, cell_count, World, node_has_work, loaded, Flow}
+use Rattle.seam_law_rounds.proofs.Prelude.{letters_of, NotAbove, AllBring, TokenPlace, In, On, number_from, Desk, desk_of, parcel_of}
+use Rattle.seam_law_rounds.proofs.Prelude.{AreInTurn, Frame, Has, mine, entity_flow, RealFits, real_in, real_of, IsOne, OneFrom, desk_for}
+use Rattle.seam_law_rounds.proofs.Prelude.{real_desk, as_sender, RunsTo, real_at, calls_of, next_from, IsSettled, IsBetweenRounds, framed}
+use Rattle.seam_law_rounds.proofs.Prelude.{as_entry, route_entry, sent_route, MayBegin, quiet_links, sole_here, held_is_due, gone_leads}
+use Rattle.seam_law_rounds.proofs.Prelude.{one_leads}
 use Rattle.std.specs.FinMap as table
-use Rattle.std.proofs.lemmas.Bool.{eq-eqb}
-use Rattle.std.proofs.lemmas.List.{append-nil, append_cancel_left}
-use Rattle.seam_node_steps.specs.Prelude.{IsQuiet, Event, item_at, Call as CallData, Batch, order_or, RealView, Msg, cell_count, World}
-use Rattle.seam_node_steps.specs.Prelude.{node_has_work, loaded}
-use Rattle.seam_law_flow.specs.Prelude.{Flow, letters_of, NotAbove, AllBring, TokenPlace, In, On, number_from, Desk, desk_of, parcel_of}
-use Rattle.seam_law_flow.specs.Prelude.{AreInTurn}
-use Rattle.seam_law_calls.specs.Prelude.{Frame, Has, mine, entity_flow, RealFits, real_in, real_of, IsOne, OneFrom, desk_for, real_desk}
-use Rattle.seam_law_calls.specs.Prelude.{as_sender, RunsTo, real_at}
-use Rattle.seam_law_rounds.specs.Prelude.{calls_of, next_from, IsSettled, IsBetweenRounds, framed, as_entry, route_entry, sent_route}
-use Rattle.seam_law_rounds.specs.Prelude.{MayBegin}
-use Rattle.seam_machine.proofs.Quiet.{quiet_links}
-use Rattle.seam_law_flow.proofs.TokenLemmas.{sole_here}
-use Rattle.seam_law_flow.proofs.Ends.{held_is_due}
-use Rattle.seam_law_calls.proofs.Gone.{gone_leads}
-use Rattle.seam_law_calls.proofs.OneReal.{one_leads}
 use Rattle.seam_law_rounds.proofs.Framing.{in_frame, many_loaded}
 use Rattle.seam_law_rounds.proofs.Loaded.{no_mail}
 use Rattle.seam_law_rounds.proofs.Ready.{one_at_home}
@@ -59,7 +49,7 @@ module _ (f : Frame) (w : World) (b : Batch) (begin : MayBegin f w b) where
       known = λ k high low. record {
         here = subst (NotAbove r.generation home) (sym (entry_is k high low)) (inr (refl, refl));
         away = λ x. subst (AllBring sent_route (NotAbove r.generation home)) (sym (no_mail f w b begin e x k)) tt;
-        is_there = inl (entry_is k high low);
+        found = inl (entry_is k high low);
       };
     }
 

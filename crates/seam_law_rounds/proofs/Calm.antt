@@ -1,11 +1,7 @@
 -- A calm entity: its real stays where it is until its Reap comes, and no one calls it.
-use Rattle.std.proofs.Common.{◌≡◌, ℕ, ◌+◌, ◌<◌, ◌≤◌, Bool, cond, Option, None, Some, true}
-use Rattle.std.specs.List.{AllByRecursion}
-use Rattle.seam_node_steps.specs.Prelude.{total, Order, RealView, WitnessView, Msg, GhostDrop, Tick, Reap, Update, cell_count, NodeView}
-use Rattle.seam_node_steps.specs.Prelude.{World, cells_of}
-use Rattle.seam_law_calls.specs.Prelude.{Frame, IsInFrame, Has, mine, has_of, entity_flow, real_in, real_at}
-use Rattle.seam_net_runs.specs.Sums.{weight_or}
-use Rattle.seam_net_runs.specs.Weights.{weight}
+use Rattle.seam_law_rounds.proofs.Prelude.{◌≡◌, ℕ, ◌+◌, ◌<◌, ◌≤◌, Bool, cond, Option, None, Some, true, AllByRecursion, total, Order}
+use Rattle.seam_law_rounds.proofs.Prelude.{RealView, WitnessView, Msg, GhostDrop, Tick, Reap, Update, cell_count, NodeView, World, cells_of}
+use Rattle.seam_law_rounds.proofs.Prelude.{Frame, IsInFrame, Has, mine, has_of, entity_flow, real_in, real_at, weight_or, weight}
 use Rattle.seam_call.specs.declared.order.Order.TheVariants as order
 
 -- the real q is r but for its witness

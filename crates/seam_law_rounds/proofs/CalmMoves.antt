@@ -1,20 +1,20 @@
 -- What a move does with a calm entity.
-use Rattle.std.proofs.Common.{◌≡◌, ℕ, zero, suc, ◌+◌, ◌<◌, ◌≤◌, Bool, true, false, not, List, [], ◌∷◌, map, filter_map, Option}
-use Rattle.std.proofs.Common.{None, Some, refl, sym, ap, ◌∙◌, subst, arith}
-use Rattle.std.specs.List.{AllByRecursion, range_with_len}
+use Rattle.seam_law_rounds.proofs.Prelude.{◌≡◌, ℕ, zero, suc, ◌+◌, ◌<◌, ◌≤◌, Bool, true, false, not, List, [], ◌∷◌, map, filter_map, Option}
+use Rattle.seam_law_rounds.proofs.Prelude.{None, Some, refl, sym, ap, ◌∙◌, subst, arith, AllByRecursion, range_with_len, found, Division}
+use Rattle.seam_law_rounds.proofs.Prelude.{total, OrderView, next_item, Call as CallData, Order, Shown, Orders, order_or, RealView}
+use Rattle.seam_law_rounds.proofs.Prelude.{WitnessView, Msg, Hand, Reap, may_rise, cell_count}
+use Rattle.seam_law_rounds.proofs.Prelude.{cell_numbers, base_of, order_is_ready, ready_order, SlotStep, slot_after, is_stray, drop_at}
+use Rattle.seam_law_rounds.proofs.Prelude.{tick_to, RouteView, numbered, shown_of, looks_with, World, cells_of, Frame, here_at}
+use Rattle.seam_law_rounds.proofs.Prelude.{Has, AtCell, AtBase, entity_flow, unlisted_if, Does, Acts, surveys, calls, readies}
+use Rattle.seam_law_rounds.proofs.Prelude.{Moves, at_a_cell, at_a_base, real_in}
 use Rattle.std.specs.FinMap as table
 use Rattle.std.specs.FinSet as set
-use Rattle.seam_table.proofs.Found.{found}
-use Rattle.seam_node_steps.specs.Prelude.{Division, total, OrderView, next_item, Call as CallData, Order, Shown, Orders, order_or, RealView}
-use Rattle.seam_node_steps.specs.Prelude.{WitnessView, Msg, BaseCall, Hand, GhostSet, GhostDrop, Tick, Reap, Update, may_rise}
-use Rattle.seam_node_steps.specs.Prelude.{cell_count, cell_numbers, base_of, order_is_ready, ready_order, SlotStep, slot_after, is_stray}
-use Rattle.seam_node_steps.specs.Prelude.{drop_at, tick_to, RouteView, numbered, shown_of, looks_with, World, cells_of, Current}
-use Rattle.seam_law_calls.specs.Prelude.{Frame, here_at, Has, AtCell, AtBase, entity_flow, unlisted_if, Does, Acts, surveys, calls, readies}
-use Rattle.seam_law_calls.specs.Prelude.{CellMoves, BaseMoves, Moves, at_a_cell, at_a_base, real_in}
 use Rattle.seam_call.specs.declared.order.Order.TheVariants as order
 use Rattle.seam_entity.specs.declared.message.Msg.TheVariants.{Call}
-use Rattle.seam_law_calls.specs.CellMoves as move
-use Rattle.seam_law_calls.specs.BaseMoves as base_move
+use Rattle.seam_law_calls.proofs.CellDeeds as deed
+use Rattle.seam_law_calls.proofs.CellDeeds.{CellDeeds, cell_deeds, not_reaped}
+use Rattle.seam_law_calls.proofs.BaseDeeds as base_deed
+use Rattle.seam_law_calls.proofs.BaseDeeds.{BaseDeeds, RouteAfter, same_route, newer_of, base_deeds, base_route}
 use Rattle.seam_law_rounds.proofs.Calm.{IsSame, IsCalmOrder, IsCalmAt, IsCalmTo, order_reaps, letter_reaps, has_reaps, one_if}
 
 not_yes : (b : Bool) → b ≡ true → not b ≡ true → ⊥
@@ -71,14 +71,8 @@ module _ (f : Frame) (e home : ℕ) (r : RealView) (was : World) (none : (s : �
   module _ (here : IsCalmAt e home r was k s) (come : Comes told home r k s i) where
     -- ---- at a cell
 
-    no_letter : (m : Msg) → i ≡ Some m → (IsCalmTo told home r k m → ⊥) → ⊥
-    no_letter m is n = n (come.letter m is)
-
     none_reaps : i ≡ None → i ≡ Some (Reap e) → ⊥
     none_reaps n is = let z = sym n ∙ is in cc
-
-    other_reaps : (m : Msg) → i ≡ Some m → (m ≡ Reap e → ⊥) → i ≡ Some (Reap e) → ⊥
-    other_reaps m at n is = n (let z = sym at ∙ is in cc)
 
     -- the cell has the same real, and what it has of surveys
     same_at : real_in t ≡ real_in s → t.cell.survey ≡ 0 → t.base ≡ s.base → IsCalmAt e home r was k t
@@ -116,15 +110,6 @@ module _ (f : Frame) (e home : ℕ) (r : RealView) (was : World) (none : (s : �
         (Reap x)) q.1)
         ∙ stray)
 
-    stray_by : (tree : Division) (m : Msg) → i ≡ Some m → is_stray (here_at f k) tree s.cell.slot m ≡ true → real_in t ≡ real_in s →
-        t.cell.survey ≡ 0 →
-        t.base ≡ s.base → sent ≡ [] → Calmed
-    stray_by tree (GhostDrop x n) is b same survey base z = unchanged (other_reaps (GhostDrop x n) is (λ h. cc)) same survey base z
-    stray_by tree Tick is b same survey base z = unchanged (other_reaps Tick is (λ h. cc)) same survey base z
-    stray_by tree (Reap x) is b same survey base z = absurd (stray_reap tree x is b)
-    stray_by tree (Update u) is b same survey base z = unchanged (other_reaps (Update u) is (λ h. cc)) same survey base z
-    stray_by tree m is b same survey base z = absurd (come.letter m is)
-
     drop_by : told ≡ true → (q : RealView) (j : ℕ) (b : Bool) (js : List ℕ) → q.beat ≡ r.beat →
         j < cell_count → AllByRecursion To (filter_map (drop_at q) js) × (sent_reaps (filter_map (drop_at q) js) ≡ 0) →
         set.contains q.haunts j ≡ b → AllByRecursion To (filter_map (drop_at q) (j ∷ js)) × (sent_reaps (filter_map (drop_at q)
@@ -152,32 +137,22 @@ module _ (f : Frame) (e home : ℕ) (r : RealView) (was : World) (none : (s : �
     survey_after : (x : SlotStep) (u : AtCell) → Does u x t.cell sent → unlisted_if x.unlisted u.survey ≡ 0 → t.cell.survey ≡ 0
     survey_after x u d is = ap (λ a. a.survey) d.state ∙ is
 
-    -- a step of the slot that changes nothing but what it has of the lists
-    idles : (i ≡ Some (Reap e) → ⊥) → (x : SlotStep) (u : AtCell) → Does u x t.cell sent → t.base ≡ s.base →
-        (slot_after x.slot u.slot).real ≡ real_in s → unlisted_if x.unlisted u.survey ≡ 0 → x.sent ≡ [] → Calmed
-    idles n x u d base real survey z =
-        unchanged n (real_after x u d real) (survey_after x u d survey) base (d.sends ∙ z)
-
     looked : (q p : RealView) → IsSame r q → (x : Option WitnessView) → Some (record q { witness = x }) ≡ Some p → IsSame r p
     looked q p same x at =
         let is : record q { witness = x } ≡ p = cc in
         (x, ap (λ (z : RealView). let y : RealView = record z { witness = x } in y) same.1 ∙ is)
 
-    cell_calmed : t.base ≡ s.base → {tree : Division} → CellMoves (here_at f k) tree e s.cell i t.cell sent → Calmed
-    cell_calmed base (move.rests n d) = idles (none_reaps n) _ s.cell d base refl here.survey refl
-    cell_calmed base {tree} (move.strays m n b d) =
-        stray_by tree m n b (real_after _ s.cell d refl) (survey_after _ s.cell d here.survey) base d.sends
-    cell_calmed base (move.stays u p q changed has own acts at d) = absurd (acts_never u p q changed has acts)
-    cell_calmed base (move.goes u p q changed j has own acts at n d) = absurd (acts_never u p q changed has acts)
-    cell_calmed base (move.late c p n has may lt d) = absurd (come.letter (Call c) n)
-    cell_calmed base (move.holds c p n is has own may lt d) = absurd (come.letter (Call c) n)
-    cell_calmed base (move.passes c p n is has at d) = absurd (come.letter (Call c) n)
-    cell_calmed base (move.lands p n own has may d) = absurd (come.letter (Hand p) n)
-    cell_calmed base (move.hears_set n c h has d) = absurd (come.letter (GhostSet e n c) h)
-    cell_calmed base (move.ignores_set n c p h has d) = absurd (come.letter (GhostSet e n c) h)
-    cell_calmed base (move.hears_drop n h d) =
-        idles (other_reaps (GhostDrop e n) h (λ z. cc)) _ s.cell d base refl here.survey refl
-    cell_calmed base (move.reaped q n has own may d) =
+    cell_calmed : t.base ≡ s.base → {tree : Division} → CellDeeds (here_at f k) tree e s.cell i t.cell sent → Calmed
+    cell_calmed base {tree} (deed.idles a z) =
+        let none = here.survey in
+        let less = a.survey in
+        unchanged (λ is. stray_reap tree e is (not_reaped a.why e is)) a.real (omega (arith, none, less)) base z
+    cell_calmed base (deed.stays u p q changed has own acts at d) = absurd (acts_never u p q changed has acts)
+    cell_calmed base (deed.goes u p q changed j has own acts at n d) = absurd (acts_never u p q changed has acts)
+    cell_calmed base (deed.holds c p n is has own may lt d) = absurd (come.letter (Call c) n)
+    cell_calmed base (deed.passes c p n is has at d) = absurd (come.letter (Call c) n)
+    cell_calmed base (deed.lands p n own has may d) = absurd (come.letter (Hand p) n)
+    cell_calmed base (deed.reaped q n has own may d) =
         let same = (here.real q has).1 in
         let beat : q.beat ≡ r.beat = sym (ap (λ (y : RealView). y.beat) same.1) in
         let gone = drops_calm (come.found e n).3 q cell_numbers beat (all_below 0 cell_count (omega arith)) in
@@ -192,10 +167,7 @@ module _ (f : Frame) (e home : ℕ) (r : RealView) (was : World) (none : (s : �
           reaps = same_reaps base (ap sent_reaps d.sends ∙ gone.1);
           real = ap (λ a. a.slot.real) d.state;
         })
-    cell_calmed base (move.ticks n st z) =
-        unchanged (other_reaps Tick n (λ h. cc)) (ap (λ a. a.slot.real) st) (ap (λ a. a.survey) st ∙ here.survey) base z
-    cell_calmed base (move.unlists n h at b d) = absurd (let zero = here.survey in omega (arith, at, zero))
-    cell_calmed base (move.looks n q w known h at has own is small d) =
+    cell_calmed base (deed.looks n q w known h at has own is small d) =
         let step = looks_with (here_at f k) s.cell.slot q w known (shown_of (here_at f k) q w known) in
         let new = updates_calm (base_of (here_at f k) q.entity) q.entity w.sent (shown_of (here_at f k) q w known) (omega arith) in
         let same = here.real q has in
@@ -212,88 +184,66 @@ module _ (f : Frame) (e home : ℕ) (r : RealView) (was : World) (none : (s : �
           reaps = same_reaps base (ap sent_reaps d.sends ∙ new.1);
           real = ap (λ a. one_if a.slot.real) d.state ∙ sym (ap one_if has);
         })
-    cell_calmed base (move.overlooks n known h at b d) = idles (none_reaps h) _ _ d base refl here.survey refl
-    cell_calmed base (move.stuck p h has ready may d) = idles (none_reaps h) _ s.cell d base refl here.survey refl
 
     -- ---- at a base node
 
-    -- the node has the same orders and, where it has one, the same route
-    base_at : t.cell ≡ s.cell → t.base.orders ≡ s.base.orders → t.base.route ≡ s.base.route → IsCalmAt e home r was k t
-    base_at cell orders route = record {
-      survey = ap (λ (c : AtCell). c.survey) cell ∙ here.survey;
-      real = λ q h. here.real q (sym (ap (λ (c : AtCell). c.slot.real) cell) ∙ h);
-      orders = subst (AllByRecursion (IsCalmOrder e)) (sym orders) here.orders;
-      route = route ∙ here.route;
-    }
+    module _ (calm : i ≡ Some (Reap e) → ⊥) (cell : t.cell ≡ s.cell) (route : t.base.route ≡ s.base.route) where
+      base_at : AllByRecursion (IsCalmOrder e) t.base.orders → IsCalmAt e home r was k t
+      base_at orders = record {
+        survey = ap (λ (c : AtCell). c.survey) cell ∙ here.survey;
+        real = λ q h. here.real q (sym (ap (λ (c : AtCell). c.slot.real) cell) ∙ h);
+        orders = orders;
+        route = route ∙ here.route;
+      }
 
-    keeps : (i ≡ Some (Reap e) → ⊥) → t.cell ≡ s.cell → (b : AtBase) → t.base ≡ b → b.orders ≡ s.base.orders → b.route ≡ s.base.route →
-        sent ≡ [] → Calmed
-    keeps n cell b a orders route z =
-        stays n (record {
-          at = base_at cell (ap (λ (x : AtBase). x.orders) a ∙ orders) (ap (λ (x : AtBase). x.route) a ∙ route);
-          calm = subst (AllByRecursion To) (sym z) tt;
-          reaps =
-              let one = ap (λ (x : AtBase). total order_reaps x.orders) a ∙ ap (total order_reaps) orders in
-              let light = ap sent_reaps z in
-              omega (arith, one, light);
-          real = ap (λ (c : AtCell). one_if c.slot.real) cell;
-        })
+      keeps : t.base.orders ≡ s.base.orders → sent ≡ [] → Calmed
+      keeps orders z =
+          stays calm (record {
+            at = base_at (subst (AllByRecursion (IsCalmOrder e)) (sym orders) here.orders);
+            calm = subst (AllByRecursion To) (sym z) tt;
+            reaps = let one = ap (total order_reaps) orders in let light = ap sent_reaps z in omega (arith, one, light);
+            real = ap (λ (c : AtCell). one_if c.slot.real) cell;
+          })
 
-    tail_of : (o : Order) (os : List Order) → s.base.orders ≡ o ∷ os → AllByRecursion (IsCalmOrder e) (o ∷ os)
-    tail_of o os at = subst (AllByRecursion (IsCalmOrder e)) at here.orders
+      -- the first order is taken
+      takes : (o : Order) → s.base.orders ≡ o ∷ t.base.orders → AllByRecursion To sent → sent_reaps sent ≡ order_reaps o → Calmed
+      takes o at each weigh =
+          stays calm (record {
+            at = base_at (subst (AllByRecursion (IsCalmOrder e)) at here.orders).1;
+            calm = each;
+            reaps = let had = ap (total order_reaps) at in omega (arith, had, weigh);
+            real = ap (λ (c : AtCell). one_if c.slot.real) cell;
+          })
 
-    -- the first order is taken
-    takes : (i ≡ Some (Reap e) → ⊥) → t.cell ≡ s.cell → (o : Order) (os : List Order) → s.base.orders ≡ o ∷ os → (b : AtBase) → t.base ≡ b →
-        b.orders ≡ os → b.route ≡ s.base.route → AllByRecursion To sent → sent_reaps sent ≡ order_reaps o → Calmed
-    takes n cell o os at b a orders route calm weigh =
-        stays n (record {
-          at = record {
-            survey = ap (λ (c : AtCell). c.survey) cell ∙ here.survey;
-            real = λ q h. here.real q (sym (ap (λ (c : AtCell). c.slot.real) cell) ∙ h);
-            orders =
-                subst (AllByRecursion (IsCalmOrder e)) (sym (ap (λ (x : AtBase). x.orders) a ∙ orders)) (tail_of o os at).1;
-            route = ap (λ (x : AtBase). x.route) a ∙ (route ∙ here.route);
-          };
-          calm = calm;
-          reaps =
-              let one = ap (λ (x : AtBase). total order_reaps x.orders) a ∙ ap (total order_reaps) orders in
-              let had = ap (total order_reaps) at in
-              omega (arith, one, had, weigh);
-          real = ap (λ (c : AtCell). one_if c.slot.real) cell;
-        })
+    first_is : (o : Order) → s.base.orders ≡ o ∷ t.base.orders → IsCalmOrder e o
+    first_is o at = (subst (AllByRecursion (IsCalmOrder e)) at here.orders).0
 
     ticks_calm : (js : List ℕ) → AllByRecursion (λ j. j < cell_count) js →
         AllByRecursion To (map tick_to js) × (sent_reaps (map tick_to js) ≡ 0)
     ticks_calm [] low = (tt, refl)
     ticks_calm (j ∷ js) low = let more = ticks_calm js low.1 in let none = more.1 in ((low.0, more.0), omega (arith, none))
 
-    base_calmed : home < cell_count → cell_count ≤ k → (cells : ℕ) → cells ≤ cell_count → t.cell ≡ s.cell →
-        BaseMoves (here_at f k) cells e s.base i t.base sent → Calmed
-    base_calmed low high cells few cell (base_move.rests n a z) = keeps (none_reaps n) cell s.base a refl refl z
-    base_calmed low high cells few cell (base_move.strays m n b a z) =
-        keeps (λ is. let at = come.letter (Reap e) is in omega (arith, at, low, high)) cell s.base a refl refl z
-    base_calmed low high cells few cell (base_move.reroutes new x n has b a z) = absurd (come.letter _ n)
-    base_calmed low high cells few cell (base_move.offers c p n is has may a z) = absurd (come.letter (BaseCall c) n)
-    base_calmed low high cells few cell (base_move.updates u n is b a z) = keeps (other_reaps (Update u) n (λ h. cc)) cell _ a refl refl z
-    base_calmed low high cells few cell (base_move.orders_call c os x n at is has a z) = absurd (tail_of (order.Cell c) os at).0
-    base_calmed low high cells few cell (base_move.orders_base_call c os n at is b a z) = absurd (tail_of (order.Base c) os at).0
-    base_calmed low high cells few cell (base_move.offers_own c os p n at is b has may a z) = absurd (tail_of (order.Base c) os at).0
-    base_calmed low high cells few cell (base_move.orders_tick os n at a z) =
-        let all = ticks_calm (range_with_len 0 cells) (all_below 0 cells (omega (arith, few))) in
-        takes (none_reaps n) cell order.Tick os at _ a refl refl (subst (AllByRecursion To) (sym z) all.0) (ap sent_reaps z ∙ all.1)
-    base_calmed low high cells few cell (base_move.orders_reap os x n at has a z) =
-        takes (none_reaps n) cell (order.Reap e) os at _ a refl refl (subst (AllByRecursion To) (sym z) (
-          leads k x (sym here.route
-              ∙ has),
-          tt,
-        ))
-        (ap sent_reaps z)
-    base_calmed low high cells few cell (base_move.stuck_order o os n at b a z) = keeps (none_reaps n) cell s.base a refl refl z
-    base_calmed low high cells few cell (base_move.executes p o c n has may at item a z) = keeps (none_reaps n) cell _ a refl refl z
-    base_calmed low high cells few cell (base_move.stuck_part p n has is may a z) = keeps (none_reaps n) cell s.base a refl refl z
-    base_calmed low high cells few cell (base_move.shows p n has is may a z) = keeps (none_reaps n) cell _ a refl refl z
-    base_calmed low high cells few cell (base_move.stuck_client p n has is may a z) = keeps (none_reaps n) cell s.base a refl refl z
+    route_kept : RouteAfter e s.base i t.base → t.base.route ≡ s.base.route
+    route_kept (same_route is stray) = is
+    route_kept (newer_of new x n has is) = absurd (come.letter _ n)
+
+    module _ (low : home < cell_count) (high : cell_count ≤ k) (cells : ℕ) (few : cells ≤ cell_count) (cell : t.cell ≡ s.cell)
+        (route : t.base.route ≡ s.base.route) where
+      no_reap : i ≡ Some (Reap e) → ⊥
+      no_reap is = let at = come.letter (Reap e) is in omega (arith, at, low, high)
+
+      base_calmed : BaseDeeds (here_at f k) cells e s.base i t.base sent → Calmed
+      base_calmed (base_deed.stays orders z) = keeps no_reap cell route orders z
+      base_calmed (base_deed.calls c x n at has z) = absurd (first_is (order.Cell c) at)
+      base_calmed (base_deed.base_calls c n at z) = absurd (first_is (order.Base c) at)
+      base_calmed (base_deed.serves c n at z) = absurd (first_is (order.Base c) at)
+      base_calmed (base_deed.ticks n at z) =
+          let all = ticks_calm (range_with_len 0 cells) (all_below 0 cells (omega (arith, few))) in
+          takes no_reap cell route order.Tick at (subst (AllByRecursion To) (sym z) all.0) (ap sent_reaps z ∙ all.1)
+      base_calmed (base_deed.reaps x n at has z) =
+          takes no_reap cell route (order.Reap e) at (subst (AllByRecursion To) (sym z) (leads k x (sym here.route ∙ has), tt))
+          (ap sent_reaps z)
 
     pub calmed : home < cell_count → cells_of f.tree ≤ cell_count → Moves f e k s i t sent → Calmed
-    calmed low few (at_a_cell tree of in_cell m same) = cell_calmed same m
-    calmed low few (at_a_base high m same) = base_calmed low high _ few same m
+    calmed low few (at_a_cell tree of in_cell m same) = cell_calmed same (cell_deeds m)
+    calmed low few (at_a_base high m same) = base_calmed low high _ few same (route_kept (base_route m)) (base_deeds m)

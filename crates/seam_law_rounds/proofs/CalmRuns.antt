@@ -1,23 +1,13 @@
 -- A calm entity stays calm after each event, and its real goes when its Reap comes.
-use Rattle.std.proofs.Common.{◌≡◌, ℕ, ◌+◌, ◌<◌, ◌≤◌, Bool, true, false, cond, eqb, List, [], ◌∷◌, Option, None, Some, refl, sym, ap, ◌∙◌}
-use Rattle.std.proofs.Common.{subst, arith, inl, inr}
-use Rattle.std.specs.List.{AllByRecursion}
+use Rattle.seam_law_rounds.proofs.Prelude.{◌≡◌, ℕ, ◌+◌, ◌<◌, ◌≤◌, Bool, true, false, cond, eqb, List, [], ◌∷◌, Option, None, Some, refl}
+use Rattle.seam_law_rounds.proofs.Prelude.{sym, ap, ◌∙◌, subst, arith, inl, inr, AllByRecursion, cases_eq, eqb-true, link, letter}
+use Rattle.seam_law_rounds.proofs.Prelude.{input_from, happens, Occurs, Input, Task, From, Event, order_or, RealView, Msg}
+use Rattle.seam_law_rounds.proofs.Prelude.{Tick, Reap, may_rise, cell_count, RouteView, World}
+use Rattle.seam_law_rounds.proofs.Prelude.{node_steps, Flow, Goes, comes, letter_in, letters_of, more_letter, slot_at, Frame, Has, concerns}
+use Rattle.seam_law_rounds.proofs.Prelude.{kept_if, mine, concerning, has_of, has_none, entity_flow, MovesTo, real_in, real_at, weight_or}
+use Rattle.seam_law_rounds.proofs.Prelude.{input_weight, sound_sends, weight_moves, weight_bounds, slots_kept, letters_kept, came}
+use Rattle.seam_law_rounds.proofs.Prelude.{node_laws, node_moves, frame_happens, event_moves_with, sent_is, input_is}
 use Rattle.std.specs.FinMap as table
-use Rattle.std.proofs.lemmas.Bool.{cases_eq, eqb-true}
-use Rattle.seam_node_steps.specs.Prelude.{link, letter, input_from, happens, Occurs, Input, Task, From, Event, order_or, RealView, Msg}
-use Rattle.seam_node_steps.specs.Prelude.{BaseCall, Hand, Current, GhostSet, GhostDrop, Tick, Reap, Update, may_rise, cell_count, RouteView}
-use Rattle.seam_node_steps.specs.Prelude.{World, node_steps}
-use Rattle.seam_law_flow.specs.Prelude.{Flow, Goes, comes, letter_in, letters_of, more_letter, slot_at}
-use Rattle.seam_law_calls.specs.Prelude.{Frame, Has, concerns, kept_if, mine, concerning, has_of, has_none, entity_flow, MovesTo, real_in}
-use Rattle.seam_law_calls.specs.Prelude.{real_at}
-use Rattle.seam_net_runs.specs.Sums.{weight_or}
-use Rattle.seam_net_runs.specs.Weights.{input_weight}
-use Rattle.seam_net_runs.proofs.Soundness.{sound_sends}
-use Rattle.seam_net_runs.proofs.Weighing.{weight_moves, weight_bounds}
-use Rattle.seam_law_flow.proofs.Following.{slots_kept, letters_kept, came}
-use Rattle.seam_entity.specs.declared.message.Msg.TheVariants.{Call}
-use Rattle.seam_law_calls.proofs.Classify.{node_laws, node_moves, frame_happens, event_moves_with}
-use Rattle.seam_law_calls.proofs.Easing.{sent_is, input_is}
 use Rattle.seam_law_rounds.proofs.Shape.{items_each}
 use Rattle.seam_law_rounds.proofs.Calm.{IsCalmAt, IsCalmTo, letter_reaps, node_reaps, mine_reaps, reaps_of, one_if, IsCalm}
 use Rattle.seam_law_rounds.proofs.CalmMoves.{sent_reaps, Calmed, stays, ends, Comes, calmed}

@@ -1,26 +1,18 @@
 -- The phases of reaps and of looks keep the record of base parts.
-use Rattle.std.proofs.Common.{◌≡◌, ℕ, ◌+◌, ◌*◌, ◌^◌, ◌<◌, ◌≤◌, ◌⊎◌, Bool, true, false, cond, eqb, List, [], ◌∷◌, ◌++◌, length, None, Some}
-use Rattle.std.proofs.Common.{refl, sym, ap, ◌∙◌, subst, arith, inl, inr}
-use Rattle.std.specs.Prelude.{slice_get}
-use Rattle.std.specs.List.{AllByRecursion}
-use Rattle.std.proofs.lemmas.Bool.{cases_eq}
-use Rattle.std.proofs.lemmas.Bool.Decides.{nat_tests}
-use Rattle.std.proofs.lemmas.List.Elements.{filter-append}
-use Rattle.seam_node_steps.specs.Prelude.{IsQuiet, items_to, Event, RealView, Msg, Update, base_of, cell_count, BaseView, PartView}
-use Rattle.seam_node_steps.specs.Prelude.{holders, NodeView, World, node_has_work, Cell, Base, with_nodes, order_if, ordered_at}
-use Rattle.seam_node_steps.specs.Prelude.{reap_ordered_at, reaps_loaded, look_loaded, LeadsTo, limit, may_rise, may_show, node_steps}
-use Rattle.seam_law_flow.specs.Prelude.{letters_of}
-use Rattle.seam_law_calls.specs.Prelude.{Frame, here_at, IsAt, IsInFrame, mine, times, order_concerns, orders_of, has_of, entity_flow}
-use Rattle.seam_law_calls.specs.Prelude.{real_of, sent_by, base_burden, home_of, FindsClient, is_tick_order, HasToldAtMost, most_entities}
-use Rattle.seam_law_calls.specs.Prelude.{IsBlank, SeesFew, HasFewEntities, looks_left, most_shown, update_in, NoUpdateComes, RunsTo}
-use Rattle.seam_law_calls.specs.Prelude.{real_at, real_in}
-use Rattle.seam_law_rounds.specs.Prelude.{numbers_of, IsBetweenRounds, each, AreReapable, HasSettledPart, HasPartsBetweenRounds, AreFor}
-use Rattle.seam_law_rounds.specs.Prelude.{lines_of, HasSmallNumbers, IsServed, bare, served}
-use Rattle.seam_machine.proofs.Quiet.{quiet_links, quiet_tasks}
-use Rattle.seam_law_flow.proofs.Following.{all_append}
+use Rattle.seam_law_rounds.proofs.Prelude.{◌≡◌, ℕ, ◌+◌, ◌*◌, ◌^◌, ◌<◌, ◌≤◌, ◌⊎◌, Bool, true, false, cond, eqb, List, [], ◌∷◌, ◌++◌, length}
+use Rattle.seam_law_rounds.proofs.Prelude.{None, Some, refl, sym, ap, ◌∙◌, subst, arith, inl, inr, slice_get, AllByRecursion, cases_eq}
+use Rattle.seam_law_rounds.proofs.Prelude.{nat_tests, filter-append, IsQuiet, items_to, Event, RealView, Msg, Update, base_of, cell_count}
+use Rattle.seam_law_rounds.proofs.Prelude.{BaseView, PartView, holders, NodeView, World, node_has_work, Cell, Base, with_nodes, order_if}
+use Rattle.seam_law_rounds.proofs.Prelude.{ordered_at, reap_ordered_at, reaps_loaded, look_loaded, limit, may_rise, may_show}
+use Rattle.seam_law_rounds.proofs.Prelude.{letters_of, Frame, here_at, IsAt, IsInFrame, mine, times, order_concerns, orders_of}
+use Rattle.seam_law_rounds.proofs.Prelude.{has_of, entity_flow, real_of, sent_by, base_burden, home_of, FindsClient, is_tick_order}
+use Rattle.seam_law_rounds.proofs.Prelude.{HasToldAtMost, most_entities, IsBlank, SeesFew, HasFewEntities, looks_left, most_shown}
+use Rattle.seam_law_rounds.proofs.Prelude.{update_in, NoUpdateComes, RunsTo, real_at, real_in, numbers_of, IsBetweenRounds, each}
+use Rattle.seam_law_rounds.proofs.Prelude.{AreReapable, HasSettledPart, HasPartsBetweenRounds, AreFor, lines_of, HasSmallNumbers, IsServed}
+use Rattle.seam_law_rounds.proofs.Prelude.{bare, served, quiet_links, quiet_tasks, all_append, counted_none, none_counts, may_execute}
+use Rattle.seam_law_rounds.proofs.Prelude.{part_may_show, version_room, base_burden_leads, NoTicks, tells_none, few_leads}
 use Rattle.seam_call.specs.declared.order.Order.TheVariants as order
 use Rattle.seam_call.specs.declared.shown.Update.{Update as UpdateData}
-use Rattle.seam_law_calls.proofs.Counting.{counted_none, none_counts}
 use Rattle.seam_law_rounds.proofs.Shape.{Somewhere, Nowhere, search_real, frame_leads}
 use Rattle.seam_law_rounds.proofs.Calm.{IsSame, IsCalm}
 use Rattle.seam_law_rounds.proofs.Starting.{Given, idle_orders}
@@ -30,15 +22,8 @@ use Rattle.seam_law_rounds.proofs.Reaping as reaping
 use Rattle.seam_law_rounds.proofs.Reaping.{is_told, none_come}
 use Rattle.seam_law_rounds.proofs.Looking as looking
 use Rattle.seam_law_rounds.proofs.Looking.{tick, look_makes_none}
-use Rattle.seam_node_steps.specs.BaseCases.{may_execute}
 use Rattle.seam_law_calls.proofs.Holds.{all_two, below_is}
-use Rattle.seam_law_calls.proofs.ClientRuns.{part_may_show}
-use Rattle.seam_law_calls.proofs.BaseRuns.{version_room}
-use Rattle.seam_law_calls.proofs.StrayRuns.{base_burden_leads}
-use Rattle.seam_law_calls.proofs.NoLooks.{NoTicks}
-use Rattle.seam_law_calls.proofs.Silent.{tells_none}
 use Rattle.seam_law_rounds.proofs.Updates.{update_finds}
-use Rattle.seam_law_calls.proofs.Absent.{few_leads}
 use Rattle.seam_law_rounds.proofs.Ticking.{most_told, tells_most, tells_few, sees_then, ticks_of, node_ticks, no_ticks, few_turned}
 use Rattle.seam_law_rounds.proofs.Ticking.{looks_turned}
 use Rattle.seam_law_rounds.proofs.PartLoads.{part_at, parts_ordered}

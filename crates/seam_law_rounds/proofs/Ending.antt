@@ -1,12 +1,11 @@
 -- A calm entity that is still there at the end is settled, and no call to it waits.
-use Rattle.std.proofs.Common.{◌≡◌, ℕ, Bool, List, [], ◌∷◌, ◌++◌, Option, None, Some, refl, sym, ap, ◌∙◌, subst, inl, inr}
-use Rattle.std.specs.List.{AllByRecursion}
+use Rattle.seam_law_rounds.proofs.Prelude.{◌≡◌, ℕ, Bool, List, [], ◌∷◌, ◌++◌, Option, None, Some, refl, sym, ap, ◌∙◌, subst, inl, inr}
+use Rattle.seam_law_rounds.proofs.Prelude.{AllByRecursion, cases_eq, item_at, Order, order_or, RealView, WitnessView, Msg, GhostDrop, Tick}
+use Rattle.seam_law_rounds.proofs.Prelude.{Reap, Update, World, letters_of, more_letter, In, Nobody, packed, bears, of_number, Frame}
+use Rattle.seam_law_rounds.proofs.Prelude.{entity_flow, real_in, real_of, IsOne, cell_order_from, real_desk, cell_mail, real_at, IsSettled}
+use Rattle.seam_law_rounds.proofs.Prelude.{HasNoCalls}
 use Rattle.std.specs.FinMap as table
-use Rattle.std.proofs.lemmas.Bool.{cases_eq}
-use Rattle.seam_node_steps.specs.Prelude.{item_at, Order, order_or, RealView, WitnessView, Msg, GhostDrop, Tick, Reap, Update, World}
-use Rattle.seam_law_flow.specs.Prelude.{letters_of, more_letter, In, Nobody, held_in, packed, bears, of_number}
-use Rattle.seam_law_calls.specs.Prelude.{Frame, entity_flow, real_in, real_of, IsOne, cell_order_from, real_desk, cell_mail, real_at}
-use Rattle.seam_law_rounds.specs.Prelude.{IsSettled, HasNoCalls}
+use Rattle.seam_law_flow.specs.Prelude.{held_in}
 use Rattle.seam_call.specs.declared.order.Order.TheVariants as order
 use Rattle.seam_law_rounds.proofs.Calm.{IsSame, IsCalmOrder, IsCalmTo, IsCalm}
 

@@ -1,26 +1,21 @@
 -- The next round of that world: a call to an entity that its client has in view.
-use Rattle.std.proofs.Common.{◌≡◌, ℕ, ◌≤◌, Bool, true, false, cond, eqb, [], ◌∷◌, length, Option, None, Some, refl, sym, ap, ◌∙◌, subst}
-use Rattle.std.proofs.Common.{arith, inl, inr}
-use Rattle.std.specs.Prelude.{option_map, slice_get}
+use Rattle.seam_law_rounds.proofs.Prelude.{◌≡◌, ℕ, ◌≤◌, Bool, true, false, cond, eqb, [], ◌∷◌, length, Option, None, Some, refl, sym, ap}
+use Rattle.seam_law_rounds.proofs.Prelude.{◌∙◌, subst, arith, inl, inr, option_map, slice_get, nat_cmp, eq_by_cmp, nat_cmp_total, cases_eq}
+use Rattle.seam_law_rounds.proofs.Prelude.{ne_eqb, Call as CallData, Batch, RealView, fits_cell_part, Map, PartView, holders, new_part}
+use Rattle.seam_law_rounds.proofs.Prelude.{part_begins, loaded, look_loaded, NodeView, Cell, no, here, cell, idle, space, both, batch_of}
+use Rattle.seam_law_rounds.proofs.Prelude.{move_to, watcher, entered, part_of, second_0, second_4, base_line, line, own, enter_2}
+use Rattle.seam_law_rounds.proofs.Prelude.{second_look_0, second_look_4, second_steps, second_looks, slot_at, number_from, here_at, Has}
+use Rattle.seam_law_rounds.proofs.Prelude.{has_of, has_none, entity_flow, events_of, real_in, home_of, sent_by, RunsTo, real_at}
+use Rattle.seam_law_rounds.proofs.Prelude.{IsBetweenRounds, IsFitting, IsForReal, AreNumbered, numbers_of, calls_of, calls_at, node_loaded}
+use Rattle.seam_law_rounds.proofs.Prelude.{opening, base_calls_of, base_calls_at, AreBaseNumbered, IsForPart, FitsParts}
+use Rattle.seam_law_rounds.proofs.Prelude.{HasPartsBetweenRounds, HasSmallNumbers, MayBeLoaded, computing, EachFrom, each_node, slots}
+use Rattle.seam_law_rounds.proofs.Prelude.{none_there, row_leads}
 use Rattle.std.specs.List.{IsDistinct}
-use Rattle.std.specs.Ordering.{nat_cmp, eq_by_cmp}
-use Rattle.std.specs.Cmp.{nat_cmp_total}
 use Rattle.std.specs.FinMap as table
-use Rattle.std.proofs.lemmas.Bool.{cases_eq, ne_eqb}
-use Rattle.seam_node_steps.specs.Prelude.{Call as CallData, Batch, RealView, fits_cell_part, Map, PartView, holders, new_part, part_begins}
-use Rattle.seam_node_steps.specs.Prelude.{loaded, look_loaded, NodeView, Cell, no, here, cell, idle, space, both, batch_of, move_to}
-use Rattle.seam_node_steps.specs.Prelude.{watcher, entered, still, part_of, second_0, second_4, base_line, line, own, enter_2}
-use Rattle.seam_node_steps.specs.Prelude.{second_look_0, second_look_4, second_steps, second_looks}
-use Rattle.seam_law_flow.specs.Prelude.{slot_at, number_from}
-use Rattle.seam_law_calls.specs.Prelude.{here_at, Has, has_of, has_none, entity_flow, events_of, real_in, home_of, sent_by, RunsTo, real_at}
-use Rattle.seam_law_rounds.specs.Prelude.{IsBetweenRounds, IsFitting, IsForReal, AreNumbered, numbers_of, calls_of, calls_at, node_loaded}
-use Rattle.seam_law_rounds.specs.Prelude.{opening, base_calls_of, base_calls_at, AreBaseNumbered, IsForPart, FitsParts}
-use Rattle.seam_law_rounds.specs.Prelude.{HasPartsBetweenRounds, HasSmallNumbers, MayBeLoaded}
+use Rattle.seam_node_steps.specs.Prelude.{still}
 use Rattle.seam_node_steps.specs.ViewRounds as view
 use Rattle.seam_node_steps.specs.ViewRounds.{first_look_5}
-use Rattle.seam_node_steps.proofs.Tables.{computing}
 use Rattle.seam_node_steps.proofs.Views as views
-use Rattle.seam_law_calls.proofs.ExampleMet.{EachFrom, each_node, slots, none_there, row_leads}
 use Rattle.seam_law_rounds.proofs.Loaded.{slot_is, real_was}
 use Rattle.seam_law_rounds.proofs.CallsEnd.{calls_end_between}
 use Rattle.seam_law_rounds.proofs.Looking.{look_ends_between}
@@ -223,7 +218,7 @@ none_numbered : (e s : ℕ) → (eqb 2 e ≡ true → s ≡ 1 → ⊥) → Numbe
 none_numbered e s n = record {
   node = 16;
   is_base = omega arith;
-  is_there = omega arith;
+  in_net = omega arith;
   calls =
       none_there_at e s 16 (eqb 2 e) (eqb 16 16) refl refl n ∙ sym (ap (number_from 1) (none_called e s (eqb 2 e) refl n));
   others = λ j m. none_there_at e s j (eqb 2 e) (eqb 16 j) refl refl n;
@@ -234,7 +229,7 @@ one_numbered : Numbers 2 1
 one_numbered = record {
   node = 16;
   is_base = omega arith;
-  is_there = omega arith;
+  in_net = omega arith;
   calls = refl;
   others = λ j n. rw (ne_eqb 16 j (λ x. n (sym x))) refl;
   room = omega arith;
@@ -279,7 +274,7 @@ for_part e p at = record {
       subst (AreBaseNumbered opening batch e s) (sym (next_is_one p.orders s (part_loaded e (home_of opening e) p at))) (record {
         node = 16;
         is_base = omega arith;
-        is_there = omega arith;
+        in_net = omega arith;
         calls =
             no_base_call_at e s 16 (eqb 2 e) (eqb 16 16) refl refl ∙ sym (ap (number_from 1) (no_base_call e s (eqb 2 e) refl));
         others = λ j n. no_base_call_at e s j (eqb 2 e) (eqb 16 j) refl refl;

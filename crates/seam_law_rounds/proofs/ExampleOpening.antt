@@ -1,9 +1,7 @@
 -- A world as it is opened with the built-in definitions, where the worked rounds begin: it keeps both records, and nothing is there.
-use Rattle.std.proofs.Common.{◌≡◌, ℕ, zero, suc, ◌<◌, Some, sym, ap, ◌∙◌, arith}
-use Rattle.seam_node_steps.specs.Prelude.{area, IsTree, IsProper, builtin, standard, copy_in, RealView, one_cell, empty_world}
-use Rattle.seam_law_calls.specs.Prelude.{has_none, entity_flow, real_in, IsFrame, real_at}
-use Rattle.seam_law_rounds.specs.Prelude.{IsBetweenRounds, HasPartsBetweenRounds, opening}
-use Rattle.seam_law_calls.proofs.ExampleMet.{frame_is}
+use Rattle.seam_law_rounds.proofs.Prelude.{◌≡◌, ℕ, zero, suc, ◌<◌, Some, sym, ap, ◌∙◌, arith, area, IsTree, IsProper, builtin, standard}
+use Rattle.seam_law_rounds.proofs.Prelude.{copy_in, RealView, one_cell, empty_world, has_none, entity_flow, real_in, IsFrame, real_at}
+use Rattle.seam_law_rounds.proofs.Prelude.{IsBetweenRounds, HasPartsBetweenRounds, opening, frame_is}
 use Rattle.seam_law_rounds.proofs.Opened.{opened_is_new, opened_has_none, opened_between}
 
 pub one_is_tree : IsTree (one_cell 10000)

@@ -1,18 +1,13 @@
 -- A whole round of an entity with a client: an opened world, a batch that creates it, and the events of calls and of looks.
-use Rattle.std.proofs.Common.{◌≡◌, ℕ, Bool, true, false, Option, None, Some, refl, sym, ap, ◌∙◌, subst, arith}
-use Rattle.std.specs.Prelude.{option_map, slice_get}
+use Rattle.seam_law_rounds.proofs.Prelude.{◌≡◌, ℕ, Bool, true, false, Option, None, Some, refl, sym, ap, ◌∙◌, subst, arith, option_map}
+use Rattle.seam_law_rounds.proofs.Prelude.{slice_get, nat_cmp, Orders, order_or, Here, real_begins, RealView, PartView, holders, loaded}
+use Rattle.seam_law_rounds.proofs.Prelude.{look_loaded, NodeView, empty_world, batch_1, first_0, first_2, first_look_0, first_look_5}
+use Rattle.seam_law_rounds.proofs.Prelude.{first_steps, first_looks, slot_at, here_at, has_of, has_none, entity_flow, events_of, real_in}
+use Rattle.seam_law_rounds.proofs.Prelude.{home_of, RunsTo, real_at, IsBetweenRounds, IsFitting, IsForReal, node_loaded, opening, IsForPart}
+use Rattle.seam_law_rounds.proofs.Prelude.{FitsParts, HasPartsBetweenRounds, HasSmallNumbers, MayBeLoaded, computing, row_leads}
 use Rattle.std.specs.List.{IsDistinct}
-use Rattle.std.specs.Ordering.{nat_cmp}
 use Rattle.std.specs.FinMap as table
-use Rattle.seam_node_steps.specs.Prelude.{Orders, order_or, Here, real_begins, RealView, PartView, holders, loaded, look_loaded, NodeView}
-use Rattle.seam_node_steps.specs.Prelude.{empty_world, batch_1, first_0, first_2, first_look_0, first_look_5, first_steps, first_looks}
-use Rattle.seam_law_flow.specs.Prelude.{slot_at}
-use Rattle.seam_law_calls.specs.Prelude.{here_at, has_of, has_none, entity_flow, events_of, real_in, home_of, RunsTo, real_at}
-use Rattle.seam_law_rounds.specs.Prelude.{IsBetweenRounds, IsFitting, IsForReal, node_loaded, opening, IsForPart, FitsParts}
-use Rattle.seam_law_rounds.specs.Prelude.{HasPartsBetweenRounds, HasSmallNumbers, MayBeLoaded}
-use Rattle.seam_node_steps.proofs.Tables.{computing}
 use Rattle.seam_node_steps.proofs.Views as views
-use Rattle.seam_law_calls.proofs.ExampleMet.{row_leads}
 use Rattle.seam_law_rounds.proofs.Loaded.{slot_is}
 use Rattle.seam_law_rounds.proofs.CallsEnd.{calls_end_between}
 use Rattle.seam_law_rounds.proofs.Looking.{look_ends_between}
@@ -92,7 +87,7 @@ for_real e k r at = record {
       record {
         node = 16;
         is_base = omega arith;
-        is_there = omega arith;
+        in_net = omega arith;
         calls = refl;
         others = λ j n. refl;
         room = omega (arith, one);
@@ -108,7 +103,7 @@ for_part e p at = record {
       record {
         node = 16;
         is_base = omega arith;
-        is_there = omega arith;
+        in_net = omega arith;
         calls = refl;
         others = λ j n. refl;
         room = omega (arith, one);

@@ -1,20 +1,13 @@
 -- A loaded world goes by the batch's tree.
-use Rattle.std.proofs.Common.{◌≡◌, ℕ, ◌+◌, ◌<◌, Bool, true, false, List, length, Option, None, Some, refl, sym, ap, ◌∙◌, subst, arith}
-use Rattle.std.specs.Prelude.{option_map, slice_get, slice_index_or}
-use Rattle.std.specs.List.{All}
-use Rattle.std.specs.Ordering.{nat_cmp}
+use Rattle.seam_law_rounds.proofs.Prelude.{◌≡◌, ℕ, ◌+◌, ◌<◌, Bool, true, false, List, length, Option, None, Some, refl, sym, ap, ◌∙◌, subst}
+use Rattle.seam_law_rounds.proofs.Prelude.{arith, option_map, slice_get, slice_index_or, All, nat_cmp, length-map, All-map, slice_get-map}
+use Rattle.seam_law_rounds.proofs.Prelude.{slice_get-get_or, leaf_at, cells_of, IsTree, IsSquare, ArePeers, Create, Order, Batch, RealView}
+use Rattle.seam_law_rounds.proofs.Prelude.{Here, cell_count, CellView, BaseView, RouteView, NodeView, World, node_peers, Cell, Base}
+use Rattle.seam_law_rounds.proofs.Prelude.{created, real_begins, with_nodes, real_if, part_if, with_route, created_at, with_witness}
+use Rattle.seam_law_rounds.proofs.Prelude.{attached, cell_round, base_round, order_if, ordered_at, loaded, IsCell, IsBase, IsNode, Frame}
+use Rattle.seam_law_rounds.proofs.Prelude.{here_at, IsBaseAt, IsAt, IsInFrame, IsBetweenRounds, framed, each, made, node_loaded, MayBegin}
+use Rattle.seam_law_rounds.proofs.Prelude.{leaf_is_cell, first_tree}
 use Rattle.std.specs.FinMap as table
-use Rattle.std.proofs.lemmas.List.{length-map}
-use Rattle.std.proofs.lemmas.List.Elements.{All-map}
-use Rattle.std.proofs.lemmas.Option.{slice_get-map, slice_get-get_or}
-use Rattle.seam_node_steps.specs.Prelude.{leaf_at, cells_of, IsTree, IsSquare, ArePeers, Create, Order, Batch, RealView, Here, cell_count}
-use Rattle.seam_node_steps.specs.Prelude.{CellView, BaseView, RouteView, NodeView, World, node_peers, Cell, Base, created, real_begins}
-use Rattle.seam_node_steps.specs.Prelude.{with_nodes, real_if, part_if, with_route, created_at, with_witness, attached, cell_round}
-use Rattle.seam_node_steps.specs.Prelude.{base_round, order_if, ordered_at, loaded, IsCell, IsBase, IsNode}
-use Rattle.seam_law_calls.specs.Prelude.{Frame, here_at, IsBaseAt, IsAt, IsInFrame}
-use Rattle.seam_law_rounds.specs.Prelude.{IsBetweenRounds, framed, each, made, node_loaded, MayBegin}
-use Rattle.seam_tree.proofs.Leaves.{leaf_is_cell}
-use Rattle.seam_law_calls.proofs.Trees.{first_tree}
 use Rattle.seam_law_rounds.proofs.Loading.{each_keeps, Any, any, loaded_is, node_there, set_keeps, get-each_value}
 
 abbrev IsUnder : ℕ → RealView → Type 0

@@ -1,20 +1,11 @@
 -- What the loads of reaps and looks give to a node.
-use Rattle.std.proofs.Common.{◌≡◌, ℕ, ◌+◌, ◌≤◌, Bool, true, false, cond, eqb, List, [], ◌∷◌, ◌++◌, Option, None, Some, refl, sym, ap, ◌∙◌}
-use Rattle.std.proofs.Common.{subst, arith, inl, inr}
-use Rattle.std.specs.Prelude.{option_map, slice_get}
-use Rattle.std.proofs.lemmas.Option.{slice_get-map}
-use Rattle.std.specs.List.{AllByRecursion}
-use Rattle.std.proofs.lemmas.Bool.{cases_eq, eq-eqb, ne_eqb}
-use Rattle.std.proofs.lemmas.List.{append-nil}
-use Rattle.std.proofs.lemmas.List.Elements.{filter-append}
-use Rattle.seam_node_steps.specs.Prelude.{total, Order, RealView, base_of, CellView, BaseView, NodeView, World, node_has_work, Cell, Base}
-use Rattle.seam_node_steps.specs.Prelude.{with_nodes, order_if, ordered_at, reap_ordered_at, IsNode}
-use Rattle.seam_law_flow.specs.Prelude.{slot_at}
-use Rattle.seam_law_calls.specs.Prelude.{Frame, here_at, IsBaseAt, IsAt, IsInFrame, order_concerns, orders_of, times, has_of, has_none}
-use Rattle.seam_law_calls.specs.Prelude.{real_in, real_at}
-use Rattle.seam_law_rounds.specs.Prelude.{each}
+use Rattle.seam_law_rounds.proofs.Prelude.{◌≡◌, ℕ, ◌+◌, ◌≤◌, Bool, true, false, cond, eqb, List, [], ◌∷◌, ◌++◌, Option, None, Some, refl}
+use Rattle.seam_law_rounds.proofs.Prelude.{sym, ap, ◌∙◌, subst, arith, inl, inr, option_map, slice_get, slice_get-map, AllByRecursion}
+use Rattle.seam_law_rounds.proofs.Prelude.{cases_eq, eq-eqb, ne_eqb, append-nil, filter-append, total, Order, RealView, base_of, CellView}
+use Rattle.seam_law_rounds.proofs.Prelude.{BaseView, NodeView, World, node_has_work, Cell, Base, with_nodes, order_if, ordered_at}
+use Rattle.seam_law_rounds.proofs.Prelude.{reap_ordered_at, IsNode, slot_at, Frame, here_at, IsBaseAt, IsAt, IsInFrame, order_concerns}
+use Rattle.seam_law_rounds.proofs.Prelude.{orders_of, times, has_of, has_none, real_in, real_at, each, all_append}
 use Rattle.seam_machine.proofs.Totals.{total-append}
-use Rattle.seam_law_flow.proofs.Following.{all_append}
 use Rattle.seam_call.specs.declared.order.Order.TheVariants as order
 use Rattle.seam_law_rounds.proofs.Loading.{each_keeps, Any, any}
 use Rattle.seam_law_rounds.proofs.Framing.{frame_turns}

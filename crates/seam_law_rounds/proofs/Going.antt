@@ -1,11 +1,8 @@
 -- What a loaded world has of each of its entities, and what it keeps of that over every list of events.
-use Rattle.std.proofs.Common.{◌≡◌, ℕ, ◌+◌, ◌<◌, List, arith, Some, sym, ap, ◌∙◌}
-use Rattle.seam_node_steps.specs.Prelude.{IsQuiet, Event, Batch, RealView, holders, World, node_has_work, loaded, limit}
-use Rattle.seam_law_flow.specs.Prelude.{letters_of, TokenPlace, In, On}
-use Rattle.seam_law_calls.specs.Prelude.{Frame, entity_flow, burden, real_of, IsOne, IsSpared, IsFrame, HasOne, AllLead, from_sender}
-use Rattle.seam_law_calls.specs.Prelude.{CellCallsInTurn, RunsTo, real_at}
-use Rattle.seam_law_rounds.specs.Prelude.{calls_of, next_from, IsSettled, framed, MayBegin}
-use Rattle.seam_law_calls.proofs.Counting.{counted_one, one_counts}
+use Rattle.seam_law_rounds.proofs.Prelude.{◌≡◌, ℕ, ◌+◌, ◌<◌, List, arith, Some, sym, ap, ◌∙◌, IsQuiet, Event, Batch, RealView, holders}
+use Rattle.seam_law_rounds.proofs.Prelude.{World, node_has_work, loaded, limit, letters_of, TokenPlace, In, On, Frame, entity_flow, burden}
+use Rattle.seam_law_rounds.proofs.Prelude.{real_of, IsOne, IsSpared, IsFrame, HasOne, AllLead, from_sender, CellCallsInTurn, RunsTo}
+use Rattle.seam_law_rounds.proofs.Prelude.{real_at, calls_of, next_from, IsSettled, framed, MayBegin, counted_one, one_counts}
 use Rattle.seam_law_calls.proofs.CellRuns.{Kept, kept_leads}
 use Rattle.seam_law_calls.proofs.Quieting.{all_executed}
 use Rattle.seam_law_rounds.proofs.Framing.{many_loaded, in_frame}

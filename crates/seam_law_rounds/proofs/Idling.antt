@@ -1,18 +1,11 @@
 -- A load that gives a settled entity no call and no reap, as those of the last phases: what the laws of clients ask of it.
-use Rattle.std.proofs.Common.{◌≡◌, ℕ, ◌+◌, ◌^◌, ◌<◌, ◌≤◌, false, cond, nat_lt, List, [], ◌∷◌, length, Option, None, Some, refl, sym, ap}
-use Rattle.std.proofs.Common.{◌∙◌, subst, arith, inl, inr}
-use Rattle.std.specs.Prelude.{option_map, slice_get}
-use Rattle.std.specs.List.{AllByRecursion}
-use Rattle.std.proofs.lemmas.Bool.{cases_eq, eq-eqb, ne_eqb}
-use Rattle.std.proofs.lemmas.Option.{slice_get-map}
-use Rattle.seam_node_steps.specs.Prelude.{link, total, Order, RealView, NodeView, World, node_has_work, with_nodes}
-use Rattle.seam_law_flow.specs.Prelude.{slot_at, letters_of}
-use Rattle.seam_law_calls.specs.Prelude.{Frame, IsInFrame, Has, mine, has_of, has_none, entity_flow, real_burden, order_burden, node_burden}
-use Rattle.seam_law_calls.specs.Prelude.{mine_burden, burden, real_in, HasOne, part_burden, node_base_burden, mine_base_burden, base_burden}
-use Rattle.seam_law_calls.specs.Prelude.{home_of, real_at}
-use Rattle.seam_law_rounds.specs.Prelude.{IsSettled, IsBetweenRounds, HasSettledPart, lines_of, HasSmallNumbers}
-use Rattle.seam_machine.proofs.Quiet.{quiet_links}
-use Rattle.seam_net_runs.specs.Sums.{weight_or}
+use Rattle.seam_law_rounds.proofs.Prelude.{◌≡◌, ℕ, ◌+◌, ◌^◌, ◌<◌, ◌≤◌, false, cond, nat_lt, List, [], ◌∷◌, length, Option, None, Some, refl}
+use Rattle.seam_law_rounds.proofs.Prelude.{sym, ap, ◌∙◌, subst, arith, inl, inr, option_map, slice_get, AllByRecursion, cases_eq, eq-eqb}
+use Rattle.seam_law_rounds.proofs.Prelude.{ne_eqb, slice_get-map, link, total, Order, RealView, NodeView, World, node_has_work, with_nodes}
+use Rattle.seam_law_rounds.proofs.Prelude.{slot_at, letters_of, Frame, IsInFrame, Has, mine, has_of, has_none, entity_flow, real_burden}
+use Rattle.seam_law_rounds.proofs.Prelude.{order_burden, node_burden, mine_burden, burden, real_in, HasOne, part_burden, node_base_burden}
+use Rattle.seam_law_rounds.proofs.Prelude.{mine_base_burden, base_burden, home_of, real_at, IsSettled, IsBetweenRounds, HasSettledPart}
+use Rattle.seam_law_rounds.proofs.Prelude.{lines_of, HasSmallNumbers, quiet_links, weight_or}
 use Rattle.seam_call.specs.declared.order.Order.TheVariants as order
 use Rattle.seam_law_rounds.proofs.Loading.{node_there}
 use Rattle.seam_law_rounds.proofs.Ready.{has_one}

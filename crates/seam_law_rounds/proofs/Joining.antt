@@ -1,17 +1,11 @@
 -- Which witness a load gives an entity's real, and which client its base part: those of a batch's clients get new ones.
-use Rattle.std.proofs.Common.{◌≡◌, ℕ, Bool, true, false, cond, eqb, ◌||◌, List, [], ◌∷◌, Option, None, Some, refl, sym, ap, ◌∙◌, subst, inl}
-use Rattle.std.proofs.Common.{inr}
-use Rattle.std.specs.Prelude.{option_map}
-use Rattle.std.specs.Cmp.{unsigned_tied}
+use Rattle.seam_law_rounds.proofs.Prelude.{◌≡◌, ℕ, Bool, true, false, cond, eqb, ◌||◌, List, [], ◌∷◌, Option, None, Some, refl, sym, ap}
+use Rattle.seam_law_rounds.proofs.Prelude.{◌∙◌, subst, inl, inr, option_map, unsigned_tied, cases_eq, eq-eqb, ne_eqb, Division, leaf_at}
+use Rattle.seam_law_rounds.proofs.Prelude.{cells_of, Create, Order, Batch, Map, set_at, Here, base_of, RealView, created, real_begins}
+use Rattle.seam_law_rounds.proofs.Prelude.{CellView, BaseView, PartView, NodeView, Cell, Base, real_if, part_if, with_route, created_at}
+use Rattle.seam_law_rounds.proofs.Prelude.{with_witness, with_proxy, attached, cell_round, base_round, ordered_at, order_if, part_begins}
+use Rattle.seam_law_rounds.proofs.Prelude.{new_part, Frame, here_at, IsAt, has_of, real_in, HasNoProxy, each, node_loaded, get-set_at}
 use Rattle.std.specs.FinMap as table
-use Rattle.std.proofs.lemmas.Bool.{cases_eq, eq-eqb, ne_eqb}
-use Rattle.seam_node_steps.specs.Prelude.{Division, leaf_at, cells_of, Create, Order, Batch, Map, set_at, Here, base_of, RealView, created}
-use Rattle.seam_node_steps.specs.Prelude.{real_begins, CellView, BaseView, PartView, NodeView, Cell, Base, real_if, part_if, with_route}
-use Rattle.seam_node_steps.specs.Prelude.{created_at, with_witness, with_proxy, attached, cell_round, base_round, ordered_at, order_if}
-use Rattle.seam_node_steps.specs.Prelude.{part_begins, new_part}
-use Rattle.seam_law_calls.specs.Prelude.{Frame, here_at, IsAt, has_of, real_in, HasNoProxy}
-use Rattle.seam_law_rounds.specs.Prelude.{each, node_loaded}
-use Rattle.seam_node_steps.proofs.Slots.{get-set_at}
 use Rattle.seam_law_rounds.proofs.Loading.{each_keeps, Any, any, get-each_value}
 use Rattle.seam_law_rounds.proofs.Staying.{other_set}
 use Rattle.seam_law_rounds.proofs.Making.{AreOthers}

@@ -1,3 +1,4 @@
+pub mod Prelude
 pub mod Loading
 pub mod Framing
 pub mod Staying

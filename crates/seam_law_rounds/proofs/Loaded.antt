@@ -1,23 +1,13 @@
 -- The reals of a loaded world: those that were there, and those that the batch created. Each is settled in it.
-use Rattle.std.proofs.Common.{◌≡◌, ℕ, ◌+◌, ◌^◌, ◌<◌, ◌≤◌, Bool, false, cond, List, [], ◌∷◌, ◌++◌, length, Option, None, Some, refl, sym, ap}
-use Rattle.std.proofs.Common.{◌∙◌, subst, arith, inl, inr, ◌||◌}
-use Rattle.std.specs.Prelude.{option_map, slice_get}
-use Rattle.std.specs.List.{AllByRecursion}
-use Rattle.std.specs.Ordering.{nat_cmp}
+use Rattle.seam_law_rounds.proofs.Prelude.{◌≡◌, ℕ, ◌+◌, ◌^◌, ◌<◌, ◌≤◌, Bool, false, cond, List, [], ◌∷◌, ◌++◌, length, Option, None, Some}
+use Rattle.seam_law_rounds.proofs.Prelude.{refl, sym, ap, ◌∙◌, subst, arith, inl, inr, ◌||◌, option_map, slice_get, AllByRecursion, nat_cmp}
+use Rattle.seam_law_rounds.proofs.Prelude.{cases_eq, eq-eqb, ne_eqb, append_assoc, slice_get-map, slice_get_cases, leaf_at, cells_of, link}
+use Rattle.seam_law_rounds.proofs.Prelude.{Create, Batch, order_or, RealView, WitnessView, Msg, has_any, cell_count, created, real_begins}
+use Rattle.seam_law_rounds.proofs.Prelude.{holders, NodeView, World, node_has_work, Cell, Base, loaded, Flow, slot_at, letters_of, Frame}
+use Rattle.seam_law_rounds.proofs.Prelude.{here_at, Has, mine, has_of, has_none, entity_flow, RealFits, real_in, real_of, reaped_by_order}
+use Rattle.seam_law_rounds.proofs.Prelude.{HasNoReaps, real_at, next_from, numbers_of, IsSettled, MayBeMade, framed, node_loaded, MayBegin}
+use Rattle.seam_law_rounds.proofs.Prelude.{leaf_is_cell, quiet_links, quiet_tasks, counted_none, none_counts, slots}
 use Rattle.std.specs.FinMap as table
-use Rattle.std.proofs.lemmas.Bool.{cases_eq, eq-eqb, ne_eqb}
-use Rattle.std.proofs.lemmas.List.{append_assoc}
-use Rattle.std.proofs.lemmas.Option.{slice_get-map, slice_get_cases}
-use Rattle.seam_node_steps.specs.Prelude.{leaf_at, cells_of, link, Create, Batch, order_or, RealView, WitnessView, Msg, has_any, cell_count}
-use Rattle.seam_node_steps.specs.Prelude.{created, real_begins, holders, NodeView, World, node_has_work, Cell, Base, loaded}
-use Rattle.seam_law_flow.specs.Prelude.{Flow, slot_at, letters_of}
-use Rattle.seam_law_calls.specs.Prelude.{Frame, here_at, Has, mine, has_of, has_none, entity_flow, RealFits, real_in, real_of}
-use Rattle.seam_law_calls.specs.Prelude.{reaped_by_order, HasNoReaps, real_at}
-use Rattle.seam_law_rounds.specs.Prelude.{next_from, numbers_of, IsSettled, MayBeMade, framed, node_loaded, MayBegin}
-use Rattle.seam_tree.proofs.Leaves.{leaf_is_cell}
-use Rattle.seam_machine.proofs.Quiet.{quiet_links, quiet_tasks}
-use Rattle.seam_law_calls.proofs.Counting.{counted_none, none_counts}
-use Rattle.seam_law_calls.proofs.ExampleMet.{slots}
 use Rattle.seam_law_rounds.proofs.Loading.{loaded_is}
 use Rattle.seam_law_rounds.proofs.Staying.{Kept, Becomes, node_becomes}
 use Rattle.seam_law_rounds.proofs.Making.{AreOthers, Creation, nowhere, once, creation_of, middle, Made, until, node_made, node_after}

@@ -1,18 +1,10 @@
 -- A load changes each node by itself, and no link.
-use Rattle.std.proofs.Common.{◌≡◌, ℕ, Bool, true, false, cond, List, [], ◌∷◌, map, fold, Option, None, Some, refl, sym, ap, ◌∙◌, subst}
-use Rattle.std.proofs.Common.{arith}
-use Rattle.std.specs.Prelude.{option_map}
-use Rattle.std.specs.List.{AllByRecursion}
-use Rattle.std.specs.Ordering.{nat_cmp, eq_by_cmp}
-use Rattle.std.specs.Cmp.{nat_cmp_total}
+use Rattle.seam_law_rounds.proofs.Prelude.{◌≡◌, ℕ, Bool, true, false, cond, List, [], ◌∷◌, map, fold, Option, None, Some, refl, sym, ap}
+use Rattle.seam_law_rounds.proofs.Prelude.{◌∙◌, subst, arith, option_map, AllByRecursion, nat_cmp, eq_by_cmp, nat_cmp_total, nat_tests}
+use Rattle.seam_law_rounds.proofs.Prelude.{map-id, cells_of, Batch, Map, set_at, with_value, each_value, NodeView, World, with_nodes}
+use Rattle.seam_law_rounds.proofs.Prelude.{created_at, attached, cell_round, base_round, ordered_at, loaded, each, node_loaded, get-set_at}
 use Rattle.std.specs.FinMap as table
-use Rattle.std.proofs.lemmas.Bool.Decides.{nat_tests}
-use Rattle.std.proofs.lemmas.List.{map-id}
 use Rattle.std.proofs.lemmas.Simd.{map-map}
-use Rattle.seam_node_steps.specs.Prelude.{cells_of, Batch, Map, set_at, with_value, each_value, NodeView, World, with_nodes, created_at}
-use Rattle.seam_node_steps.specs.Prelude.{attached, cell_round, base_round, ordered_at, loaded}
-use Rattle.seam_law_rounds.specs.Prelude.{each, node_loaded}
-use Rattle.seam_node_steps.proofs.Slots.{get-set_at}
 
 module _ {A : Type 0} (g : A → NodeView → NodeView) where
   pub nodes_after : (w : World) (xs : List A) → fold (λ v x. with_nodes v (g x)) w xs ≡ with_nodes w (each g xs)

@@ -1,15 +1,9 @@
 -- The phase of looks: each entity keeps its one real.
-use Rattle.std.proofs.Common.{◌≡◌, ℕ, Bool, true, false, cond, eqb, List, Some, refl, ap, ◌∙◌, subst}
-use Rattle.std.proofs.lemmas.List.{length-map}
-use Rattle.seam_node_steps.specs.Prelude.{IsQuiet, Event, Order, RealView, may_rise, cell_count, base_of, holders, World, node_has_work}
-use Rattle.seam_node_steps.specs.Prelude.{ordered_at, look_loaded}
-use Rattle.seam_law_flow.specs.Prelude.{Nobody}
-use Rattle.seam_law_calls.specs.Prelude.{Frame, here_at, entity_flow, real_in, real_of, RunsTo, real_at}
-use Rattle.seam_law_rounds.specs.Prelude.{IsBetweenRounds, HasNoCalls}
-use Rattle.seam_machine.proofs.Quiet.{quiet_tasks}
+use Rattle.seam_law_rounds.proofs.Prelude.{◌≡◌, ℕ, Bool, true, false, cond, eqb, List, Some, refl, ap, ◌∙◌, subst, length-map, IsQuiet}
+use Rattle.seam_law_rounds.proofs.Prelude.{Event, Order, RealView, may_rise, cell_count, base_of, holders, World, node_has_work, ordered_at}
+use Rattle.seam_law_rounds.proofs.Prelude.{look_loaded, Nobody, Frame, here_at, entity_flow, real_in, real_of, RunsTo, real_at}
+use Rattle.seam_law_rounds.proofs.Prelude.{IsBetweenRounds, HasNoCalls, quiet_tasks, counted_none, none_counts, gone_leads}
 use Rattle.seam_call.specs.declared.order.Order.TheVariants as order
-use Rattle.seam_law_calls.proofs.Counting.{counted_none, none_counts}
-use Rattle.seam_law_calls.proofs.Gone.{gone_leads}
 use Rattle.seam_law_rounds.proofs.Ready.{quiet_home}
 use Rattle.seam_law_rounds.proofs.Calm.{one_if, IsCalm}
 use Rattle.seam_law_rounds.proofs.Starting.{Given, starts_calm}

@@ -1,24 +1,18 @@
 -- What a load makes of an entity that the batch creates: its real in the leaf of its position, and a route to there.
-use Rattle.std.proofs.Common.{◌≡◌, ℕ, ◌<◌, ◌≤◌, Bool, true, false, cond, eqb, List, [], ◌∷◌, ◌++◌, map, Option, None, Some, refl, sym, ap}
-use Rattle.std.proofs.Common.{◌∙◌, subst, arith, inl, inr}
-use Rattle.std.specs.List.{AllByRecursion, IsDistinct, list_all}
-use Rattle.std.specs.Ordering.{nat_cmp}
-use Rattle.std.specs.Cmp.{unsigned_tied}
+use Rattle.seam_law_rounds.proofs.Prelude.{◌≡◌, ℕ, ◌<◌, ◌≤◌, Bool, true, false, cond, eqb, List, [], ◌∷◌, ◌++◌, map, Option, None, Some}
+use Rattle.seam_law_rounds.proofs.Prelude.{refl, sym, ap, ◌∙◌, subst, arith, inl, inr, AllByRecursion, list_all, nat_cmp, unsigned_tied}
+use Rattle.seam_law_rounds.proofs.Prelude.{cases_eq, eqb-true, eq-eqb, leaf_at, cells_of, IsTree, type_of, AreDefs, IsType, Create, Batch}
+use Rattle.seam_law_rounds.proofs.Prelude.{Map, set_at, cell_count, properties, base_of, CellView, BaseView, NodeView, World, Cell, Base}
+use Rattle.seam_law_rounds.proofs.Prelude.{order_passes, created, fits_cell_part, IsNode, real_if, part_if, with_route, created_at}
+use Rattle.seam_law_rounds.proofs.Prelude.{base_round, Frame, here_at, IsAt, Has, has_of, has_none, orders_of, RealFits, real_in}
+use Rattle.seam_law_rounds.proofs.Prelude.{reaped_by_order, HasNoReaps, created_entity, MayBeMade, framed, each, node_loaded, leaf_is_cell}
+use Rattle.seam_law_rounds.proofs.Prelude.{entries_empty, get-set_at}
+use Rattle.std.specs.List.{IsDistinct}
 use Rattle.std.specs.FinMap as table
 use Rattle.std.specs.FinSet as set
-use Rattle.std.proofs.lemmas.Bool.{cases_eq, eqb-true, eq-eqb}
-use Rattle.seam_node_steps.specs.Prelude.{leaf_at, cells_of, IsTree, type_of, AreDefs, IsType, Create, Batch, Map, set_at, cell_count}
-use Rattle.seam_node_steps.specs.Prelude.{properties, base_of, CellView, BaseView, NodeView, World, Cell, Base, order_passes, created}
-use Rattle.seam_node_steps.specs.Prelude.{fits_cell_part, IsNode, real_if, part_if, with_route, created_at, base_round}
-use Rattle.seam_law_calls.specs.Prelude.{Frame, here_at, IsAt, Has, has_of, has_none, orders_of, RealFits, real_in, reaped_by_order}
-use Rattle.seam_law_calls.specs.Prelude.{HasNoReaps}
-use Rattle.seam_law_rounds.specs.Prelude.{created_entity, MayBeMade, framed, each, node_loaded}
-use Rattle.seam_tree.proofs.Leaves.{leaf_is_cell}
 use Rattle.seam_defs.specs.declared.flags.Group.TheVariants as group
 use Rattle.seam_defs.proofs.Numbers.{type_of-is}
 use Rattle.seam_defs.proofs.Starts.{start_of_group}
-use Rattle.seam_node_steps.proofs.Tables.{entries_empty}
-use Rattle.seam_node_steps.proofs.Slots.{get-set_at}
 use Rattle.seam_law_rounds.proofs.Framing.{While, while_created}
 use Rattle.seam_law_rounds.proofs.Staying.{Stays, same, stays_as, Becomes, base_stays, creates_stay, becomes_after}
 

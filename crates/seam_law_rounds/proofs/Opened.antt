@@ -1,23 +1,15 @@
 -- A world as it is opened keeps the record between rounds.
-use Rattle.std.proofs.Common.{◌≡◌, ℕ, zero, suc, ◌+◌, ◌<◌, ◌≤◌, false, ◌||◌, is_some, List, [], ◌++◌, map, find, length, replicate, Option}
-use Rattle.std.proofs.Common.{None, Some, refl, sym, ap, ◌∙◌, subst, arith}
-use Rattle.std.specs.Prelude.{option_map, slice_get, slice_index_or}
-use Rattle.std.specs.List.{range_with_len}
-use Rattle.std.specs.Ordering.{nat_cmp}
+use Rattle.seam_law_rounds.proofs.Prelude.{◌≡◌, ℕ, zero, suc, ◌+◌, ◌<◌, ◌≤◌, false, ◌||◌, is_some, List, [], ◌++◌, map, find, length}
+use Rattle.seam_law_rounds.proofs.Prelude.{replicate, Option, None, Some, refl, sym, ap, ◌∙◌, subst, arith, option_map, slice_get}
+use Rattle.seam_law_rounds.proofs.Prelude.{slice_index_or, range_with_len, nat_cmp, append-nil, length-append, length-replicate}
+use Rattle.seam_law_rounds.proofs.Prelude.{All-replicate, slice_get-get_or, Settings, TypeDef, IsSquare, ArePeers, Ghost, GhostCopy}
+use Rattle.seam_law_rounds.proofs.Prelude.{RealView, number_of, NextPlace, RouteView, PartView, cell_count, cell_numbers, real_is_ready}
+use Rattle.seam_law_rounds.proofs.Prelude.{part_is_ready, client_is_ready, NodeView, World, node_peers, node_has_work, IsNode, empty_cell}
+use Rattle.seam_law_rounds.proofs.Prelude.{empty_base, opened, Frame, IsAt, Has, no_cell, no_base, has_of, has_none, entity_flow, real_in}
+use Rattle.seam_law_rounds.proofs.Prelude.{IsFrame, real_at, IsBetweenRounds, first_frame, entries_empty, first_tree, no_link, slots}
 use Rattle.std.specs.FinMap as table
-use Rattle.std.proofs.lemmas.List.{append-nil, length-append, length-replicate}
-use Rattle.std.proofs.lemmas.List.Elements.{All-replicate}
 use Rattle.std.proofs.lemmas.List.FromFn.{length-map-range_with_len}
-use Rattle.std.proofs.lemmas.Option.{slice_get-get_or}
-use Rattle.seam_node_steps.specs.Prelude.{Settings, TypeDef, IsSquare, ArePeers, Ghost, GhostCopy, RealView, number_of, NextPlace}
-use Rattle.seam_node_steps.specs.Prelude.{RouteView, PartView, cell_count, cell_numbers, real_is_ready, part_is_ready, client_is_ready}
-use Rattle.seam_node_steps.specs.Prelude.{NodeView, World, node_peers, node_has_work, IsNode, empty_cell, empty_base, opened}
-use Rattle.seam_law_calls.specs.Prelude.{Frame, IsAt, Has, no_cell, no_base, has_of, has_none, entity_flow, real_in, IsFrame, real_at}
-use Rattle.seam_law_rounds.specs.Prelude.{IsBetweenRounds, first_frame}
 use Rattle.seam_machine.proofs.Quiet.{quiet_from}
-use Rattle.seam_node_steps.proofs.Tables.{entries_empty}
-use Rattle.seam_law_calls.proofs.Trees.{first_tree}
-use Rattle.seam_law_calls.proofs.ExampleMet.{no_link, slots}
 
 -- what is true of each that is made for a range of numbers, and of what comes after
 each_range : {N : Type 0} (P : ℕ → N → Type 0) (make : ℕ → N) (a n : ℕ) (ys : List N) →

@@ -1,19 +1,11 @@
 -- What a load makes of an entity's base part, node by node.
-use Rattle.std.proofs.Common.{◌≡◌, ℕ, ◌<◌, Bool, true, false, cond, eqb, List, [], ◌∷◌, ◌++◌, Option, None, Some, refl, sym, ap, ◌∙◌, subst}
-use Rattle.std.proofs.Common.{arith}
-use Rattle.std.specs.Prelude.{option_map}
-use Rattle.std.specs.List.{AllByRecursion}
-use Rattle.std.specs.Ordering.{nat_cmp, eq_by_cmp}
-use Rattle.std.specs.Cmp.{unsigned_tied}
+use Rattle.seam_law_rounds.proofs.Prelude.{◌≡◌, ℕ, ◌<◌, Bool, true, false, cond, eqb, List, [], ◌∷◌, ◌++◌, Option, None, Some, refl, sym}
+use Rattle.seam_law_rounds.proofs.Prelude.{ap, ◌∙◌, subst, arith, option_map, AllByRecursion, nat_cmp, eq_by_cmp, unsigned_tied, eq-eqb}
+use Rattle.seam_law_rounds.proofs.Prelude.{ne_eqb, nat_tests, Division, leaf_at, cells_of, Create, Order, Batch, Map, Here, cell_count}
+use Rattle.seam_law_rounds.proofs.Prelude.{base_of, BaseView, PartView, ProxyView, NodeView, Cell, Base, part_if, with_route, new_part}
+use Rattle.seam_law_rounds.proofs.Prelude.{created_at, with_proxy, attached, part_begins, cell_round, base_round, proxy_begins, order_if}
+use Rattle.seam_law_rounds.proofs.Prelude.{ordered_at, Frame, here_at, IsAt, has_of, HasNoProxy, home_of, each, node_loaded, get-set_at}
 use Rattle.std.specs.FinMap as table
-use Rattle.std.proofs.lemmas.Bool.{eq-eqb, ne_eqb}
-use Rattle.std.proofs.lemmas.Bool.Decides.{nat_tests}
-use Rattle.seam_node_steps.specs.Prelude.{Division, leaf_at, cells_of, Create, Order, Batch, Map, Here, cell_count, base_of, BaseView}
-use Rattle.seam_node_steps.specs.Prelude.{PartView, ProxyView, NodeView, Cell, Base, part_if, with_route, new_part, created_at, with_proxy}
-use Rattle.seam_node_steps.specs.Prelude.{attached, part_begins, cell_round, base_round, proxy_begins, order_if, ordered_at}
-use Rattle.seam_law_calls.specs.Prelude.{Frame, here_at, IsAt, has_of, HasNoProxy, home_of}
-use Rattle.seam_law_rounds.specs.Prelude.{each, node_loaded}
-use Rattle.seam_node_steps.proofs.Slots.{get-set_at}
 use Rattle.seam_law_rounds.proofs.Loading.{each_keeps, Any, any, get-each_value}
 use Rattle.seam_law_rounds.proofs.Staying.{other_set}
 use Rattle.seam_law_rounds.proofs.Making.{AreOthers}

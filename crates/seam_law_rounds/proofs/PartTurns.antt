@@ -1,24 +1,17 @@
 -- Each sender's calls of a batch to base parts are in turn in a loaded world, and it has what the laws of base parts ask.
-use Rattle.std.proofs.Common.{◌≡◌, ℕ, ◌+◌, ◌*◌, ◌^◌, ◌<◌, ◌≤◌, Bool, true, false, cond, eqb, nat_lt, List, [], ◌∷◌, map, length, Option}
-use Rattle.std.proofs.Common.{None, Some, refl, sym, ap, ◌∙◌, subst, arith, inl, inr}
-use Rattle.std.specs.Prelude.{option_map, slice_get}
-use Rattle.std.specs.List.{AllByRecursion}
+use Rattle.seam_law_rounds.proofs.Prelude.{◌≡◌, ℕ, ◌+◌, ◌*◌, ◌^◌, ◌<◌, ◌≤◌, Bool, true, false, cond, eqb, nat_lt, List, [], ◌∷◌, map}
+use Rattle.seam_law_rounds.proofs.Prelude.{length, Option, None, Some, refl, sym, ap, ◌∙◌, subst, arith, inl, inr, option_map, slice_get}
+use Rattle.seam_law_rounds.proofs.Prelude.{AllByRecursion, cases_eq, cases_lt, eqb-true, eq-eqb, ne_eqb, slice_get-map, slice_get_cases}
+use Rattle.seam_law_rounds.proofs.Prelude.{items_to, item_at, Call as CallData, Order, Batch, rank_of, order_or, RealView, Msg, limit}
+use Rattle.seam_law_rounds.proofs.Prelude.{cell_count, PartView, fits_base_part, NodeView, World, node_has_work, loaded, Flow, slot_at}
+use Rattle.seam_law_rounds.proofs.Prelude.{letters_of, more_letter, number_from, of_number, Desk, AreInTurn, Frame, here_at, Has, kept_if}
+use Rattle.seam_law_rounds.proofs.Prelude.{has_of, has_none, order_concerns, orders_of, entity_flow, is_from, from_sender, numbered_from}
+use Rattle.seam_law_rounds.proofs.Prelude.{base_call_of, part_desk, base_mail, as_base_sender, IsBaseCallOf, AreBaseCallsOf, part_burden}
+use Rattle.seam_law_rounds.proofs.Prelude.{node_base_burden, mine_base_burden, base_burden, home_of, IsHomeward, HasPart, HasBaseCalls}
+use Rattle.seam_law_rounds.proofs.Prelude.{IsForNode, HasRoutes, real_at, order_in, framed, node_loaded, next_to, base_calls_of}
+use Rattle.seam_law_rounds.proofs.Prelude.{base_calls_at, AreBaseNumbered, IsFitBaseOrder, IsForPart, MayBeLoaded, quiet_links, weight_or}
+use Rattle.seam_law_rounds.proofs.Prelude.{letters_of-number_from, loaded_in_turn}
 use Rattle.std.specs.FinMap as table
-use Rattle.std.proofs.lemmas.Bool.{cases_eq, cases_lt, eqb-true, eq-eqb, ne_eqb}
-use Rattle.std.proofs.lemmas.Option.{slice_get-map, slice_get_cases}
-use Rattle.seam_node_steps.specs.Prelude.{items_to, item_at, Call as CallData, Order, Batch, rank_of, order_or, RealView, Msg, limit}
-use Rattle.seam_node_steps.specs.Prelude.{cell_count, PartView, fits_base_part, NodeView, World, node_has_work, loaded}
-use Rattle.seam_law_flow.specs.Prelude.{Flow, slot_at, letters_of, more_letter, number_from, of_number, Desk, AreInTurn}
-use Rattle.seam_law_calls.specs.Prelude.{Frame, here_at, Has, kept_if, has_of, has_none, order_concerns, orders_of, entity_flow, is_from}
-use Rattle.seam_law_calls.specs.Prelude.{from_sender, numbered_from, base_call_of, part_desk, base_mail, as_base_sender, IsBaseCallOf}
-use Rattle.seam_law_calls.specs.Prelude.{AreBaseCallsOf, part_burden, node_base_burden, mine_base_burden, base_burden, home_of, IsHomeward}
-use Rattle.seam_law_calls.specs.Prelude.{HasPart, HasBaseCalls, IsForNode, HasRoutes, real_at}
-use Rattle.seam_law_rounds.specs.Prelude.{order_in, framed, node_loaded, next_to, base_calls_of, base_calls_at, AreBaseNumbered}
-use Rattle.seam_law_rounds.specs.Prelude.{IsFitBaseOrder, IsForPart, MayBeLoaded}
-use Rattle.seam_machine.proofs.Quiet.{quiet_links}
-use Rattle.seam_net_runs.specs.Sums.{weight_or}
-use Rattle.seam_law_flow.proofs.Numbers.{letters_of-number_from}
-use Rattle.seam_law_flow.proofs.Ends.{loaded_in_turn}
 use Rattle.seam_call.specs.declared.order.Order.TheVariants as order
 use Rattle.seam_law_rounds.proofs.Framing.{in_frame}
 use Rattle.seam_law_rounds.proofs.Loading.{loaded_is, node_there}
@@ -126,10 +119,10 @@ module _ (f : Frame) (w : World) (b : Batch) (may : MayBeLoaded f w b) (e home :
         letters_of (of_number n) (stored numbers.node) ≡ more_letter (item_at n (number_from first (base_calls_of b e s))) []
     store_by n None at =
         let many = may.begin.between.many in
-        let is_there = numbers.is_there in
+        let in_net = numbers.in_net in
         elim (slice_get_cases w.nodes numbers.node).1 [
           | inl p ↦ absurd (let z = sym at ∙ p.2 in cc)
-          | inr p ↦ let past = p.0 in absurd (omega (arith, past, many, is_there))
+          | inr p ↦ let past = p.0 in absurd (omega (arith, past, many, in_net))
         ]
     store_by n (Some m) at =
         ap (letters_of (of_number n)) (there_by numbers.node m at numbers.is_base ∙ numbers.calls)

@@ -1,19 +1,14 @@
 -- What a loaded world has of each base part, and what it keeps of that over every list of events.
-use Rattle.std.proofs.Common.{◌≡◌, ℕ, ◌+◌, ◌^◌, ◌<◌, ◌≤◌, List, ◌∷◌, Some, sym, ap, ◌∙◌, subst, arith, inl, inr}
-use Rattle.std.proofs.lemmas.Bool.{cases_eq}
-use Rattle.seam_node_steps.specs.Prelude.{IsQuiet, Event, Batch, RealView, Msg, Update, PartView, World, node_has_work, loaded}
-use Rattle.seam_law_flow.specs.Prelude.{letters_of}
-use Rattle.seam_law_calls.specs.Prelude.{Frame, entity_flow, from_sender, sent_by, home_of, HasBaseCalls, FindsClient, NothingIsStray}
-use Rattle.seam_law_calls.specs.Prelude.{SeesFew, looks_left, RunsTo, real_at}
-use Rattle.seam_law_rounds.specs.Prelude.{framed, next_to, base_calls_of, MayBeLoaded, lines_of, IsServed, bare, served}
+use Rattle.seam_law_rounds.proofs.Prelude.{◌≡◌, ℕ, ◌+◌, ◌^◌, ◌<◌, ◌≤◌, List, ◌∷◌, Some, sym, ap, ◌∙◌, subst, arith, inl, inr, cases_eq}
+use Rattle.seam_law_rounds.proofs.Prelude.{IsQuiet, Event, Batch, RealView, Msg, Update, PartView, World, node_has_work, loaded, letters_of}
+use Rattle.seam_law_rounds.proofs.Prelude.{Frame, entity_flow, from_sender, sent_by, home_of, HasBaseCalls, FindsClient, NothingIsStray}
+use Rattle.seam_law_rounds.proofs.Prelude.{SeesFew, looks_left, RunsTo, real_at, framed, next_to, base_calls_of, MayBeLoaded, lines_of}
+use Rattle.seam_law_rounds.proofs.Prelude.{IsServed, bare, served, alone_leads, all_executed, alone_without_stray, client_without_stray}
+use Rattle.seam_law_rounds.proofs.Prelude.{both_leads}
 use Rattle.seam_call.specs.declared.shown.Update.{Update as UpdateData}
 use Rattle.seam_law_rounds.proofs.Framing.{in_frame}
 use Rattle.seam_law_rounds.proofs.Loaded.{no_mail}
 use Rattle.seam_law_rounds.proofs.Going.{frame_loaded, settled_loaded, one_loaded, spared_loaded}
-use Rattle.seam_law_calls.proofs.AloneRuns.{alone_leads}
-use Rattle.seam_law_calls.proofs.BaseQuiet.{all_executed}
-use Rattle.seam_law_calls.proofs.StrayRuns.{alone_without_stray, client_without_stray}
-use Rattle.seam_law_calls.proofs.ClientLeads.{both_leads}
 use Rattle.seam_law_rounds.proofs.Ticking.{most_told, TellsFew, tells_few, sees_then, few_loaded, looks_loaded}
 use Rattle.seam_law_rounds.proofs.Attaching.{are_for_loaded, lines_loaded, sees_loaded}
 use Rattle.seam_law_rounds.proofs.Updates.{update_finds}

@@ -1,20 +1,12 @@
 -- The base parts of a loaded world: those that were there, and those that the batch created.
-use Rattle.std.proofs.Common.{◌≡◌, ℕ, ◌^◌, ◌<◌, ◌≤◌, Bool, true, false, cond, eqb, List, [], ◌∷◌, ◌++◌, Option, None, Some, refl, sym, ap}
-use Rattle.std.proofs.Common.{◌∙◌, subst, arith, inl, inr}
-use Rattle.std.specs.Prelude.{option_map, slice_get}
-use Rattle.std.specs.List.{AllByRecursion}
-use Rattle.std.specs.Ordering.{nat_cmp}
+use Rattle.seam_law_rounds.proofs.Prelude.{◌≡◌, ℕ, ◌^◌, ◌<◌, ◌≤◌, Bool, true, false, cond, eqb, List, [], ◌∷◌, ◌++◌, Option, None, Some}
+use Rattle.seam_law_rounds.proofs.Prelude.{refl, sym, ap, ◌∙◌, subst, arith, inl, inr, option_map, slice_get, AllByRecursion, nat_cmp}
+use Rattle.seam_law_rounds.proofs.Prelude.{eq-eqb, ne_eqb, slice_get_cases, mod-lt, leaf_at, Create, Batch, order_or, RealView, Here}
+use Rattle.seam_law_rounds.proofs.Prelude.{created, real_begins, PartView, ProxyView, NodeView, World, new_part, part_begins, loaded}
+use Rattle.seam_law_rounds.proofs.Prelude.{slot_at, Frame, here_at, Has, has_of, has_none, entity_flow, real_in, HasNoProxy, home_of}
+use Rattle.seam_law_rounds.proofs.Prelude.{HasNoClient, real_at, MayBeMade, framed, node_loaded, next_to, HasSettledPart}
+use Rattle.seam_law_rounds.proofs.Prelude.{HasPartsBetweenRounds, FitsParts, StaysWithoutClient, MayBegin}
 use Rattle.std.specs.FinMap as table
-use Rattle.std.proofs.lemmas.Bool.{eq-eqb, ne_eqb}
-use Rattle.std.proofs.lemmas.Option.{slice_get_cases}
-use Rattle.std.proofs.Math.Nat.{mod-lt}
-use Rattle.seam_node_steps.specs.Prelude.{leaf_at, Create, Batch, order_or, RealView, Here, created, real_begins, PartView, ProxyView}
-use Rattle.seam_node_steps.specs.Prelude.{NodeView, World, new_part, part_begins, loaded}
-use Rattle.seam_law_flow.specs.Prelude.{slot_at}
-use Rattle.seam_law_calls.specs.Prelude.{Frame, here_at, Has, has_of, has_none, entity_flow, real_in, HasNoProxy, home_of, HasNoClient}
-use Rattle.seam_law_calls.specs.Prelude.{real_at}
-use Rattle.seam_law_rounds.specs.Prelude.{MayBeMade, framed, node_loaded, next_to, HasSettledPart, HasPartsBetweenRounds, FitsParts}
-use Rattle.seam_law_rounds.specs.Prelude.{StaysWithoutClient, MayBegin}
 use Rattle.seam_law_rounds.proofs.Framing.{in_frame}
 use Rattle.seam_law_rounds.proofs.Staying.{Kept}
 use Rattle.seam_law_rounds.proofs.Making.{AreOthers, Creation, nowhere, once, creation_of, middle, until, node_made, node_after}

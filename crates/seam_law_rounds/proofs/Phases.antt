@@ -1,18 +1,11 @@
 -- What the phase of reaps and the phase of looks keep.
-use Rattle.std.proofs.Common.{◌≡◌, ℕ, ◌<◌, ◌⊎◌, Bool, true, false, cond, eqb, ◌&&◌, ◌||◌, is_some, List, [], ◌∷◌, length, Option, None}
-use Rattle.std.proofs.Common.{Some, refl, sym, ap, ◌∙◌, arith, inl, inr}
-use Rattle.std.proofs.lemmas.Bool.{eqb-true}
-use Rattle.seam_node_steps.specs.Prelude.{input_from, happens, enabled, run, AllEnabled, IsQuiet, Occurs, total, Input, Task, From, Event}
-use Rattle.seam_node_steps.specs.Prelude.{RealView, Msg, Reap, may_rise, cell_count, RouteView, holders, World, node_steps, node_has_work}
-use Rattle.seam_law_flow.specs.Prelude.{letter_in, letters_of, In, Nobody}
-use Rattle.seam_law_calls.specs.Prelude.{Frame, IsInFrame, concerns, kept_if, mine, entity_flow, real_in, real_of, reaped_by, reaps}
-use Rattle.seam_law_calls.specs.Prelude.{IsFrame, RunsTo, real_at}
-use Rattle.seam_law_rounds.specs.Prelude.{IsSettled, IsBetweenRounds, reap_comes}
-use Rattle.seam_machine.proofs.Occurring.{occurs}
-use Rattle.seam_machine.proofs.Quiet.{quiet_links, quiet_tasks}
-use Rattle.seam_net_runs.proofs.Runs.{leads_keeps}
-use Rattle.seam_law_calls.proofs.Counting.{one_counts, none_counts}
-use Rattle.seam_law_calls.proofs.Gone.{gone_leads}
+use Rattle.seam_law_rounds.proofs.Prelude.{◌≡◌, ℕ, ◌<◌, ◌⊎◌, Bool, true, false, cond, eqb, ◌||◌, List, [], ◌∷◌, length}
+use Rattle.seam_law_rounds.proofs.Prelude.{Option, None, Some, refl, sym, ap, ◌∙◌, arith, inl, inr, eqb-true, input_from, happens, enabled}
+use Rattle.seam_law_rounds.proofs.Prelude.{run, AllEnabled, IsQuiet, Occurs, total, Input, Task, From, Event, RealView, Msg, Reap, may_rise}
+use Rattle.seam_law_rounds.proofs.Prelude.{cell_count, RouteView, holders, World, node_steps, node_has_work, letter_in, letters_of, In}
+use Rattle.seam_law_rounds.proofs.Prelude.{Nobody, Frame, IsInFrame, concerns, kept_if, mine, entity_flow, real_in, real_of}
+use Rattle.seam_law_rounds.proofs.Prelude.{reaps, IsFrame, RunsTo, real_at, IsSettled, IsBetweenRounds, reap_comes, occurs, quiet_links}
+use Rattle.seam_law_rounds.proofs.Prelude.{quiet_tasks, leads_keeps, one_counts, none_counts, gone_leads}
 use Rattle.seam_law_rounds.proofs.Room.{rows_none}
 use Rattle.seam_law_rounds.proofs.Ready.{route_leads}
 use Rattle.seam_law_rounds.proofs.Shape.{Somewhere, Nowhere, search_real, frame_leads, many_leads}

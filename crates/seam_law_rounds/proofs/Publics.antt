@@ -1,7 +1,7 @@
 -- The public version stays at most the version.
-use Rattle.std.proofs.Common.{ℕ, ◌+◌, ◌≤◌, Bool, true, false, List, [], ◌∷◌, sym, subst, arith}
-use Rattle.seam_node_steps.specs.Prelude.{type_of, TypeDef, Call as CallData, RealView, public_after}
-use Rattle.seam_law_calls.specs.Prelude.{Frame, Account, account_of, after_call, after_calls, Replays}
+use Rattle.seam_law_rounds.proofs.Prelude.{ℕ, ◌+◌, ◌≤◌, Bool, true, false, List, [], ◌∷◌, sym, subst, arith, type_of, TypeDef}
+use Rattle.seam_law_rounds.proofs.Prelude.{Call as CallData, RealView, public_after, Frame, Account, account_of, after_call, after_calls}
+use Rattle.seam_law_rounds.proofs.Prelude.{Replays}
 
 after_low : (b : Bool) (v p : ℕ) → p ≤ v → public_after b (v + 1) p ≤ v + 1
 after_low true v p low = omega arith

@@ -1,17 +1,11 @@
 -- A world without messages about a settled entity has what the laws ask: one real, which fits; no one reaps it; and what leads to a cell
 -- leads to it.
-use Rattle.std.proofs.Common.{◌≡◌, ℕ, ◌+◌, ◌<◌, is_some, [], length, Option, None, Some, refl, sym, ap, ◌∙◌, subst, arith, inl, inr}
-use Rattle.std.specs.Prelude.{slice_get}
-use Rattle.std.specs.List.{AllByRecursion}
-use Rattle.std.proofs.lemmas.Bool.{cases_eq}
-use Rattle.std.proofs.lemmas.Option.{slice_get_within}
-use Rattle.seam_machine.proofs.Quiet.{quiet_links}
-use Rattle.seam_node_steps.specs.Prelude.{RealView, Msg, limit, holders, cell_count, RouteView, NodeView, World, node_has_work, Cell, Base}
-use Rattle.seam_law_flow.specs.Prelude.{Flow, slot_at, letters_of, TokenPlace, In, On}
-use Rattle.seam_law_calls.specs.Prelude.{Frame, IsInFrame, Has, mine, has_of, has_none, entity_flow, RealFits, IsFitReal, IsFitHand, burden}
-use Rattle.seam_law_calls.specs.Prelude.{real_in, real_of, IsOne, reaped_by, HasNoReaps, IsSpared, HasOne, AllLead, real_at}
-use Rattle.seam_law_rounds.specs.Prelude.{IsSettled, IsBetweenRounds}
-use Rattle.seam_law_calls.proofs.Counting.{counted_one, one_counts}
+use Rattle.seam_law_rounds.proofs.Prelude.{◌≡◌, ℕ, ◌+◌, ◌<◌, is_some, [], length, Option, None, Some, refl, sym, ap, ◌∙◌, subst, arith, inl}
+use Rattle.seam_law_rounds.proofs.Prelude.{inr, slice_get, AllByRecursion, cases_eq, slice_get_within, quiet_links, RealView, Msg, limit}
+use Rattle.seam_law_rounds.proofs.Prelude.{holders, cell_count, RouteView, NodeView, World, node_has_work, Cell, Base, Flow, slot_at}
+use Rattle.seam_law_rounds.proofs.Prelude.{letters_of, TokenPlace, In, On, Frame, IsInFrame, Has, mine, has_of, has_none, entity_flow}
+use Rattle.seam_law_rounds.proofs.Prelude.{RealFits, IsFitReal, IsFitHand, burden, real_in, real_of, IsOne, reaped_by, HasNoReaps, IsSpared}
+use Rattle.seam_law_rounds.proofs.Prelude.{HasOne, AllLead, real_at, IsSettled, IsBetweenRounds, counted_one, one_counts}
 use Rattle.seam_law_calls.proofs.Finding.{starts_leading}
 
 module _ (f : Frame) (w : World) (e home : ℕ) (r : RealView) (settled : IsSettled f e home r w)

@@ -1,18 +1,10 @@
 -- The phase of reaps: each entity that is to be reaped has its one real until its Reap comes.
-use Rattle.std.proofs.Common.{◌≡◌, ℕ, ◌+◌, ◌<◌, ◌≤◌, Bool, true, false, cond, eqb, nat_lt, List, [], ◌∷◌, ◌++◌, length, Some, refl, sym, ap}
-use Rattle.std.proofs.Common.{◌∙◌, subst, arith}
-use Rattle.std.specs.List.{AllByRecursion}
-use Rattle.std.proofs.lemmas.Bool.{eq-eqb, ne_eqb}
-use Rattle.std.proofs.lemmas.Bool.Decides.{nat_tests}
-use Rattle.std.proofs.lemmas.List.{append_assoc, length-map}
-use Rattle.seam_node_steps.specs.Prelude.{IsQuiet, Event, RealView, may_rise, base_of, holders, NodeView, World, node_has_work, with_nodes}
-use Rattle.seam_node_steps.specs.Prelude.{reap_ordered_at, reaps_loaded}
-use Rattle.seam_law_flow.specs.Prelude.{Nobody}
-use Rattle.seam_law_calls.specs.Prelude.{Frame, here_at, IsInFrame, times, entity_flow, real_in, real_of, RunsTo, real_at}
-use Rattle.seam_law_rounds.specs.Prelude.{IsBetweenRounds, each, AreReapable, reap_comes, HasNoCalls}
-use Rattle.seam_machine.proofs.Quiet.{quiet_tasks}
-use Rattle.seam_law_calls.proofs.Counting.{counted_none, none_counts}
-use Rattle.seam_law_calls.proofs.Gone.{gone_leads}
+use Rattle.seam_law_rounds.proofs.Prelude.{◌≡◌, ℕ, ◌+◌, ◌<◌, ◌≤◌, Bool, true, false, cond, eqb, nat_lt, List, [], ◌∷◌, ◌++◌, length, Some}
+use Rattle.seam_law_rounds.proofs.Prelude.{refl, sym, ap, ◌∙◌, subst, arith, AllByRecursion, eq-eqb, ne_eqb, nat_tests, append_assoc}
+use Rattle.seam_law_rounds.proofs.Prelude.{length-map, IsQuiet, Event, RealView, may_rise, base_of, holders, NodeView, World, node_has_work}
+use Rattle.seam_law_rounds.proofs.Prelude.{with_nodes, reap_ordered_at, reaps_loaded, Nobody, Frame, here_at, IsInFrame, times, entity_flow}
+use Rattle.seam_law_rounds.proofs.Prelude.{real_in, real_of, RunsTo, real_at, IsBetweenRounds, each, AreReapable, reap_comes, HasNoCalls}
+use Rattle.seam_law_rounds.proofs.Prelude.{quiet_tasks, counted_none, none_counts, gone_leads}
 use Rattle.seam_law_rounds.proofs.Loading.{nodes_after}
 use Rattle.seam_law_rounds.proofs.Ready.{quiet_home}
 use Rattle.seam_law_rounds.proofs.Calm.{one_if, IsCalm}

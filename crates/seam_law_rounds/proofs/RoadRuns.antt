@@ -1,24 +1,17 @@
 -- Over every list of events each base node's newest route, among the one that it has and those on their way, leads to the real.
-use Rattle.std.proofs.Common.{◌≡◌, ℕ, zero, suc, ◌+◌, ◌<◌, ◌≤◌, true, is_some, List, [], ◌∷◌, ◌++◌, map, length, Option, None, Some, refl}
-use Rattle.std.proofs.Common.{sym, ap, ◌∙◌, subst, arith, inl, inr}
-use Rattle.std.specs.Prelude.{option_map}
-use Rattle.std.specs.List.{AllByRecursion, range_with_len}
-use Rattle.std.proofs.lemmas.Bool.{cases_eq, eq-eqb, ne_eqb}
-use Rattle.seam_node_steps.specs.Prelude.{happens, items_to, Event, RealView, Msg, Hand, Current, Reap, limit, cell_count, base_numbers}
-use Rattle.seam_node_steps.specs.Prelude.{current_to, currents, RouteView, World, node_steps}
-use Rattle.seam_law_flow.specs.Prelude.{Flow, Goes, comes, letters_of, NotAbove, OfEntry, AllBring, Has, entry_in, greater_entry, Newest}
-use Rattle.seam_law_flow.specs.Prelude.{IsSilent, carried_in, TokenPlace, In, On, SendsNone, SendsOne, Handles, still, turns, lands, leaves}
-use Rattle.seam_law_calls.specs.Prelude.{Frame, here_at, Has as Had, entity_flow, real_burden, real_in, real_of, IsOne, IsSpared, IsFrame}
-use Rattle.seam_law_calls.specs.Prelude.{HasOne, MovesTo, RunsTo, real_at}
-use Rattle.seam_law_rounds.specs.Prelude.{as_entry, route_entry, sent_route, NewestRouteIsRight}
-use Rattle.seam_law_flow.proofs.Following.{all_append, letters_kept, came}
+use Rattle.seam_law_rounds.proofs.Prelude.{◌≡◌, ℕ, zero, suc, ◌+◌, ◌<◌, ◌≤◌, true, is_some, List, [], ◌∷◌, ◌++◌, map, length, Option, None}
+use Rattle.seam_law_rounds.proofs.Prelude.{Some, refl, sym, ap, ◌∙◌, subst, arith, inl, inr, option_map, AllByRecursion, range_with_len}
+use Rattle.seam_law_rounds.proofs.Prelude.{cases_eq, eq-eqb, ne_eqb, happens, items_to, Event, RealView, Msg, Hand, Current, Reap, limit}
+use Rattle.seam_law_rounds.proofs.Prelude.{cell_count, base_numbers, current_to, currents, RouteView, World, node_steps, Flow, Goes, comes}
+use Rattle.seam_law_rounds.proofs.Prelude.{letters_of, NotAbove, OfEntry, AllBring, entry_in, greater_entry, Newest, IsSilent, carried_in}
+use Rattle.seam_law_rounds.proofs.Prelude.{TokenPlace, In, On, SendsNone, SendsOne, Handles, still, turns, lands, leaves, Frame, here_at}
+use Rattle.seam_law_rounds.proofs.Prelude.{Has as Had, entity_flow, real_burden, real_in, real_of, IsOne, IsSpared, IsFrame, HasOne}
+use Rattle.seam_law_rounds.proofs.Prelude.{MovesTo, RunsTo, real_at, as_entry, route_entry, sent_route, NewestRouteIsRight, all_append}
+use Rattle.seam_law_rounds.proofs.Prelude.{letters_kept, came, sees_none, sees_after_silent, sees_one_here, sees_one_there, sole_here}
+use Rattle.seam_law_rounds.proofs.Prelude.{sole_came, sole_goes, mapped_silent, goes, room, one_keeps, FindsRoom}
+use Rattle.seam_law_flow.specs.Prelude.{Has}
 use Rattle.seam_law_flow.proofs.NewestLemmas.{newest_stays, newest_rises, newest_rests}
-use Rattle.seam_law_flow.proofs.SendLists.{sees_none, sees_after_silent, sees_one_here, sees_one_there}
-use Rattle.seam_law_flow.proofs.TokenLemmas.{sole_here, sole_came, sole_goes}
-use Rattle.seam_law_calls.proofs.Plain.{mapped_silent}
 use Rattle.seam_law_calls.proofs.Sparing.{items_all}
-use Rattle.seam_law_calls.proofs.OneReal.{goes, room, one_keeps}
-use Rattle.seam_law_calls.proofs.Handling.{FindsRoom}
 use Rattle.seam_law_rounds.proofs.RoadMoves.{road_of, generation_of, IsGoodRoute, Roads, plain, arrives, departs, roads, Reroutes, reroutes}
 
 -- ---- letters that bring no route and carry no real

@@ -1,26 +1,16 @@
 -- What a loaded world has yet to do of an entity leaves room in its numbers.
-use Rattle.std.proofs.Common.{◌≡◌, ℕ, suc, ◌+◌, ◌*◌, ◌^◌, ◌<◌, ◌≤◌, Bool, true, false, cond, T, eqb, ◌&&◌, nat_lt, List, [], ◌∷◌, map}
-use Rattle.std.proofs.Common.{length, Option, None, Some, refl, sym, ap, ◌∙◌, subst, arith, inl, inr, is_lt}
-use Rattle.std.specs.Prelude.{find, option_map, slice_get, slice_index_or}
-use Rattle.std.specs.Ordering.{nat_cmp}
+use Rattle.seam_law_rounds.proofs.Prelude.{◌≡◌, ℕ, suc, ◌+◌, ◌*◌, ◌^◌, ◌<◌, ◌≤◌, Bool, true, false, cond, T, eqb, ◌&&◌, nat_lt, List, []}
+use Rattle.seam_law_rounds.proofs.Prelude.{◌∷◌, map, length, Option, None, Some, refl, sym, ap, ◌∙◌, subst, arith, inl, inr, is_lt, find}
+use Rattle.seam_law_rounds.proofs.Prelude.{option_map, slice_get, slice_index_or, nat_cmp, below_all, is_sorted, cases_eq, cases_lt, eq-eqb}
+use Rattle.seam_law_rounds.proofs.Prelude.{ne_eqb, nat_tests, unsigned_tied, found, link, total, items_to, Occurs, Task, Event, OrderView}
+use Rattle.seam_law_rounds.proofs.Prelude.{Call as CallData, Order, Batch, Orders, order_or, RealView, limit, has_any, cell_count, NodeView}
+use Rattle.seam_law_rounds.proofs.Prelude.{World, node_has_work, Cell, Base, cell_round, ordered_at, loaded, real_begins, slot_at, Frame}
+use Rattle.seam_law_rounds.proofs.Prelude.{Has, has_of, has_none, times, one_more_if, order_concerns, orders_of, entity_flow, held_of}
+use Rattle.seam_law_rounds.proofs.Prelude.{held_in, real_burden, order_burden, node_burden, mine_burden, burden, real_in, real_at, each}
+use Rattle.seam_law_rounds.proofs.Prelude.{made, node_loaded, MayBegin, quiet_links, weight_or, weight_bounds, slice_get-map}
 use Rattle.std.specs.FinMap as table
-use Rattle.std.specs.FinMap.Entries.{below_all, is_sorted, find as key_find}
-use Rattle.std.proofs.lemmas.Bool.{cases_eq, cases_lt, eq-eqb, ne_eqb}
-use Rattle.std.proofs.lemmas.Bool.Decides.{nat_tests}
-use Rattle.std.specs.Cmp.{unsigned_tied}
-use Rattle.seam_table.proofs.Found.{found}
-use Rattle.seam_node_steps.specs.Prelude.{link, total, items_to, Occurs, Task, Event, OrderView, Call as CallData, Order, Batch, Orders}
-use Rattle.seam_node_steps.specs.Prelude.{order_or, RealView, limit, has_any, cell_count, NodeView, World, node_has_work, Cell, Base}
-use Rattle.seam_node_steps.specs.Prelude.{cell_round, ordered_at, loaded, real_begins}
-use Rattle.seam_law_flow.specs.Prelude.{slot_at}
-use Rattle.seam_law_calls.specs.Prelude.{Frame, Has, has_of, has_none, times, one_more_if, order_concerns, orders_of, entity_flow, held_of}
-use Rattle.seam_law_calls.specs.Prelude.{held_in, real_burden, order_burden, node_burden, mine_burden, burden, real_in, real_at}
-use Rattle.seam_law_rounds.specs.Prelude.{each, made, node_loaded, MayBegin}
-use Rattle.seam_machine.proofs.Quiet.{quiet_links}
-use Rattle.seam_net_runs.specs.Sums.{weight_or}
-use Rattle.seam_net_runs.proofs.Weighing.{weight_bounds}
+use Rattle.std.specs.FinMap.Entries.{find as key_find}
 use Rattle.seam_net_runs.specs.Weights.{totals, links_weight}
-use Rattle.std.proofs.lemmas.Option.{slice_get-map}
 use Rattle.seam_call.specs.declared.order.Order.TheVariants as order
 use Rattle.seam_law_rounds.proofs.Loading.{each_keeps, Any, any, loaded_is, node_there, get-each_value}
 use Rattle.seam_law_rounds.proofs.Loaded.{Loaded, slot_is}

@@ -1,21 +1,15 @@
 -- An entity with a client or without one, from a world in which nothing of it is on its way to one that is quiet.
-use Rattle.std.proofs.Common.{◌≡◌, ℕ, ◌+◌, ◌^◌, ◌<◌, ◌≤◌, ◌-◌, true, false, cond, is_some, List, [], ◌∷◌, length, Option, None, Some, refl}
-use Rattle.std.proofs.Common.{sym, ap, ◌∙◌, subst, arith, inl, inr}
-use Rattle.std.specs.List.{AllByRecursion}
-use Rattle.std.proofs.lemmas.Bool.{cases_eq, eq-eqb}
-use Rattle.std.proofs.lemmas.List.{append-nil, append_cancel_left}
-use Rattle.seam_node_steps.specs.Prelude.{IsQuiet, Event, item_at, Shown, RealView, WitnessView, Msg, PartView, ProxyView, World}
-use Rattle.seam_node_steps.specs.Prelude.{node_has_work}
-use Rattle.seam_law_flow.specs.Prelude.{Flow, letters_of, Delivery, Life, number_from, numbered}
-use Rattle.seam_law_calls.specs.Prelude.{Frame, IsInFrame, Has, entity_flow, real_of, IsSpared, IsFrame, HasOne, sent_of, sent_by, home_of}
-use Rattle.seam_law_calls.specs.Prelude.{HasNoClient, proxy_of, order_in, updates_at, shown_in, lines_in, shown_at, tells, EachReal}
-use Rattle.seam_law_calls.specs.Prelude.{HasToldAtMost, HasClient, HasRoomFor, RunsTo, real_at}
-use Rattle.seam_law_rounds.specs.Prelude.{AreInStep, AreFor, IsServed, bare, served}
+use Rattle.seam_law_rounds.proofs.Prelude.{◌≡◌, ℕ, ◌+◌, ◌^◌, ◌<◌, ◌≤◌, ◌-◌, true, false, cond, is_some, List, [], ◌∷◌, length, Option, None}
+use Rattle.seam_law_rounds.proofs.Prelude.{Some, refl, sym, ap, ◌∙◌, subst, arith, inl, inr, AllByRecursion, cases_eq, eq-eqb, append-nil}
+use Rattle.seam_law_rounds.proofs.Prelude.{append_cancel_left, IsQuiet, Event, item_at, Shown, RealView, WitnessView, Msg, PartView}
+use Rattle.seam_law_rounds.proofs.Prelude.{ProxyView, World, node_has_work, Flow, letters_of, Delivery, Life, number_from, Frame, IsInFrame}
+use Rattle.seam_law_rounds.proofs.Prelude.{Has, entity_flow, real_of, IsSpared, IsFrame, HasOne, sent_of, sent_by, home_of, HasNoClient}
+use Rattle.seam_law_rounds.proofs.Prelude.{proxy_of, updates_at, shown_in, lines_in, shown_at, tells, EachReal, HasToldAtMost, HasClient}
+use Rattle.seam_law_rounds.proofs.Prelude.{HasRoomFor, RunsTo, real_at, AreInStep, AreFor, IsServed, bare, served, bare_leads, all_shown}
+use Rattle.seam_law_rounds.proofs.Prelude.{client_leads, IsSeen, seen_leads}
+use Rattle.seam_law_flow.specs.Prelude.{numbered}
+use Rattle.seam_law_calls.specs.Prelude.{order_in}
 use Rattle.seam_order.specs.Held.{RiseFrom}
-use Rattle.seam_law_calls.proofs.AloneRuns.{bare_leads}
-use Rattle.seam_law_calls.proofs.BaseQuiet.{all_shown}
-use Rattle.seam_law_calls.proofs.ClientLeads.{client_leads}
-use Rattle.seam_law_calls.proofs.WitnessKept.{IsSeen, seen_leads}
 
 -- a world that has an entity's one real and its base part, with nothing about it on its way
 pub record HasItStill (f : Frame) (e ty : ℕ) (r : RealView) (p : PartView) (w : World) : Type 0 where

@@ -1,15 +1,9 @@
 -- Every list of events keeps the frame and the number of nodes; and an entity's real is somewhere, or nowhere.
-use Rattle.std.proofs.Common.{◌≡◌, ℕ, zero, suc, ◌⊎◌, List, [], ◌∷◌, length, Option, None, Some, refl, ◌∙◌, inl, inr, Bool, true, false}
-use Rattle.std.proofs.Common.{cond, eqb, subst}
-use Rattle.std.specs.Prelude.{slice_get}
-use Rattle.seam_node_steps.specs.Prelude.{Event, items_to, RealView, Msg, NodeView, World, node_steps, node_has_work}
-use Rattle.seam_law_flow.specs.Prelude.{slot_at}
-use Rattle.seam_law_calls.specs.Prelude.{Frame, IsInFrame, has_of, has_none, real_in, RunsTo, real_at}
-use Rattle.seam_machine.proofs.Occurring.{occurs, length-happens}
-use Rattle.seam_net_runs.proofs.Runs.{leads_keeps}
-use Rattle.std.specs.List.{AllByRecursion}
-use Rattle.std.proofs.lemmas.Bool.{eqb-true}
-use Rattle.seam_law_calls.proofs.Classify.{frame_happens}
+use Rattle.seam_law_rounds.proofs.Prelude.{◌≡◌, ℕ, zero, suc, ◌⊎◌, List, [], ◌∷◌, length, Option, None, Some, refl, ◌∙◌, inl, inr, Bool}
+use Rattle.seam_law_rounds.proofs.Prelude.{true, false, cond, eqb, subst, slice_get, Event, items_to, RealView, Msg, NodeView, World}
+use Rattle.seam_law_rounds.proofs.Prelude.{node_steps, node_has_work, slot_at, Frame, IsInFrame, has_of, has_none, real_in, RunsTo, real_at}
+use Rattle.seam_law_rounds.proofs.Prelude.{occurs, leads_keeps, AllByRecursion, eqb-true, frame_happens}
+use Rattle.seam_machine.proofs.Occurring.{length-happens}
 
 pub frame_leads : (f : Frame) (w v : World) (es : List Event) → IsInFrame f w → RunsTo w es v → IsInFrame f v
 frame_leads f w v es q run =

@@ -1,17 +1,11 @@
 -- A quiet world that is told to reap some entities, or that witnesses look, is calm for each entity that is there.
-use Rattle.std.proofs.Common.{◌≡◌, ℕ, zero, suc, ◌+◌, ◌<◌, ◌≤◌, Bool, true, false, cond, eqb, List, [], ◌∷◌, length, Option, None, Some}
-use Rattle.std.proofs.Common.{refl, sym, ap, ◌∙◌, subst, arith, inl, inr}
-use Rattle.std.specs.Prelude.{option_map, slice_get}
-use Rattle.std.proofs.lemmas.List.{length-map}
-use Rattle.std.specs.List.{AllByRecursion, IsDistinct}
-use Rattle.std.proofs.lemmas.Bool.{cases_eq, eqb-true, eq-eqb, ne_eqb}
-use Rattle.std.proofs.Math.Nat.{mod-lt}
-use Rattle.std.proofs.lemmas.Option.{slice_get-map}
-use Rattle.seam_node_steps.specs.Prelude.{total, RealView, base_of, NodeView, World, node_has_work, Cell, Base, with_nodes}
-use Rattle.seam_law_flow.specs.Prelude.{letters_of, slot_at}
-use Rattle.seam_law_calls.specs.Prelude.{Frame, here_at, IsInFrame, mine, orders_of, times, has_of, has_none, entity_flow, real_in, real_at}
-use Rattle.seam_law_rounds.specs.Prelude.{IsSettled, IsBetweenRounds, each}
-use Rattle.seam_machine.proofs.Quiet.{quiet_links, quiet_tasks}
+use Rattle.seam_law_rounds.proofs.Prelude.{◌≡◌, ℕ, zero, suc, ◌+◌, ◌<◌, ◌≤◌, Bool, true, false, cond, eqb, List, [], ◌∷◌, length, Option}
+use Rattle.seam_law_rounds.proofs.Prelude.{None, Some, refl, sym, ap, ◌∙◌, subst, arith, inl, inr, option_map, slice_get, length-map}
+use Rattle.seam_law_rounds.proofs.Prelude.{AllByRecursion, cases_eq, eqb-true, eq-eqb, ne_eqb, mod-lt, slice_get-map, total, RealView}
+use Rattle.seam_law_rounds.proofs.Prelude.{base_of, NodeView, World, node_has_work, Cell, Base, with_nodes, letters_of, slot_at, Frame}
+use Rattle.seam_law_rounds.proofs.Prelude.{here_at, IsInFrame, mine, orders_of, times, has_of, has_none, entity_flow, real_in, real_at}
+use Rattle.seam_law_rounds.proofs.Prelude.{IsSettled, IsBetweenRounds, each, quiet_links, quiet_tasks}
+use Rattle.std.specs.List.{IsDistinct}
 use Rattle.seam_law_rounds.proofs.Loading.{node_there}
 use Rattle.seam_law_rounds.proofs.Loaded.{no_items}
 use Rattle.seam_law_rounds.proofs.Room.{rows_none}

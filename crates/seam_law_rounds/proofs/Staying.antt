@@ -1,21 +1,12 @@
 -- What a load leaves of an entity that was there: its real, with no calls done and perhaps a witness, its routes, and no next place.
-use Rattle.std.proofs.Common.{◌≡◌, ℕ, Bool, true, false, cond, eqb, List, [], ◌∷◌, ◌++◌, Option, None, Some, refl, sym, ap, ◌∙◌, subst}
-use Rattle.std.proofs.Common.{arith}
-use Rattle.std.specs.Prelude.{option_map}
-use Rattle.std.specs.List.{AllByRecursion}
-use Rattle.std.specs.Ordering.{nat_cmp, eq_by_cmp}
-use Rattle.std.specs.Cmp.{unsigned_tied}
+use Rattle.seam_law_rounds.proofs.Prelude.{◌≡◌, ℕ, Bool, true, false, cond, eqb, List, [], ◌∷◌, ◌++◌, Option, None, Some, refl, sym, ap}
+use Rattle.seam_law_rounds.proofs.Prelude.{◌∙◌, subst, arith, option_map, AllByRecursion, nat_cmp, eq_by_cmp, unsigned_tied, filter-append}
+use Rattle.seam_law_rounds.proofs.Prelude.{ne_eqb, nat_tests, Division, leaf_at, cells_of, Create, Order, Batch, RealView, WitnessView, Map}
+use Rattle.seam_law_rounds.proofs.Prelude.{set_at, Here, base_of, CellView, BaseView, NodeView, Cell, Base, created, real_begins, real_if}
+use Rattle.seam_law_rounds.proofs.Prelude.{part_if, with_route, created_at, with_witness, attached, cell_round, base_round, order_if}
+use Rattle.seam_law_rounds.proofs.Prelude.{ordered_at, Has, has_of, orders_of, order_concerns, real_in, reaped_by_order, HasNoReaps, each}
+use Rattle.seam_law_rounds.proofs.Prelude.{made, node_loaded, all_append, get-set_at}
 use Rattle.std.specs.FinMap as table
-use Rattle.std.proofs.lemmas.List.Elements.{filter-append}
-use Rattle.std.proofs.lemmas.Bool.{ne_eqb}
-use Rattle.std.proofs.lemmas.Bool.Decides.{nat_tests}
-use Rattle.seam_node_steps.specs.Prelude.{Division, leaf_at, cells_of, Create, Order, Batch, RealView, WitnessView, Map, set_at, Here}
-use Rattle.seam_node_steps.specs.Prelude.{base_of, CellView, BaseView, NodeView, Cell, Base, created, real_begins, real_if, part_if}
-use Rattle.seam_node_steps.specs.Prelude.{with_route, created_at, with_witness, attached, cell_round, base_round, order_if, ordered_at}
-use Rattle.seam_law_calls.specs.Prelude.{Has, has_of, orders_of, order_concerns, real_in, reaped_by_order, HasNoReaps}
-use Rattle.seam_law_rounds.specs.Prelude.{each, made, node_loaded}
-use Rattle.seam_law_flow.proofs.Following.{all_append}
-use Rattle.seam_node_steps.proofs.Slots.{get-set_at}
 use Rattle.seam_law_rounds.proofs.Loading.{each_keeps, Any, any, get-each_value}
 
 -- the real is the same but for its witness, and what the turn makes of it

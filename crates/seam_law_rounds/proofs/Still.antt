@@ -1,31 +1,20 @@
 -- A base part that no one calls and no one reaps stays as it is, but for its client.
-use Rattle.std.proofs.Common.{◌≡◌, ℕ, true, List, [], ◌∷◌, Option, None, Some, refl, sym, ap, ◌∙◌, subst, arith, inl, inr}
-use Rattle.std.specs.Prelude.{option_map, slice_get}
-use Rattle.std.specs.List.{AllByRecursion}
+use Rattle.seam_law_rounds.proofs.Prelude.{◌≡◌, ℕ, true, List, [], ◌∷◌, Option, None, Some, refl, sym, ap, ◌∙◌, subst, arith, inl, inr}
+use Rattle.seam_law_rounds.proofs.Prelude.{option_map, slice_get, AllByRecursion, cases_eq, slice_get-map, happens, enabled, total, Event}
+use Rattle.seam_law_rounds.proofs.Prelude.{Call as CallData, Order, order_or, Msg, BaseCall, Here, PartView, ProxyView, NodeView, World}
+use Rattle.seam_law_rounds.proofs.Prelude.{node_steps, node_has_work, with_nodes, comes, slot_at, letters_of, Frame, here_at, IsInFrame}
+use Rattle.seam_law_rounds.proofs.Prelude.{Has, AtBase, mine, has_of, has_none, entity_flow, reaped_by, reaped_by_order, HasNoReaps}
+use Rattle.seam_law_rounds.proofs.Prelude.{IsSpared, base_call_in, base_call_of, calls_ordered, PartMoves, rests, refuses, offers, sends}
+use Rattle.seam_law_rounds.proofs.Prelude.{serves, executes, misses, updates, shows, ends, home_of, HasNoBaseCalls, RunsTo, IsBetweenRounds}
+use Rattle.seam_law_rounds.proofs.Prelude.{HasSettledPart, occurs, quiet_links, leads_keeps, slots_kept, came, event_moves, frame_happens}
+use Rattle.seam_law_rounds.proofs.Prelude.{spared_happens, unordered}
 use Rattle.std.specs.FinMap as table
-use Rattle.std.proofs.lemmas.Bool.{cases_eq}
-use Rattle.std.proofs.lemmas.Option.{slice_get-map}
-use Rattle.seam_node_steps.specs.Prelude.{happens, enabled, total, Event, Call as CallData, Order, order_or, Msg, BaseCall, Here, PartView}
-use Rattle.seam_node_steps.specs.Prelude.{ProxyView, NodeView, World, node_steps, node_has_work, with_nodes}
-use Rattle.seam_law_flow.specs.Prelude.{comes, slot_at, letters_of}
-use Rattle.seam_law_calls.specs.Prelude.{Frame, here_at, IsInFrame, Has, AtBase, mine, has_of, has_none, entity_flow, reaped_by}
-use Rattle.seam_law_calls.specs.Prelude.{reaped_by_order, HasNoReaps, IsSpared, base_call_in, base_call_of, calls_ordered, PartMoves, rests}
-use Rattle.seam_law_calls.specs.Prelude.{refuses, offers, sends, serves, executes, misses, updates, shows, ends, home_of, HasNoBaseCalls}
-use Rattle.seam_law_calls.specs.Prelude.{RunsTo}
-use Rattle.seam_law_rounds.specs.Prelude.{IsBetweenRounds, HasSettledPart}
-use Rattle.seam_machine.proofs.Occurring.{occurs}
-use Rattle.seam_machine.proofs.Quiet.{quiet_links}
-use Rattle.seam_net_runs.proofs.Runs.{leads_keeps}
-use Rattle.seam_law_flow.proofs.Following.{slots_kept, came}
 use Rattle.seam_call.specs.declared.order.Order.TheVariants as order
-use Rattle.seam_law_calls.proofs.Classify.{event_moves, frame_happens}
-use Rattle.seam_law_calls.proofs.OneReal.{spared_happens}
 use Rattle.seam_law_rounds.proofs.Calm.{order_reaps, IsCalmOrder}
 use Rattle.seam_law_rounds.proofs.CalmMoves.{none_ready}
 use Rattle.seam_law_rounds.proofs.Starting.{Given}
 use Rattle.seam_law_calls.proofs.PartSteps.{part_moves}
 use Rattle.seam_law_calls.proofs.Reaped.{no_call_comes}
-use Rattle.seam_law_calls.proofs.BaseRuns.{unordered}
 use Rattle.seam_law_rounds.proofs.PartLoads.{SamePart, same_part, part_at}
 use Rattle.seam_law_rounds.proofs.PartsLoaded.{same_none, same_some}
 

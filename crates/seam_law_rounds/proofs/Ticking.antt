@@ -1,21 +1,15 @@
 -- A loaded world has few entities, and each witness in it is to look few times: so it tells few updates.
-use Rattle.std.proofs.Common.{◌≡◌, ℕ, suc, ◌+◌, ◌*◌, ◌^◌, ◌<◌, ◌≤◌, Bool, true, false, cond, eqb, nat_lt, is_some, List, [], ◌∷◌, length}
-use Rattle.std.proofs.Common.{Option, None, Some, refl, sym, ap, ◌∙◌, subst, arith, inl, inr}
-use Rattle.std.specs.Prelude.{option_map, slice_get}
-use Rattle.std.specs.List.{AllByRecursion}
-use Rattle.std.proofs.lemmas.Bool.{cases_lt}
-use Rattle.std.proofs.lemmas.Option.{slice_get-map}
-use Rattle.seam_node_steps.specs.Prelude.{link, items_to, total, Event, Ghost, copy_in, Create, Order, Batch, GhostCopy, RealView}
-use Rattle.seam_node_steps.specs.Prelude.{cell_count, base_of, has_any, ready_entity, PartView, NodeView, World, node_has_work, Cell, Base}
-use Rattle.seam_node_steps.specs.Prelude.{real_if, part_if, with_route, created_at, attached, cell_round, base_round, order_if, ordered_at}
-use Rattle.seam_node_steps.specs.Prelude.{loaded, with_nodes, Division, leaf_at, cells_of}
-use Rattle.seam_law_flow.specs.Prelude.{slot_at, letters_of}
-use Rattle.seam_law_calls.specs.Prelude.{Frame, here_at, mine, times, order_concerns, orders_of, has_of, has_none, real_in, sent_by}
-use Rattle.seam_law_calls.specs.Prelude.{EachReal, HasToldAtMost, most_entities, IsBlank, CarriesNoEntity, IsAbsent, HasFewEntities}
-use Rattle.seam_law_calls.specs.Prelude.{SeesFew}
-use Rattle.seam_law_calls.specs.Prelude.{order_looks, node_looks, mine_looks, looks_left, most_shown, RunsTo}
-use Rattle.seam_law_rounds.specs.Prelude.{IsBetweenRounds, each, made, node_loaded, HasPartsBetweenRounds, FitsParts, MayBegin}
-use Rattle.seam_machine.proofs.Quiet.{quiet_links, quiet_tasks}
+use Rattle.seam_law_rounds.proofs.Prelude.{◌≡◌, ℕ, suc, ◌+◌, ◌*◌, ◌^◌, ◌<◌, ◌≤◌, Bool, true, false, cond, eqb, nat_lt, is_some, List, []}
+use Rattle.seam_law_rounds.proofs.Prelude.{◌∷◌, length, Option, None, Some, refl, sym, ap, ◌∙◌, subst, arith, inl, inr, option_map}
+use Rattle.seam_law_rounds.proofs.Prelude.{slice_get, AllByRecursion, cases_lt, slice_get-map, link, items_to, total, Event, Ghost, copy_in}
+use Rattle.seam_law_rounds.proofs.Prelude.{Create, Order, Batch, GhostCopy, RealView, cell_count, base_of, has_any, ready_entity, PartView}
+use Rattle.seam_law_rounds.proofs.Prelude.{NodeView, World, node_has_work, Cell, Base, real_if, part_if, with_route, created_at, attached}
+use Rattle.seam_law_rounds.proofs.Prelude.{cell_round, base_round, order_if, ordered_at, loaded, with_nodes, Division, leaf_at, cells_of}
+use Rattle.seam_law_rounds.proofs.Prelude.{slot_at, letters_of, Frame, here_at, mine, times, order_concerns, orders_of, has_of, has_none}
+use Rattle.seam_law_rounds.proofs.Prelude.{real_in, sent_by, EachReal, HasToldAtMost, most_entities, IsBlank, CarriesNoEntity, IsAbsent}
+use Rattle.seam_law_rounds.proofs.Prelude.{HasFewEntities, SeesFew, order_looks, node_looks, mine_looks, looks_left, most_shown, RunsTo}
+use Rattle.seam_law_rounds.proofs.Prelude.{IsBetweenRounds, each, made, node_loaded, HasPartsBetweenRounds, FitsParts, MayBegin}
+use Rattle.seam_law_rounds.proofs.Prelude.{quiet_links, quiet_tasks, NoTicks, each_weaker}
 use Rattle.seam_call.specs.declared.order.Order.TheVariants as order
 use Rattle.seam_law_calls.proofs.Quieting.{neither, none_left}
 use Rattle.seam_law_rounds.proofs.Loading.{each_keeps, Any, any, loaded_is, node_there}
@@ -26,8 +20,6 @@ use Rattle.seam_law_rounds.proofs.Turns.{node_orders, node_none}
 use Rattle.seam_law_calls.proofs.Telling.{tells_at_most, sees_few_then}
 use Rattle.seam_law_rounds.proofs.Joining.{is_among, peopled, real_in_node, real_joined, real_peopled}
 use Rattle.seam_law_rounds.proofs.Attaching.{real_from}
-use Rattle.seam_law_calls.proofs.NoLooks.{NoTicks}
-use Rattle.seam_law_calls.proofs.WitnessKept.{each_weaker}
 use Rattle.seam_law_rounds.proofs.Serving.{HasItStill, each_real, told_at_start}
 
 -- what a witness tells in a phase of a round is at most this

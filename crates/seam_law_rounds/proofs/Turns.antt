@@ -1,24 +1,15 @@
 -- Each sender's calls of a batch are in turn in a loaded world, for each entity of it.
-use Rattle.std.proofs.Common.{◌≡◌, ℕ, ◌<◌, ◌≤◌, Bool, true, false, cond, eqb, List, [], ◌∷◌, ◌++◌, map, Option, None, Some, refl, sym, ap}
-use Rattle.std.proofs.Common.{◌∙◌, subst, arith, inl, inr}
-use Rattle.std.specs.Prelude.{option_map, slice_get}
-use Rattle.std.specs.List.{AllByRecursion}
-use Rattle.std.proofs.lemmas.Bool.{eqb-true, cases_lt}
-use Rattle.std.proofs.lemmas.List.{append_assoc, append-nil}
-use Rattle.std.proofs.lemmas.List.Elements.{filter-append}
-use Rattle.std.proofs.lemmas.Option.{slice_get_cases}
-use Rattle.seam_node_steps.specs.Prelude.{IsTree, items_to, item_at, Call as CallData, Order, Batch, rank_of, order_or, RealView, Msg}
-use Rattle.seam_node_steps.specs.Prelude.{cell_count, fits_cell_part, BaseView, NodeView, World, node_has_work, Cell, Base, cell_round}
-use Rattle.seam_node_steps.specs.Prelude.{order_if, ordered_at, loaded}
-use Rattle.seam_law_flow.specs.Prelude.{Flow, slot_at, letters_of, more_letter, number_from, of_number, Desk, AreInTurn}
-use Rattle.seam_law_calls.specs.Prelude.{Frame, here_at, IsAt, Has, kept_if, has_of, has_none, order_concerns, orders_of, is_from}
-use Rattle.seam_law_calls.specs.Prelude.{from_sender, cell_order_from, real_desk, cell_mail, as_sender, IsCallOf, AreCallsOf}
-use Rattle.seam_law_calls.specs.Prelude.{CellCallsInTurn, real_at}
-use Rattle.seam_law_rounds.specs.Prelude.{order_in, cell_call_from, calls_of, calls_at, AreNumbered, IsFitOrder, next_from, IsBetweenRounds}
-use Rattle.seam_law_rounds.specs.Prelude.{framed, each, made, node_loaded, MayBegin}
-use Rattle.seam_machine.proofs.Quiet.{quiet_tasks}
-use Rattle.seam_law_flow.proofs.Numbers.{letters_of-number_from}
-use Rattle.seam_law_flow.proofs.Ends.{loaded_in_turn}
+use Rattle.seam_law_rounds.proofs.Prelude.{◌≡◌, ℕ, ◌<◌, ◌≤◌, Bool, true, false, cond, eqb, List, [], ◌∷◌, ◌++◌, map, Option, None, Some}
+use Rattle.seam_law_rounds.proofs.Prelude.{refl, sym, ap, ◌∙◌, subst, arith, inl, inr, option_map, slice_get, AllByRecursion, eqb-true}
+use Rattle.seam_law_rounds.proofs.Prelude.{cases_lt, append_assoc, append-nil, filter-append, slice_get_cases, IsTree, items_to, item_at}
+use Rattle.seam_law_rounds.proofs.Prelude.{Call as CallData, Order, Batch, rank_of, order_or, RealView, Msg, cell_count, fits_cell_part}
+use Rattle.seam_law_rounds.proofs.Prelude.{BaseView, NodeView, World, node_has_work, Cell, Base, cell_round, order_if, ordered_at, loaded}
+use Rattle.seam_law_rounds.proofs.Prelude.{Flow, slot_at, letters_of, more_letter, number_from, of_number, Desk, AreInTurn, Frame, here_at}
+use Rattle.seam_law_rounds.proofs.Prelude.{IsAt, Has, kept_if, has_of, has_none, order_concerns, orders_of, is_from, from_sender}
+use Rattle.seam_law_rounds.proofs.Prelude.{cell_order_from, real_desk, cell_mail, as_sender, IsCallOf, AreCallsOf, CellCallsInTurn, real_at}
+use Rattle.seam_law_rounds.proofs.Prelude.{order_in, cell_call_from, calls_of, calls_at, AreNumbered, IsFitOrder, next_from}
+use Rattle.seam_law_rounds.proofs.Prelude.{IsBetweenRounds, framed, each, made, node_loaded, MayBegin, quiet_tasks, letters_of-number_from}
+use Rattle.seam_law_rounds.proofs.Prelude.{loaded_in_turn}
 use Rattle.seam_call.specs.declared.order.Order.TheVariants as order
 use Rattle.std.specs.FinMap as table
 use Rattle.seam_law_rounds.proofs.Framing.{node_begun, node_goes}
@@ -166,10 +157,10 @@ module _ (f : Frame) (w : World) (b : Batch) (begin : MayBegin f w b) (e home : 
         letters_of (of_number n) (stored numbers.node) ≡ more_letter (item_at n (number_from first (calls_of b e s))) []
     store_by n None at =
         let many = begin.between.many in
-        let is_there = numbers.is_there in
+        let in_net = numbers.in_net in
         elim (slice_get_cases w.nodes numbers.node).1 [
           | inl p ↦ absurd (let z = sym at ∙ p.2 in cc)
-          | inr p ↦ let past = p.0 in absurd (omega (arith, past, many, is_there))
+          | inr p ↦ let past = p.0 in absurd (omega (arith, past, many, in_net))
         ]
     store_by n (Some m) at =
         ap (letters_of (of_number n)) (there_by numbers.node m at numbers.is_base ∙ numbers.calls)

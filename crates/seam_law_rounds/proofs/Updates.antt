@@ -1,14 +1,8 @@
 -- An update that comes finds the client that it is for.
-use Rattle.std.proofs.Common.{◌≡◌, ℕ, List, [], ◌∷◌, None, sym, subst, arith}
-use Rattle.std.specs.List.{AllByRecursion}
-use Rattle.seam_node_steps.specs.Prelude.{Event, Msg, Update, World}
-use Rattle.seam_law_calls.specs.Prelude.{Frame, IsInFrame, entity_flow, IsSpared, update_in, FindsClient, NoUpdateComes, RunsTo}
-use Rattle.seam_law_rounds.specs.Prelude.{IsServed, bare, served}
+use Rattle.seam_law_rounds.proofs.Prelude.{◌≡◌, ℕ, List, [], ◌∷◌, None, sym, subst, arith, AllByRecursion, Event, Msg, Update, World, Frame}
+use Rattle.seam_law_rounds.proofs.Prelude.{IsInFrame, entity_flow, IsSpared, update_in, FindsClient, NoUpdateComes, RunsTo, IsServed, bare}
+use Rattle.seam_law_rounds.proofs.Prelude.{served, client_leads, finds_client, base_burden_leads, unseen_told_none}
 use Rattle.seam_call.specs.declared.shown.Update.{Update as UpdateData}
-use Rattle.seam_law_calls.proofs.ClientLeads.{client_leads}
-use Rattle.seam_law_calls.proofs.ClientRuns.{finds_client}
-use Rattle.seam_law_calls.proofs.StrayRuns.{base_burden_leads}
-use Rattle.seam_law_calls.proofs.Silent.{unseen_told_none}
 use Rattle.seam_law_rounds.proofs.Serving.{HasNumbers}
 
 module _ (f : Frame) (e ty : ℕ) (w v : World) (es : List Event) (run : RunsTo w es v) (frame : IsInFrame f w)

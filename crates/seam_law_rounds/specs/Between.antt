@@ -86,7 +86,7 @@ calls_at b e s k = letters_of (cell_order_from s) (orders_of e (items_to k b.ord
 pub record AreNumbered (f : Frame) (b : Batch) (e s first : ℕ) : Type 0 where
   pub node : ℕ
   pub is_base : cell_count ≤ node
-  pub is_there : node < cell_count + f.settings.bases
+  pub in_net : node < cell_count + f.settings.bases
   pub calls : calls_at b e s node ≡ number_from first (calls_of b e s)
   pub others : (j : ℕ) → (j ≡ node → ⊥) → calls_at b e s j ≡ []
   pub room : first + length (calls_of b e s) < limit

@@ -4,7 +4,7 @@ use Rattle.std.specs.List.{AllByRecursion, IsDistinct}
 use Rattle.seam_node_steps.specs.Prelude.{input_from, happens, Event, Settings, TypeDef, RealView, may_rise, holders, World, node_steps}
 use Rattle.seam_node_steps.specs.Prelude.{one_cell}
 use Rattle.seam_law_flow.specs.Prelude.{WaitsOnce}
-use Rattle.seam_law_calls.specs.Prelude.{Frame, entity_flow, reaps, as_sender, real_at, real_in, as_base_sender}
+use Rattle.seam_law_calls.specs.Prelude.{Frame, entity_flow, reaps, as_sender, real_at, as_base_sender}
 
 -- what the nodes of a world go by as it is opened: the tree of one cell
 abbrev pub first_frame : List TypeDef → Settings → Frame

@@ -7,7 +7,5 @@ pub use Rattle.seam_law_rounds.specs.LastPhases.{AreReapable, HasNoCalls, HasNoC
 pub use Rattle.seam_law_rounds.specs.Loaded.{each, made, node_loaded}
 pub use Rattle.seam_law_rounds.specs.SettledParts.{AreBaseNumbered, AreFor, AreInStep, FitsParts, HasPartsBetweenRounds, HasSettledPart}
 pub use Rattle.seam_law_rounds.specs.SettledParts.{HasSmallNumbers, IsFitBaseOrder, IsForPart, IsServed, MayBeLoaded, StaysWithoutClient}
-pub use Rattle.seam_law_rounds.specs.SettledParts.{bare}
-pub use Rattle.seam_law_rounds.specs.SettledParts.{base_calls_at}
-pub use Rattle.seam_law_rounds.specs.SettledParts.{base_calls_of, lines_of, next_to, served}
+pub use Rattle.seam_law_rounds.specs.SettledParts.{bare, base_calls_at, base_calls_of, lines_of, next_to, served}
 pub use Rattle.seam_law_rounds.specs.Routes.{NewestRouteIsRight, as_entry, route_entry, sent_route}

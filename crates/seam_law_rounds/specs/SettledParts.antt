@@ -75,7 +75,7 @@ base_calls_at b e s k = letters_of (numbered_from s) (letters_of base_call_of (o
 pub record AreBaseNumbered (f : Frame) (b : Batch) (e s first : ℕ) : Type 0 where
   pub node : ℕ
   pub is_base : cell_count ≤ node
-  pub is_there : node < cell_count + f.settings.bases
+  pub in_net : node < cell_count + f.settings.bases
   pub calls : base_calls_at b e s node ≡ number_from first (base_calls_of b e s)
   pub others : (j : ℕ) → (j ≡ node → ⊥) → base_calls_at b e s j ≡ []
   pub room : first + length (base_calls_of b e s) < limit

@@ -7,3 +7,4 @@ pub mod Gathering
 mod Places
 mod Stones
 pub mod Sequence
+pub mod Beginnings

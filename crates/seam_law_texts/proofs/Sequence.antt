@@ -131,7 +131,7 @@ module _ (defs : List TypeDef) (b : Book) where
       (l.number, section Did r.did r1 l.did (section Dob r.dob r2 l.dob f2))
 
   -- rounds in form begin with one tree of one cell, or with none
-  same_start : (z : Bool) (x y : Option Division) → MatchBool z ((t : Division) × (x ≡ Some t) × IsNext b t) (x ≡ None) →
+  pub same_start : (z : Bool) (x y : Option Division) → MatchBool z ((t : Division) × (x ≡ Some t) × IsNext b t) (x ≡ None) →
       MatchBool z ((t : Division) × (y ≡ Some t) × IsNext b t) (y ≡ None) → no_lines x ≡ no_lines y
   same_start true x y (t, is, next) (u, at, other) =
       let size : t.size ≡ u.size = next.cuts.size ∙ sym other.cuts.size in

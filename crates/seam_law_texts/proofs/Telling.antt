@@ -42,7 +42,7 @@ use Rattle.seam_law_texts.specs.declared.kinds.Kind.TheVariants.{Begin, Did, Dob
 use Rattle.seam_law_texts.specs.TextLines.{Said, word_of, line}
 use Rattle.seam_law_texts.specs.TextLines.{property_word, value_words, state_words, deed_words, done_words, home_words, base_words}
 use Rattle.seam_law_texts.specs.TextLines.{ghost_words, shown_words, told_words, client_words, bound_words, said_words}
-use Rattle.seam_law_texts.specs.Forms.{type_in, HasState, IsDone, IsHome, IsBase, IsCopy, IsShown, IsTold, IsTo, IsBound, IsForm}
+use Rattle.seam_law_texts.specs.Forms.{type_in, HasState, IsDone, IsHome, IsBase, IsCopy, IsShown, IsClientText, IsTo, IsBound, IsForm}
 
 -- ---- lists of words
 
@@ -269,7 +269,8 @@ module _ (defs : List TypeDef) (are : AreDefs defs) (b : Book) where
   not_base ty (Set e k) v props same = other_words 115 98 _ _ same refl refl refl
   not_base ty (Leave e) v props same = other_words 108 98 _ _ same refl refl refl
 
-  told_told : (ty : ℕ) (x y : ClientText) → IsTold defs b ty x → IsTold defs b ty y → told_words defs ty x ≡ told_words defs ty y → x ≡ y
+  told_told : (ty : ℕ) (x y : ClientText) → IsClientText defs b ty x → IsClientText defs b ty y →
+      told_words defs ty x ≡ told_words defs ty y → x ≡ y
   told_told ty (text.Shown x) (text.Shown y) fx fy e = ap text.Shown (shown_told ty x y fx fy e)
   told_told ty (text.Shown x) (text.Base w us) fx fy e = absurd (not_base ty x w us e)
   told_told ty (text.Base v vs) (text.Shown y) fx fy e = absurd (not_base ty y v vs (sym e))
@@ -288,7 +289,7 @@ module _ (defs : List TypeDef) (are : AreDefs defs) (b : Book) where
       let e2 = tails (decimal_of x.line.number) (decimal_of y.line.number) _ _ e1 in
       let ty = same_type x.entity y.entity x.ty y.ty entity fx.ty fy.ty in
       let told =
-      told_told x.ty x.line.text y.line.text fx.told (subst (λ (t : ℕ). IsTold defs b t y.line.text) (sym ty) fy.told)
+      told_told x.ty x.line.text y.line.text fx.told (subst (λ (t : ℕ). IsClientText defs b t y.line.text) (sym ty) fy.told)
       (e2 ∙ ap (λ (t : ℕ). told_words defs t y.line.text) (sym ty)) in
       λ i. record { entity = entity i; ty = ty i; line = record { number = number i; text = told i } }
 

@@ -107,15 +107,15 @@ IsShown defs b ty (Enter e k) = IsCopy defs b e k
 IsShown defs b ty (Set e k) = IsCopy defs b e k
 IsShown defs b ty (Leave e) = IsWhole e
 
-abbrev pub IsTold : List TypeDef → Book → (ty : ℕ) → ClientText → Type 0
-IsTold defs b ty (text.Shown x) = IsShown defs b ty x
-IsTold defs b ty (text.Base v props) = IsLong v × IsOfGroup (type_of defs ty).properties group.BaseClient props
+abbrev pub IsClientText : List TypeDef → Book → (ty : ℕ) → ClientText → Type 0
+IsClientText defs b ty (text.Shown x) = IsShown defs b ty x
+IsClientText defs b ty (text.Base v props) = IsLong v × IsOfGroup (type_of defs ty).properties group.BaseClient props
 
 pub record IsTo (defs : List TypeDef) (b : Book) (l : ClientLine) : Type 0 where
   pub entity : IsWhole l.entity
   pub ty : l.ty ≡ type_in b l.entity
   pub number : IsLong l.line.number
-  pub told : IsTold defs b l.ty l.line.text
+  pub told : IsClientText defs b l.ty l.line.text
 
 -- a boundary divides the cell that it divided in the round
 pub record IsBound (b : Book) (x : ℕ × Cut) : Type 0 where

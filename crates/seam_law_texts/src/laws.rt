@@ -40,6 +40,13 @@ pub fn a_text_is_one_round()
         IsFormed defs b r → IsFormed defs b s → round_text defs r ≡ round_text defs s → r ≡ s }
 {}
 
+/// A text begins with the text of one round in form, and what comes after that is one text.
+pub fn a_text_begins_with_one_round()
+    ensures { (defs : List TypeDef) → AreDefs defs → (b : Book) (r s : RoundData)
+        (after others : List ℕ) → IsFormed defs b r → IsFormed defs b s →
+        round_text defs r ++ after ≡ round_text defs s ++ others → (r ≡ s) × (after ≡ others) }
+{}
+
 /// There are rounds in form. A text does not show of which type an entity is: two types may have the same words, and only one of the two
 /// rounds is in form.
 pub fn a_text_does_not_show_types()

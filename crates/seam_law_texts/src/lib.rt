@@ -8,7 +8,8 @@
 //!
 //! For callers, of `proofs/`: `OneLine` and `Content` (a line is one list of words, without a line feed), `Writing` (the text of a round is
 //! that of its lines), `Spelling` (the words of a line are words), `Telling` (they tell the line), `Gathering` (a round is what its lines
-//! say) and `Sequence` (the lines of a round in form).
+//! say) `Sequence` (the lines of a round in form)
+//! and `Beginnings` (a text begins with one round).
 #![tactic(auto)]
 
 mod kinds;
@@ -17,6 +18,6 @@ mod laws;
 pub use kinds::Kind;
 pub use laws::{
     a_line_has_a_text_of_its_own, a_round_is_what_its_lines_say,
-    a_rounds_text_is_that_of_its_lines, a_text_does_not_show_types, a_text_is_one_round,
-    a_text_is_one_sequence_of_lines,
+    a_rounds_text_is_that_of_its_lines, a_text_begins_with_one_round, a_text_does_not_show_types,
+    a_text_is_one_round, a_text_is_one_sequence_of_lines,
 };

@@ -1,21 +1,15 @@
 -- What a client is shown of a base part after each of its calls is what the rules ask for.
-use Rattle.std.proofs.Common.{◌≡◌, ◌<◌, ℕ, ◌+◌, ◌-◌, Bool, true, false, cond, List, [], ◌∷◌, ◌++◌, map, length, fold, refl, sym, ap, ◌∙◌}
-use Rattle.std.proofs.Common.{arith, length-append, append_assoc}
-use Rattle.std.specs.Prelude.{not, nat_lt, filter, ◌&&◌, if◌then◌else◌}
-use Rattle.std.specs.List.{AllByRecursion, range_with_len}
-use Rattle.std.proofs.lemmas.Bool.Decides.{nat_tests}
-use Rattle.std.proofs.lemmas.List.{take-append-le, map-append}
-use Rattle.seam_node_steps.specs.Prelude.{Value, after, client_of, properties_of, Property, same_values, same_shown, changes, type_of}
-use Rattle.seam_node_steps.specs.Prelude.{State, TypeDef, Call as CallData, Create, ClientText, Division, Here, has_any, PartView}
-use Rattle.seam_node_steps.specs.Prelude.{base_text}
-use Rattle.seam_rule_rounds.specs.Prelude.{Header, first_state, flat, properties, has_changed_at, changes_past}
-use Rattle.seam_law_calls.specs.Prelude.{here_at}
-use Rattle.seam_law_clients.specs.Prelude.{first_lines, lines_after, line_where}
-use Rattle.seam_law_book.specs.Prelude.{frame_of, IsDoneOn, BeginsPart}
+use Rattle.seam_law_transcript.proofs.Prelude.{◌≡◌, ◌<◌, ℕ, ◌+◌, ◌-◌, Bool, true, false, cond, List, [], ◌∷◌, ◌++◌, map, length, fold, refl}
+use Rattle.seam_law_transcript.proofs.Prelude.{sym, ap, ◌∙◌, arith, length-append, append_assoc, not, nat_lt, filter, ◌&&◌, if◌then◌else◌}
+use Rattle.seam_law_transcript.proofs.Prelude.{AllByRecursion, range_with_len, nat_tests, take-append-le, map-append, Value, after}
+use Rattle.seam_law_transcript.proofs.Prelude.{properties_of, Property, same_values, same_shown, changes, type_of, State, TypeDef}
+use Rattle.seam_law_transcript.proofs.Prelude.{Call as CallData, Create, ClientText, Division, Here, has_any, PartView, base_text, Header}
+use Rattle.seam_law_transcript.proofs.Prelude.{first_state, flat, properties, has_changed_at, changes_past, here_at, first_lines}
+use Rattle.seam_law_transcript.proofs.Prelude.{lines_after, line_where, frame_of, IsDoneOn, BeginsPart, done_deed, one_more}
+use Rattle.seam_node_steps.specs.Prelude.{client_of}
 use Rattle.seam_defs.specs.declared.flags.Group.TheVariants as group
 use Rattle.seam_defs.specs.declared.flags.Part.TheVariants as part
 use Rattle.seam_call.specs.declared.shown.ClientText.TheVariants as text
-use Rattle.seam_law_book.proofs.Accounts.{done_deed, one_more}
 use Rattle.seam_law_book.proofs.PartsTable.{same_props}
 
 module _ (h : Header) (t : Division) (j : ℕ) (c : Create) where

@@ -1,12 +1,9 @@
 -- Lines create no more entities than there may be.
-use Rattle.std.proofs.Common.{ℕ, ◌+◌, ◌<◌, ◌≤◌, [], ◌∷◌, length, refl, sym, ap, ◌∙◌, arith, inl, inr, append_assoc, append-nil}
-use Rattle.std.proofs.Common.{length-append}
-use Rattle.std.proofs.lemmas.Bool.{cases_lt}
-use Rattle.std.proofs.lemmas.List.Elements.{filter_map-append}
-use Rattle.seam_node_steps.specs.Prelude.{Create}
-use Rattle.seam_rule_rounds.specs.Prelude.{Line, Content, Long, Header, Book, entries, created, creates_of, Adds, HoldsAgainst, Holds}
-use Rattle.seam_rule_rounds.specs.Prelude.{Spells, MOST_ENTITIES, Entry, Cause}
-use Rattle.seam_law_book.specs.Prelude.{IsAccepted, IsOfLines, empty, accepts, ends, balances}
+use Rattle.seam_law_transcript.proofs.Prelude.{ℕ, ◌+◌, ◌<◌, ◌≤◌, [], ◌∷◌, length, refl, sym, ap, ◌∙◌, arith, inl, inr, append_assoc}
+use Rattle.seam_law_transcript.proofs.Prelude.{append-nil, length-append, cases_lt, filter_map-append, Create, Content, Long, Header, Book}
+use Rattle.seam_law_transcript.proofs.Prelude.{entries, created, creates_of, Adds, HoldsAgainst, Holds, Spells, MOST_ENTITIES, Entry, Cause}
+use Rattle.seam_law_transcript.proofs.Prelude.{IsAccepted, IsOfLines, empty, accepts, ends, balances}
+use Rattle.seam_rule_rounds.specs.Prelude.{Line}
 use Rattle.seam_rule_lines.specs.Language as language
 use Rattle.seam_rule_lines.specs.declared.verdict.Entry.TheVariants as entry
 use Rattle.seam_rule_lines.specs.declared.verdict.Cause.TheVariants as cause

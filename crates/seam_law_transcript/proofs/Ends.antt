@@ -1,14 +1,7 @@
 -- The numbers of a world after a round, by the entries and rounds before it.
-use Rattle.std.proofs.Common.{◌≡◌, ℕ, ◌+◌, ◌*◌, ◌≤◌, length, arith, length-append}
-use Rattle.std.proofs.Math.Nat.{mul-le-mul_left}
-use Rattle.seam_node_steps.specs.Prelude.{World}
-use Rattle.seam_rule_rounds.specs.Prelude.{Header, Standing, entries}
-use Rattle.seam_law_calls.specs.Prelude.{sent_by}
-use Rattle.seam_law_rounds.specs.Prelude.{numbers_of}
-use Rattle.seam_law_bounds.specs.Prelude.{AreAtMost}
-use Rattle.seam_law_transcript.specs.Prelude.{most_lines_of_look}
-use Rattle.seam_accept.specs.Batches.{batch_of, ordered}
-use Rattle.seam_law_calls.proofs.Below.{mapped_few}
+use Rattle.seam_law_transcript.proofs.Prelude.{◌≡◌, ℕ, ◌+◌, ◌*◌, ◌≤◌, length, arith, length-append, mul-le-mul_left, World, Header}
+use Rattle.seam_law_transcript.proofs.Prelude.{Standing, entries, sent_by, numbers_of, AreAtMost, most_lines_of_look, batch_of, ordered}
+use Rattle.seam_law_transcript.proofs.Prelude.{mapped_few}
 
 -- a product of lesser numbers is less
 product : (a c m k : ℕ) → a ≤ c → m ≤ k → a * m ≤ c * k

@@ -1,8 +1,6 @@
 -- A part executed no more calls than were accepted.
-use Rattle.std.proofs.Common.{◌≡◌, ℕ, suc, ◌+◌, ◌≤◌, Bool, true, false, cond, List, [], ◌∷◌, length, refl, ap, ◌∙◌, arith}
-use Rattle.std.specs.Prelude.{filter, ◌&&◌}
-use Rattle.seam_node_steps.specs.Prelude.{Part, is_for, is_from, same_sender, Call, Sender}
-use Rattle.seam_rule_rounds.specs.Prelude.{of_sender, IsFull}
+use Rattle.seam_law_transcript.proofs.Prelude.{◌≡◌, ℕ, suc, ◌+◌, ◌≤◌, Bool, true, false, cond, List, [], ◌∷◌, length, refl, ap, ◌∙◌, arith}
+use Rattle.seam_law_transcript.proofs.Prelude.{filter, ◌&&◌, Part, is_for, is_from, same_sender, Call, Sender, of_sender, IsFull}
 use Rattle.seam_call.specs.declared.sender.Sender.TheVariants as sender
 
 same_is : (s t : Sender) → same_sender s t ≡ true → s ≡ t

@@ -1,21 +1,10 @@
 -- The lines of all clients, gathered from entity to entity in rising number.
-use Rattle.std.proofs.Common.{◌≡◌, ◌≤◌, ◌<◌, ℕ, zero, suc, Bool, true, false, cond, eqb, List, [], ◌∷◌, ◌++◌, map, length, refl, sym, ap}
-use Rattle.std.proofs.Common.{◌∙◌, subst, arith, inl, inr, append-nil}
-use Rattle.std.specs.Prelude.{Contains, filter, slice_index_or, IsTrue}
-use Rattle.std.specs.List.{All, AllByRecursion, flat_map}
+use Rattle.seam_law_transcript.proofs.Prelude.{◌≡◌, ◌≤◌, ◌<◌, ℕ, zero, suc, Bool, true, false, cond, eqb, List, [], ◌∷◌, ◌++◌, map, length}
+use Rattle.seam_law_transcript.proofs.Prelude.{refl, sym, ap, ◌∙◌, subst, arith, inl, inr, append-nil, Contains, filter, slice_index_or}
+use Rattle.seam_law_transcript.proofs.Prelude.{IsTrue, All, AllByRecursion, flat_map, nat_cmp, Less, eq-eqb, nat_tests, map-append}
+use Rattle.seam_law_transcript.proofs.Prelude.{All-append, All-nil, All-cons, filter-append, sorted_from_strictly_increasing, Create, Line}
+use Rattle.seam_law_transcript.proofs.Prelude.{ClientLine, client_lines, differ, contains_cases}
 use Rattle.std.specs.List.Sorted.{IsNonDecreasing, IsStrictlyIncreasing, IsStrictlySortedBy}
-use Rattle.std.specs.Ordering.{nat_cmp}
-use Rattle.std.specs.declared.cmp.Ordering.TheVariants.{Less}
-use Rattle.std.proofs.lemmas.Bool.{eq-eqb}
-use Rattle.std.proofs.lemmas.Bool.Decides.{nat_tests}
-use Rattle.std.proofs.lemmas.List.{map-append}
-use Rattle.std.proofs.lemmas.List.Elements.{All-append, All-nil, All-cons, filter-append}
-use Rattle.std.proofs.lemmas.Map.Keys.{sorted_from_strictly_increasing}
-use Rattle.seam_node_steps.specs.Prelude.{Create, Line}
-use Rattle.seam_rule_rounds.specs.Prelude.{ClientLine}
-use Rattle.seam_law_transcript.specs.Prelude.{client_lines}
-use Rattle.seam_rule_lines.proofs.BookEntries.{differ}
-use Rattle.seam_rule_lines.proofs.Lists.{contains_cases}
 
 -- ---- lists in rising number
 

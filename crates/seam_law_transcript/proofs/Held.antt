@@ -1,18 +1,9 @@
 -- What is read of each entity, gathered over lists of them.
-use Rattle.std.proofs.Common.{◌≡◌, ℕ, ◌+◌, ◌<◌, List, [], ◌∷◌, ◌++◌, map, Some, refl, ap, ◌∙◌, arith}
-use Rattle.std.specs.Prelude.{Contains, slice_get, slice_index_or}
-use Rattle.std.specs.List.{All, flat_map}
-use Rattle.std.proofs.lemmas.List.Elements.{All-nil, All-cons}
-use Rattle.seam_node_steps.specs.Prelude.{cell_count, RealView, World}
-use Rattle.seam_rule_rounds.specs.Prelude.{in_first_cell}
-use Rattle.seam_law_calls.specs.Prelude.{Frame, real_at}
-use Rattle.seam_law_rounds.specs.Prelude.{IsBetweenRounds}
-use Rattle.seam_law_ghosts.specs.Prelude.{place_of}
-use Rattle.seam_law_book.specs.Prelude.{home_read, real_here}
-use Rattle.seam_law_transcript.specs.Prelude.{home_if, homes_read, place_read}
-use Rattle.seam_rule_lines.proofs.Lists.{contains_first, contains_later}
-use Rattle.seam_law_book.proofs.Executed.{one_in}
-use Rattle.seam_law_book.proofs.Found.{real_is}
+use Rattle.seam_law_transcript.proofs.Prelude.{◌≡◌, ℕ, ◌+◌, ◌<◌, List, [], ◌∷◌, ◌++◌, map, Some, refl, ap, ◌∙◌, arith, Contains, slice_get}
+use Rattle.seam_law_transcript.proofs.Prelude.{slice_index_or, All, flat_map, All-nil, All-cons, cell_count, RealView, World, in_first_cell}
+use Rattle.seam_law_transcript.proofs.Prelude.{Frame, real_at, IsBetweenRounds, place_of, real_here, home_if, homes_read, place_read}
+use Rattle.seam_law_transcript.proofs.Prelude.{contains_first, contains_later, one_in, real_is}
+use Rattle.seam_law_book.specs.Prelude.{home_read}
 use Rattle.seam_law_transcript.specs.Reading.{place_if}
 
 -- ---- over a list

@@ -1,10 +1,7 @@
 -- Along the calls of a round: what an entity executed so far comes first of all that it executes.
-use Rattle.std.proofs.Common.{◌≡◌, ℕ, ◌<◌, List, ◌++◌, length, Some, ap, ◌∙◌}
-use Rattle.seam_node_steps.specs.Prelude.{Event, type_of, Call as CallData, RealView, World}
-use Rattle.seam_law_calls.specs.Prelude.{Frame, entity_flow, real_in, real_of, IsFrame, IsSpared, HasOne, account_of, RunsTo, real_at}
-use Rattle.seam_law_flow.proofs.TokenLemmas.{sole_here}
-use Rattle.seam_law_calls.proofs.OneReal.{one_leads}
-use Rattle.seam_law_book.proofs.Accounts.{done_after}
+use Rattle.seam_law_transcript.proofs.Prelude.{◌≡◌, ℕ, ◌<◌, List, ◌++◌, length, Some, ap, ◌∙◌, Event, type_of, Call as CallData, RealView}
+use Rattle.seam_law_transcript.proofs.Prelude.{World, Frame, entity_flow, real_in, real_of, IsFrame, IsSpared, HasOne, account_of, RunsTo}
+use Rattle.seam_law_transcript.proofs.Prelude.{real_at, sole_here, one_leads, done_after}
 
 module _ (f : Frame) (frame : IsFrame f) (e ty : ℕ) (known : ty < length f.defs) (u v : World) (es : List Event) (one : HasOne f e ty u)
     (spared : IsSpared e u) (run : RunsTo u es v) (k : ℕ) (q : RealView) (at : real_at e v k ≡ Some q) where

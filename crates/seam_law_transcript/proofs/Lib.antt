@@ -20,3 +20,7 @@ mod Present
 mod Ends
 mod Turns
 mod Truly
+mod AcceptedLines
+mod TwoRoundsLines
+mod TwoRounds
+pub mod Prelude

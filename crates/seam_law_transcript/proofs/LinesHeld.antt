@@ -1,12 +1,6 @@
 -- The lines that are looked up are those that the entity's flow has.
-use Rattle.std.proofs.Common.{◌≡◌, ℕ, List, ap, if◌then◌else◌}
-use Rattle.std.specs.List.{list_any}
-use Rattle.seam_node_steps.specs.Prelude.{Line, World}
-use Rattle.seam_rule_rounds.specs.Prelude.{Header, Book, destroys}
-use Rattle.seam_law_calls.specs.Prelude.{entity_flow, proxy_of, lines_in}
-use Rattle.seam_law_book.specs.Prelude.{base_node}
-use Rattle.seam_law_transcript.specs.Prelude.{lines_shown, lines_told}
-use Rattle.seam_law_book.proofs.Found.{part_is}
+use Rattle.seam_law_transcript.proofs.Prelude.{◌≡◌, ℕ, List, ap, if◌then◌else◌, list_any, Line, World, Header, Book, destroys, entity_flow}
+use Rattle.seam_law_transcript.proofs.Prelude.{proxy_of, lines_in, base_node, lines_shown, lines_told, part_is}
 
 abbrev pub lines_held : Header → World → ℕ → List Line
 lines_held h w e = lines_in (proxy_of ((entity_flow e w).slot (base_node h e)).base.part)

@@ -1,17 +1,9 @@
 -- The entities of a book can be listed in rising number.
-use Rattle.std.proofs.Common.{◌≡◌, ◌≤◌, ◌<◌, ℕ, zero, suc, ◌+◌, List, [], ◌∷◌, map, subst, arith, inl, inr}
-use Rattle.std.specs.Prelude.{Contains}
-use Rattle.std.specs.List.{AllByRecursion, list_any, range_with_len}
+use Rattle.seam_law_transcript.proofs.Prelude.{◌≡◌, ◌≤◌, ◌<◌, ℕ, zero, suc, ◌+◌, List, [], ◌∷◌, map, subst, arith, inl, inr, Contains}
+use Rattle.seam_law_transcript.proofs.Prelude.{AllByRecursion, list_any, range_with_len, nat_cmp, Less, cases_eq, nat_tests}
+use Rattle.seam_law_transcript.proofs.Prelude.{IsStrictlyIncreasing-from_sorted, Create, Book, entries, creates_of, created_as, live_as}
+use Rattle.seam_law_transcript.proofs.Prelude.{destroys, Lists, contains_first, contains_later, contains_cases, lists_live, lists_living}
 use Rattle.std.specs.List.Sorted.{IsStrictlySortedBy}
-use Rattle.std.specs.Ordering.{nat_cmp}
-use Rattle.std.specs.declared.cmp.Ordering.TheVariants.{Less}
-use Rattle.std.proofs.lemmas.Bool.{cases_eq}
-use Rattle.std.proofs.lemmas.Bool.Decides.{nat_tests}
-use Rattle.std.proofs.lemmas.Map.Keys.{IsStrictlyIncreasing-from_sorted}
-use Rattle.seam_node_steps.specs.Prelude.{Create}
-use Rattle.seam_rule_rounds.specs.Prelude.{Book, entries, creates_of, created_as, live_as, destroys, Lists}
-use Rattle.seam_rule_lines.proofs.Lists.{contains_first, contains_later, contains_cases}
-use Rattle.seam_judge_expected.proofs.ListedLemmas.{lists_live, lists_living}
 
 -- ---- a range of numbers rises, and has each of them
 

@@ -1,16 +1,10 @@
 -- What one look shows is true where the rows of its table are.
-use Rattle.std.proofs.Common.{◌≡◌, ℕ, Bool, true, false, cond, eqb, List, [], ◌∷◌, ◌++◌, Option, None, Some, refl, subst}
-use Rattle.std.specs.Prelude.{Contains, find, not, option_map}
-use Rattle.std.specs.List.{AllByRecursion, filter_map, cons_option}
-use Rattle.std.proofs.lemmas.Bool.{eqb-true}
-use Rattle.std.proofs.lemmas.Option.{none-some}
-use Rattle.seam_view.specs.declared.Look.{Look}
+use Rattle.seam_law_transcript.proofs.Prelude.{◌≡◌, ℕ, Bool, true, false, cond, eqb, List, [], ◌∷◌, ◌++◌, Option, None, Some, refl, subst}
+use Rattle.seam_law_transcript.proofs.Prelude.{Contains, find, not, option_map, AllByRecursion, filter_map, cons_option, eqb-true}
+use Rattle.seam_law_transcript.proofs.Prelude.{none-some, Look, Shown, Own, Enter, Set, Leave, ClientReplica, Truth, ShowsTruth, Row}
+use Rattle.seam_law_transcript.proofs.Prelude.{row_of, rows_but, shown_for, is_newer, own_shown, look_by, one_look, contains_first}
+use Rattle.seam_law_transcript.proofs.Prelude.{contains_later, in_filter}
 use Rattle.seam_view.specs.declared.Look.TheVariants as look
-use Rattle.seam_node_steps.specs.Prelude.{Shown, Own, Enter, Set, Leave}
-use Rattle.seam_rule_rounds.specs.Prelude.{ClientReplica, Truth, ShowsTruth, Row, row_of, rows_but, shown_for, is_newer, own_shown, look_by}
-use Rattle.seam_rule_rounds.specs.Prelude.{one_look}
-use Rattle.seam_rule_lines.proofs.Lists.{contains_first, contains_later}
-use Rattle.seam_judge_expected.proofs.ListedLemmas.{in_filter}
 
 pub found : {X : Type 0} (p : X → Bool) (xs : List X) (x : X) → find p xs ≡ Some x → Contains xs x × (p x ≡ true)
 found p [] x is = absurd (none-some x is)

@@ -1,16 +1,10 @@
 -- One look at the table that a round leaves is true by the rules.
-use Rattle.std.proofs.Common.{◌≡◌, ℕ, ◌≤◌, List, [], ◌∷◌, length, Some, refl, sym, ap, ◌∙◌, subst, arith, inl, inr}
-use Rattle.std.specs.Prelude.{Contains, map}
-use Rattle.std.specs.List.{list_any}
+use Rattle.seam_law_transcript.proofs.Prelude.{◌≡◌, ℕ, ◌≤◌, List, [], ◌∷◌, length, Some, refl, sym, ap, ◌∙◌, subst, arith, inl, inr}
+use Rattle.seam_law_transcript.proofs.Prelude.{Contains, map, list_any, Create, RealView, WitnessView, World, Header, created_as, live_as}
+use Rattle.seam_law_transcript.proofs.Prelude.{destroys, Lists, ClientReplica, Row, IsOwn, IsOther, row_after, rows_of, Standing, Frame}
+use Rattle.seam_law_transcript.proofs.Prelude.{FitsWithin, FitsWitness, live_is_created, contains_first, contains_later, contains_cases}
+use Rattle.seam_law_transcript.proofs.Prelude.{any_split, alive, neither}
 use Rattle.seam_defs.specs.declared.flags.Part.TheVariants as part
-use Rattle.seam_node_steps.specs.Prelude.{Create, RealView, WitnessView, World}
-use Rattle.seam_rule_rounds.specs.Prelude.{Header, created_as, live_as, destroys, Lists, ClientReplica, Row, IsOwn, IsOther, row_after}
-use Rattle.seam_rule_rounds.specs.Prelude.{rows_of, Standing}
-use Rattle.seam_law_calls.specs.Prelude.{Frame}
-use Rattle.seam_law_clients.specs.Prelude.{FitsWithin, FitsWitness}
-use Rattle.seam_rule_lines.proofs.BookEntries.{live_is_created}
-use Rattle.seam_rule_lines.proofs.Lists.{contains_first, contains_later, contains_cases}
-use Rattle.seam_law_book.proofs.Present.{any_split, alive, neither}
 
 pub in_map : {X Y : Type 0} (f : X → Y) (xs : List X) (y : Y) → Contains (map f xs) y → (x : X) × Contains xs x × (y ≡ f x)
 in_map f [] y (k, within, is) = absurd (omega arith)

@@ -1,20 +1,14 @@
 -- The lines of a client are numbered one after another, from round to round.
-use Rattle.std.proofs.Common.{◌≡◌, ℕ, zero, suc, ◌+◌, Bool, true, false, [], ◌∷◌, ◌++◌, map, length, Option, None, Some, refl, sym, ap, ◌∙◌}
-use Rattle.std.proofs.Common.{subst, arith, length-append}
-use Rattle.std.specs.Prelude.{option_map, slice_get}
-use Rattle.std.specs.List.{AllByRecursion, range_with_len}
-use Rattle.std.proofs.lemmas.List.{map-append}
+use Rattle.seam_law_transcript.proofs.Prelude.{◌≡◌, ℕ, zero, suc, ◌+◌, Bool, true, false, [], ◌∷◌, ◌++◌, map, length, Option, None, Some}
+use Rattle.seam_law_transcript.proofs.Prelude.{refl, sym, ap, ◌∙◌, subst, arith, length-append, option_map, slice_get, AllByRecursion}
+use Rattle.seam_law_transcript.proofs.Prelude.{range_with_len, map-append, properties_of, Batch, Here, has_any, PartView, ProxyView}
+use Rattle.seam_law_transcript.proofs.Prelude.{line_if, base_text, World, new_proxy, proxy_begins, part_begins, loaded, slot_at, letters_of}
+use Rattle.seam_law_transcript.proofs.Prelude.{Frame, here_at, has_of, has_none, entity_flow, home_of, shown_in, MayBeMade, MayBeLoaded}
+use Rattle.seam_law_transcript.proofs.Prelude.{number_of_line, ShowsItsPart, Creation, nowhere, once, creation_of, middle, part_at}
+use Rattle.seam_law_transcript.proofs.Prelude.{is_among, part_peopled, bare_peopled, PartFrom, part_there}
 use Rattle.seam_defs.specs.declared.flags.Group.TheVariants as group
-use Rattle.seam_node_steps.specs.Prelude.{properties_of, Batch, Here, properties, has_any, PartView, ProxyView, line_if, base_text, World}
-use Rattle.seam_node_steps.specs.Prelude.{new_proxy, proxy_begins, part_begins, loaded}
-use Rattle.seam_law_flow.specs.Prelude.{slot_at, letters_of}
-use Rattle.seam_law_calls.specs.Prelude.{Frame, here_at, has_of, has_none, entity_flow, home_of, shown_in}
-use Rattle.seam_law_rounds.specs.Prelude.{MayBeMade, MayBeLoaded}
-use Rattle.seam_law_clients.specs.Prelude.{number_of_line, ShowsItsPart}
-use Rattle.seam_law_rounds.proofs.Making.{Creation, nowhere, once, creation_of, middle}
-use Rattle.seam_law_rounds.proofs.PartLoads.{part_at}
-use Rattle.seam_law_rounds.proofs.Joining.{is_among, part_peopled, bare_peopled}
-use Rattle.seam_law_rounds.proofs.Attaching.{part_if, PartFrom, part_there}
+use Rattle.seam_node_steps.specs.Prelude.{properties}
+use Rattle.seam_law_rounds.proofs.Attaching.{part_if}
 
 -- a client that was told so many lines before has shown further ones under the next numbers
 pub record IsNumbered (told : ℕ) (x : ProxyView) : Type 0 where

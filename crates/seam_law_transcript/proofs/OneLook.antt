@@ -1,18 +1,11 @@
 -- Lines that show cell parts alone, or the base part alone; and rounds without a tick.
-use Rattle.std.proofs.Common.{◌≡◌, false, List, [], ◌∷◌, ◌++◌, map, refl, sym, ap, ◌∙◌, append-nil}
-use Rattle.std.specs.Prelude.{filter}
-use Rattle.std.specs.List.{AllByRecursion, list_any, filter_map}
-use Rattle.std.proofs.lemmas.List.{map-append}
-use Rattle.seam_node_steps.specs.Prelude.{Part, Call, Line, Shown, ClientText}
-use Rattle.seam_rule_rounds.specs.Prelude.{Header, is_tick, Entry, is_base}
-use Rattle.seam_law_flow.specs.Prelude.{letters_of, more_letter}
-use Rattle.seam_law_calls.specs.Prelude.{shown_in, is_tick_order}
-use Rattle.seam_law_clients.specs.Prelude.{base_in, base_lines}
-use Rattle.seam_law_flow.proofs.Bridge.{letters_of-append}
+use Rattle.seam_law_transcript.proofs.Prelude.{◌≡◌, false, List, [], ◌∷◌, ◌++◌, map, refl, sym, ap, ◌∙◌, append-nil, filter, AllByRecursion}
+use Rattle.seam_law_transcript.proofs.Prelude.{list_any, filter_map, map-append, Part, Call, Line, Shown, ClientText, Header, is_tick}
+use Rattle.seam_law_transcript.proofs.Prelude.{Entry, is_base, letters_of, more_letter, shown_in, is_tick_order, base_in, base_lines}
+use Rattle.seam_law_transcript.proofs.Prelude.{letters_of-append, passes_to, ordered}
 use Rattle.seam_defs.specs.declared.flags.Part.TheVariants as part
 use Rattle.seam_call.specs.declared.shown.ClientText.TheVariants as text
 use Rattle.seam_rule_lines.specs.declared.verdict.Entry.TheVariants as entry
-use Rattle.seam_accept.specs.Batches.{passes_to, ordered}
 use Rattle.seam_law_transcript.proofs.Told.{base_texts_are}
 use Rattle.seam_law_transcript.proofs.Tickless.{IsNoTick}
 

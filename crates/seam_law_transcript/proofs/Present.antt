@@ -1,17 +1,10 @@
 -- Each entity that is there in a round is among those that were created.
-use Rattle.std.proofs.Common.{◌≡◌, ℕ, Bool, true, false, cond, List, [], ◌∷◌, ◌++◌, map, length, Some, refl, sym, ap, ◌∙◌, inl, inr, eqb}
-use Rattle.std.proofs.Common.{arith, append-nil, length-append}
-use Rattle.std.specs.Prelude.{◌||◌, nat_eq, ◌==◌}
-use Rattle.std.proofs.lemmas.Bool.{eqb-true, eq-eqb}
-use Rattle.std.proofs.lemmas.Option.{none-some}
-use Rattle.std.proofs.lemmas.List.{length-map}
+use Rattle.seam_law_transcript.proofs.Prelude.{◌≡◌, ℕ, Bool, true, false, cond, List, [], ◌∷◌, ◌++◌, map, length, Some, refl, sym, ap, ◌∙◌}
+use Rattle.seam_law_transcript.proofs.Prelude.{inl, inr, eqb, arith, append-nil, length-append, ◌||◌, nat_eq, ◌==◌, eqb-true, eq-eqb}
+use Rattle.seam_law_transcript.proofs.Prelude.{none-some, length-map, filter_map-append, Create, Book, entries, created, creates_of}
+use Rattle.seam_law_transcript.proofs.Prelude.{as_begun, IsPresent, entity_of, made_among, live_is_created}
 use Rattle.std.proofs.lemmas.List.Folds.{list_any-append}
-use Rattle.std.proofs.lemmas.List.Elements.{filter_map-append}
-use Rattle.seam_node_steps.specs.Prelude.{Create}
-use Rattle.seam_rule_rounds.specs.Prelude.{Book, entries, created, creates_of}
 use Rattle.seam_law_bounds.specs.Prelude.{is_among}
-use Rattle.seam_law_book.specs.Prelude.{as_begun, IsPresent, entity_of, made_among}
-use Rattle.seam_rule_lines.proofs.BookEntries.{live_is_created}
 
 -- the numbers of those that were created
 abbrev pub names : Book → List ℕ

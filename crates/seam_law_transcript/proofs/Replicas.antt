@@ -1,15 +1,9 @@
 -- What clients show is what they were told in all.
-use Rattle.std.proofs.Common.{◌≡◌, ℕ, Bool, true, false, List, [], ◌∷◌, ◌++◌, Some, refl, sym, ap, ◌∙◌, subst}
-use Rattle.std.specs.Prelude.{IsTrue, is_some, not, ◌&&◌, if◌then◌else◌}
-use Rattle.std.specs.List.{list_any}
-use Rattle.std.proofs.lemmas.List.Elements.{filter_map-append}
-use Rattle.std.proofs.lemmas.List.Sums.{fold-append}
-use Rattle.seam_node_steps.specs.Prelude.{Create, Line, ClientText, RealView, WitnessView, World}
-use Rattle.seam_rule_rounds.specs.Prelude.{Book, entries, created_as, joins, destroys, is_shown, ClientReplica, after_shown}
-use Rattle.seam_rule_rounds.specs.Prelude.{after_all_shown, after_lines, shown_by, shown_by_lines}
-use Rattle.seam_law_flow.specs.Prelude.{letters_of}
-use Rattle.seam_law_calls.specs.Prelude.{Frame, shown_in, real_at}
-use Rattle.seam_law_clients.specs.Prelude.{FitsWitness, ClientsFit}
+use Rattle.seam_law_transcript.proofs.Prelude.{◌≡◌, ℕ, Bool, true, false, List, [], ◌∷◌, ◌++◌, Some, refl, sym, ap, ◌∙◌, subst, IsTrue}
+use Rattle.seam_law_transcript.proofs.Prelude.{is_some, not, ◌&&◌, if◌then◌else◌, list_any, filter_map-append, fold-append, Create, Line}
+use Rattle.seam_law_transcript.proofs.Prelude.{ClientText, RealView, WitnessView, World, Book, entries, created_as, joins, destroys}
+use Rattle.seam_law_transcript.proofs.Prelude.{is_shown, ClientReplica, after_shown, after_all_shown, after_lines, shown_by, shown_by_lines}
+use Rattle.seam_law_transcript.proofs.Prelude.{letters_of, Frame, shown_in, real_at, FitsWitness, ClientsFit}
 use Rattle.seam_call.specs.declared.shown.ClientText.TheVariants as text
 
 -- the two ways to read what lines show of cell parts

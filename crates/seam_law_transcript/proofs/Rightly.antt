@@ -1,8 +1,6 @@
 -- What is right by one truth is right by another that follows from it.
-use Rattle.std.proofs.Common.{ℕ, List, [], ◌∷◌}
-use Rattle.std.specs.List.{AllByRecursion}
-use Rattle.seam_node_steps.specs.Prelude.{State, GhostCopy, Shown, Own, Enter, Set, Leave}
-use Rattle.seam_rule_rounds.specs.Prelude.{ClientReplica, Truth, ShowsTruth, ShowsRightly}
+use Rattle.seam_law_transcript.proofs.Prelude.{ℕ, List, [], ◌∷◌, AllByRecursion, State, GhostCopy, Shown, Own, Enter, Set, Leave}
+use Rattle.seam_law_transcript.proofs.Prelude.{ClientReplica, Truth, ShowsTruth, ShowsRightly}
 
 module _ (a b : Truth) (own : (version : ℕ) (state : State) → a.own version state → b.own version state)
     (other : (e : ℕ) (copy : GhostCopy) → a.other e copy → b.other e copy) where

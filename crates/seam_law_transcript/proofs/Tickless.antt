@@ -1,25 +1,16 @@
 -- Where a batch has no tick, its calls show no client anything of cell parts.
-use Rattle.std.proofs.Common.{◌≡◌, ℕ, ◌+◌, ◌≤◌, Bool, true, false, cond, eqb, List, [], ◌∷◌, length, Option, None, Some, refl, sym, ap, ◌∙◌}
-use Rattle.std.proofs.Common.{subst, arith, inl, inr}
-use Rattle.std.specs.Prelude.{is_some, option_map, slice_get}
-use Rattle.std.specs.List.{AllByRecursion}
-use Rattle.std.proofs.lemmas.Bool.{cases_eq, cases_lt}
-use Rattle.seam_node_steps.specs.Prelude.{Division, cells_of, leaf_at, IsQuiet, items_to, Event, Create, Order, Batch, cell_count, RealView}
-use Rattle.seam_node_steps.specs.Prelude.{WitnessView, PartView, ProxyView, NodeView, World, node_has_work, Cell, Base, real_if, created_at}
-use Rattle.seam_node_steps.specs.Prelude.{attached, base_round, cell_round, ordered_at, loaded}
-use Rattle.seam_law_flow.specs.Prelude.{letters_of, slot_at}
-use Rattle.seam_law_calls.specs.Prelude.{Frame, has_of, has_none, order_concerns, orders_of, entity_flow, real_of, home_of, proxy_of}
-use Rattle.seam_law_calls.specs.Prelude.{order_in, lines_in, shown_in, shown_at, is_tick_order, tick_in, HasToldAtMost, HasNoLooks}
-use Rattle.seam_law_calls.specs.Prelude.{HasClient, HasRoomFor, sent_of, sent_by, RunsTo, real_at}
-use Rattle.seam_law_rounds.specs.Prelude.{framed, each, made, node_loaded, AreInStep, AreFor, MayBeLoaded, IsServed, bare, served}
-use Rattle.seam_machine.proofs.Quiet.{quiet_tasks}
-use Rattle.seam_law_rounds.proofs.Going.{settled_loaded}
-use Rattle.seam_law_rounds.proofs.Loading.{each_keeps, Any, any}
-use Rattle.seam_law_rounds.proofs.Loaded.{no_mail, slot_is}
-use Rattle.seam_law_rounds.proofs.Turns.{node_orders, node_none}
-use Rattle.seam_law_rounds.proofs.Attaching.{are_for_loaded}
-use Rattle.seam_law_rounds.proofs.PartsGoing.{its_part, few_lines}
-use Rattle.seam_law_rounds.proofs.Ticking.{idle_looks}
+use Rattle.seam_law_transcript.proofs.Prelude.{◌≡◌, ℕ, ◌+◌, ◌≤◌, Bool, true, false, cond, eqb, List, [], ◌∷◌, length, Option, None, Some}
+use Rattle.seam_law_transcript.proofs.Prelude.{refl, sym, ap, ◌∙◌, subst, arith, inl, inr, is_some, option_map, slice_get, AllByRecursion}
+use Rattle.seam_law_transcript.proofs.Prelude.{cases_eq, cases_lt, Division, cells_of, leaf_at, IsQuiet, items_to, Event, Create, Order}
+use Rattle.seam_law_transcript.proofs.Prelude.{Batch, cell_count, RealView, WitnessView, PartView, ProxyView, NodeView, World}
+use Rattle.seam_law_transcript.proofs.Prelude.{node_has_work, Cell, Base, real_if, created_at, attached, base_round, cell_round, ordered_at}
+use Rattle.seam_law_transcript.proofs.Prelude.{loaded, letters_of, slot_at, Frame, has_of, has_none, order_concerns, orders_of, entity_flow}
+use Rattle.seam_law_transcript.proofs.Prelude.{real_of, home_of, proxy_of, lines_in, shown_in, shown_at, is_tick_order, tick_in}
+use Rattle.seam_law_transcript.proofs.Prelude.{HasToldAtMost, HasNoLooks, HasClient, HasRoomFor, sent_of, sent_by, RunsTo, real_at, framed}
+use Rattle.seam_law_transcript.proofs.Prelude.{each, made, node_loaded, AreInStep, AreFor, MayBeLoaded, IsServed, bare, served, quiet_tasks}
+use Rattle.seam_law_transcript.proofs.Prelude.{settled_loaded, each_keeps, Any, any, no_mail, slot_is, node_orders, node_none}
+use Rattle.seam_law_transcript.proofs.Prelude.{are_for_loaded, its_part, few_lines, idle_looks}
+use Rattle.seam_law_calls.specs.Prelude.{order_in}
 use Rattle.seam_law_rounds.proofs.PartTurns.{few_more}
 
 abbrev pub IsNoTick : ℕ × Order → Type 0

@@ -1,19 +1,11 @@
 -- What a client was shown of its base part, and under which numbers, where the calls have ended and at the end of the round.
-use Rattle.std.proofs.Common.{◌≡◌, ℕ, ◌+◌, Bool, true, false, List, [], ◌∷◌, ◌++◌, map, length, Some, sym, ap, ◌∙◌, subst, refl, arith}
-use Rattle.std.proofs.Common.{append-nil}
-use Rattle.std.specs.Prelude.{filter, if◌then◌else◌}
-use Rattle.std.specs.List.{range_with_len}
-use Rattle.seam_node_steps.specs.Prelude.{Event, Call as CallData, Batch, Line, ClientText, Here, PartView, ProxyView, World, loaded}
-use Rattle.seam_node_steps.specs.Prelude.{look_loaded}
-use Rattle.seam_rule_rounds.specs.Prelude.{is_base}
-use Rattle.seam_law_flow.specs.Prelude.{more_letter}
-use Rattle.seam_law_calls.specs.Prelude.{Frame, here_at, entity_flow, home_of, proxy_of, lines_in, RunsTo}
-use Rattle.seam_law_rounds.specs.Prelude.{IsBetweenRounds, framed, MayBeLoaded, HasSettledPart}
-use Rattle.seam_law_clients.specs.Prelude.{base_in, base_lines, lines_after, number_of_line, ShowsItsPart}
-use Rattle.seam_law_flow.proofs.Bridge.{letters_of-append}
+use Rattle.seam_law_transcript.proofs.Prelude.{◌≡◌, ℕ, ◌+◌, Bool, true, false, List, [], ◌∷◌, ◌++◌, map, length, Some, sym, ap, ◌∙◌, subst}
+use Rattle.seam_law_transcript.proofs.Prelude.{refl, arith, append-nil, filter, if◌then◌else◌, range_with_len, Event, Call as CallData}
+use Rattle.seam_law_transcript.proofs.Prelude.{Batch, Line, ClientText, Here, PartView, ProxyView, World, loaded, look_loaded, is_base}
+use Rattle.seam_law_transcript.proofs.Prelude.{more_letter, Frame, here_at, entity_flow, home_of, proxy_of, lines_in, RunsTo}
+use Rattle.seam_law_transcript.proofs.Prelude.{IsBetweenRounds, framed, MayBeLoaded, HasSettledPart, base_in, base_lines, lines_after}
+use Rattle.seam_law_transcript.proofs.Prelude.{number_of_line, ShowsItsPart, letters_of-append, is_among, looks_leave_part, looks_show_part}
 use Rattle.seam_call.specs.declared.shown.ClientText.TheVariants as text
-use Rattle.seam_law_rounds.proofs.Joining.{is_among}
-use Rattle.seam_law_book.proofs.Parts.{looks_leave_part, looks_show_part}
 use Rattle.seam_law_transcript.proofs.Numbered.{IsNumbered, still_numbered, loaded_numbered}
 
 -- lines with the next numbers after so many, of which those about the base part are these

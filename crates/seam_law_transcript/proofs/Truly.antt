@@ -1,36 +1,25 @@
 -- What clients show stays true from round to round, and after a look that would show nothing it is the present.
-use Rattle.std.proofs.Common.{◌≡◌, ℕ, ◌+◌, ◌≤◌, ◌<◌, ◌⊎◌, Bool, true, false, cond, eqb, List, [], ◌∷◌, ◌++◌, length, Option, None, Some}
-use Rattle.std.proofs.Common.{refl, sym, ap, ◌∙◌, subst, arith, length-append, inl, inr}
-use Rattle.std.specs.Prelude.{Contains, IsTrue, IsFalse, is_some, not, filter, map, nat_eq, nat_lt, ◌==◌, ◌&&◌}
-use Rattle.std.specs.List.{AllByRecursion, IsDistinct, list_any}
-use Rattle.std.specs.Ordering.{nat_cmp}
-use Rattle.std.specs.Cmp.{nat_cmp_total, unsigned_tied}
+use Rattle.seam_law_transcript.proofs.Prelude.{◌≡◌, ℕ, ◌+◌, ◌≤◌, ◌<◌, ◌⊎◌, Bool, true, false, cond, eqb, List, [], ◌∷◌, ◌++◌, length}
+use Rattle.seam_law_transcript.proofs.Prelude.{Option, None, Some, refl, sym, ap, ◌∙◌, subst, arith, length-append, inl, inr, Contains}
+use Rattle.seam_law_transcript.proofs.Prelude.{IsTrue, IsFalse, is_some, not, filter, map, nat_eq, nat_lt, ◌==◌, ◌&&◌, AllByRecursion}
+use Rattle.seam_law_transcript.proofs.Prelude.{list_any, nat_cmp, nat_cmp_total, unsigned_tied, eqb-true, true≢false, nat_tests, none-some}
+use Rattle.seam_law_transcript.proofs.Prelude.{recursion_from_All, own_of, other_of, Settings, Line, IsView, State, GhostCopy, Create, Call}
+use Rattle.seam_law_transcript.proofs.Prelude.{Shown, Own, Enter, Set, Leave, Header, Book, created_as, live_as, is_shown, was_dead, joins}
+use Rattle.seam_law_transcript.proofs.Prelude.{entries, Lists, Orders, ClientReplica, after_shown, after_all_shown, after_lines, new_client}
+use Rattle.seam_law_transcript.proofs.Prelude.{shown_by_lines, Truth, ShowsTruth, Row, row_of, rows_but, is_newer, properties, flat}
+use Rattle.seam_law_transcript.proofs.Prelude.{public_at, has_changed_at, other_at, row_after, rows_of, Standing, replica_of, ClientLine}
+use Rattle.seam_law_transcript.proofs.Prelude.{RoundData, lines_to, told_in, IsRound, IsOwn, IsOther, truth_of, with_copy_shown}
+use Rattle.seam_law_transcript.proofs.Prelude.{found_entity, live_is_created, in_filter, both, flat_before, public_before, WasOwn, WasOther}
+use Rattle.seam_law_transcript.proofs.Prelude.{ShowsTruly}
+use Rattle.std.specs.List.{IsDistinct}
 use Rattle.std.specs.FinMap as table
-use Rattle.std.proofs.lemmas.Bool.{eqb-true, true≢false}
-use Rattle.std.proofs.lemmas.Bool.Decides.{nat_tests}
-use Rattle.std.proofs.lemmas.Option.{none-some, same_Some}
-use Rattle.std.proofs.lemmas.List.Elements.{recursion_from_All}
-use Rattle.seam_defs.specs.Deeds.{own_of, other_of}
-use Rattle.seam_defs.specs.declared.settings.Settings.{Settings}
-use Rattle.seam_call.specs.declared.shown.Line.{Line}
+use Rattle.std.proofs.lemmas.Option.{same_Some}
 use Rattle.seam_defs.specs.declared.flags.Part.TheVariants as part
-use Rattle.seam_view.specs.Replica.{IsView, AreShown}
+use Rattle.seam_view.specs.Replica.{AreShown}
 use Rattle.seam_view.proofs.Kept.{view_when_shown, view_when_left}
-use Rattle.seam_rule_rounds.specs.Prelude.{State, GhostCopy, Create, Call, Shown, Own, Enter, Set, Leave, Header, Book, created_as, live_as}
-use Rattle.seam_rule_rounds.specs.Prelude.{is_shown, was_dead, joins, entries, Lists, Orders, ClientReplica, after_shown, after_all_shown}
-use Rattle.seam_rule_rounds.specs.Prelude.{after_lines, new_client, shown_by_lines, Truth, ShowsTruth, Row, row_of, rows_but, is_newer}
-use Rattle.seam_rule_rounds.specs.Prelude.{properties, flat, public_at, has_changed_at, other_at, row_after, rows_of, Standing, replica_of}
-use Rattle.seam_rule_rounds.specs.Prelude.{ClientLine, RoundData, lines_to, told_in, IsRound, IsOwn, IsOther, truth_of}
-use Rattle.seam_rule_clients.specs.Clients.{with_copy_shown}
 use Rattle.seam_rule_clients.specs.Looks.{ShowsTable, IsShownNow}
-use Rattle.seam_rule_lines.proofs.InOrderLemmas.{found_entity}
-use Rattle.seam_rule_lines.proofs.BookEntries.{live_is_created}
 use Rattle.seam_rule_rounds.proofs.Public.{at_most_unless, public_at_most, public_changed, public_last}
 use Rattle.seam_rule_rounds.proofs.Shown.{as_the_rules_say}
-use Rattle.seam_judge_expected.proofs.ListedLemmas.{in_filter}
-use Rattle.seam_law_calls.proofs.Holds.{both}
-use Rattle.seam_law_book.proofs.Accounts.{flat_before, public_before}
-use Rattle.seam_law_transcript.specs.Truly.{WasOwn, WasOther, ShowsTruly}
 use Rattle.seam_law_transcript.specs.Radius.{IsShownPresent, ShowsPresent}
 use Rattle.seam_law_transcript.proofs.LookTruth.{found}
 use Rattle.seam_law_transcript.proofs.Looked.{in_map}

@@ -1,19 +1,14 @@
 -- What was true of an entity in some world of a round's calls is what the rules say that its client, and others, may be shown.
-use Rattle.std.proofs.Common.{◌≡◌, ℕ, ◌-◌, ◌≤◌, List, [], ◌∷◌, ◌++◌, length, sym, ap, ◌∙◌, subst, arith, length-append, append_assoc}
+use Rattle.seam_law_transcript.proofs.Prelude.{◌≡◌, ℕ, ◌-◌, ◌≤◌, List, [], ◌∷◌, ◌++◌, length, sym, ap, ◌∙◌, subst, arith, length-append}
+use Rattle.seam_law_transcript.proofs.Prelude.{append_assoc, take, drop, AllByRecursion, own_of, other_of, ghost_of, projected, type_of}
+use Rattle.seam_law_transcript.proofs.Prelude.{State, Property, TypeDef, Call as CallData, Create, GhostCopy, Division, RealView, Header}
+use Rattle.seam_law_transcript.proofs.Prelude.{flat, properties, public_at, other_at, here_at, Account, account_of, after_calls, IsTrueCopy}
+use Rattle.seam_law_transcript.proofs.Prelude.{frame_of, IsDoneOn, BeginsReal, other_of_copy, Agrees, agrees_after, flat_before}
+use Rattle.seam_law_transcript.proofs.Prelude.{public_before}
 use Rattle.std.proofs.Common.{take-append-drop}
-use Rattle.std.specs.Prelude.{take, drop}
-use Rattle.std.specs.List.{AllByRecursion}
-use Rattle.seam_node_steps.specs.Prelude.{own_of, other_of, ghost_of, projected, type_of, State, Property, TypeDef, Call as CallData}
-use Rattle.seam_node_steps.specs.Prelude.{Create, GhostCopy, Division, RealView}
-use Rattle.seam_rule_rounds.specs.Prelude.{Header, flat, properties, public_at, other_at}
-use Rattle.seam_law_calls.specs.Prelude.{here_at, Account, account_of, after_calls}
-use Rattle.seam_law_ghosts.specs.Prelude.{IsTrueCopy}
-use Rattle.seam_law_book.specs.Prelude.{frame_of, IsDoneOn, BeginsReal}
 use Rattle.seam_defs.specs.declared.flags.Group.TheVariants as group
 use Rattle.seam_defs.specs.declared.flags.Part.TheVariants as part
-use Rattle.seam_entity.specs.WitnessLooks.{other_of_copy}
 use Rattle.seam_law_ghosts.specs.Truths as copies
-use Rattle.seam_law_book.proofs.Accounts.{Agrees, agrees_after, flat_before, public_before}
 use Rattle.seam_law_book.proofs.Rows.{ghost_is_public}
 
 all_first : {X : Type 0} (P : X → Type 0) (xs ys : List X) → AllByRecursion P (xs ++ ys) → AllByRecursion P xs

@@ -1,33 +1,21 @@
 -- Calls in turn, at every step of a round: what a part executed so far are the first ones of each sender's calls.
-use Rattle.std.proofs.Common.{◌≡◌, ℕ, ◌≤◌, Bool, true, false, List, [], ◌∷◌, ◌++◌, Option, None, Some, refl, sym, ap, ◌∙◌, subst, inl, inr}
-use Rattle.std.proofs.Common.{arith}
-use Rattle.std.specs.List.{AllByRecursion}
-use Rattle.std.proofs.lemmas.Bool.{cases_eq, eq-eqb, false≢true}
-use Rattle.std.specs.Prelude.{Contains, ◌==◌}
-use Rattle.seam_node_steps.specs.Prelude.{Part, Division, Call as CallData, Batch, RealView, Msg, Hand, PartView, World, loaded}
-use Rattle.seam_rule_rounds.specs.Prelude.{Header, calls_of, accepted, IsFull, ClientReplica, Standing}
-use Rattle.seam_law_flow.specs.Prelude.{Flow, letters_of, more_letter, TokenPlace, In, On, Sole, Desk, Mail, Item, desk_of, parcel_of}
-use Rattle.seam_law_flow.specs.Prelude.{AreInTurn}
-use Rattle.seam_machine.specs.Nets.{link}
-use Rattle.seam_law_calls.specs.Prelude.{entity_flow, kept_if, mine, real_of, from_sender, is_from, desk_for, cell_mail, real_desk}
-use Rattle.seam_law_calls.specs.Prelude.{as_sender, as_base_sender, part_desk, real_at}
-use Rattle.seam_law_rounds.specs.Prelude.{next_from, next_to, base_calls_of}
-use Rattle.seam_law_ghosts.specs.Prelude.{HadSameReal}
+use Rattle.seam_law_transcript.proofs.Prelude.{◌≡◌, ℕ, ◌≤◌, Bool, true, false, List, [], ◌∷◌, ◌++◌, Option, None, Some, refl, sym, ap, ◌∙◌}
+use Rattle.seam_law_transcript.proofs.Prelude.{subst, inl, inr, arith, AllByRecursion, cases_eq, eq-eqb, false≢true, Contains, ◌==◌, Part}
+use Rattle.seam_law_transcript.proofs.Prelude.{Division, Call as CallData, Batch, RealView, Msg, Hand, PartView, World, loaded, Header}
+use Rattle.seam_law_transcript.proofs.Prelude.{calls_of, accepted, IsFull, ClientReplica, Standing, Flow, letters_of, more_letter}
+use Rattle.seam_law_transcript.proofs.Prelude.{TokenPlace, In, On, Sole, Desk, Mail, Item, desk_of, parcel_of, AreInTurn, link, entity_flow}
+use Rattle.seam_law_transcript.proofs.Prelude.{kept_if, mine, real_of, from_sender, desk_for, cell_mail, real_desk, as_sender}
+use Rattle.seam_law_transcript.proofs.Prelude.{as_base_sender, part_desk, real_at, next_from, next_to, base_calls_of, HadSameReal, as_begun}
+use Rattle.seam_law_transcript.proofs.Prelude.{IsFitCall, calls_from, HasFitRound, frame_of, base_node, HasRoomForCalls, batch_of}
+use Rattle.seam_law_transcript.proofs.Prelude.{contains_cases, real_is, part_is, sole_here, IsCalmTo, all_turn, IsFromSender}
+use Rattle.seam_law_transcript.proofs.Prelude.{known_is_sender, executes_first}
+use Rattle.seam_law_calls.specs.Prelude.{is_from}
 use Rattle.seam_law_all.specs.CallLaws.{GoesRightly}
-use Rattle.seam_law_book.specs.Prelude.{as_begun, IsFitCall, calls_from, HasFitRound, frame_of, base_node, HasRoomForCalls}
 use Rattle.seam_law_transcript.specs.Turns.{AreFirstCalls, HasFirstCalls}
 use Rattle.seam_defs.specs.declared.flags.Part.TheVariants as part
 use Rattle.seam_entity.specs.declared.message.Msg.TheVariants.{Call}
-use Rattle.seam_accept.specs.Batches.{batch_of}
 use Rattle.seam_law_rounds.specs.Between as core
-use Rattle.seam_rule_lines.proofs.Lists.{contains_cases}
-use Rattle.seam_law_book.proofs.Found.{real_is, part_is}
-use Rattle.seam_law_flow.proofs.TokenLemmas.{sole_here}
-use Rattle.seam_law_rounds.proofs.Calm.{IsCalmTo}
-use Rattle.seam_law_book.proofs.Adding.{all_turn}
-use Rattle.seam_law_book.proofs.Untouched.{IsFromSender, known_is_sender}
 use Rattle.seam_law_book.proofs.Numbering.{cell_calls, base_calls}
-use Rattle.seam_law_book.proofs.Executed.{executes_first}
 
 -- ---- the hand-overs of an entity
 

@@ -1,18 +1,10 @@
 -- Which entities have a client in a round: they are there in it, and those that get one were told nothing before.
-use Rattle.std.proofs.Common.{◌≡◌, ℕ, Bool, true, false, cond, List, [], ◌∷◌, Option, None, Some, refl, sym, ap, ◌∙◌, subst, inl, inr}
-use Rattle.std.specs.Prelude.{is_some, IsTrue, not, ◌&&◌, ◌||◌, ◌==◌}
-use Rattle.std.specs.List.{AllByRecursion, list_any, filter_map}
-use Rattle.std.specs.Option.{option_or}
-use Rattle.std.proofs.lemmas.Bool.{eqb-true}
-use Rattle.std.proofs.lemmas.Option.{none-some}
-use Rattle.seam_node_steps.specs.Prelude.{Create, ProxyView}
-use Rattle.seam_rule_rounds.specs.Prelude.{Header, Book, entries, creates_of, created_as, live_as, destroys, joins, was_dead, is_shown}
-use Rattle.seam_law_book.specs.Prelude.{as_begun, IsPresent, GetsClient, IsNewEntity, IsUntouched, HasFitRound, made_among}
-use Rattle.seam_accept.specs.Batches.{joined}
-use Rattle.seam_law_book.proofs.Present.{any_split, any_begun, created_split, created_begun, unjoined, alive}
-use Rattle.seam_rule_lines.proofs.BookEntries.{live_is_created}
-use Rattle.seam_law_calls.proofs.Holds.{both}
-use Rattle.seam_law_rounds.proofs.Joining.{is_among}
+use Rattle.seam_law_transcript.proofs.Prelude.{◌≡◌, ℕ, Bool, true, false, cond, List, [], ◌∷◌, Option, None, Some, refl, sym, ap, ◌∙◌}
+use Rattle.seam_law_transcript.proofs.Prelude.{subst, inl, inr, is_some, IsTrue, not, ◌&&◌, ◌||◌, ◌==◌, AllByRecursion, list_any}
+use Rattle.seam_law_transcript.proofs.Prelude.{filter_map, option_or, eqb-true, none-some, Create, ProxyView, Header, Book, entries}
+use Rattle.seam_law_transcript.proofs.Prelude.{creates_of, created_as, live_as, destroys, joins, was_dead, is_shown, as_begun, IsPresent}
+use Rattle.seam_law_transcript.proofs.Prelude.{GetsClient, IsNewEntity, IsUntouched, HasFitRound, made_among, joined, any_split, any_begun}
+use Rattle.seam_law_transcript.proofs.Prelude.{created_split, created_begun, unjoined, alive, live_is_created, both, is_among}
 
 module _ (b : Book) (e : ℕ) (c : Create) (made : created_as b e ≡ Some c) (shown : IsTrue (is_shown b e)) where
   first_two : (is_some (created_as b e) && list_any (joins e) (entries b)) ≡ true
@@ -37,8 +29,8 @@ module _ (b : Book) (e : ℕ) (c : Create) (made : created_as b e ≡ Some c) (s
       inl (ap (λ x. cond x None (created_as (as_begun b) e)) (any_begun b e (destroys e) ∙ not_dead) ∙ created_begun b e ∙ first
       ∙ sym (created_split b e ∙ ap (λ o. option_or o (made_among (creates_of b.current) e)) first) ∙ is)
 
-  pub is_there : IsPresent b e c
-  is_there = present_by (made_among (creates_of b.past) e) (made_among (creates_of b.current) e) refl refl made
+  pub is_present : IsPresent b e c
+  is_present = present_by (made_among (creates_of b.past) e) (made_among (creates_of b.current) e) refl refl made
 
   -- one that does not die in the round lives at its end
   pub lives_on : list_any (destroys e) b.current ≡ false → live_as b e ≡ Some c

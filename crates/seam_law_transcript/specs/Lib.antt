@@ -9,4 +9,6 @@ pub mod OneReal
 pub mod Turns
 pub mod BrokenOff
 pub mod Radius
+pub mod Steps
+pub mod TwoRounds
 pub mod Prelude

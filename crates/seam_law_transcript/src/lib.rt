@@ -6,12 +6,13 @@
 //! Each law is a clause of a function that does nothing.
 //!
 //! Of `specs/`, `Beside`, `Playing` and `Reading` are for `legal_rounds`; `Course`, `Counts`, `Truly`, `Phases`, `OneReal`, `Turns`,
-//! `BrokenOff` and `Radius` for `whole_runs`. `specs/Prelude` re-exports what crates above cite of this one and of those below it, so that
-//! one import names it.
+//! `BrokenOff` and `Radius` for `whole_runs`; `Steps` and `TwoRounds` for `worked_rounds`, which has a run of two rounds, event by event.
+//! `specs/Prelude` re-exports what crates above cite of this one and of those below it, so that one import names it.
 #![tactic(auto)]
 
 mod legal_rounds;
 mod whole_runs;
+mod worked_rounds;
 
 pub use legal_rounds::{
     a_look_after_the_round_shows_nothing, a_played_round_is_legal,
@@ -27,3 +28,4 @@ pub use whole_runs::{
     a_round_may_break_off, a_run_round_is_legal, clients_see_all_within_their_radius,
     each_entity_has_one_real_through_a_round, each_part_executes_in_turn,
 };
+pub use worked_rounds::{steps_play_a_legal_round, two_rounds_with_a_tick_and_a_death_go_right};

@@ -215,7 +215,7 @@ impl<T: Drop> LinkIn<T> {
 }
 
 /// What was put into a link and not taken from it, once both ends are in one thread again.
-pub fn meet<T: Drop>(alloc: Global, out: LinkOut<T>, end: LinkIn<T>) -> Result<Vec<T>, AllocError>
+pub fn drain<T: Drop>(alloc: Global, out: LinkOut<T>, end: LinkIn<T>) -> Result<Vec<T>, AllocError>
     requires { out.ring ≡ end.ring }
     ensures { IfOk result (λ v. end.taken ++ v.items ≡ out.put) }
 {

@@ -17,7 +17,7 @@ ghost use Rattle.seam_logged.specs.Mesh.{IsOut, IsIn, AreFull, AreLinked, ArePai
 ghost use Rattle.seam_logged.specs.SomeLinks.{Reached, Remaining, IsRow};
 
 use crate::Ends;
-use seam_link::{LinkIn, LinkOut, link, meet};
+use seam_link::{LinkIn, LinkOut, drain, link};
 use seam_stamp::Letter;
 use std::alloc::{AllocError, Global};
 use std::collections::VecDeque;
@@ -201,7 +201,7 @@ fn meet_link<T: Drop>(
         unreachable!()
     };
     let mut link = from_hand(alloc, &mut hands[to], from)?;
-    let letters = meet(alloc, out, end)?;
+    let letters = drain(alloc, out, end)?;
     add_letters(&mut link, letters)?;
     Ok(link)
 }

@@ -48,8 +48,10 @@ fn a_number_goes_round_until_it_is_gone(rt: HostRuntime) -> Result<(), Fail> {
     let two = run(rt.alloc(), &mut net, 2)?;
     let on_its_way = is_on_its_way(&net);
     let more = run(rt.alloc(), &mut net, 10)?;
-    assert_eq!(rt; start, (3, Some(AT_NODE_0)));
-    assert_eq!(rt; (two, on_its_way, more, net.is_quiet()), (2, true, 2, true));
+    assert_eq!(rt;
+        (start, (two, on_its_way, more, net.is_quiet())),
+        ((3, Some(AT_NODE_0)), (2, true, 2, true))
+    );
     Ok(())
 }
 

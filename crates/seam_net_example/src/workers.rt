@@ -1,13 +1,13 @@
-//! Workers in real threads: they get on, two of them are inside their steps at once, and what they return is a run. And a node
-//! without a task and a letter makes no step.
+//! Workers in real threads: they get on, and two of them are inside their steps at once. And a node without a task and a letter makes no
+//! step.
 
-ghost use Rattle.std.specs.Prelude.{◌≡◌, ◌≤◌, IfOk, Some, length, slice_get};
+ghost use Rattle.std.specs.Prelude.{◌≡◌, IfOk, Some, length, slice_get};
 ghost use Rattle.seam_machine.specs.Nets.{ArePeers};
 
 use crate::{Counter, ring};
 use seam_link::link;
 use seam_logged::{Ends, Logged, Naming, Try};
-use seam_machine::{Event, Input, Machine, Net, NetParts, Out};
+use seam_machine::Net;
 use seam_workers::{Crew, Gate, OpenGate, run_workers};
 use std::alloc::{AllocError, Global};
 use std::marker::Brand;
@@ -155,65 +155,6 @@ fn two_workers_are_inside_at_once(rt: HostRuntime) -> Result<(), Fail> {
     let inside = gate.inside.load(Ordering::SeqCst);
     let given_up = gate.given_up.load(Ordering::SeqCst);
     assert_eq!(rt; (events.len() >= 2, inside, given_up), (true, 3, 0));
-    Ok(())
-}
-
-// Lets the events happen one by one. False at the first one that is not enabled.
-fn replayed(alloc: Global, net: &mut Net<Counter>, events: &Vec<Event>) -> Result<bool, AllocError>
-    requires { ArePeers (λ c. c.peers) net.old }
-{
-    for event in events.iter() {
-        if !net.enabled(*event) {
-            return Ok(false);
-        }
-        net.step(alloc, *event)?;
-    }
-    Ok(true)
-}
-
-// What a net holds: what each counter sends at its task, if it has one, and for the number 1; and the numbers in the links.
-fn held(alloc: Global, net: Net<Counter>) -> Result<(Vec<(u8, u64)>, Vec<Vec<u64>>), AllocError> {
-    let NetParts { nodes, links } = net.apart(alloc)?;
-    let mut out = Out::new(alloc);
-    for mut node in nodes {
-        if node.has_task() {
-            node.step(alloc, &mut Input::Task, &mut out)?;
-        }
-        node.step(alloc, &mut Input::From(0, 1), &mut out)?;
-    }
-    let mut sends = Vec::new(alloc);
-    while let Some(sent) = out.take() {
-        sends.push(sent)?;
-    }
-    Ok((sends, links))
-}
-
-// Two workers have so many turns each at the ring. Whether their events, on the ring made anew, all happen and leave what the
-// workers left, and whether that is quiet.
-fn replay_agrees<R: Threads + Wait + Sync>(
-    rt: &R,
-    alloc: Global,
-    turns: u32,
-) -> Result<(bool, bool), AllocError>
-    requires { 1 ≤ turns }
-{
-    let crew = Crew { workers: 2, turns };
-    let (net, events) = run_workers(rt, alloc, ring(alloc, Some(20), Some(5))?, crew, &OpenGate)?;
-    let mut again = ring(alloc, Some(20), Some(5))?;
-    let happened = replayed(alloc, &mut again, &events)?;
-    let quiet = net.is_quiet();
-    let as_quiet = again.is_quiet() == quiet;
-    let (sends, links) = held(alloc, net)?;
-    let (sends_again, links_again) = held(alloc, again)?;
-    let same = sends == sends_again && links == links_again;
-    Ok((happened && as_quiet && same, quiet))
-}
-
-#[test]
-fn the_events_replayed_leave_the_same_net(rt: HostRuntime) -> Result<(), Fail> {
-    let many = replay_agrees(&rt, rt.alloc(), 1000)?;
-    let few = replay_agrees(&rt, rt.alloc(), 2)?;
-    assert_eq!(rt; (many, few), ((true, true), (true, false)));
     Ok(())
 }
 

@@ -4,4 +4,3 @@ pub mod Runs
 pub mod Seeing
 pub mod Soundness
 pub mod Weighing
-pub mod Firsts

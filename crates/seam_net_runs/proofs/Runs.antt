@@ -1,8 +1,10 @@
 -- Runs of events: joined, parted, gone on with, what they keep, and how long they can be.
-use Rattle.std.proofs.Common.{◌≡◌, ℕ, ◌+◌, ◌≤◌, Bool, true, List, [], ◌∷◌, ◌++◌, length, refl, sym, ap, ◌∙◌, subst, arith}
+use Rattle.std.proofs.Common.{◌≡◌, ℕ, ◌+◌, ◌<◌, ◌≤◌, Bool, true, List, [], ◌∷◌, ◌++◌, length, refl, sym, ap, ◌∙◌, subst, arith}
+use Rattle.std.proofs.lemmas.List.{length-append}
 use Rattle.seam_machine.specs.Views.{Stepped, NetView}
 use Rattle.seam_machine.specs.Nets.{happens, enabled, run, AllEnabled, LeadsTo}
 use Rattle.seam_net_runs.specs.Weights.{counted, Lowers}
+use Rattle.seam_net_runs.specs.Finishing.{EndsWithin}
 use Rattle.seam_machine.specs.declared.machines.Input.{Input}
 use Rattle.seam_machine.specs.declared.machines.Event.{Event}
 
@@ -45,6 +47,14 @@ module _ {N M : Type 0} (has_work : N → Bool) (steps : N → Input M → Stepp
   pub leads_extend : (w v : NetView N M) (es : List Event) (e : Event) → LeadsTo has_work steps w es v → enabled has_work v e ≡ true →
       LeadsTo has_work steps w (es ++ e ∷ []) (happens steps v e)
   leads_extend w v es e a h = leads_join w v (happens steps v e) es (e ∷ []) a (leads_by_one v e h)
+
+  -- while an event is enabled, fewer have happened than may
+  pub fewer : (w v : NetView N M) (es : List Event) (e : Event) (n : ℕ) → EndsWithin has_work steps w n → LeadsTo has_work steps w es v →
+      enabled has_work v e ≡ true → length es < n
+  fewer w v es e n ends leads can =
+      let one = ends (es ++ e ∷ []) (happens steps v e) (leads_extend w v es e leads can) in
+      let many = length-append es (e ∷ []) in
+      omega (arith, one, many)
 
   -- what each enabled event keeps, a run keeps
   pub run_keeps : (P : NetView N M → Type 0) → ((w : NetView N M) (e : Event) → P w → enabled has_work w e ≡ true → P (happens steps w e)) →

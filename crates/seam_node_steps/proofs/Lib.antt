@@ -7,6 +7,7 @@ pub mod ValidBases
 pub mod Peers
 pub mod Tables
 pub mod Quiet
+pub mod Walks
 pub mod Early
 pub mod Late
 pub mod Views

@@ -1,5 +1,5 @@
 -- For callers: how maps and sets of a few entries compute. std's do not unfold; these rules say what they are.
-use Rattle.std.proofs.Common.{◌≡◌, ℕ, Bool, true, false, cond, List, [], ◌∷◌, Option, None, Some, length, ◌&&◌, refl, sym, ◌∙◌, arith}
+use Rattle.std.proofs.Common.{◌≡◌, ℕ, Bool, true, false, cond, eqb, List, [], ◌∷◌, None, Some, length, refl, sym, ◌∙◌, arith}
 use Rattle.std.specs.Ordering.{nat_cmp, eq_by_cmp}
 use Rattle.std.specs.Cmp.{nat_cmp_total}
 use Rattle.std.specs.Str.{is_utf8}
@@ -36,39 +36,40 @@ module _ {X : Type 0} where
   remove_empty k = table.same_map nat_cmp_total table.nat_cmp-IsAntisymmetric _ _
       (λ q. simp (table.get-remove, table.get-empty, nat_cmp_total, cond_one))
 
-module _ {X : Type 0} where
-  -- entity 2 stands below entity 1
-  pub insert_two : (m : table.FinMap nat_cmp X) (x y : X) → table.insert (table.insert m 1 x) 2 y ≡ table.insert (table.insert m 2 y) 1 x
-  insert_two m x y = table.same_map nat_cmp_total table.nat_cmp-IsAntisymmetric _ _
-      (λ q. simp (table.get-insert, nat_cmp_total)
-      (apart (eq_by_cmp nat_cmp q 1) (eq_by_cmp nat_cmp q 2) x y (table.get m q) (one_or_two q)))
+module _ {X : Type 0} (m : table.FinMap nat_cmp X) (i j : ℕ) (x : X) where
+  -- two keys are set in any order
+  insert_other : (y : X) → eqb i j ≡ false → table.insert (table.insert m i x) j y ≡ table.insert (table.insert m j y) i x
+  insert_other y differ = table.same_map nat_cmp_total table.nat_cmp-IsAntisymmetric _ _
+      (λ q. simp (table.get-insert, nat_cmp_total) (by q (eq_by_cmp nat_cmp q i) (eq_by_cmp nat_cmp q j) refl refl))
     where
-      one_or_two : (q : ℕ) → (eq_by_cmp nat_cmp q 1 && eq_by_cmp nat_cmp q 2) ≡ false
-      one_or_two q = by (eq_by_cmp nat_cmp q 1) (eq_by_cmp nat_cmp q 2) refl refl
-        where
-          by : (a b : Bool) → eq_by_cmp nat_cmp q 1 ≡ a → eq_by_cmp nat_cmp q 2 ≡ b → (a && b) ≡ false
-          by true true h k = absurd (grind (arith, nat_tests, h, k))
-          by true false h k = refl
-          by false b h k = refl
-
-      apart : (a b : Bool) (x y : X) (o : Option X) → (a && b) ≡ false → cond b (Some y) (cond a (Some x) o)
-          ≡ cond a (Some x) (cond b (Some y) o)
-      apart true true x y o h = cc
-      apart true false x y o h = refl
-      apart false b x y o h = refl
-
-module _ {X : Type 0} where
-  -- to remove what is not there
-  pub remove_other : (x : X) → table.remove (table.insert (table.empty {K = ℕ} {X = X} {R = nat_cmp}) 2 x) 1 ≡ table.insert table.empty 2 x
-  remove_other x = table.same_map nat_cmp_total table.nat_cmp-IsAntisymmetric _ _
-      (λ q. simp (table.get-insert, table.get-remove, table.get-empty, nat_cmp_total)
-      (by q (eq_by_cmp nat_cmp q 1) (eq_by_cmp nat_cmp q 2) refl refl))
-    where
-      by : (q : ℕ) (a b : Bool) → eq_by_cmp nat_cmp q 1 ≡ a → eq_by_cmp nat_cmp q 2 ≡ b → cond a None (cond b (Some x) None)
-          ≡ cond b (Some x) None
-      by q true true h k = absurd (grind (arith, nat_tests, h, k))
+      by : (q : ℕ) (a b : Bool) → eq_by_cmp nat_cmp q i ≡ a → eq_by_cmp nat_cmp q j ≡ b →
+          cond b (Some y) (cond a (Some x) (table.get m q)) ≡ cond a (Some x) (cond b (Some y) (table.get m q))
+      by q true true h k = absurd (grind (arith, nat_tests, h, k, differ))
       by q true false h k = refl
       by q false b h k = refl
+
+  -- to remove another key
+  pub remove_other : eqb i j ≡ false → table.remove (table.insert m i x) j ≡ table.insert (table.remove m j) i x
+  remove_other differ = table.same_map nat_cmp_total table.nat_cmp-IsAntisymmetric _ _
+      (λ q. simp (table.get-insert, table.get-remove, nat_cmp_total)
+      (by q (eq_by_cmp nat_cmp q i) (eq_by_cmp nat_cmp q j) refl refl))
+    where
+      by : (q : ℕ) (a b : Bool) → eq_by_cmp nat_cmp q i ≡ a → eq_by_cmp nat_cmp q j ≡ b →
+          cond b None (cond a (Some x) (table.get m q)) ≡ cond a (Some x) (cond b None (table.get m q))
+      by q true true h k = absurd (grind (arith, nat_tests, h, k, differ))
+      by q true false h k = refl
+      by q false b h k = refl
+
+-- of the entities 1, 2 and 3 the greater is set first
+module _ {X : Type 0} (m : table.FinMap nat_cmp X) (x y : X) where
+  pub second_before_first : table.insert (table.insert m 1 x) 2 y ≡ table.insert (table.insert m 2 y) 1 x
+  second_before_first = insert_other m 1 2 x y refl
+
+  pub third_before_first : table.insert (table.insert m 1 x) 3 y ≡ table.insert (table.insert m 3 y) 1 x
+  third_before_first = insert_other m 1 3 x y refl
+
+  pub third_before_second : table.insert (table.insert m 2 x) 3 y ≡ table.insert (table.insert m 3 y) 2 x
+  third_before_second = insert_other m 2 3 x y refl
 
 -- an empty text is one
 pub is_utf8-nil : is_utf8 [] ≡ true
@@ -84,7 +85,9 @@ pub ruleset computing = (
   table.entries-insert,
   entries_empty,
   insert_again,
-  insert_two,
+  second_before_first,
+  third_before_first,
+  third_before_second,
   remove_other,
   remove_inserted,
   remove_empty,

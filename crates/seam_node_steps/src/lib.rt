@@ -23,8 +23,8 @@
 //!
 //! For callers, of `proofs/`: `Slots` (a step of one entity's slot changes that slot alone), `Peers`, `ValidBases` and `ValidCells` (a step
 //! keeps what a node knows, and what is true of it), `Targets` (it sends to nodes of the net), `Quiet` (when a world is quiet), `Sorted`
-//! (what is found in a list in rising number), `Knowing` (what is known of an entity), `Tables` (how worlds of a few entities compute), and
-//! `Early` and `Views` (the worlds of two worked rows).
+//! (what is found in a list in rising number), `Knowing` (what is known of an entity), `Tables` (how worlds of a few entities compute),
+//! `Walks` (the checker that walks worked rows), and `Early` and `Views` (the worlds of two of them).
 #![tactic(auto)]
 
 pub mod base_steps;

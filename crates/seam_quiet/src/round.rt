@@ -50,8 +50,7 @@ fn take_events<G: Gate + Sync, R: Threads + Wait + Sync>(
     Ok((net, events))
 }
 
-// Lets events of a net happen until it is quiet: `seam_net_runs::finish`, at nodes. From a function that also has threads the prover does
-// not cover a call of the generic one.
+// Lets events of a net happen until it is quiet, on one thread.
 fn come_to_rest(alloc: Global, net: Net<Node>) -> Result<(Net<Node>, Vec<Event>), AllocError>
     ghost most: { ℕ }
     requires peers { ArePeers node_peers net }

@@ -1,4 +1,4 @@
--- A list in rising number that has each near entity once, in its place, is the near entities in rising number.
+-- A list in rising number that has each near entity once, at its location, is the near entities in rising number.
 use Rattle.std.proofs.Common.{◌≡◌, ◌≤◌, ◌+◌, ℕ, Bool, true, false, cond, ◌||◌, eqb, ltb, List, [], ◌∷◌, Option, None, Some, refl, sym, ap}
 use Rattle.std.proofs.Common.{◌∙◌, is_some, unwrap_or, get_or, zero, suc, ◌<◌, length, subst, arith}
 use Rattle.std.specs.Ordering.{nat_cmp, is_eq, eq_by_cmp}
@@ -13,7 +13,7 @@ use Rattle.std.proofs.Common.{map as each}
 use Rattle.seam_geo.specs.declared.pos.Pos.{Pos}
 use Rattle.seam_range.specs.declared.Keyed.{Keyed}
 use Rattle.seam_range.specs.Locations.{is_within, within}
-use Rattle.seam_range.specs.Indexed.{places_of}
+use Rattle.seam_range.specs.Indexed.{locations_of}
 use Rattle.std.proofs.lemmas.Bool.Decides.{nat_tests}
 use Rattle.std.proofs.lemmas.List.Sums.{sum_by-cons}
 use Rattle.std.proofs.lemmas.List.Sorted.{sum_by-IsPermutation, All-permutation}
@@ -24,7 +24,7 @@ use Rattle.std.proofs.lemmas.Map.Keys.{IsStrictlyIncreasing-from_distinct}
 use Rattle.std.proofs.lemmas.Map.Keys.{sorted_from_strictly_increasing}
 use Rattle.std.proofs.lemmas.Map.Made.{is_some-lookup}
 use Rattle.seam_range.specs.declared.Location.{Location}
-use Rattle.seam_range.specs.Found.{count_of, AreInPlace, one_if}
+use Rattle.seam_range.specs.Found.{count_of, AreLocated, one_if}
 use Rattle.seam_range.proofs.Links.{same_again}
 use Rattle.seam_range.proofs.Sorted.{same_number, sorted_same, sorted_by_filter, entries_when_sorted, lookup_of_find}
 
@@ -92,12 +92,13 @@ keys_rise xs up i j d le lt =
     (subst (λ n. (get_or xs i (d, v)).0 ≤ n) (sym (key_at xs j d v))
     (up i j (d, v) le (subst (λ n. j < n) (as_many xs) lt)))
 
--- ---- and in their places
+-- ---- and at their locations
 
-abbrev InPlaces : {X : Type 0} → (ℕ → Option X) → List (ℕ × X) → Type 0
-InPlaces f xs = AllByRecursion (λ x. f x.0 ≡ Some x.1) xs
+abbrev AreLocatedBy : {X : Type 0} → (ℕ → Option X) → List (ℕ × X) → Type 0
+AreLocatedBy f xs = AllByRecursion (λ x. f x.0 ≡ Some x.1) xs
 
-same_by_keys : (f : ℕ → Option Location) (xs ys : List (ℕ × Location)) → keys_of xs ≡ keys_of ys → InPlaces f xs → InPlaces f ys → xs ≡ ys
+same_by_keys : (f : ℕ → Option Location) (xs ys : List (ℕ × Location)) → keys_of xs ≡ keys_of ys → AreLocatedBy f xs → AreLocatedBy f ys →
+    xs ≡ ys
 same_by_keys f [] [] e h k = refl
 same_by_keys f [] (y ∷ ys) e h k = cc
 same_by_keys f (x ∷ xs) [] e h k = cc
@@ -108,24 +109,25 @@ same_by_keys f (x ∷ xs) (y ∷ ys) e h k =
     let rest = same_by_keys f xs ys keys h.1 k.1 in
     λ i. (key i, value i) ∷ rest i
 
-in_filter : (f : ℕ → Option Location) (t : ℕ × Location → Bool) (xs : List (ℕ × Location)) → InPlaces f xs → InPlaces f (filter t xs)
+in_filter : (f : ℕ → Option Location) (t : ℕ × Location → Bool) (xs : List (ℕ × Location)) → AreLocatedBy f xs →
+    AreLocatedBy f (filter t xs)
 in_filter f t [] h = tt
 in_filter f t (x ∷ xs) h =
-    elim (t x) as (λ b. InPlaces f (cond b (x ∷ filter t xs) (filter t xs)))
+    elim (t x) as (λ b. AreLocatedBy f (cond b (x ∷ filter t xs) (filter t xs)))
     [ true ↦ (h.0, in_filter f t xs h.1) | false ↦ in_filter f t xs h.1 ]
 
 apart : (x y : ℕ) → is_eq (nat_cmp x y) ≡ false → is_eq (nat_cmp y x) ≡ false
 apart x y h = grind (arith, nat_tests)
 
 found_past : {X : Type 0} (x : ℕ × X) (es xs : List (ℕ × X)) → AllByRecursion (λ y. is_eq (nat_cmp x.0 y) ≡ false) (keys_of xs) →
-    InPlaces (λ q. lookup (is_at (nat_cmp q)) es) xs → InPlaces (λ q. lookup (is_at (nat_cmp q)) (x ∷ es)) xs
+    AreLocatedBy (λ q. lookup (is_at (nat_cmp q)) es) xs → AreLocatedBy (λ q. lookup (is_at (nat_cmp q)) (x ∷ es)) xs
 found_past x es [] h k = tt
 found_past x es (y ∷ xs) h k =
     (ap (λ b. cond b (Some x.1) (lookup (is_at (nat_cmp y.0)) es)) (apart x.0 y.0 h.0) ∙ k.0, found_past x es xs h.1 k.1)
 
--- entries are in the places that they give
+-- entries are at the locations that they give
 each_found : {X : Type 0} (es : List (ℕ × X)) → IsDistinct (eq_by_cmp nat_cmp) (keys_of es) →
-    InPlaces (λ q. lookup (is_at (nat_cmp q)) es) es
+    AreLocatedBy (λ q. lookup (is_at (nat_cmp q)) es) es
 each_found [] u = tt
 each_found (x ∷ es) u = (
   ap (λ b. cond b (Some x.1) (lookup (is_at (nat_cmp x.0)) es)) (same_number x.0),
@@ -137,7 +139,7 @@ entry_at : (es : List (ℕ × Location)) (q : ℕ) → map.get (map.from_entries
 entry_at es q = map.get-from_entries nat_cmp_total es q ∙ lookup_of_find q es
 
 by_entry : (es xs : List (ℕ × Location)) → AllByRecursion (λ x. map.get (map.from_entries {R = nat_cmp} es) x.0 ≡ Some x.1) xs →
-    InPlaces (λ q. lookup (is_at (nat_cmp q)) es) xs
+    AreLocatedBy (λ q. lookup (is_at (nat_cmp q)) es) xs
 by_entry es [] h = tt
 by_entry es (x ∷ xs) h = (sym (entry_at es x.0) ∙ h.0, by_entry es xs h.1)
 
@@ -172,15 +174,15 @@ module _ (test : Location → Bool) where
 
   pub sorted_when_counted : (es : List (ℕ × Location)) (found rising : List (ℕ × Location)) → IsStrictlySortedBy nat_cmp (keys_of es) →
       ((q : ℕ) → count_of q found ≡ one_if test (map.get (map.from_entries {R = nat_cmp} es) q)) →
-      AreInPlace (map.from_entries {R = nat_cmp} es) found → IsPermutation found rising → IsNonDecreasingBy (λ x. x.0) rising →
+      AreLocated (map.from_entries {R = nat_cmp} es) found → IsPermutation found rising → IsNonDecreasingBy (λ x. x.0) rising →
       rising ≡ filter (λ e. test e.1) (map.entries (map.from_entries {R = nat_cmp} es))
-  sorted_when_counted es found rising o counts places moved up =
+  sorted_when_counted es found rising o counts locations moved up =
       let counted : (q : ℕ) → number_count q (keys_of rising) ≡ one_if test (lookup (is_at (nat_cmp q)) es) = λ q.
       keys_counted q rising
       ∙ (sum_by-IsPermutation (λ x. cond (eqb x.0 q) 1 0) found rising moved ∙ (counts q ∙ ap (one_if test) (entry_at es q))) in
       let there =
       recursion_from_All (λ x. map.get (map.from_entries {R = nat_cmp} es) x.0 ≡ Some x.1) rising
-      (All-permutation (λ x. map.get (map.from_entries {R = nat_cmp} es) x.0 ≡ Some x.1) found rising moved places) in
+      (All-permutation (λ x. map.get (map.from_entries {R = nat_cmp} es) x.0 ≡ Some x.1) found rising moved locations) in
       same_by_keys (λ q. lookup (is_at (nat_cmp q)) es) rising (filter (λ e. test e.1) es)
       (keys_when_counted es (keys_of rising) o counted (keys_rise rising up))
       (by_entry es rising there)
@@ -190,14 +192,14 @@ module _ (test : Location → Bool) where
 
 -- ---- all of those that have an entry
 
-keys_placed : (es : List (ℕ × Keyed)) → keys_of (each (λ r. (r.0, r.1.place)) es) ≡ keys_of es
-keys_placed [] = refl
-keys_placed (e ∷ es) = ap (λ l. e.0 ∷ l) (keys_placed es)
+keys_located : (es : List (ℕ × Keyed)) → keys_of (each (λ r. (r.0, r.1.location)) es) ≡ keys_of es
+keys_located [] = refl
+keys_located (e ∷ es) = ap (λ l. e.0 ∷ l) (keys_located es)
 
-pub placed_sorted : (m : tree.BTreeMap ℕ Keyed) → tree.IsOrdered nat_cmp m →
-    IsStrictlySortedBy nat_cmp (keys_of (each (λ r. (r.0, r.1.place)) m.entries))
-placed_sorted m o = subst (IsStrictlySortedBy nat_cmp) (sym (keys_placed m.entries)) o
+pub located_sorted : (m : tree.BTreeMap ℕ Keyed) → tree.IsOrdered nat_cmp m →
+    IsStrictlySortedBy nat_cmp (keys_of (each (λ r. (r.0, r.1.location)) m.entries))
+located_sorted m o = subst (IsStrictlySortedBy nat_cmp) (sym (keys_located m.entries)) o
 
 pub all_within : (m : tree.BTreeMap ℕ Keyed) (p : Pos) (d : ℕ) → tree.IsOrdered nat_cmp m →
-    filter (λ e. is_within p d e.1) (each (λ r. (r.0, r.1.place)) m.entries) ≡ within (places_of m.entries) p d
-all_within m p d o = ap (λ es. filter (λ e. is_within p d e.1) es) (sym (entries_when_sorted _ (placed_sorted m o)))
+    filter (λ e. is_within p d e.1) (each (λ r. (r.0, r.1.location)) m.entries) ≡ within (locations_of m.entries) p d
+all_within m p d o = ap (λ es. filter (λ e. is_within p d e.1) es) (sym (entries_when_sorted _ (located_sorted m o)))

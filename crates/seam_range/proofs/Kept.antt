@@ -1,4 +1,4 @@
--- What the places are after an entity was put, moved or taken out.
+-- What the locations are after an entity was put, moved or taken out.
 use Rattle.std.proofs.Common.{◌≡◌, ◌≢◌, ◌⊎◌, inl, inr, ℕ, true, false, cond, eqb, Option, None, Some, refl, sym, ap, ◌∙◌}
 use Rattle.std.proofs.Common.{⊎_elim, subst, option_map, map as each}
 use Rattle.std.proofs.Common.{Result, Ok, Err, OnErr}
@@ -12,7 +12,7 @@ use Rattle.slab.specs.Slab.{Slab, get, Updates}
 use Rattle.seam_range.specs.declared.Location.{Location}
 use Rattle.seam_range.specs.declared.Keyed.{Keyed}
 use Rattle.seam_range.specs.declared.Spot.{Spot}
-use Rattle.seam_range.specs.Indexed.{seen, seen_at, moved_to, places_of, Buckets, AreLinked, IsIndexed, AreSamePlaces, IsMoved}
+use Rattle.seam_range.specs.Indexed.{seen, seen_at, moved_to, locations_of, Buckets, AreLinked, IsIndexed, AreSameLocations, IsMoved}
 use Rattle.seam_range.proofs.Sorted.{lookup_of_find}
 use Rattle.seam_range.proofs.Ranks.{none_some, some_is}
 use Rattle.seam_range.proofs.Links.{is_or_not, number_is, same_again}
@@ -20,11 +20,11 @@ use Rattle.seam_range.proofs.Links.{is_or_not, number_is, same_again}
 abbrev pub Entries : Type 0
 Entries = tree.BTreeMap ℕ Keyed
 
--- the place of an entity that has an entry
-pub place_of_entity : (m : Entries) (q : ℕ) → map.get (places_of m.entries) q ≡ option_map (λ x. x.place) (tree.get nat_cmp m q)
-place_of_entity m q =
-    map.get-from_entries nat_cmp_total (each (λ r. (r.0, r.1.place)) m.entries) q
-    ∙ (lookup_of_find q (each (λ r. (r.0, r.1.place)) m.entries) ∙ lookup-map_values (λ x. x.place) (is_at (nat_cmp q)) m.entries)
+-- the location of an entity that has an entry
+pub location_of_entity : (m : Entries) (q : ℕ) → map.get (locations_of m.entries) q ≡ option_map (λ x. x.location) (tree.get nat_cmp m q)
+location_of_entity m q =
+    map.get-from_entries nat_cmp_total (each (λ r. (r.0, r.1.location)) m.entries) q
+    ∙ (lookup_of_find q (each (λ r. (r.0, r.1.location)) m.entries) ∙ lookup-map_values (λ x. x.location) (is_at (nat_cmp q)) m.entries)
 
 -- the entries after a write of o at an entity
 abbrev pub Writes : Entries → Entries → ℕ → Option Keyed → Type 0
@@ -88,34 +88,34 @@ module _ (m : map.FinMap nat_cmp Location) (e q : ℕ) where
   remove_other n =
       map.get-remove nat_cmp_total m e q ∙ ap (λ b. cond b None (map.get m q)) (unsigned_tied q e ∙ not_one e q n)
 
--- ---- the places
+-- ---- the locations
 
-pub places_when_same : (m n : Entries) → AreSameEntries m n → places_of n.entries ≡ places_of m.entries
-places_when_same m n h =
+pub locations_when_same : (m n : Entries) → AreSameEntries m n → locations_of n.entries ≡ locations_of m.entries
+locations_when_same m n h =
     map.same_map nat_cmp_total map.nat_cmp-IsAntisymmetric _ _
-    (λ q. place_of_entity n q ∙ (ap (option_map (λ x. x.place)) (h q) ∙ sym (place_of_entity m q)))
+    (λ q. location_of_entity n q ∙ (ap (option_map (λ x. x.location)) (h q) ∙ sym (location_of_entity m q)))
 
-pub places_when_put : (m n : Entries) (e : ℕ) (x : Keyed) → Writes m n e (Some x) →
-    places_of n.entries ≡ map.insert (places_of m.entries) e x.place
-places_when_put m n e x w = map.same_map nat_cmp_total map.nat_cmp-IsAntisymmetric _ _ (λ q. place_of_entity n q ∙ ⊎_elim
-    (λ h. ap (option_map (λ x. x.place)) h.1 ∙ sym (insert_here (places_of m.entries) e q x.place h.0))
-    (λ h. ap (option_map (λ x. x.place)) h.1
-    ∙ (sym (place_of_entity m q) ∙ sym (insert_other (places_of m.entries) e q x.place h.0)))
+pub locations_when_put : (m n : Entries) (e : ℕ) (x : Keyed) → Writes m n e (Some x) →
+    locations_of n.entries ≡ map.insert (locations_of m.entries) e x.location
+locations_when_put m n e x w = map.same_map nat_cmp_total map.nat_cmp-IsAntisymmetric _ _ (λ q. location_of_entity n q ∙ ⊎_elim
+    (λ h. ap (option_map (λ x. x.location)) h.1 ∙ sym (insert_here (locations_of m.entries) e q x.location h.0))
+    (λ h. ap (option_map (λ x. x.location)) h.1
+    ∙ (sym (location_of_entity m q) ∙ sym (insert_other (locations_of m.entries) e q x.location h.0)))
     (entry_after m n e (Some x) w q))
 
-pub places_when_removed : (m n : Entries) (e : ℕ) → Writes m n e None → places_of n.entries ≡ map.remove (places_of m.entries) e
-places_when_removed m n e w = map.same_map nat_cmp_total map.nat_cmp-IsAntisymmetric _ _ (λ q. place_of_entity n q ∙ ⊎_elim
-    (λ h. ap (option_map (λ x. x.place)) h.1 ∙ sym (remove_here (places_of m.entries) e q h.0))
-    (λ h. ap (option_map (λ x. x.place)) h.1 ∙ (sym (place_of_entity m q) ∙ sym (remove_other (places_of m.entries) e q h.0)))
+pub locations_when_removed : (m n : Entries) (e : ℕ) → Writes m n e None → locations_of n.entries ≡ map.remove (locations_of m.entries) e
+locations_when_removed m n e w = map.same_map nat_cmp_total map.nat_cmp-IsAntisymmetric _ _ (λ q. location_of_entity n q ∙ ⊎_elim
+    (λ h. ap (option_map (λ x. x.location)) h.1 ∙ sym (remove_here (locations_of m.entries) e q h.0))
+    (λ h. ap (option_map (λ x. x.location)) h.1 ∙ (sym (location_of_entity m q) ∙ sym (remove_other (locations_of m.entries) e q h.0)))
     (entry_after m n e None w q))
 
-none_by : (o : Option Keyed) → option_map (λ x. x.place) o ≡ None → o ≡ None
+none_by : (o : Option Keyed) → option_map (λ x. x.location) o ≡ None → o ≡ None
 none_by None h = refl
-none_by (Some x) h = absurd (none_some x.place (sym h))
+none_by (Some x) h = absurd (none_some x.location (sym h))
 
--- an entity that has no place has no entry
-pub none_of_place : (m : Entries) (e : ℕ) → map.get (places_of m.entries) e ≡ None → tree.get nat_cmp m e ≡ None
-none_of_place m e h = none_by (tree.get nat_cmp m e) (sym (place_of_entity m e) ∙ h)
+-- an entity that has no location has no entry
+pub none_of_location : (m : Entries) (e : ℕ) → map.get (locations_of m.entries) e ≡ None → tree.get nat_cmp m e ≡ None
+none_of_location m e h = none_by (tree.get nat_cmp m e) (sym (location_of_entity m e) ∙ h)
 
 pair_of : (r t : ℕ × Location) → Some r ≡ Some t → (r.0 ≡ t.0) × (r.1 ≡ t.1)
 pair_of r t h = let e = some_is r t h in (ap (λ r. r.0) e, ap (λ r. r.1) e)
@@ -134,13 +134,13 @@ moved_other s t key p h k n =
 -- ---- the entries, when they and the spots change
 
 abbrev of_key : ℕ → Location → Keyed
-of_key k p = record { key = k; place = p }
+of_key k p = record { key = k; location = p }
 
 -- two entities have two keys
 keys_apart : {Z : Type 0} (m : Entries) (s : Slab Spot) (b : Buckets Z) → IsIndexed m s b → (q e : ℕ) (x y : Keyed) →
     tree.get nat_cmp m q ≡ Some x → tree.get nat_cmp m e ≡ Some y → q ≢ e → x.key ≢ y.key
 keys_apart m s b i q e x y at there n same =
-    n (pair_of (q, x.place) (e, y.place) (sym (i.keyed q x at) ∙ (ap (seen_at s) same ∙ i.keyed e y there))).0
+    n (pair_of (q, x.location) (e, y.location) (sym (i.keyed q x at) ∙ (ap (seen_at s) same ∙ i.keyed e y there))).0
 
 there_by : (o : Option Spot) (x : ℕ × Location) → option_map seen o ≡ Some x → (y : Spot) × (o ≡ Some y)
 there_by None x h = absurd (none_some x h)
@@ -149,12 +149,12 @@ there_by (Some y) x h = (y, refl)
 -- an entry's key has a spot
 pub spot_of_key : {Z : Type 0} (m : Entries) (s : Slab Spot) (b : Buckets Z) → IsIndexed m s b → (e : ℕ) (x : Keyed) →
     tree.get nat_cmp m e ≡ Some x → (y : Spot) × (get s x.key ≡ Some y)
-spot_of_key m s b i e x at = there_by (get s x.key) (e, x.place) (i.keyed e x at)
+spot_of_key m s b i e x at = there_by (get s x.key) (e, x.location) (i.keyed e x at)
 
 module _ {Z : Type 0} (m n : Entries) (s t : Slab Spot) (b c : Buckets Z) (i : IsIndexed m s b) (l : AreLinked t c)
     (o : tree.IsOrdered nat_cmp n) where
   -- nothing but ranks changed
-  pub indexed_when_same : AreSameEntries m n → AreSamePlaces s t → IsIndexed n t c
+  pub indexed_when_same : AreSameEntries m n → AreSameLocations s t → IsIndexed n t c
   indexed_when_same g h = record {
     ordered = o;
     keyed = λ e x at. h x.key ∙ i.keyed e x (sym (g e) ∙ at);
@@ -177,7 +177,7 @@ module _ {Z : Type 0} (m n : Entries) (s t : Slab Spot) (b c : Buckets Z) (i : I
       indexed_when_moved = record {
         ordered = o;
         keyed = λ q y at. elim (entry_after m n e (Some (of_key x.key p)) w q) [
-          | inl r ↦ subst (λ z. seen_at t z.key ≡ Some (q, z.place)) (some_is (of_key x.key p) y (sym r.1 ∙ at))
+          | inl r ↦ subst (λ z. seen_at t z.key ≡ Some (q, z.location)) (some_is (of_key x.key p) y (sym r.1 ∙ at))
               (seen_moved ∙ (λ j. Some (sym r.0 j, p)))
           | inr r ↦ let was = sym r.1 ∙ at in
               moved_other s t x.key p h y.key (keys_apart m s b i q e y x was there r.0) ∙ i.keyed q y was
@@ -193,7 +193,7 @@ module _ {Z : Type 0} (m n : Entries) (s t : Slab Spot) (b c : Buckets Z) (i : I
       }
 
     -- an entity that is taken out
-    module _ (u : Slab Spot) (w : Writes m n e None) (out : Updates s u x.key None) (same : AreSamePlaces u t) where
+    module _ (u : Slab Spot) (w : Writes m n e None) (out : Updates s u x.key None) (same : AreSameLocations u t) where
       seen_when_out : (k : ℕ) → k ≢ x.key → seen_at t k ≡ seen_at s k
       seen_when_out k other = same k ∙ ap (option_map seen) (out.others k other)
 
@@ -214,28 +214,28 @@ module _ {Z : Type 0} (m n : Entries) (s t : Slab Spot) (b c : Buckets Z) (i : I
 
   -- a new entity
   module _ (e key : ℕ) (x : Spot) (absent : tree.get nat_cmp m e ≡ None) (none : get s key ≡ None)
-      (w : Writes m n e (Some (of_key key x.place))) (u : Updates s t key (Some x)) (name : x.entity ≡ e) where
+      (w : Writes m n e (Some (of_key key x.location))) (u : Updates s t key (Some x)) (name : x.entity ≡ e) where
     seen_when_written : (k : ℕ) → k ≢ key → seen_at t k ≡ seen_at s k
     seen_when_written k other = ap (option_map seen) (u.others k other)
 
     no_key : (q : ℕ) (y : Keyed) → tree.get nat_cmp m q ≡ Some y → y.key ≢ key
-    no_key q y at same = none_some (q, y.place) (sym (ap (option_map seen) (ap (get s) same ∙ none)) ∙ i.keyed q y at)
+    no_key q y at same = none_some (q, y.location) (sym (ap (option_map seen) (ap (get s) same ∙ none)) ∙ i.keyed q y at)
 
     pub indexed_when_new : IsIndexed n t c
     indexed_when_new = record {
       ordered = o;
-      keyed = λ q y at. elim (entry_after m n e (Some (of_key key x.place)) w q) [
-        | inl r ↦ subst (λ z. seen_at t z.key ≡ Some (q, z.place)) (some_is (of_key key x.place) y (sym r.1 ∙ at))
-            (ap (option_map seen) u.changed ∙ (λ j. Some ((name ∙ sym r.0) j, x.place)))
+      keyed = λ q y at. elim (entry_after m n e (Some (of_key key x.location)) w q) [
+        | inl r ↦ subst (λ z. seen_at t z.key ≡ Some (q, z.location)) (some_is (of_key key x.location) y (sym r.1 ∙ at))
+            (ap (option_map seen) u.changed ∙ (λ j. Some ((name ∙ sym r.0) j, x.location)))
         | inr r ↦ let was = sym r.1 ∙ at in seen_when_written y.key (no_key q y was) ∙ i.keyed q y was
       ];
       known = λ k q p at. elim (is_or_not key k) [
         | inl r ↦ let f = pair_of (seen x) (q, p) (sym (ap (option_map seen) (ap (get t) r ∙ u.changed)) ∙ at) in
             ap (tree.get nat_cmp n) (sym f.0 ∙ name)
-            ∙ (entry_here m n e (Some (of_key key x.place)) w ∙ (λ j. Some (of_key (sym r j) (f.1 j))))
+            ∙ (entry_here m n e (Some (of_key key x.location)) w ∙ (λ j. Some (of_key (sym r j) (f.1 j))))
         | inr r ↦ let was = sym (seen_when_written k r) ∙ at in
             let had = i.known k q p was in
-            entry_other m n e (Some (of_key key x.place)) w q
+            entry_other m n e (Some (of_key key x.location)) w q
             (λ same. none_some (of_key k p) (sym absent ∙ (ap (tree.get nat_cmp m) (sym same) ∙ had)))
             ∙ had
       ];

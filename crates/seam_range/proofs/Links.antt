@@ -99,15 +99,16 @@ module _ {Z : Type 0} (m n : Buckets Z) (b : ℕ × ℕ) where
 module _ {Z : Type 0} (m n : Buckets Z) (s t : Slab Spot) where
   -- a new spot, whose key is pushed
   pub linked_when_new : (key : ℕ) (x : Spot) → AreLinked s m → get s key ≡ None → Updates s t key (Some x) →
-      IsBucketSet m n (bucket_of x.place) (keys_in m (bucket_of x.place) ++ key ∷ []) → x.rank ≡ length (keys_in m (bucket_of x.place)) →
+      IsBucketSet m n (bucket_of x.location) (keys_in m (bucket_of x.location) ++ key ∷ []) →
+      x.rank ≡ length (keys_in m (bucket_of x.location)) →
       AreLinked t n
   linked_when_new key x l none u h r = record {
     ranked = λ k y at. elim (at_key s t key k (Some x) y u at) [
-      | inl p ↦ subst (λ z. slice_get (keys_in n (bucket_of z.place)) z.rank ≡ Some k) (some_is x y p.1)
-          (ap (slice_get (keys_in n (bucket_of x.place))) r ∙ (pushed m n (bucket_of x.place) key h ∙ ap Some (sym p.0)))
-      | inr p ↦ kept_push m n (bucket_of x.place) key (bucket_of y.place) y.rank k h (l.ranked k y p.1)
+      | inl p ↦ subst (λ z. slice_get (keys_in n (bucket_of z.location)) z.rank ≡ Some k) (some_is x y p.1)
+          (ap (slice_get (keys_in n (bucket_of x.location))) r ∙ (pushed m n (bucket_of x.location) key h ∙ ap Some (sym p.0)))
+      | inr p ↦ kept_push m n (bucket_of x.location) key (bucket_of y.location) y.rank k h (l.ranked k y p.1)
     ];
-    listed = λ c i k at. elim (listed_push m n (bucket_of x.place) key c i k h at) [
+    listed = λ c i k at. elim (listed_push m n (bucket_of x.location) key c i k h at) [
       | inl p ↦ let f = l.listed c i k p in
           (f.0, (u.others k (λ e. none_some f.0 (sym none ∙ (ap (get s) (sym e) ∙ f.1.0))) ∙ f.1.0, f.1.1))
       | inr p ↦ (x, (ap (get t) p.1.1 ∙ u.changed, (sym p.0, r ∙ sym p.1.0)))
@@ -116,34 +117,35 @@ module _ {Z : Type 0} (m n : Buckets Z) (s t : Slab Spot) where
 
   -- a spot that was written over, and its key pushed to another bucket: its former rank is left
   pub surplus_when_moved : (key : ℕ) (old x : Spot) → AreLinked s m → get s key ≡ Some old → Updates s t key (Some x) →
-      IsBucketSet m n (bucket_of x.place) (keys_in m (bucket_of x.place) ++ key ∷ []) → x.rank ≡ length (keys_in m (bucket_of x.place)) →
-      (bucket_of old.place ≡ bucket_of x.place → ⊥) → HasSurplus t n (bucket_of old.place) old.rank
+      IsBucketSet m n (bucket_of x.location) (keys_in m (bucket_of x.location) ++ key ∷ []) →
+      x.rank ≡ length (keys_in m (bucket_of x.location)) →
+      (bucket_of old.location ≡ bucket_of x.location → ⊥) → HasSurplus t n (bucket_of old.location) old.rank
   surplus_when_moved key old x l was u h r other = record {
     ranked = λ k y at. elim (at_key s t key k (Some x) y u at) [
-      | inl p ↦ subst (λ z. slice_get (keys_in n (bucket_of z.place)) z.rank ≡ Some k) (some_is x y p.1)
-          (ap (slice_get (keys_in n (bucket_of x.place))) r ∙ (pushed m n (bucket_of x.place) key h ∙ ap Some (sym p.0)))
-      | inr p ↦ kept_push m n (bucket_of x.place) key (bucket_of y.place) y.rank k h (l.ranked k y p.1)
+      | inl p ↦ subst (λ z. slice_get (keys_in n (bucket_of z.location)) z.rank ≡ Some k) (some_is x y p.1)
+          (ap (slice_get (keys_in n (bucket_of x.location))) r ∙ (pushed m n (bucket_of x.location) key h ∙ ap Some (sym p.0)))
+      | inr p ↦ kept_push m n (bucket_of x.location) key (bucket_of y.location) y.rank k h (l.ranked k y p.1)
     ];
-    listed = λ c i k at no. elim (listed_push m n (bucket_of x.place) key c i k h at) [
+    listed = λ c i k at no. elim (listed_push m n (bucket_of x.location) key c i k h at) [
       | inl p ↦ let f = l.listed c i k p in
           let apart : k ≢ key = λ e.
           let same : f.0 ≡ old = some_is f.0 old (sym f.1.0 ∙ (ap (get s) e ∙ was)) in
-          no (sym f.1.1.0 ∙ ap (λ z. bucket_of z.place) same, sym f.1.1.1 ∙ ap (λ z. z.rank) same) in
+          no (sym f.1.1.0 ∙ ap (λ z. bucket_of z.location) same, sym f.1.1.1 ∙ ap (λ z. z.rank) same) in
           (f.0, (u.others k apart ∙ f.1.0, f.1.1))
       | inr p ↦ (x, (ap (get t) p.1.1 ∙ u.changed, (sym p.0, r ∙ sym p.1.0)))
     ];
     apart = λ k y at same. elim (at_key s t key k (Some x) y u at) [
-      | inl p ↦ other (sym same.0 ∙ ap (λ z. bucket_of z.place) (sym (some_is x y p.1)))
+      | inl p ↦ other (sym same.0 ∙ ap (λ z. bucket_of z.location) (sym (some_is x y p.1)))
       | inr p ↦ p.0 (some_is k key (sym (l.ranked k y p.1)
           ∙ ((λ i. slice_get (keys_in m (same.0 i)) (same.1 i)) ∙ l.ranked key old was)))
     ];
-    within = get_within (keys_in n (bucket_of old.place)) old.rank key
-        (kept_push m n (bucket_of x.place) key (bucket_of old.place) old.rank key h (l.ranked key old was));
+    within = get_within (keys_in n (bucket_of old.location)) old.rank key
+        (kept_push m n (bucket_of x.location) key (bucket_of old.location) old.rank key h (l.ranked key old was));
   }
 
   -- a spot that was taken out, while its key is in its bucket
   pub surplus_when_removed : (key : ℕ) (old : Spot) → AreLinked s m → get s key ≡ Some old → Updates s t key None →
-      HasSurplus t m (bucket_of old.place) old.rank
+      HasSurplus t m (bucket_of old.location) old.rank
   surplus_when_removed key old l was u = record {
     ranked = λ k y at. elim (at_key s t key k None y u at) [
       | inl p ↦ absurd (none_some y p.1)
@@ -153,14 +155,14 @@ module _ {Z : Type 0} (m n : Buckets Z) (s t : Slab Spot) where
         let f = l.listed c i k at in
         let apart : k ≢ key = λ e.
         let same : f.0 ≡ old = some_is f.0 old (sym f.1.0 ∙ (ap (get s) e ∙ was)) in
-        no (sym f.1.1.0 ∙ ap (λ z. bucket_of z.place) same, sym f.1.1.1 ∙ ap (λ z. z.rank) same) in
+        no (sym f.1.1.0 ∙ ap (λ z. bucket_of z.location) same, sym f.1.1.1 ∙ ap (λ z. z.rank) same) in
         (f.0, (u.others k apart ∙ f.1.0, f.1.1));
     apart = λ k y at same. elim (at_key s t key k None y u at) [
       | inl p ↦ none_some y p.1
       | inr p ↦ p.0 (some_is k key (sym (l.ranked k y p.1)
           ∙ ((λ i. slice_get (keys_in m (same.0 i)) (same.1 i)) ∙ l.ranked key old was)))
     ];
-    within = get_within (keys_in m (bucket_of old.place)) old.rank key (l.ranked key old was);
+    within = get_within (keys_in m (bucket_of old.location)) old.rank key (l.ranked key old was);
   }
 
 -- ---- the key at the surplus rank goes
@@ -175,7 +177,7 @@ module _ {Z : Type 0} (m n : Buckets Z) (s : Slab Spot) (b : ℕ × ℕ) (i : �
   was_kept j k h = ap (λ ks. slice_get ks j) was ∙ get_kept kept (last ∷ []) j k h
 
   -- the key of a spot of the bucket is kept, or the last
-  spot_in : (k : ℕ) (y : Spot) → get s k ≡ Some y → bucket_of y.place ≡ b →
+  spot_in : (k : ℕ) (y : Spot) → get s k ≡ Some y → bucket_of y.location ≡ b →
       (slice_get kept y.rank ≡ Some k) ⊎ ((y.rank ≡ length kept) × (k ≡ last))
   spot_in k y at e =
       get_of_push kept last y.rank k
@@ -185,7 +187,7 @@ module _ {Z : Type 0} (m n : Buckets Z) (s : Slab Spot) (b : ℕ × ℕ) (i : �
   pub linked_when_last : IsBucketSet m n b kept → (i < length kept → ⊥) → AreLinked s n
   linked_when_last h past =
       let end : i ≡ length kept = let w = l.within in let e = ap length was ∙ length_push kept last in omega (arith, w, e, past) in record {
-        ranked = λ k y at. elim (keys_at m n b (bucket_of y.place) kept h) [
+        ranked = λ k y at. elim (keys_at m n b (bucket_of y.location) kept h) [
           | inl p ↦ ap (λ ks. slice_get ks y.rank) p.1
               ∙ ⊎_elim (λ q. q) (λ q. absurd (l.apart k y at (p.0, q.0 ∙ sym end))) (spot_in k y at p.0)
           | inr p ↦ ap (λ ks. slice_get ks y.rank) p.1 ∙ l.ranked k y at
@@ -207,19 +209,19 @@ module _ {Z : Type 0} (m n : Buckets Z) (s : Slab Spot) (b : ℕ × ℕ) (i : �
   module _ (t : Slab Spot) where
     -- the last key has the rank, and its spot is told
     pub linked_when_told : (old told : Spot) → IsBucketSet m n b (slice_set kept i last) → i < length kept → get s last ≡ Some old →
-        Updates s t last (Some told) → told.place ≡ old.place → told.rank ≡ i → AreLinked t n
-    linked_when_told old told h lt was_last u place rank =
+        Updates s t last (Some told) → told.location ≡ old.location → told.rank ≡ i → AreLinked t n
+    linked_when_told old told h lt was_last u location rank =
         let f = last_spot lt in
         let same : f.0 ≡ old = some_is f.0 old (sym f.1.0 ∙ was_last) in
-        let home : bucket_of told.place ≡ b = ap bucket_of place ∙ (ap (λ z. bucket_of z.place) (sym same) ∙ f.1.1.0) in
+        let home : bucket_of told.location ≡ b = ap bucket_of location ∙ (ap (λ z. bucket_of z.location) (sym same) ∙ f.1.1.0) in
         let end : old.rank ≡ length kept = ap (λ z. z.rank) (sym same) ∙ f.1.1.1 in record {
           ranked = λ k y at. elim (at_key s t last k (Some told) y u at) [
-            | inl p ↦ subst (λ z. slice_get (keys_in n (bucket_of z.place)) z.rank ≡ Some k) (some_is told y p.1)
+            | inl p ↦ subst (λ z. slice_get (keys_in n (bucket_of z.location)) z.rank ≡ Some k) (some_is told y p.1)
                 ((λ j. slice_get (keys_in n (home j)) (rank j))
                 ∙ (ap (λ ks. slice_get ks i)
                 (h b ∙ ap (λ v. cond v (slice_set kept i last) (keys_in m b)) (bucket_itself b))
                 ∙ (get_set_here kept i last lt ∙ ap Some (sym p.0))))
-            | inr p ↦ elim (keys_at m n b (bucket_of y.place) (slice_set kept i last) h) [
+            | inr p ↦ elim (keys_at m n b (bucket_of y.location) (slice_set kept i last) h) [
               | inl q ↦ ap (λ ks. slice_get ks y.rank) q.1
                   ∙ get_set_other kept i last y.rank k (λ e. l.apart k y p.1 (q.0, e))
                   (⊎_elim (λ r. r) (λ r. absurd (p.0 r.1)) (spot_in k y p.1 q.0))
@@ -239,7 +241,7 @@ module _ {Z : Type 0} (m n : Buckets Z) (s : Slab Spot) (b : ℕ × ℕ) (i : �
             | inr p ↦ let g = l.listed c j k (ap (λ ks. slice_get ks j) (sym p.1) ∙ at) (λ e. p.0 e.0) in
                 let apart : k ≢ last = λ e.
                 let one : g.0 ≡ old = some_is g.0 old (sym g.1.0 ∙ (ap (get s) e ∙ was_last)) in
-                p.0 (sym g.1.1.0 ∙ (ap (λ z. bucket_of z.place) one ∙ (ap bucket_of (sym place) ∙ home))) in
+                p.0 (sym g.1.1.0 ∙ (ap (λ z. bucket_of z.location) one ∙ (ap bucket_of (sym location) ∙ home))) in
                 (g.0, (u.others k apart ∙ g.1.0, g.1.1))
           ];
         }
@@ -283,11 +285,11 @@ module _ {Z : Type 0} (m n : Buckets Z) (s t : Slab Spot) (b : ℕ × ℕ) (i : 
       (g.0, ap (get s) f.1.0 ∙ g.1.0)
 
   pub linked_when_moved : (x : ℕ) (old told : Spot) → IsTaken m n b i (Some x) → get s x ≡ Some old → Updates s t x (Some told) →
-      told.place ≡ old.place → told.rank ≡ i → AreLinked t n
-  linked_when_moved x old told k was u place rank =
+      told.location ≡ old.location → told.rank ≡ i → AreLinked t n
+  linked_when_moved x old told k was u location rank =
       let f = moved_by x k (ltb i (length k.here.kept)) refl in
       linked_when_told m n s b i l k.here.kept k.here.last k.here.was t old told f.1.1 f.0 (ap (get s) (sym f.1.0) ∙ was)
-      (subst (λ y. Updates s t y (Some told)) f.1.0 u) place rank
+      (subst (λ y. Updates s t y (Some told)) f.1.0 u) location rank
 
 pub same_set : {Z : Type 0} (m n : Buckets Z) (b : ℕ × ℕ) → IsBucketSet m n b (keys_in m b) → (c : ℕ × ℕ) → keys_in n c ≡ keys_in m c
 same_set m n b h c = ⊎_elim (λ p. p.1 ∙ ap (keys_in m) (sym p.0)) (λ p. p.1) (keys_at m n b c (keys_in m b) h)
@@ -296,7 +298,7 @@ same_set m n b h c = ⊎_elim (λ p. p.1 ∙ ap (keys_in m) (sym p.0)) (λ p. p.
 pub linked_again : {Z : Type 0} (m n : Buckets Z) (s t : Slab Spot) → AreLinked s m → ((c : ℕ × ℕ) → keys_in n c ≡ keys_in m c) →
     ((k : ℕ) → get t k ≡ get s k) → AreLinked t n
 linked_again m n s t l h g = record {
-  ranked = λ k y at. ap (λ ks. slice_get ks y.rank) (h (bucket_of y.place)) ∙ l.ranked k y (sym (g k) ∙ at);
+  ranked = λ k y at. ap (λ ks. slice_get ks y.rank) (h (bucket_of y.location)) ∙ l.ranked k y (sym (g k) ∙ at);
   listed = λ c j k at. let f = l.listed c j k (ap (λ ks. slice_get ks j) (sym (h c)) ∙ at) in (f.0, (g k ∙ f.1.0, f.1.1));
 }
 

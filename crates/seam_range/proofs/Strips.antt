@@ -26,14 +26,14 @@ use Rattle.seam_range.specs.declared.Location.{Location}
 use Rattle.seam_range.specs.declared.Keyed.{Keyed}
 use Rattle.seam_range.specs.declared.Spot.{Spot}
 use Rattle.seam_range.specs.Locations.{is_within}
-use Rattle.seam_range.specs.Indexed.{bucket_of, same_bucket, by_bucket, seen, places_of, Buckets, keys_in, IsIndexed}
-use Rattle.seam_range.specs.Found.{count_of, AreInPlace, one_if, is_in_strip, first_strip, end_strip, near_at, hits, in_run, Entry, run_of}
+use Rattle.seam_range.specs.Indexed.{bucket_of, same_bucket, by_bucket, seen, locations_of, Buckets, keys_in, IsIndexed}
+use Rattle.seam_range.specs.Found.{count_of, AreLocated, one_if, is_in_strip, first_strip, end_strip, near_at, hits, in_run, Entry, run_of}
 use Rattle.seam_range.specs.Found.{hits_of}
 use Rattle.seam_range.specs.declared.TheConstants.{STRIP_WIDTH, ROW_WIDTH}
 use Rattle.std.specs.FinMap as map
 use Rattle.seam_range.proofs.Ranks.{none_some}
 use Rattle.seam_range.proofs.Links.{bucket_is, bucket_itself, tied}
-use Rattle.seam_range.proofs.Kept.{place_of_entity}
+use Rattle.seam_range.proofs.Kept.{location_of_entity}
 use Rattle.seam_range.proofs.Hits.{count_cons, count_agree, count_nothing, no_more, and_no, in_bucket, home, count_in_bucket}
 use Rattle.seam_range.proofs.Hits.{spot_of}
 
@@ -220,15 +220,15 @@ module _ {Z : Type 0} (m : tree.BTreeMap ℕ Keyed) (s : Slab Spot) (b : Buckets
   there_by c (Some v) r k h = refl
 
   run_by_home : (strip : ℕ) (o : Option Keyed) → tree.get nat_cmp m q ≡ o → tree.IsOrdered by_bucket b →
-      count_by (λ r. in_run strip p d r.0 && near_in p d (option_map (λ x. x.place) o) r) b.entries
-      ≡ one_if (is_in_strip strip p d) (option_map (λ x. x.place) o)
+      count_by (λ r. in_run strip p d r.0 && near_in p d (option_map (λ x. x.location) o) r) b.entries
+      ≡ one_if (is_in_strip strip p d) (option_map (λ x. x.location) o)
   run_by_home strip None at ord = count_nothing _ b.entries (no_and (λ r. in_run strip p d r.0) b.entries)
   run_by_home strip (Some z) at ord =
-      let v = z.place in
-      let x = spot_of (get s z.key) q z.place (i.keyed q z at) in
-      let place : v ≡ x.0.place = sym x.1.1.1 in
+      let v = z.location in
+      let x = spot_of (get s z.key) q z.location (i.keyed q z at) in
+      let location : v ≡ x.0.location = sym x.1.1.1 in
       let there : is_some (lookup (is_at (by_bucket (bucket_of v))) b.entries) ≡ true =
-      there_by (bucket_of v) _ x.0.rank z.key (ap (λ w. slice_get (keys_in b (bucket_of w)) x.0.rank) place
+      there_by (bucket_of v) _ x.0.rank z.key (ap (λ w. slice_get (keys_in b (bucket_of w)) x.0.rank) location
       ∙ i.linked.ranked z.key x.0 x.1.0) in
       count_agree _ _ b.entries (swapped strip p d v b.entries)
       ∙ (all_or_none (in_run strip p d (bucket_of v) && is_within p d v) (λ r. is_at (by_bucket (bucket_of v)) r.0) b.entries
@@ -238,43 +238,43 @@ module _ {Z : Type 0} (m : tree.BTreeMap ℕ Keyed) (s : Slab Spot) (b : Buckets
 
   -- of the near entities of the run one or none is the entity
   pub count_in_run : (strip : ℕ) → tree.IsOrdered by_bucket b →
-      count_of q (hits_of p d s (run_of strip p d b.entries)) ≡ one_if (is_in_strip strip p d) (map.get (places_of m.entries) q)
+      count_of q (hits_of p d s (run_of strip p d b.entries)) ≡ one_if (is_in_strip strip p d) (map.get (locations_of m.entries) q)
   count_in_run strip ord =
       let each = found_each b.entries (IsDistinct-from_sorted by_bucket (keys_of b.entries) ord) in
       listed_in (run_of strip p d b.entries) (found_by_filter b.entries (λ r. in_run strip p d r.0) b.entries each)
       ∙ (count_by_filter (λ r. in_run strip p d r.0) (near_in p d (home m s b i p d q)) b.entries
-      ∙ (run_by_home strip (tree.get nat_cmp m q) refl ord ∙ ap (one_if (is_in_strip strip p d)) (sym (place_of_entity m q))))
+      ∙ (run_by_home strip (tree.get nat_cmp m q) refl ord ∙ ap (one_if (is_in_strip strip p d)) (sym (location_of_entity m q))))
 
--- ---- and in its place
+-- ---- and at its location
 
 module _ {Z : Type 0} (m : tree.BTreeMap ℕ Keyed) (s : Slab Spot) (b : Buckets Z) (i : IsIndexed m s b) (p : Pos) (d : ℕ) where
-  abbrev IsPlaced : ℕ × Location → Type 0
-  IsPlaced x = map.get (places_of m.entries) x.0 ≡ Some x.1
+  abbrev IsLocated : ℕ × Location → Type 0
+  IsLocated x = map.get (locations_of m.entries) x.0 ≡ Some x.1
 
-  placed_spot : (k : ℕ) (x : Spot) → get s k ≡ Some x → IsPlaced (seen x)
-  placed_spot k x at =
-      place_of_entity m x.entity
-      ∙ ap (option_map (λ z. z.place)) (i.known k x.entity x.place (ap (option_map seen) at))
+  located_spot : (k : ℕ) (x : Spot) → get s k ≡ Some x → IsLocated (seen x)
+  located_spot k x at =
+      location_of_entity m x.entity
+      ∙ ap (option_map (λ z. z.location)) (i.known k x.entity x.location (ap (option_map seen) at))
 
-  placed_by : (rest : List (ℕ × Location)) (x : Spot) (w : Bool) → IsPlaced (seen x) → AllByRecursion IsPlaced rest →
-      AllByRecursion IsPlaced (cons_option (cond w (Some (seen x)) None) rest)
-  placed_by rest x true h k = (h, k)
-  placed_by rest x false h k = k
+  located_by : (rest : List (ℕ × Location)) (x : Spot) (w : Bool) → IsLocated (seen x) → AllByRecursion IsLocated rest →
+      AllByRecursion IsLocated (cons_option (cond w (Some (seen x)) None) rest)
+  located_by rest x true h k = (h, k)
+  located_by rest x false h k = k
 
-  placed_step : (k : ℕ) (o : Option Spot) (rest : List (ℕ × Location)) → get s k ≡ o → AllByRecursion IsPlaced rest →
-      AllByRecursion IsPlaced (cons_option (near_at p d o) rest)
-  placed_step k None rest at h = h
-  placed_step k (Some x) rest at h = placed_by rest x (is_within p d x.place) (placed_spot k x at) h
+  located_step : (k : ℕ) (o : Option Spot) (rest : List (ℕ × Location)) → get s k ≡ o → AllByRecursion IsLocated rest →
+      AllByRecursion IsLocated (cons_option (near_at p d o) rest)
+  located_step k None rest at h = h
+  located_step k (Some x) rest at h = located_by rest x (is_within p d x.location) (located_spot k x at) h
 
-  placed_hits : (ks : List ℕ) → AllByRecursion IsPlaced (hits p d s ks)
-  placed_hits [] = tt
-  placed_hits (k ∷ ks) = placed_step k (get s k) (hits p d s ks) refl (placed_hits ks)
+  located_hits : (ks : List ℕ) → AllByRecursion IsLocated (hits p d s ks)
+  located_hits [] = tt
+  located_hits (k ∷ ks) = located_step k (get s k) (hits p d s ks) refl (located_hits ks)
 
-  pub placed_in_run : (rs : List (Entry Z)) → AreInPlace (places_of m.entries) (hits_of p d s rs)
-  placed_in_run [] = All-nil IsPlaced
-  placed_in_run (r ∷ rs) =
-      All-append IsPlaced (hits p d s r.1.items) (hits_of p d s rs)
-      (all_from_recursion IsPlaced (hits p d s r.1.items) (placed_hits r.1.items)) (placed_in_run rs)
+  pub located_in_run : (rs : List (Entry Z)) → AreLocated (locations_of m.entries) (hits_of p d s rs)
+  located_in_run [] = All-nil IsLocated
+  located_in_run (r ∷ rs) =
+      All-append IsLocated (hits p d s r.1.items) (hits_of p d s rs)
+      (all_from_recursion IsLocated (hits p d s r.1.items) (located_hits r.1.items)) (located_in_run rs)
 
 -- ---- after a strip
 
@@ -283,25 +283,26 @@ module _ {Z : Type 0} (m : tree.BTreeMap ℕ Keyed) (s : Slab Spot) (b : Buckets
     (d strip : ℕ) (old new : List (ℕ × Location)) where
   pub counted_after : {E : Type 0} (r : Result Bool E) →
       IfOk r (λ w. w ≡ true → new ≡ old ++ hits_of p d s (run_of strip p d b.entries)) →
-      IfOk r (λ w. w ≡ true → (q : ℕ) → count_of q new ≡ count_of q old + one_if (is_in_strip strip p d) (map.get (places_of m.entries) q))
+      IfOk r (λ w. w ≡ true → (q : ℕ) →
+      count_of q new ≡ count_of q old + one_if (is_in_strip strip p d) (map.get (locations_of m.entries) q))
   counted_after (Err e) h = tt
   counted_after (Ok w) h = λ whole q.
       ap (count_of q) (h whole)
       ∙ (sum_by-append (λ x. cond (eqb x.0 q) 1 0) old (hits_of p d s (run_of strip p d b.entries))
       ∙ ap (λ n. count_of q old + n) (count_in_run m s b i p d q strip ord))
 
-  pub placed_after : {E : Type 0} (r : Result Bool E) →
-      IfOk r (λ w. w ≡ true → new ≡ old ++ hits_of p d s (run_of strip p d b.entries)) → AreInPlace (places_of m.entries) old →
-      IfOk r (λ w. w ≡ true → AreInPlace (places_of m.entries) new)
-  placed_after (Err e) h k = tt
-  placed_after (Ok w) h k = λ whole.
-      subst (AreInPlace (places_of m.entries)) (sym (h whole))
-      (All-append (λ x. map.get (places_of m.entries) x.0 ≡ Some x.1) old (hits_of p d s (run_of strip p d b.entries)) k
-      (placed_in_run m s b i p d (run_of strip p d b.entries)))
+  pub located_after : {E : Type 0} (r : Result Bool E) →
+      IfOk r (λ w. w ≡ true → new ≡ old ++ hits_of p d s (run_of strip p d b.entries)) → AreLocated (locations_of m.entries) old →
+      IfOk r (λ w. w ≡ true → AreLocated (locations_of m.entries) new)
+  located_after (Err e) h k = tt
+  located_after (Ok w) h k = λ whole.
+      subst (AreLocated (locations_of m.entries)) (sym (h whole))
+      (All-append (λ x. map.get (locations_of m.entries) x.0 ≡ Some x.1) old (hits_of p d s (run_of strip p d b.entries)) k
+      (located_in_run m s b i p d (run_of strip p d b.entries)))
 
 -- ---- all strips
 
--- a place in a strip below this one, at distance at most d from p
+-- a location in a strip below this one, at distance at most d from p
 abbrev pub is_below_strip : ℕ → Pos → ℕ → Location → Bool
 is_below_strip strip p d o = nat_lt (o.pos.x / STRIP_WIDTH) strip && is_within p d o
 

@@ -6,7 +6,7 @@ use Rattle.std.specs.Prelude.{Vec}
 use Rattle.std.specs.BTreeMap.Range.{range_contains}
 use Rattle.std.specs.declared.ops.Bound.TheVariants.{Included, Excluded}
 use Rattle.seam_geo.specs.declared.pos.Pos.{Pos}
-use Rattle.seam_range.specs.Locations.{Places, is_within}
+use Rattle.seam_range.specs.Locations.{Locations, is_within}
 use Rattle.seam_range.specs.Indexed.{by_bucket}
 use Rattle.seam_range.specs.declared.Location.{Location}
 use Rattle.seam_range.specs.declared.Spot.{Spot}
@@ -17,23 +17,23 @@ use Rattle.slab.specs.Slab.{Slab, get}
 abbrev pub count_of : ℕ → List (ℕ × Location) → ℕ
 count_of q xs = count_by (λ x. nat_eq x.0 q) xs
 
--- each is in the list with its own place
-abbrev pub AreInPlace : Places → List (ℕ × Location) → Type 0
-AreInPlace places xs = All (λ x. map.get places x.0 ≡ Some x.1) xs
+-- each is in the list at its own location
+abbrev pub AreLocated : Locations → List (ℕ × Location) → Type 0
+AreLocated locations xs = All (λ x. map.get locations x.0 ≡ Some x.1) xs
 
--- 1 where there is a place that passes the test, else 0
+-- 1 where there is a location that passes the test, else 0
 abbrev pub one_if : (Location → Bool) → Option Location → ℕ
 one_if test None = 0
 one_if test (Some p) = if test p then 1 else 0
 
--- a place in the strip, at distance at most d from p
+-- a location in the strip, at distance at most d from p
 abbrev pub is_in_strip : ℕ → Pos → ℕ → Location → Bool
 is_in_strip strip p d q = nat_eq (q.pos.x / STRIP_WIDTH) strip && is_within p d q
 
--- the entity of a spot with its place, if that is near
+-- the entity of a spot with its location, if that is near
 abbrev pub near_at : Pos → ℕ → Option Spot → Option (ℕ × Location)
 near_at p d None = None
-near_at p d (Some s) = if is_within p d s.place then Some (s.entity, s.place) else None
+near_at p d (Some s) = if is_within p d s.location then Some (s.entity, s.location) else None
 
 -- the near entities of the spots with these keys
 abbrev pub hits : Pos → ℕ → Slab Spot → List ℕ → List (ℕ × Location)

@@ -1,4 +1,4 @@
--- How entries, spots and buckets refine the places.
+-- How entries, spots and buckets refine the locations.
 use Rattle.std.specs.Prelude.{◌≡◌, ◌<◌, ℕ, ◌/◌, Bool, ◌&&◌, ◌++◌, List, [], ◌∷◌, length, Option, None, Some, nat_eq, nat_lt, option_map}
 use Rattle.std.specs.Prelude.{slice_get}
 use Rattle.std.specs.Prelude.{slice_set, map as each, if◌then◌else◌}
@@ -13,9 +13,9 @@ use Rattle.seam_range.specs.declared.Location.{Location}
 use Rattle.seam_range.specs.declared.Keyed.{Keyed}
 use Rattle.seam_range.specs.declared.Spot.{Spot}
 use Rattle.seam_range.specs.declared.TheConstants.{STRIP_WIDTH, ROW_WIDTH}
-use Rattle.seam_range.specs.Locations.{Places}
+use Rattle.seam_range.specs.Locations.{Locations}
 
--- the bucket of a place: its strip of x, and its row of z
+-- the bucket of a location: its strip of x, and its row of z
 abbrev pub bucket_of : Location → ℕ × ℕ
 bucket_of p = (p.pos.x / STRIP_WIDTH, p.pos.z / ROW_WIDTH)
 
@@ -26,9 +26,9 @@ same_bucket a b = nat_eq a.0 b.0 && nat_eq a.1 b.1
 abbrev pub by_bucket : ℕ × ℕ → ℕ × ℕ → Ordering
 by_bucket a b = ordering_then (nat_cmp a.0 b.0) (nat_cmp a.1 b.1)
 
--- the entity of the spot at a key, and its place
+-- the entity of the spot at a key, and its location
 abbrev pub seen : Spot → ℕ × Location
-seen s = (s.entity, s.place)
+seen s = (s.entity, s.location)
 
 abbrev pub seen_at : Slab Spot → ℕ → Option (ℕ × Location)
 seen_at spots k = option_map seen (get spots k)
@@ -36,16 +36,16 @@ seen_at spots k = option_map seen (get spots k)
 abbrev pub moved_to : Location → ℕ × Location → ℕ × Location
 moved_to p x = (x.0, p)
 
--- the place of each entity that has an entry
-abbrev pub places_of : List (ℕ × Keyed) → Places
-places_of es = map.from_entries (each (λ r. (r.0, r.1.place)) es)
+-- the location of each entity that has an entry
+abbrev pub locations_of : List (ℕ × Keyed) → Locations
+locations_of es = map.from_entries (each (λ r. (r.0, r.1.location)) es)
 
 abbrev pub Buckets : Type 0 → Type 0
 Buckets Z = tree.BTreeMap (ℕ × ℕ) (Vec ℕ Z)
 
--- the spot at the key has a place in this bucket, and this rank
+-- the spot at the key has a location in this bucket, and this rank
 abbrev pub IsSpotAt : Slab Spot → ℕ × ℕ → ℕ → ℕ → Type 0
-IsSpotAt spots b i k = (s : Spot) × ((get spots k ≡ Some s) × ((bucket_of s.place ≡ b) × (s.rank ≡ i)))
+IsSpotAt spots b i k = (s : Spot) × ((get spots k ≡ Some s) × ((bucket_of s.location ≡ b) × (s.rank ≡ i)))
 
 -- of these keys the one at the rank is out, and the last one has its rank
 pub record IsSwapped (old new : List ℕ) (rank : ℕ) (moved : Option ℕ) : Type 0 where
@@ -71,28 +71,29 @@ module _ {Z : Type 0} where
 
   -- each spot's key is in its bucket at its rank, and a bucket has no other keys
   pub record AreLinked (spots : Slab Spot) (buckets : Buckets Z) : Type 0 where
-    pub ranked : (k : ℕ) (s : Spot) → get spots k ≡ Some s → slice_get (keys_in buckets (bucket_of s.place)) s.rank ≡ Some k
+    pub ranked : (k : ℕ) (s : Spot) → get spots k ≡ Some s → slice_get (keys_in buckets (bucket_of s.location)) s.rank ≡ Some k
     pub listed : (b : ℕ × ℕ) (i k : ℕ) → slice_get (keys_in buckets b) i ≡ Some k → IsSpotAt spots b i k
 
   -- the same, but for one rank of one bucket, which is no spot's
   pub record HasSurplus (spots : Slab Spot) (buckets : Buckets Z) (b : ℕ × ℕ) (i : ℕ) : Type 0 where
-    pub ranked : (k : ℕ) (s : Spot) → get spots k ≡ Some s → slice_get (keys_in buckets (bucket_of s.place)) s.rank ≡ Some k
+    pub ranked : (k : ℕ) (s : Spot) → get spots k ≡ Some s → slice_get (keys_in buckets (bucket_of s.location)) s.rank ≡ Some k
     pub listed : (c : ℕ × ℕ) (j k : ℕ) → slice_get (keys_in buckets c) j ≡ Some k → ((c ≡ b) × (j ≡ i) → ⊥) → IsSpotAt spots c j k
-    pub apart : (k : ℕ) (s : Spot) → get spots k ≡ Some s → (bucket_of s.place ≡ b) × (s.rank ≡ i) → ⊥
+    pub apart : (k : ℕ) (s : Spot) → get spots k ≡ Some s → (bucket_of s.location ≡ b) × (s.rank ≡ i) → ⊥
     pub within : i < length (keys_in buckets b)
 
-  -- entries, spots and buckets agree: at an entry's key is its entity at its place, each spot's entity has that entry, and spots and
+  -- entries, spots and buckets agree: at an entry's key is its entity at its location, each spot's entity has that entry, and spots and
   -- buckets are linked
-  pub record IsIndexed (places : tree.BTreeMap ℕ Keyed) (spots : Slab Spot) (buckets : Buckets Z) : Type 0 where
-    pub ordered : tree.IsOrdered nat_cmp places
-    pub keyed : (e : ℕ) (x : Keyed) → tree.get nat_cmp places e ≡ Some x → seen_at spots x.key ≡ Some (e, x.place)
-    pub known : (k e : ℕ) (p : Location) → seen_at spots k ≡ Some (e, p) → tree.get nat_cmp places e ≡ Some (record { key = k; place = p })
+  pub record IsIndexed (locations : tree.BTreeMap ℕ Keyed) (spots : Slab Spot) (buckets : Buckets Z) : Type 0 where
+    pub ordered : tree.IsOrdered nat_cmp locations
+    pub keyed : (e : ℕ) (x : Keyed) → tree.get nat_cmp locations e ≡ Some x → seen_at spots x.key ≡ Some (e, x.location)
+    pub known : (k e : ℕ) (p : Location) → seen_at spots k ≡ Some (e, p) →
+        tree.get nat_cmp locations e ≡ Some (record { key = k; location = p })
     pub linked : AreLinked spots buckets
 
--- at each key the entity and the place stay
-abbrev pub AreSamePlaces : Slab Spot → Slab Spot → Type 0
-AreSamePlaces old new = (k : ℕ) → seen_at new k ≡ seen_at old k
+-- at each key the entity and the location stay
+abbrev pub AreSameLocations : Slab Spot → Slab Spot → Type 0
+AreSameLocations old new = (k : ℕ) → seen_at new k ≡ seen_at old k
 
--- the entity at the key is at the place, and the others stay
+-- the entity at the key is at the location, and the others stay
 abbrev pub IsMoved : Slab Spot → Slab Spot → ℕ → Location → Type 0
 IsMoved old new key p = (k : ℕ) → seen_at new k ≡ (if nat_eq key k then option_map (moved_to p) (seen_at old k) else seen_at old k)

@@ -9,19 +9,19 @@ use Rattle.seam_geo.specs.declared.pos.Pos.{Pos}
 use Rattle.seam_geo.specs.Pos.{distance}
 use Rattle.seam_range.specs.declared.Location.{Location}
 
--- the place of each entity that was put
-abbrev pub Places : Type 0
-Places = map.FinMap nat_cmp Location
+-- the location of each entity that was put
+abbrev pub Locations : Type 0
+Locations = map.FinMap nat_cmp Location
 
-abbrev pub place_code : Coded Location
-place_code =
+abbrev pub location_code : Coded Location
+location_code =
     code_by (ℕ × (ℕ × ℕ)) (coded× coded_ℕ (coded× coded_ℕ coded_ℕ)) (λ p. (p.version, (p.pos.x, p.pos.z)))
     (λ q. record { version = q.0; pos = record { x = q.1.0; z = q.1.1 } }) (λ _. refl)
 
--- the place is at distance at most d from the position
+-- the location is at distance at most d from the position
 abbrev pub is_within : Pos → ℕ → Location → Bool
 is_within p d q = nat_le (distance p q.pos) d
 
--- the entities at distance at most d from a position, in rising number, each with its place
-abbrev pub within : Places → Pos → ℕ → List (ℕ × Location)
-within places p d = filter (λ e. is_within p d e.1) (map.entries places)
+-- the entities at distance at most d from a position, in rising number, each with its location
+abbrev pub within : Locations → Pos → ℕ → List (ℕ × Location)
+within locations p d = filter (λ e. is_within p d e.1) (map.entries locations)

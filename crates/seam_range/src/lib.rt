@@ -13,8 +13,8 @@ ghost use Rattle.std.specs.FinMap as map;
 ghost use Rattle.slab.specs.Slab.{ContainsKey, Updates};
 ghost use Rattle.seam_range.specs.Locations.{is_within, within};
 ghost use Rattle.seam_range.specs.Indexed.{by_bucket, bucket_of, same_bucket, keys_in, IsBucketSet, IsSwapped, IsTaken, AreLinked};
-ghost use Rattle.seam_range.specs.Indexed.{HasSurplus, AreSamePlaces, IsMoved};
-ghost use Rattle.seam_range.specs.Found.{count_of, AreInPlace, one_if, is_in_strip, first_strip, end_strip, hits, hits_of, run_of};
+ghost use Rattle.seam_range.specs.Indexed.{HasSurplus, AreSameLocations, IsMoved};
+ghost use Rattle.seam_range.specs.Found.{count_of, AreLocated, one_if, is_in_strip, first_strip, end_strip, hits, hits_of, run_of};
 
 use seam_geo::{Pos, dist};
 use slab::Slab;
@@ -38,22 +38,22 @@ pub struct Location {
     pub pos: Pos,
 }
 
-// Where an entity is, and at which key its spot is. The place is in both, so that a walk over all entities reads no spot.
+// Where an entity is, and at which key its spot is. The location is in both, so that a walk over all entities reads no spot.
 #[derive(Clone, Copy)]
 struct Keyed {
     key: usize,
-    place: Location,
+    location: Location,
 }
 
-// An entity at its place, and at which rank its key is in its bucket.
+// An entity at its location, and at which rank its key is in its bucket.
 #[derive(Clone, Copy)]
 struct Spot {
     entity: u32,
-    place: Location,
+    location: Location,
     rank: usize,
 }
 
-// What is looked for: places at distance at most `d` from `p`, as long as they are no more than `most`.
+// What is looked for: locations at distance at most `d` from `p`, as long as they are no more than `most`.
 #[derive(Clone, Copy)]
 struct Search {
     p: Pos,
@@ -61,11 +61,11 @@ struct Search {
     most: usize,
 }
 
-/// Entities with their places. Contracts see the place of each entity that was put.
+/// Entities with their locations. Contracts see the location of each entity that was put.
 #[derive(Drop)]
 pub struct RangeList {
     alloc: Global,
-    places: BTreeMap<u32, Keyed>,
+    locations: BTreeMap<u32, Keyed>,
     spots: Slab<Spot>,
     // The keys of the spots in each row of each strip, so that a query reads a few short lists.
     buckets: BTreeMap<(u64, u64), Vec<usize>>,
@@ -74,17 +74,17 @@ pub struct RangeList {
 impl Model for RangeList {
     ghost use Rattle.std.specs.Coded.{coded_ℕ};
     ghost use Rattle.std.specs.FinMap as map;
-    ghost use Rattle.seam_range.specs.Locations.{Places, place_code};
+    ghost use Rattle.seam_range.specs.Locations.{Locations, location_code};
 
-    ghost Value = { Places };
+    ghost Value = { Locations };
 
-    ghost coded = { map.code coded_ℕ place_code };
+    ghost coded = { map.code coded_ℕ location_code };
 
-    ghost use Rattle.seam_range.specs.Indexed.{places_of, IsIndexed};
+    ghost use Rattle.seam_range.specs.Indexed.{locations_of, IsIndexed};
 
-    ghost view = { λ r. places_of r.places.entries };
+    ghost view = { λ r. locations_of r.locations.entries };
 
-    ghost invariant = { λ r. IsIndexed r.places r.spots r.buckets };
+    ghost invariant = { λ r. IsIndexed r.locations r.spots r.buckets };
 }
 
 impl RangeList {
@@ -94,7 +94,7 @@ impl RangeList {
     {
         RangeList {
             alloc,
-            places: BTreeMap::new(alloc),
+            locations: BTreeMap::new(alloc),
             spots: Slab::new(alloc),
             buckets: BTreeMap::new(alloc),
         }
@@ -104,27 +104,27 @@ impl RangeList {
     pub fn get(&self, e: u32) -> Option<Location>
         ensures { result ≡ map.get self.now e }
     {
-        match self.places.get(&e) {
-            Some(keyed) => Some(keyed.place),
+        match self.locations.get(&e) {
+            Some(keyed) => Some(keyed.location),
             None => None,
         }
     }
 
-    /// Puts the entity at the place, or moves it there.
+    /// Puts the entity at the location, or moves it there.
     pub fn put(&mut self, e: u32, p: Location) -> Result<(), AllocError>
         ensures after { OnOk result (self.new ≡ map.insert self.old e p) }
         ensures err { OnErr result (self.new ≡ self.old) }
     {
-        let Some(keyed) = self.places.get_mut(&e) else {
+        let Some(keyed) = self.locations.get_mut(&e) else {
             return self.put_new(e, p);
         };
         let key = keyed.key;
         move_spot(self.alloc, &mut self.spots, &mut self.buckets, key, p)?;
-        *keyed = Keyed { key, place: p };
+        *keyed = Keyed { key, location: p };
         Ok(())
     }
 
-    // Puts the entity, which is not there, at the place.
+    // Puts the entity, which is not there, at the location.
     fn put_new(&mut self, e: u32, p: Location) -> Result<(), AllocError>
         requires { map.get self.old e ≡ None }
         ensures after { OnOk result (self.new ≡ map.insert self.old e p) }
@@ -132,20 +132,20 @@ impl RangeList {
     {
         self.spots.reserve(1)?;
         let key = self.spots.vacant_key();
-        let Ok(_) = self.places.insert(e, Keyed { key, place: p }) else {
+        let Ok(_) = self.locations.insert(e, Keyed { key, location: p }) else {
             return Err(AllocError);
         };
         match push_key(self.alloc, &mut self.buckets, bucket_of(p), key) {
             Ok(rank) => {
                 self.spots.insert_reserved(Spot {
                     entity: e,
-                    place: p,
+                    location: p,
                     rank,
                 });
                 Ok(())
             }
             Err(_) => {
-                self.places.remove(&e);
+                self.locations.remove(&e);
                 Err(AllocError)
             }
         }
@@ -156,7 +156,7 @@ impl RangeList {
         ensures was_there { result ≡ is_some (map.get self.old e) }
         ensures after { self.new ≡ map.remove self.old e }
     {
-        let Some(keyed) = self.places.remove(&e) else {
+        let Some(keyed) = self.locations.remove(&e) else {
             return false;
         };
         let Some(spot) = self.spots.try_remove(keyed.key) else {
@@ -166,7 +166,7 @@ impl RangeList {
         true
     }
 
-    /// The entities at distance at most d from the position, in rising number, each with its place. How many are expected decides
+    /// The entities at distance at most d from the position, in rising number, each with its location. How many are expected decides
     /// only how they are looked for.
     pub fn within(
         &self,
@@ -177,8 +177,8 @@ impl RangeList {
         ensures { IfOk result (λ v. v.items ≡ within self.now p d) }
     {
         let strips = strip_after(p, d) - strip_from(p, d);
-        let most = self.places.len() / MANY;
-        if self.places.len() as u64 <= strips || expected > most {
+        let most = self.locations.len() / MANY;
+        if self.locations.len() as u64 <= strips || expected > most {
             return self.near_by_entity(p, d);
         }
         let Some(mut found) = self.near_by_strip(Search { p, d, most })? else {
@@ -192,11 +192,11 @@ impl RangeList {
     fn near_by_entity(&self, p: Pos, d: u32) -> Result<Vec<(u32, Location)>, AllocError>
         ensures { IfOk result (λ v. v.items ≡ within self.now p d) }
     {
-        let mut found = Vec::with_capacity(self.alloc, self.places.len())?;
-        for (e, keyed) in &self.places {
-            if is_near(keyed.place, p, d) {
-                // Taken apart, a place goes through registers; as a whole it would be copied piece by piece through memory.
-                let Location { version, pos } = keyed.place;
+        let mut found = Vec::with_capacity(self.alloc, self.locations.len())?;
+        for (e, keyed) in &self.locations {
+            if is_near(keyed.location, p, d) {
+                // Taken apart, a location goes through registers; as a whole it would be copied piece by piece through memory.
+                let Location { version, pos } = keyed.location;
                 found.push((*e, Location { version, pos }))?;
             }
         }
@@ -207,7 +207,7 @@ impl RangeList {
     fn near_by_strip(&self, search: Search) -> Result<Option<Vec<(u32, Location)>>, AllocError>
         ensures near { IfOk result (λ o. IfSome o (λ v. (q : ℕ) →
             count_of q v.items ≡ one_if (is_within search.p search.d) (map.get self.now q))) }
-        ensures places { IfOk result (λ o. IfSome o (λ v. AreInPlace self.now v.items)) }
+        ensures locations { IfOk result (λ o. IfSome o (λ v. AreLocated self.now v.items)) }
     {
         let mut found = Vec::new(self.alloc);
         for strip in strip_from(search.p, search.d)..strip_after(search.p, search.d) {
@@ -225,11 +225,12 @@ impl RangeList {
         search: Search,
         found: &mut Vec<(u32, Location)>,
     ) -> Result<bool, AllocError>
-        requires { AreInPlace self.now found.old.items }
+        requires { AreLocated self.now found.old.items }
         ensures near { IfOk result (λ whole. whole ≡ true → (q : ℕ) →
             count_of q found.new.items ≡ count_of q found.old.items +
             one_if (is_in_strip strip search.p search.d) (map.get self.now q)) }
-        ensures places { IfOk result (λ whole. whole ≡ true → AreInPlace self.now found.new.items) }
+        ensures locations { IfOk result (λ whole. whole ≡ true →
+            AreLocated self.now found.new.items) }
     {
         push_run(&self.spots, &self.buckets, strip, search, found)
     }
@@ -272,18 +273,18 @@ fn push_bucket(
         let Some(spot) = spots.get(*key) else {
             continue;
         };
-        if is_near(spot.place, search.p, search.d) {
+        if is_near(spot.location, search.p, search.d) {
             if found.len() >= search.most {
                 return Ok(false);
             }
-            let Location { version, pos } = spot.place;
+            let Location { version, pos } = spot.location;
             found.push((spot.entity, Location { version, pos }))?;
         }
     }
     Ok(true)
 }
 
-// The strip and the row of a place.
+// The strip and the row of a location.
 fn bucket_of(p: Location) -> (u64, u64)
     ensures { result ≡ bucket_of p }
 {
@@ -359,19 +360,19 @@ fn set_spot(spots: &mut Slab<Spot>, key: usize, spot: Spot)
     requires { ContainsKey spots.old key }
     ensures { Updates spots.old spots.new key (Some spot) }
 {
-    let Some(place) = spots.get_mut(key) else {
+    let Some(location) = spots.get_mut(key) else {
         unreachable!()
     };
-    *place = spot;
+    *location = spot;
 }
 
 // Takes the key of a spot that is there no more out of its bucket, and tells the spot that takes its rank.
 fn unlink(spots: &mut Slab<Spot>, buckets: &mut BTreeMap<(u64, u64), Vec<usize>>, old: Spot)
-    requires { HasSurplus spots.old buckets.old (bucket_of old.place) old.rank }
+    requires { HasSurplus spots.old buckets.old (bucket_of old.location) old.rank }
     ensures linked { AreLinked spots.new buckets.new }
-    ensures places { AreSamePlaces spots.old spots.new }
+    ensures locations { AreSameLocations spots.old spots.new }
 {
-    let Some(moved) = take_key(buckets, bucket_of(old.place), old.rank) else {
+    let Some(moved) = take_key(buckets, bucket_of(old.location), old.rank) else {
         return;
     };
     let Some(spot) = spots.get(moved).copied() else {
@@ -379,13 +380,13 @@ fn unlink(spots: &mut Slab<Spot>, buckets: &mut BTreeMap<(u64, u64), Vec<usize>>
     };
     let told = Spot {
         entity: spot.entity,
-        place: spot.place,
+        location: spot.location,
         rank: old.rank,
     };
     set_spot(spots, moved, told);
 }
 
-// Moves the spot at the key. Within its bucket the place alone is written.
+// Moves the spot at the key. Within its bucket the location alone is written.
 fn move_spot(
     alloc: Global,
     spots: &mut Slab<Spot>,
@@ -397,17 +398,17 @@ fn move_spot(
     requires there { ContainsKey spots.old key }
     ensures linked { AreLinked spots.new buckets.new }
     ensures ok { OnOk result (IsMoved spots.old spots.new key p) }
-    ensures err { OnErr result (AreSamePlaces spots.old spots.new) }
+    ensures err { OnErr result (AreSameLocations spots.old spots.new) }
 {
     let Some(spot) = spots.get(key).copied() else {
         unreachable!()
     };
     let mut moved = Spot {
         entity: spot.entity,
-        place: p,
+        location: p,
         rank: spot.rank,
     };
-    if are_in_one_bucket(spot.place, p) {
+    if are_in_one_bucket(spot.location, p) {
         set_spot(spots, key, moved);
         return Ok(());
     }
@@ -417,7 +418,7 @@ fn move_spot(
     Ok(())
 }
 
-// Whether the places lie in one row of one strip.
+// Whether the locations lie in one row of one strip.
 fn are_in_one_bucket(a: Location, b: Location) -> bool
     ensures { result ≡ same_bucket (bucket_of a) (bucket_of b) }
 {
@@ -440,9 +441,9 @@ fn strip_after(p: Pos, d: u32) -> u64
     (u64::from(p.x) + u64::from(d)) / STRIP_WIDTH + 1
 }
 
-// Whether the place is at distance at most d from p.
-fn is_near(place: Location, p: Pos, d: u32) -> bool
-    ensures { result ≡ is_within p d place }
+// Whether the location is at distance at most d from p.
+fn is_near(location: Location, p: Pos, d: u32) -> bool
+    ensures { result ≡ is_within p d location }
 {
-    dist(p, place.pos) <= d
+    dist(p, location.pos) <= d
 }

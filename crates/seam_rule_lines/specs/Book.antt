@@ -96,6 +96,10 @@ count_of_clients b = count_by (λ c. has_client b c.entity) (creates_of (entries
 abbrev pub was_dead : Book → ℕ → Bool
 was_dead b e = list_any (destroys e) b.past
 
+-- whether the entity was made in the open round
+abbrev pub is_new : Book → ℕ → Bool
+is_new b e = list_any (makes e) b.current
+
 -- whether the entity's client was made in the open round
 abbrev pub is_new_client : Book → ℕ → Bool
 is_new_client b e = list_any (joins e) b.current

@@ -36,13 +36,17 @@ pub record BeginWithHeader (lines : List Line) (h : Header) (count : ℕ) (rest 
 abbrev pub AwaitHeader : List Line → Type 0
 AwaitHeader lines = (text : List ℕ) × AreHeaderLines lines text
 
--- The number of a cause that no text tells, beside those of `HeaderError`: the header's end is missing.
+-- The numbers of the causes that no text tells, beside those of `HeaderError`: more bytes come before the header's end than may; or
+-- its end is missing.
+abbrev pub too_long : ℕ
+too_long = 9
+
 abbrev pub no_end : ℕ
 no_end = 10
 
--- The header is refused at the line that comes after these, and the number of the cause: with it they are too long, which is 9, or it is
--- the end and the text before it is at fault.
+-- The header is refused at the line that comes after these, and the number of the cause: with it they are too long, or it is the
+-- end and the text before it is at fault.
 abbrev pub RefusesHeader : List Line → Line → ℕ → Type 0
 RefusesHeader lines line k =
-    ((k ≡ 9) × (line ≢ separator) × AwaitHeader lines × ¬ (AwaitHeader (lines ++ line ∷ [])))
+    ((k ≡ too_long) × (line ≢ separator) × AwaitHeader lines × ¬ (AwaitHeader (lines ++ line ∷ [])))
     ⊎ ((line ≡ separator) × (text : List ℕ) × (e : HeaderError) × AreHeaderLines lines text × Refuses text e × (number_of e ≡ Some k))

@@ -42,10 +42,10 @@ use Rattle.seam_rule_lines.specs.declared.limits.TheConstants.{MOST_ENTITIES, MO
 
 -- ---- what words name
 
--- the sender is there: a base node of the world, or the client of a live entity
-abbrev pub IsThere : Header → Book → Sender → Type 0
-IsThere h b (sender.Base n) = IsBaseNodeOf h.settings.bases n
-IsThere h b (sender.Client e) = IsTrue (has_client b e)
+-- the sender exists: a base node of the world, or the client of a live entity
+abbrev pub SenderExists : Header → Book → Sender → Type 0
+SenderExists h b (sender.Base n) = IsBaseNodeOf h.settings.bases n
+SenderExists h b (sender.Client e) = IsTrue (has_client b e)
 
 -- the word names a type
 pub record NamesType (defs : List TypeDef) (type_name : language.Word) (ty : ℕ) : Type 0 where
@@ -69,9 +69,9 @@ pub record SpellsPosition (h : Header) (x z : language.Word) (p : Pos) : Type 0 
   pub in_x : p.x < h.settings.size
   pub in_z : p.z < h.settings.size
 
--- the word names a sender that is there
+-- the word names a sender that exists
 pub record NamesSender (h : Header) (b : Book) (sender_name : language.Word) (s : Sender) : Type 0 where
-  pub there : IsThere h b s
+  pub there : SenderExists h b s
   pub spelled : language.sender_text s ≡ sender_name
 
 -- the word is the number of a live entity
@@ -139,8 +139,7 @@ Adds h b (language.Move sender_name entity x z) added =
 Adds h b language.Sync added = ⊥
 Adds h b (language.Client entity) added = (e : ℕ) × SpellsPositive entity e × (added ≡ entry.Joined e)
 Adds h b language.Tick added = added ≡ entry.Ticked
-Adds h b (language.Cut cell axis_name at) added =
-    (c : ℕ) × (by : Boundary) × SpellsNumber cell c × language.SpellsBoundary axis_name at by
+Adds h b (language.Cut cell axis_name at) added = (c : ℕ) × (by : Boundary) × SpellsNumber cell c × language.SpellsBoundary axis_name at by
     × (added ≡ entry.Divided (with_cut (tree_of b) c by))
 Adds h b (language.Shift boundary at) added =
     (k place : ℕ) × SpellsNumber boundary k × SpellsNumber at place × (added ≡ entry.Divided (with_place (tree_of b) k place))
@@ -190,8 +189,7 @@ HoldsAgainst h b (language.Create entity type_name x z) cause.Full = MOST_ENTITI
 HoldsAgainst h b (language.Call sender_name entity method_name arguments) cause.BadNumber = IsNoEntity entity
 HoldsAgainst h b (language.Call sender_name entity method_name arguments) cause.NoSender = (s : Sender) → ¬ (NamesSender h b sender_name s)
 HoldsAgainst h b (language.Call sender_name entity method_name arguments) cause.Dead = IsDead b entity
-HoldsAgainst h b (language.Call sender_name entity method_name arguments) cause.UnknownMethod =
-    (made : Create) × NamesLive b entity made
+HoldsAgainst h b (language.Call sender_name entity method_name arguments) cause.UnknownMethod = (made : Create) × NamesLive b entity made
     × ((s : Sender) (m : ℕ) → NamesSender h b sender_name s → NamesMethod (type_of h.defs made.ty) method_name m
     → ¬ (MayCall s made.entity (method_of (type_of h.defs made.ty) m)))
 HoldsAgainst h b (language.Call sender_name entity method_name arguments) cause.IllTyped =
@@ -229,8 +227,7 @@ HoldsAgainstWords h b words k = (c : language.Command) × (words ≡ language.wo
 abbrev pub Holds : Header → Book → Line → Cause → Type 0
 Holds h b line cause.TooLong = line ≡ Long
 Holds h b line (cause.BadWords error) = (content : List ℕ) × (line ≡ Content content) × Refuses content error
-Holds h b line k =
-    (content : List ℕ) × (words : List language.Word) × (line ≡ Content content) × HasWords content words
+Holds h b line k = (content : List ℕ) × (words : List language.Word) × (line ≡ Content content) × HasWords content words
     × HoldsAgainstWords h b words k
 
 -- a cause holds, and none that comes before it

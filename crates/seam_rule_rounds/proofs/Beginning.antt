@@ -7,8 +7,8 @@ use Rattle.std.specs.List.{flat_map, range_with_len}
 use Rattle.std.proofs.lemmas.Fmt.{length-decimal-le}
 use Rattle.std.proofs.lemmas.List.Elements.{All-nil}
 use Rattle.seam_rule_rounds.specs.Prelude.{Line, Content, lines_of, text_of_storm, lines_text, drawn_line, sync_after, seed_after, sender}
-use Rattle.seam_rule_rounds.specs.Prelude.{move_line, call_line, method_of, is_move, draw, next_seed, entity, cuts, create_line}
-use Rattle.seam_rule_rounds.specs.Prelude.{client_line, Header, BeginWithHeader, separator}
+use Rattle.seam_rule_rounds.specs.Prelude.{move_line, call_line, method_of, is_move, draw, next_seed, entity, kind, cuts, create_line}
+use Rattle.seam_rule_rounds.specs.Prelude.{client_line, raster, Header, BeginWithHeader, separator}
 use Rattle.seam_io.proofs.LineLemmas.{lines_of-fed, line_of-short, no_feed_append, no_feed_one}
 use Rattle.seam_storm.specs.Storm.{opening, field}
 use Rattle.seam_toml.proofs.EmptyHeader.{plain_header, nothing_is_read}
@@ -52,7 +52,7 @@ sender_is_short e = by (e % 2 == 1)
     by false = omega arith
 
 method_is_short : (d : ℕ) → length (method_of d) ≤ 5
-method_is_short d = by (d / 64 % 4 == 2)
+method_is_short d = by (kind d == 2)
   where
     by : (b : Bool) → length (cond b (codes " hit") (codes " heal")) ≤ 5
     by true = omega arith
@@ -109,8 +109,8 @@ lines_are_short (suc left) k x =
 
 create_is_short : (e : ℕ) → e ≤ 64 → length (create_line e) ≤ 32
 create_is_short e low =
-    let x = 100 + 1250 * ((e - 1) % 8) in
-    let z = 100 + 1250 * ((e - 1) / 8) in
+    let x = raster ((e - 1) % 8) in
+    let z = raster ((e - 1) / 8) in
     let parts = six_parts (codes "create") (field e) (codes " Avatar") (field x) (field z) (10 ∷ []) in
     let a = field_is_short e (omega (arith, low)) in
     let b = field_is_short x (omega (arith, low)) in

@@ -1,6 +1,5 @@
 -- The lines of the generated input: each call names its entity's one sender, and none asks for a tick or a balance.
-use Rattle.std.proofs.Common.{◌≡◌, ◌≢◌, ◌+◌, ◌-◌, ◌*◌, ◌/◌, ◌%◌, ◌^◌, ◌<◌, ◌≤◌, ℕ, zero, suc, Bool, true, false, cond, List, [], ◌∷◌, ◌++◌}
-use Rattle.std.proofs.Common.{refl}
+use Rattle.std.proofs.Common.{◌≡◌, ◌≢◌, ◌+◌, ◌-◌, ◌/◌, ◌%◌, ◌^◌, ◌<◌, ◌≤◌, ℕ, zero, suc, Bool, true, false, cond, List, [], ◌∷◌, ◌++◌, refl}
 use Rattle.std.proofs.Common.{sym}
 use Rattle.std.proofs.Common.{ap, ◌∙◌, subst, arith, append_assoc, append-nil}
 use Rattle.std.specs.Prelude.{All, codes, ◌==◌}
@@ -11,9 +10,9 @@ use Rattle.seam_io.proofs.LineLemmas.{lines_of-none}
 use Rattle.seam_value.specs.Values.{decimal_of}
 use Rattle.seam_value.specs.Numerals.{is_digit}
 use Rattle.seam_value.proofs.Decimals.{decimal_of_is, decimal_of_numeral}
-use Rattle.seam_rule_rounds.specs.Prelude.{Sender, Base, text_of_storm, cuts, create_line, client_line, entity, sender, move_line}
+use Rattle.seam_rule_rounds.specs.Prelude.{Sender, Base, text_of_storm, cuts, create_line, client_line, raster, entity, sender, move_line}
 use Rattle.seam_rule_rounds.specs.Prelude.{call_line, is_move, draw, next_seed, drawn_line, seed_after, sync_after, lines_text, method_of}
-use Rattle.seam_rule_rounds.specs.Prelude.{Word, sender_text}
+use Rattle.seam_rule_rounds.specs.Prelude.{kind, Word, sender_text}
 use Rattle.seam_storm.specs.Storm.{field}
 use Rattle.seam_rule_rounds.proofs.Plain.{is_clear, IsClearWord, after_first, weaker}
 use Rattle.seam_rule_rounds.proofs.Asking.{differs, IsFine, AreFine, fine_call, fine_other, line_before}
@@ -66,8 +65,8 @@ Fine text = AreFine sender_of text
 
 create_before : (e : ℕ) (more : List ℕ) → e ≤ 64 → Fine more → Fine (create_line e ++ more)
 create_before e more low rest =
-    let x = 100 + 1250 * ((e - 1) % 8) in
-    let z = 100 + 1250 * ((e - 1) / 8) in
+    let x = raster ((e - 1) % 8) in
+    let z = raster ((e - 1) / 8) in
     let e-is : field e ≡ 32 ∷ decimal_of e = field_spelled e (omega (arith, low)) in
     let x-is : field x ≡ 32 ∷ decimal_of x = field_spelled x (omega (arith, low)) in
     let z-is : field z ≡ 32 ∷ decimal_of z = field_spelled z (omega (arith, low)) in
@@ -151,7 +150,7 @@ move_before e f more low rest =
     (field_spelled (f % 10000) (omega arith)) (field_spelled (f / 10000 % 10000) (omega arith)) rest
 
 hit_before : (e d amount : ℕ) (more : List ℕ) → e < 10 ^ 64 → amount < 10 ^ 64 → Fine more → Fine (call_line e (method_of d) amount ++ more)
-hit_before e d amount more low small rest = by (d / 64 % 4 == 2)
+hit_before e d amount more low small rest = by (kind d == 2)
   where
     by : (b : Bool) → Fine (call_line e (cond b (codes " hit") (codes " heal")) amount ++ more)
     by true =

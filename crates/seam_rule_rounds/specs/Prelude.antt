@@ -59,8 +59,8 @@ pub use Rattle.seam_rule_clients.specs.Looks.{Row, is_newer, look_at, look_by, o
 pub use Rattle.seam_watch.specs.Watching.{Told, after_all}
 pub use Rattle.seam_watch.specs.declared.journal.Journal.{Journal}
 pub use Rattle.seam_balance.specs.Balance.{HasSameCuts, IsBalanced}
-pub use Rattle.seam_storm.specs.Storm.{call_line, client_line, create_line, cuts, draw, drawn_line, entity, is_move, lines_text}
-pub use Rattle.seam_storm.specs.Storm.{method_of, move_line, next_seed, seed_after, sender, sync_after, text_of_storm}
+pub use Rattle.seam_storm.specs.Storm.{call_line, client_line, create_line, cuts, draw, drawn_line, entity, is_move, kind, lines_text}
+pub use Rattle.seam_storm.specs.Storm.{method_of, move_line, next_seed, raster, seed_after, sender, sync_after, text_of_storm}
 pub use Rattle.seam_rule_rounds.specs.ClientLines.{HasLooked, HasShown, IsOther, IsOwn, IsShownAt, ShowsClient, base_shown, base_texts}
 pub use Rattle.seam_rule_rounds.specs.ClientLines.{base_versions, is_base, shows_base, texts_to, truth_of}
 pub use Rattle.seam_rule_rounds.specs.FlatTable.{changes_past, has_changed_at, other_at, position_at, positions_past, properties, public_at}

@@ -1,6 +1,6 @@
 -- Where entities are held: how a place follows from what an entity did in a round.
 use Rattle.std.specs.Prelude.{ℕ, ◌+◌, List, filter, if◌then◌else◌}
-use Rattle.std.specs.List.{list_any, range_with_len}
+use Rattle.std.specs.List.{range_with_len}
 use Rattle.std.specs.FinSet as set
 use Rattle.seam_tree.specs.Division.{Division, cells_of, leaf_at}
 use Rattle.seam_haunt.specs.Places.{Distances, Place, IsPlaceAfter}
@@ -8,7 +8,7 @@ use Rattle.seam_defs.specs.declared.flags.Part.TheVariants as part
 use Rattle.seam_defs.specs.declared.settings.Settings.{Settings}
 use Rattle.seam_call.specs.declared.create.Create.{Create}
 use Rattle.seam_toml.specs.declared.header.Header.{Header}
-use Rattle.seam_rule_lines.specs.Book.{makes, tree_of}
+use Rattle.seam_rule_lines.specs.Book.{is_new, tree_of}
 use Rattle.seam_rule_rounds.specs.FlatTable.{version_of, position_at, positions_past}
 use Rattle.seam_rule_rounds.specs.Standing.{Standing}
 
@@ -19,8 +19,7 @@ distances s = record { kept = s.offload_hysteresis; near = s.ghost_distance; far
 -- where an entity was held when the round began: a new one in the cell in which it is made, and nowhere else
 abbrev pub place_before : Standing → Create → Place
 place_before s c =
-    if list_any (makes c.entity) s.book.current then record { home = leaf_at (tree_of s.book) c.pos; ghosts = set.empty }
-    else s.places c.entity
+    if is_new s.book c.entity then record { home = leaf_at (tree_of s.book) c.pos; ghosts = set.empty } else s.places c.entity
 
 -- an entity may have the place that it is left in: settled, by the round's tree, where it was when the round began and after each
 -- call that its cell part executed in the round

@@ -20,9 +20,11 @@ abbrev pub cuts : List ℕ
 cuts = codes "%%\ncut 0 x 5000\ncut 0 z 5000\ncut 1 z 5000\n"
 
 -- the avatars are on a raster of eight columns, 1,250 apart, from 100 on
+abbrev pub raster : ℕ → ℕ
+raster i = 100 + 1250 * i
+
 abbrev pub create_line : ℕ → List ℕ
-create_line e =
-    codes "create" ++ field e ++ codes " Avatar" ++ field (100 + 1250 * ((e - 1) % 8)) ++ field (100 + 1250 * ((e - 1) / 8)) ++ 10 ∷ []
+create_line e = codes "create" ++ field e ++ codes " Avatar" ++ field (raster ((e - 1) % 8)) ++ field (raster ((e - 1) / 8)) ++ 10 ∷ []
 
 abbrev pub client_line : ℕ → List ℕ
 client_line e = codes "client" ++ field e ++ 10 ∷ []
@@ -39,9 +41,12 @@ entity d = 1 + d % 64
 abbrev pub sender : ℕ → List ℕ
 sender e = if e % 2 == 1 then codes " b1" else codes " b2"
 
--- what is done, of four: the first two are a move, then comes a hit, then a healing
+-- what is done: 0 and 1 are a move, 2 is a hit, 3 a healing
+abbrev pub kind : ℕ → ℕ
+kind d = d / 64 % 4
+
 abbrev pub is_move : ℕ → Bool
-is_move d = nat_lt (d / 64 % 4) 2
+is_move d = nat_lt (kind d) 2
 
 -- the entity moves to where a second draw f puts it
 abbrev pub move_line : ℕ → ℕ → List ℕ
@@ -51,7 +56,7 @@ abbrev pub call_line : ℕ → List ℕ → ℕ → List ℕ
 call_line e method amount = codes "call" ++ sender e ++ field e ++ method ++ field amount ++ 10 ∷ []
 
 abbrev pub method_of : ℕ → List ℕ
-method_of d = if d / 64 % 4 == 2 then codes " hit" else codes " heal"
+method_of d = if kind d == 2 then codes " hit" else codes " heal"
 
 -- the line that the next draws choose
 abbrev pub drawn_line : ℕ → List ℕ

@@ -10,7 +10,7 @@
 //! numbers of all, for a walk over the items in rising number. [`Table::change_each`] changes all items where they lie.
 //!
 //! [`Table::get_mut`] lends an item to be changed where it lies, by one search: what was written is seen as if it had been put there. The
-//! hash has a key ([`HashKey`]), so that no script can choose numbers that collide. Entries lie in the order in which they came, whatever
+//! hash has a key (`seam_hash`), so that no script can choose numbers that collide. Entries lie in the order in which they came, whatever
 //! the key, so runs are alike. No contract tells of places.
 //!
 //! `specs/Tables` has what contracts see of a table, `specs/Entries` which table the entries of a hashed map are, and `specs/Changes` what
@@ -19,7 +19,6 @@
 //! For callers, of `proofs/`: `Found` (what a search of a table's entries finds) and `Changed` (what a table has after `change_each`).
 #![tactic(auto)]
 
-mod hash_key;
 mod memory;
 mod shared;
 
@@ -36,9 +35,9 @@ ghost use Rattle.seam_table.specs.Tables.{with_item, without_item, without_room,
 ghost use Rattle.seam_table.specs.Changes.{Leaves};
 ghost use Rattle.seam_table.specs.Entries.{table_of};
 
-pub use hash_key::{HashKey, TwoRounds};
 use indexmap::IndexMap;
 pub use memory::NoMemoryFor;
+pub use seam_hash::HashKey;
 pub use shared::Shared;
 use std::alloc::{AllocError, Global};
 use std::marker::Model;

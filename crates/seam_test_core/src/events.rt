@@ -4,6 +4,7 @@ use crate::orders::Sent;
 use seam_core::{Node, World};
 use seam_geo::Pos;
 use seam_machine::{Event, Net};
+use seam_quiet::count_holders;
 use std::alloc::Global;
 use std::test::Fail;
 
@@ -145,8 +146,8 @@ fn seen_in(net: &Net<Node>) -> Seen {
     (real, routes, copies, net.is_quiet())
 }
 
-/// Makes an event, if it is enabled.
-pub fn step(world: &mut World, alloc: Global, event: Event) -> Result<(), Fail> {
+// Makes an event, if it is enabled.
+fn step(world: &mut World, alloc: Global, event: Event) -> Result<(), Fail> {
     if !world.net().enabled(event) {
         return Err("not enabled")?;
     }
@@ -159,7 +160,7 @@ fn play(alloc: Global, world: &mut World, turns: &[Turn]) -> Result<bool, Fail> 
         let node = *node;
         let from = *from;
         step(world, alloc, Event { node, from })?;
-        if world.holders(1) != *places {
+        if count_holders(world, 1) != *places {
             return Ok(false);
         }
     }

@@ -9,8 +9,9 @@ ghost use Rattle.seam_test_core.specs.Firsts.{MayBeFirst};
 use crate::orders::{Sent, orders};
 use seam_call::{Batch, Create, Order};
 use seam_core::World;
-use seam_defs::{Defs, Listed, Settings};
+use seam_defs::{Listed, Settings};
 use seam_geo::Pos;
+use seam_toml::builtin;
 use seam_tree::{Axis, Tree};
 use std::alloc::{AllocError, Global};
 use std::test::Fail;
@@ -63,7 +64,7 @@ fn batch(alloc: Global, tree: Tree, pos: Pos, orders: Vec<(u8, Order)>) -> Resul
 fn open_world(alloc: Global) -> Result<World, AllocError>
     ensures { IfOk result (λ w. (b : AnyBatch) → MayBeFirst b → MayLoad w b) }
 {
-    let defs = Defs::builtin(alloc)?;
+    let defs = builtin(alloc)?;
     let world = World::open(alloc, &defs, Settings::standard())?;
     Ok(world)
 }

@@ -7,9 +7,10 @@ ghost use Rattle.seam_law_clients.specs.Crossing as crossing;
 use crate::events::has_real;
 use seam_call::{BaseNode, Batch, Call, Create, Order, Sender};
 use seam_core::World;
-use seam_defs::{Deed, Defs, Listed, Part, Settings};
+use seam_defs::{Deed, Listed, Part, Settings};
 use seam_geo::Pos;
 use seam_quiet::{Workers, a_worked_round_may_run, run_round};
+use seam_toml::builtin;
 use seam_tree::{Axis, Tree};
 use seam_watch::Journal;
 use seam_workers::{Crew, OpenGate};
@@ -64,7 +65,7 @@ fn batch(alloc: Global) -> Result<Batch, Fail>
 // The round, of a world as it is opened.
 fn run<R: Threads + Wait + Sync>(rt: &R, alloc: Global) -> Result<(World, Journal), Fail> {
     a_worked_round_may_run();
-    let defs = Defs::builtin(alloc)?;
+    let defs = builtin(alloc)?;
     let world = World::open(alloc, &defs, Settings::standard())?;
     let crew = Crew {
         workers: 2,

@@ -8,7 +8,7 @@ pub(crate) const CHEST: u16 = 1;
 
 // A call of its own, without a clause: what the built-in types are is not computed again for each call on them.
 pub(crate) fn builtin(alloc: Global) -> Result<Defs, AllocError> {
-    Defs::builtin(alloc)
+    seam_toml::builtin(alloc)
 }
 
 // What may go from one thread to another.

@@ -15,7 +15,7 @@ use Rattle.seam_toml.specs.declared.roles.Role.TheVariants as role
 use Rattle.seam_toml.specs.declared.faults.Fault.{Fault}
 use Rattle.seam_toml.specs.Tables.{EachUnder}
 use Rattle.seam_toml.specs.Definitions.{DefinesProperty, HasPart, HasArguments}
-use Rattle.seam_toml.specs.Operations.{SaysOperation}
+use Rattle.seam_toml.specs.Operations.{IsOperationText}
 use Rattle.seam_toml.specs.Steps.{operation_of}
 use Rattle.seam_toml.specs.Faults.{IsAtFault, HasFault, HasFaultBelow, TopIsAtFault, HeaderHas}
 use Rattle.seam_toml.specs.Faults.{IsBadText, AreBadTexts, HasBadBody, AreBadMethods, HasBadBodies}
@@ -64,8 +64,8 @@ nothing_said false None P Q e h apart = absurd cc
 nothing_said true (Some s) P Q e h apart = absurd cc
 
 pub text_answer : (ps : List Property) (part : Part) (args : List ValueType) (d : Data) (text : List ℕ) (b : Bool) (o : Option Step) →
-    Some text ≡ as_str d → is_some o ≡ not b → MatchOption o ((op : Operation) → ¬ (SaysOperation ps part args text op))
-    (λ s. SaysOperation ps part args text (operation_of s)) → IsTrue b ↔ IsBadText ps part args d
+    Some text ≡ as_str d → is_some o ≡ not b → MatchOption o ((op : Operation) → ¬ (IsOperationText ps part args text op))
+    (λ s. IsOperationText ps part args text (operation_of s)) → IsTrue b ↔ IsBadText ps part args d
 text_answer ps part args (string s) text b o is e h =
     rw (← same_Some _ _ is) (nothing_said b o _ _ e h (λ none step says. none (operation_of step) says))
 text_answer ps part args (table ns) text b o is e h = absurd cc

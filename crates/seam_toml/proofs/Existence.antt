@@ -29,7 +29,7 @@ use Rattle.seam_toml.specs.declared.faults.Fault.{Fault}
 use Rattle.seam_toml.specs.declared.faults.Fault.TheVariants.{NoSuchKey, BadType, BadFlag, BadDefault, BadBody, TooManyNames, GhostTooNear}
 use Rattle.seam_toml.specs.Roles.{role_under, is_method_name}
 use Rattle.seam_toml.specs.Tables.{Each, EachUnder, EachItem, EachItemUnder}
-use Rattle.seam_toml.specs.Definitions.{HasType, HasPart, NamesType, Says, data_of, exposed_or_not}
+use Rattle.seam_toml.specs.Definitions.{HasType, HasPart, NamesType, IsOperationData, data_of, exposed_or_not}
 use Rattle.seam_toml.specs.Definitions.{DefinesProperty, DefinesMethod, DefinesType, DefinesTypes}
 use Rattle.seam_toml.specs.Faults.{HasStrangeKey, LacksKey, IsTypeName, AreTypeNames, AreTexts, IsPartName, IsOfKind}
 use Rattle.seam_toml.specs.Faults.{FitsType, HasBadText, AreBadTexts, HasBadBody, IsBadMethod, HasBadMethod, AreBadMethods}
@@ -229,7 +229,7 @@ arguments_there ms (Some d) is inside nothing =
     kind_of role.Arguments d own (λ are. absurd are)
 
 texts_there : (ps : List Property) (p : Part) (args : List ValueType) (ds : Items) → AreTexts ds → ¬ (HasBadText ps p args ds) →
-    ((ops : List Operation) → ¬ (EachItem (Says ps p args) ds ops)) → ⊥
+    ((ops : List Operation) → ¬ (EachItem (IsOperationData ps p args) ds ops)) → ⊥
 texts_there ps p args no_items are good nothing = nothing [] tt
 texts_there ps p args (item (string text) ds) are good nothing =
     good (inl (λ op says. texts_there ps p args ds are.1 (λ bad. good (inr bad)) (λ ops each. nothing (op ∷ ops) (says, each))))
@@ -237,12 +237,12 @@ texts_there ps p args (item d ds) are good nothing = absurd (false≢true are.0)
 
 body_there : (ps : List Property) (p : Part) (args : List ValueType) (ms : Members) (o : Option Data) → get_member (codes "body") ms ≡ o →
     FaultlessBelow role.Method ms → ¬ (AreBadTexts ps p args o) →
-    ((ops : List Operation) → EachItemUnder (Says ps p args) o ops → ¬ (length ops ≤ MOST_OPERATIONS)) → ⊥
+    ((ops : List Operation) → EachItemUnder (IsOperationData ps p args) o ops → ¬ (length ops ≤ MOST_OPERATIONS)) → ⊥
 body_there ps p args ms None is inside good nothing = nothing [] refl (omega arith)
 body_there ps p args ms (Some (array ds)) is inside good nothing =
     let own = under role.Method (codes "body") ms (array ds) role.Body inside refl is in
     own BadType (λ are. texts_there ps p args ds are good
-    (λ ops each. nothing ops each (few _ _ _ (as_many_items (Says ps p args) ds ops each) (own TooManyNames))))
+    (λ ops each. nothing ops each (few _ _ _ (as_many_items (IsOperationData ps p args) ds ops each) (own TooManyNames))))
 body_there ps p args ms (Some (table ns)) is inside good nothing =
     under role.Method (codes "body") ms (table ns) role.Body inside refl is BadType (inl (λ are. are))
 body_there ps p args ms (Some d) is inside good nothing =

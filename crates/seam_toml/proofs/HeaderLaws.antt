@@ -31,7 +31,7 @@ use Rattle.seam_defs.proofs.NameSearch.{one_place}
 use Rattle.seam_toml.specs.declared.header.Header.{Header}
 use Rattle.seam_toml.specs.Tables.{Each}
 use Rattle.seam_toml.specs.Operations.{verb_of, word_of, SpellOperation}
-use Rattle.seam_toml.specs.Definitions.{Says, DefinesMethod, DefinesType, DefinesTypes}
+use Rattle.seam_toml.specs.Definitions.{IsOperationData, DefinesMethod, DefinesType, DefinesTypes}
 use Rattle.seam_toml.specs.Header.{Reads}
 use Rattle.seam_toml.proofs.OperationLemmas.{name_at, letter}
 use Rattle.seam_toml.proofs.SettingsLemmas.{settings_are_one}
@@ -100,7 +100,7 @@ module _ (ps : List Property) (up : are_rising (names_of_properties ps) ≡ true
         (name_at ps (target a) one.property one.there) there in
         same_operation a b (ap (word 0) same) place (operand_is_one (operand a) (operand b) (ap (word 2) same))
 
-    operation_is_one : (d : Data) (a b : Operation) → Says ps part args d a → Says ps part args d b → a ≡ b
+    operation_is_one : (d : Data) (a b : Operation) → IsOperationData ps part args d a → IsOperationData ps part args d b → a ≡ b
     operation_is_one (string text) a b one other =
         let same = words_are_one_list text one.words other.words one.has other.has in
         spelled_is_one one.words a b one.spell (rw same other.spell)
@@ -119,7 +119,7 @@ module _ (ps : List Property) (up : are_rising (names_of_properties ps) ≡ true
       let part = part_is_one one.ms m.part n.part one.part (rw (← same) at other.part) in
       let exposed = same_Some _ _ (sym one.exposed ∙ rw (← same) at other.exposed) in
       let args = arguments_are_one one.ms m.args n.args one.args (rw (← same) at other.args) in
-      let body = items_under_are_one (Says ps m.part m.args) (operation_is_one m.part m.args) (get_member (codes "body") one.ms)
+      let body = items_under_are_one (IsOperationData ps m.part m.args) (operation_is_one m.part m.args) (get_member (codes "body") one.ms)
       m.body n.body one.body (rw (part, args) (rw (← same) at other.body)) in
       same_method m.name n.name m.part n.part m.exposed n.exposed m.args n.args m.body n.body (one.name ∙ sym other.name)
       part exposed args body

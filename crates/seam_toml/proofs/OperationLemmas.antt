@@ -18,7 +18,7 @@ use Rattle.seam_toml.specs.declared.operations.Verb.TheVariants as verb
 use Rattle.seam_toml.specs.declared.operations.ThreeWords.{ThreeWords}
 use Rattle.seam_toml.specs.declared.operations.Step.{Step}
 use Rattle.seam_toml.specs.declared.operations.TheConstants.{LONGEST_OPERATION}
-use Rattle.seam_toml.specs.Operations.{verb_of, word_of, signature, SpellOperation, SaysOperation}
+use Rattle.seam_toml.specs.Operations.{verb_of, word_of, signature, SpellOperation, IsOperationText}
 use Rattle.seam_toml.specs.Steps.{word_of_verb, made, MayDo, operation_of}
 
 -- words that are three or not are the words of a text or not
@@ -147,12 +147,12 @@ three_of : (ps : List Property) (part : Part) (args : List ValueType) (words : L
 three_of ps part args words op s = (verb_of op, s.property.name, word_of (operand op), s.spelled)
 
 pub no_three_words : (ps : List Property) (part : Part) (args : List ValueType) (text : List ℕ) →
-    ((a b c : List ℕ) → ¬ (HasWords text (a ∷ b ∷ c ∷ []))) → (op : Operation) → ¬ (SaysOperation ps part args text op)
+    ((a b c : List ℕ) → ¬ (HasWords text (a ∷ b ∷ c ∷ []))) → (op : Operation) → ¬ (IsOperationText ps part args text op)
 no_three_words ps part args text none op says =
     let three = three_of ps part args says.words op says.spell in none three.0 three.1 three.2 (rw three.3 at says.has)
 
 spells_these : (ps : List Property) (part : Part) (args : List ValueType) (text : List ℕ) (words : List (List ℕ)) → HasWords text words →
-    (op : Operation) → SaysOperation ps part args text op → SpellOperation ps part args words op
+    (op : Operation) → IsOperationText ps part args text op → SpellOperation ps part args words op
 spells_these ps part args text words has op says = rw (words_are_one_list text words says.words has says.has) says.spell
 
 module _ {E : Type 0} (ps : List Property) (part : Part) (args : List ValueType) (text : List ℕ) (words : List (List ℕ))
@@ -161,7 +161,7 @@ module _ {E : Type 0} (ps : List Property) (part : Part) (args : List ValueType)
   pub read_text : (r : Result (Option Step) E) → IfOk r (λ read. MatchOption read
       ((op : Operation) → ¬ (SpellOperation ps part args words op)) (λ s. SpellOperation ps part args words (operation_of s))) →
       IfOk r (λ read. MatchOption read
-      ((op : Operation) → ¬ (SaysOperation ps part args text op)) (λ s. SaysOperation ps part args text (operation_of s)))
+      ((op : Operation) → ¬ (IsOperationText ps part args text op)) (λ s. IsOperationText ps part args text (operation_of s)))
   read_text (Err e) h = tt
   read_text (Ok None) h = λ op says. h op (spells_these ps part args text words has op says)
   read_text (Ok (Some s)) h = record { short = short; words = words; has = has; spell = h }

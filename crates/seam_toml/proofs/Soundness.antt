@@ -29,9 +29,9 @@ use Rattle.seam_toml.specs.declared.operations.Given.TheVariants as given
 use Rattle.seam_toml.specs.declared.operations.Step.{Step}
 use Rattle.seam_toml.specs.Roles.{is_method_name}
 use Rattle.seam_toml.specs.Tables.{Each, EachUnder, EachItem, EachItemUnder}
-use Rattle.seam_toml.specs.Operations.{signature, SaysOperation}
+use Rattle.seam_toml.specs.Operations.{signature, IsOperationText}
 use Rattle.seam_toml.specs.Steps.{made, operand_of, operation_of, IsSmallGiven, IsSmall}
-use Rattle.seam_toml.specs.Definitions.{HasPart, HasArguments, exposed_or_not, Says, DefinesProperty, DefinesMethod, DefinesType}
+use Rattle.seam_toml.specs.Definitions.{HasPart, HasArguments, exposed_or_not, IsOperationData, DefinesProperty, DefinesMethod, DefinesType}
 use Rattle.seam_toml.proofs.OperationLemmas.{operand_fits}
 use Rattle.seam_toml.proofs.Uniqueness.{table_is_one, part_is_one, arguments_are_one, properties_are_one}
 
@@ -55,11 +55,11 @@ typed_so ps m (Put k x) typed = typed
 typed_so ps m (Add k x) typed = typed
 typed_so ps m (Sub k x) typed = typed
 
-said_is_typed : (ps : List Property) (m : Method) (d : Data) (op : Operation) → Says ps m.part m.args d op → IsOperation ps m op
+said_is_typed : (ps : List Property) (m : Method) (d : Data) (op : Operation) → IsOperationData ps m.part m.args d op → IsOperation ps m op
 said_is_typed ps m (string text) op says = typed_so ps m op says.spell.typed
 said_is_typed ps m d op says = absurd says
 
-all_typed : (ps : List Property) (m : Method) (ds : Items) (ops : List Operation) → EachItem (Says ps m.part m.args) ds ops →
+all_typed : (ps : List Property) (m : Method) (ds : Items) (ops : List Operation) → EachItem (IsOperationData ps m.part m.args) ds ops →
     All (IsOperation ps m) ops
 all_typed ps m no_items [] each = All-nil _
 all_typed ps m no_items (op ∷ ops) each = absurd each
@@ -67,7 +67,7 @@ all_typed ps m (item d ds) [] each = absurd each
 all_typed ps m (item d ds) (op ∷ ops) each =
     All-cons (IsOperation ps m) op ops (said_is_typed ps m d op each.0) (all_typed ps m ds ops each.1)
 
-body_is_typed : (ps : List Property) (m : Method) (o : Option Data) → EachItemUnder (Says ps m.part m.args) o m.body →
+body_is_typed : (ps : List Property) (m : Method) (o : Option Data) → EachItemUnder (IsOperationData ps m.part m.args) o m.body →
     All (IsOperation ps m) m.body
 body_is_typed ps m None each = rw each (All-nil _)
 body_is_typed ps m (Some (array ds)) each = all_typed ps m ds m.body each
@@ -91,7 +91,7 @@ small_given args t (given.Constant v) few fits = tt
 
 -- among few properties and few arguments an operation has small numbers
 pub small_step : (ps : List Property) (p : Part) (args : List ValueType) (text : List ℕ) (s : Step) → length ps ≤ MOST_PROPERTIES →
-    length args ≤ MOST_ARGUMENTS → SaysOperation ps p args text (operation_of s) → IsSmall s
+    length args ≤ MOST_ARGUMENTS → IsOperationText ps p args text (operation_of s) → IsSmall s
 small_step ps p args text s few few_args says =
     let there = says.spell.there in
     let within = slice_get_within ps (target (operation_of s)) says.spell.property there in
@@ -161,7 +161,8 @@ module _ (ps : List Property) (key : List ℕ) (ms : Members) (args : List Value
       let few : length args ≤ MOST_ARGUMENTS = rw one defines.few_arguments in
       absurd (omega (arith, many, few))
 
-  pub no_body : (p : Part) → HasPart ms p → ((ops : List Operation) → EachItemUnder (Says ps p args) (get_member (codes "body") ms) ops →
+  pub no_body : (p : Part) → HasPart ms p →
+      ((ops : List Operation) → EachItemUnder (IsOperationData ps p args) (get_member (codes "body") ms) ops →
       ¬ (length ops ≤ MOST_OPERATIONS)) → (m : Method) → ¬ (DefinesMethod ps key (table ms) m)
   no_body p has_p none m defines =
       let same = table_is_one ms defines.ms defines.is in
@@ -171,7 +172,7 @@ module _ (ps : List Property) (key : List ℕ) (ms : Members) (args : List Value
 
 pub is_method : (ps : List Property) (key : List ℕ) (ms : Members) (m : Method) → m.name ≡ key → IsTrue (is_method_name key) →
     HasPart ms m.part → exposed_or_not (get_member (codes "exposed") ms) ≡ Some m.exposed → HasArguments ms m.args →
-    length m.args ≤ MOST_ARGUMENTS → EachItemUnder (Says ps m.part m.args) (get_member (codes "body") ms) m.body →
+    length m.args ≤ MOST_ARGUMENTS → EachItemUnder (IsOperationData ps m.part m.args) (get_member (codes "body") ms) m.body →
     length m.body ≤ MOST_OPERATIONS → DefinesMethod ps key (table ms) m
 is_method ps key ms m name named part exposed args few body few_operations = record {
   ms = ms;

@@ -17,7 +17,7 @@ use Rattle.seam_defs.specs.Types.{is_name}
 use Rattle.seam_defs.specs.Builtin.{builtin}
 use Rattle.seam_defs.specs.declared.limits.TheConstants.{MOST_TYPES, MOST_PROPERTIES, MOST_METHODS, MOST_ARGUMENTS, MOST_OPERATIONS}
 use Rattle.seam_toml.specs.Tables.{Each, EachUnder, EachItemUnder}
-use Rattle.seam_toml.specs.Operations.{SaysOperation}
+use Rattle.seam_toml.specs.Operations.{IsOperationText}
 use Rattle.seam_toml.specs.Roles.{is_method_name}
 
 -- ---- properties
@@ -66,9 +66,9 @@ abbrev pub HasArguments : Members → List ValueType → Type 0
 HasArguments ms args = EachItemUnder NamesType (get_member (codes "args") ms) args
 
 -- the item is a text that says the operation
-abbrev pub Says : List Property → Part → List ValueType → Data → Operation → Type 0
-Says ps part args (string text) op = SaysOperation ps part args text op
-Says ps part args d op = ⊥
+abbrev pub IsOperationData : List Property → Part → List ValueType → Data → Operation → Type 0
+IsOperationData ps part args (string text) op = IsOperationText ps part args text op
+IsOperationData ps part args d op = ⊥
 
 -- the value under a name defines the method, in a type with these properties
 pub record DefinesMethod (ps : List Property) (key : List ℕ) (d : Data) (m : Method) : Type 0 where
@@ -80,7 +80,7 @@ pub record DefinesMethod (ps : List Property) (key : List ℕ) (d : Data) (m : M
   pub exposed : exposed_or_not (get_member (codes "exposed") ms) ≡ Some m.exposed
   pub args : HasArguments ms m.args
   pub few_arguments : length m.args ≤ MOST_ARGUMENTS
-  pub body : EachItemUnder (Says ps m.part m.args) (get_member (codes "body") ms) m.body
+  pub body : EachItemUnder (IsOperationData ps m.part m.args) (get_member (codes "body") ms) m.body
   pub few_operations : length m.body ≤ MOST_OPERATIONS
 
 -- ---- types

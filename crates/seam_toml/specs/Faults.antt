@@ -21,7 +21,7 @@ use Rattle.seam_toml.specs.Roles.{role_under, is_table}
 use Rattle.seam_defs.specs.declared.types.Property.{Property}
 use Rattle.seam_defs.specs.declared.types.Operation.{Operation}
 use Rattle.seam_toml.specs.Tables.{EachUnder}
-use Rattle.seam_toml.specs.Operations.{SaysOperation}
+use Rattle.seam_toml.specs.Operations.{IsOperationText}
 use Rattle.seam_toml.specs.Definitions.{HasType, HasPart, HasArguments, DefinesProperty}
 
 -- ---- keys
@@ -91,7 +91,7 @@ FitsType t d = ⊥
 
 -- the item is a text that says no operation
 abbrev pub IsBadText : List Property → Part → List ValueType → Data → Type 0
-IsBadText ps part args (string text) = (op : Operation) → ¬ (SaysOperation ps part args text op)
+IsBadText ps part args (string text) = (op : Operation) → ¬ (IsOperationText ps part args text op)
 IsBadText ps part args d = ⊥
 
 abbrev pub HasBadText : List Property → Part → List ValueType → Items → Type 0

@@ -4,6 +4,7 @@ pub mod Roles
 pub mod Operations
 pub mod Steps
 pub mod Tables
+pub mod BuiltinRows
 pub mod Definitions
 pub mod Faults
 pub mod Header

@@ -37,7 +37,7 @@ pub record SpellOperation (ps : List Property) (part : Part) (args : List ValueT
   pub typed : IsOperation ps (signature part args) op
 
 -- the text says the operation by its words
-pub record SaysOperation (ps : List Property) (part : Part) (args : List ValueType) (text : List ℕ) (op : Operation) : Type 0 where
+pub record IsOperationText (ps : List Property) (part : Part) (args : List ValueType) (text : List ℕ) (op : Operation) : Type 0 where
   pub short : length text ≤ LONGEST_OPERATION
   pub words : List (List ℕ)
   pub has : HasWords text words

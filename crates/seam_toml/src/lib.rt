@@ -1,8 +1,8 @@
 // SPDX-License-Identifier: MIT
 
 //! Headers: the settings and types that the TOML text before a script stands for, or the first cause why it stands for nothing.
-//! `read_header` is the whole; the rest are its parts: the document that a text is, the grammar of a header's tables, the settings that its
-//! table of settings sets, and what is at fault in its values.
+//! `read_header` is the whole; `builtin` gives the types of a header that defines none. The rest are its parts: the document that a text
+//! is, the grammar of a header's tables, the settings that its table of settings sets, and what is at fault in its values.
 //!
 //! What a value of a header is for is told by the keys above it, as one table of keys, so that each check walks a header by the same names.
 //! A table where none belongs is a value of a wrong kind, whose keys are not looked at. So is a value where a table belongs, and what it
@@ -13,6 +13,7 @@
 #![tactic(auto)]
 
 mod bodies;
+mod builtins;
 mod documents;
 mod faults;
 mod header;
@@ -25,6 +26,7 @@ mod roles;
 mod settings;
 mod types;
 
+pub use builtins::builtin;
 pub use documents::{DocumentError, MOST_HEADER_BYTES, read_document};
 pub use faults::{Fault, first_fault, has_fault, is_at_fault};
 pub use header::{Header, HeaderError, read_header};

@@ -6,7 +6,7 @@ ghost use Rattle.seam_defs.specs.declared.types.Method.{Method as Methods};
 ghost use Rattle.seam_defs.specs.declared.types.Operation.{Operation as Operations};
 ghost use Rattle.seam_defs.specs.Types.{are_rising, names_of_methods, names_of_properties};
 ghost use Rattle.seam_toml.specs.Tables.{Each, EachUnder, EachItem, EachItemUnder};
-ghost use Rattle.seam_toml.specs.Definitions.{exposed_or_not, Says, DefinesMethod};
+ghost use Rattle.seam_toml.specs.Definitions.{exposed_or_not, IsOperationData, DefinesMethod};
 ghost use Rattle.seam_toml.specs.Steps.{operand_of, operation_of, IsSmallGiven, IsSmall};
 
 use crate::bodies::{arguments_of, part_of};
@@ -57,8 +57,8 @@ fn operation_said(
     requires few_properties { length properties.now ≤ MOST_PROPERTIES }
     requires few_arguments { length args.now ≤ MOST_ARGUMENTS }
     ensures { IfOk result (λ read. MatchOption read
-        ((op : Operations) → ¬ (Says properties.now part args.now (view value.now) op))
-        (Says properties.now part args.now (view value.now))) }
+        ((op : Operations) → ¬ (IsOperationData properties.now part args.now (view value.now) op))
+        (IsOperationData properties.now part args.now (view value.now))) }
 {
     match value.as_str() {
         Some(text) => match read_step(alloc, properties, part, args, text)? {
@@ -81,9 +81,9 @@ fn operations(
     requires few_properties { length properties.now ≤ MOST_PROPERTIES }
     requires few_arguments { length args.now ≤ MOST_ARGUMENTS }
     ensures says { IfOk result (λ read. MatchOption read ((ops : List Operations) →
-        EachItem (Says properties.now part args.now) (items_view items.now) ops →
+        EachItem (IsOperationData properties.now part args.now) (items_view items.now) ops →
         ¬ (length ops ≤ MOST_OPERATIONS)) (λ ops.
-        EachItem (Says properties.now part args.now) (items_view items.now) ops.items)) }
+        EachItem (IsOperationData properties.now part args.now) (items_view items.now) ops.items)) }
     ensures few { IfOk result (λ read. IfSome read (λ ops. length ops.items ≤ MOST_OPERATIONS)) }
 {
     if items.len() > MOST_OPERATIONS {
@@ -112,9 +112,10 @@ fn body_of(
     requires few_arguments { length args.now ≤ MOST_ARGUMENTS }
     ensures says { IfOk result (λ read. let under =
         get_member (codes "body") (table_view table.now) in MatchOption read
-        ((ops : List Operations) → EachItemUnder (Says properties.now part args.now) under ops →
+        ((ops : List Operations) →
+        EachItemUnder (IsOperationData properties.now part args.now) under ops →
         ¬ (length ops ≤ MOST_OPERATIONS))
-        (λ ops. EachItemUnder (Says properties.now part args.now) under ops.items)) }
+        (λ ops. EachItemUnder (IsOperationData properties.now part args.now) under ops.items)) }
     ensures few { IfOk result (λ read. IfSome read (λ ops. length ops.items ≤ MOST_OPERATIONS)) }
 {
     match member(table, "body") {

@@ -6,7 +6,7 @@ ghost use Rattle.seam_value.specs.Values.{decimal_of};
 ghost use Rattle.seam_defs.specs.declared.types.Operand.{Operand as Operands};
 ghost use Rattle.seam_defs.specs.declared.types.Operation.{Operation as Operations};
 ghost use Rattle.seam_defs.specs.Types.{OperandFits, are_rising, names_of_properties};
-ghost use Rattle.seam_toml.specs.Operations.{word_of, SpellOperation, SaysOperation};
+ghost use Rattle.seam_toml.specs.Operations.{word_of, SpellOperation, IsOperationText};
 ghost use Rattle.seam_toml.specs.Steps.{word_of_verb, operand_of, operation_of, MayDo};
 ghost use Rattle.seam_toml.specs.declared.operations.Verb.{Verb as Verbs};
 
@@ -213,8 +213,8 @@ pub(crate) fn read_step(
 ) -> Result<Option<Step>, AllocError>
     requires { IsTrue (are_rising (names_of_properties properties.now)) }
     ensures { IfOk result (λ read. MatchOption read
-        ((op : Operations) → ¬ (SaysOperation properties.now part args.now text.now op))
-        (λ s. SaysOperation properties.now part args.now text.now (operation_of s))) }
+        ((op : Operations) → ¬ (IsOperationText properties.now part args.now text.now op))
+        (λ s. IsOperationText properties.now part args.now text.now (operation_of s))) }
 {
     if text.len() > LONGEST_OPERATION {
         return Ok(None);

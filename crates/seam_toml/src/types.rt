@@ -7,6 +7,7 @@ ghost use Rattle.seam_defs.specs.Types.{IsType, are_rising, names_of_types};
 ghost use Rattle.seam_toml.specs.Tables.{Each};
 ghost use Rattle.seam_toml.specs.Definitions.{DefinesType, DefinesTypes};
 
+use crate::builtins::builtin;
 use crate::members::member;
 use crate::methods::methods_under;
 use crate::properties::{properties_under, short_text};
@@ -101,6 +102,6 @@ pub(crate) fn definitions(alloc: Global, document: &Table) -> Result<Option<Defs
             Some(table) => definitions_in(alloc, table),
             None => Ok(None),
         },
-        None => Ok(Some(Defs::builtin(alloc)?)),
+        None => Ok(Some(builtin(alloc)?)),
     }
 }

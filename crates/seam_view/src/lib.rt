@@ -38,7 +38,7 @@ ghost use Rattle.seam_view.specs.Plain.{plain_look, AreNotOlder};
 use indexmap::IndexMap;
 use numbered::Entered;
 use seam_geo::{Pos, dist};
-use seam_table::HashKey;
+use seam_hash::HashKey;
 use seam_version::may_be_shown;
 use std::alloc::{AllocError, Global};
 use std::marker::Model;

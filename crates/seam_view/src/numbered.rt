@@ -20,7 +20,7 @@ ghost use Rattle.seam_view.specs.Passing.{places_of, to_come, HasPlaces};
 
 use super::{Look, Seen, find_seen};
 use indexmap::IndexMap;
-use seam_table::HashKey;
+use seam_hash::HashKey;
 use std::alloc::{AllocError, Global};
 use std::marker::Model;
 use std::mem::replace;

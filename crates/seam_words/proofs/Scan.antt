@@ -13,19 +13,19 @@ use Rattle.seam_words.specs.Words.{Span, HasFirstWord, HasFirstWords, AreWords}
 use Rattle.seam_words.specs.Faults.{HasOpenQuote, IsNoEscape, HasFaultAt, HasFault, Refuses}
 use Rattle.seam_words.specs.Faults.HasOpenQuote.{inside, unended, followed}
 
--- Where the reading is: between words, in a word that began at a place, after a backslash in it, after a closing quote
-data Place : Type 0 where
-  between : Place
-  plain : ℕ → Place
-  quoted : ℕ → Place
-  escaped : ℕ → Place
-  closed : Place
+-- The state of the reading: between words, in a word that began at byte n, after a backslash in it, after a closing quote
+data ScanState : Type 0 where
+  between : ScanState
+  plain : ℕ → ScanState
+  quoted : ℕ → ScanState
+  escaped : ℕ → ScanState
+  closed : ScanState
 
 abbrev span_of : Bool → ℕ → ℕ → Span
 span_of q start end = record { start = start; end = end; quoted = q }
 
 -- at most `most` words are read
-abbrev scan : ℕ → Place → ℕ → List Span → List ℕ → Result (List Span) WordsError
+abbrev scan : ℕ → ScanState → ℕ → List Span → List ℕ → Result (List Span) WordsError
 scan most between at words [] = Ok words
 scan most (plain start) at words [] = Ok (words ++ span_of false start at ∷ [])
 scan most (quoted start) at words [] = Err OpenQuote

@@ -2,3 +2,4 @@ mod Lists
 mod Whole
 mod Sooner
 mod Counts
+mod Crosses

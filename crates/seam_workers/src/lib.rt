@@ -38,10 +38,14 @@ use seam_logged::{Apart, Ends, Logged, Naming, Try, linked};
 use seam_machine::{Event, Machine, Net, NetParts};
 use std::alloc::{AllocError, Global};
 use std::marker::{Brand, Model};
+use std::sync::atomic::{AtomicBool, Ordering};
 use std::sync::ledger::{Blank, Ledger};
 use std::sync::{Mutex, Wait};
 use std::thread;
-use std::thread::Threads;
+use std::thread::{Builder, Threads};
+
+// How many bytes of stack a worker's thread has, whatever the system's default is. A step takes a small part of it.
+const STACK: usize = 1 << 20;
 
 /// How many workers there are, and how many tries each of them has at most. An even worker visits the nodes in rising order,
 /// an odd one in falling order.
@@ -199,11 +203,12 @@ fn new_claims(alloc: Global, n: usize) -> Result<Vec<Blank>, AllocError>
     Ok(blanks)
 }
 
-// A worker's number, and how many tries it has.
+// A worker's number, how many tries it has, and whether memory was refused to one of its crew.
 #[derive(Clone, Copy)]
-struct Tries {
+struct Tries<'a> {
     number: usize,
     turns: u32,
+    refused: &'a AtomicBool,
 }
 
 // Which of n nodes a worker visits at its turn.
@@ -217,19 +222,20 @@ fn place_at(number: usize, turn: u32, n: usize) -> usize
     if number % 2 == 0 { k } else { n - 1 - k }
 }
 
-// Visits the nodes in turn, until no step was made over as many visits as there are nodes, or memory was refused.
+// Visits the nodes in turn, until no step was made over as many visits as there are nodes, or memory was refused to one of the crew.
 fn work<M: Machine, J: Naming<M, M::Msg> + Claims, G: Gate, R: Threads + Wait + Sync>(
     rt: &R,
     alloc: Global,
     places: &[CachePadded<Mutex<Seat<M, J>>>],
-    tries: Tries,
+    tries: Tries<'_>,
     gate: &G,
 ) -> Shift
-    ensures { IsDone tries.turns (length places.now) result }
+    ensures { IsDone tries.entry.turns (length places.now) result }
 {
     let n = places.len();
     let mut shift = Shift::new();
     for turn in 0..tries.turns {
+        shift.heed(tries.refused);
         if shift.is_over(n) {
             return shift;
         }
@@ -240,45 +246,47 @@ fn work<M: Machine, J: Naming<M, M::Msg> + Claims, G: Gate, R: Threads + Wait + 
             gate,
             &mut shift,
         );
+        shift.tell(tries.refused);
     }
     shift
 }
 
-// Each worker's visits, in a thread of its own. For each, whether memory was refused.
+// Each worker's visits, in a thread of its own where one can be made. Answers whether memory was refused to one of them.
 fn visits<
     M: Machine + Send,
     J: Naming<M, M::Msg> + Claims + Send,
     G: Gate + Sync,
     R: Threads + Wait + Sync,
->(
-    rt: &R,
-    alloc: Global,
-    places: &[CachePadded<Mutex<Seat<M, J>>>],
-    crew: Crew,
-    gate: &G,
-) -> Result<Vec<bool>, AllocError>
+>(rt: &R, alloc: Global, places: &[CachePadded<Mutex<Seat<M, J>>>], crew: Crew, gate: &G) -> bool
 where
     M::Msg: Send,
-    ensures { IfOk result (λ v. vec_len v ≡ crew.workers) }
 {
-    thread::map_indices(
-        rt,
-        alloc,
-        crew.workers as usize,
-        &|i: usize| {
-            work(
-                rt,
-                alloc,
-                places,
-                Tries {
-                    number: i,
-                    turns: crew.turns,
-                },
-                gate,
-            )
-            .is_refused()
-        },
-    )
+    let flag = AtomicBool::new(false);
+    let refused = &flag;
+    thread::scope(thread::scope_env(), rt, move |scope| {
+        for number in 1..crew.workers {
+            let tries = Tries {
+                number: number as usize,
+                turns: crew.turns,
+                refused,
+            };
+            let started = Builder::new()
+                .stack_size(STACK)
+                .spawn_scoped(scope, move || {
+                    work(rt, alloc, places, tries, gate);
+                });
+            if started.is_err() {
+                work(rt, alloc, places, tries, gate);
+            }
+        }
+        let tries = Tries {
+            number: 0,
+            turns: crew.turns,
+            refused,
+        };
+        work(rt, alloc, places, tries, gate);
+    });
+    flag.load(Ordering::SeqCst)
 }
 
 // Puts a seat at the place of its number, where no seat is yet.
@@ -379,20 +387,13 @@ struct Start<M: Machine> {
     claims: Vec<Blank>,
 }
 
-// The nodes of a run after it, and of each worker, whether memory was refused.
-#[derive(Drop)]
-struct Joined<M: Machine> {
-    nodes: Vec<Apart<M>>,
-    refused: Vec<bool>,
-}
-
 // Steps the nodes of the run J in threads.
 fn run_named<
     M: Machine + Send,
     J: Naming<M, M::Msg> + Claims + Send,
     G: Gate + Sync,
     R: Threads + Wait + Sync,
->(rt: &R, alloc: Global, start: Start<M>, crew: Crew, gate: &G) -> Result<Joined<M>, AllocError>
+>(rt: &R, alloc: Global, start: Start<M>, crew: Crew, gate: &G) -> Result<Vec<Apart<M>>, AllocError>
 where
     M::Msg: Send,
     requires few { vec_len start.nodes < 256 }
@@ -402,10 +403,8 @@ where
     requires whole { All (λ b. b.parts ≡ 1) start.claims.items }
     requires each { vec_len start.ends ≡ vec_len start.nodes }
     requires each_claim { vec_len start.claims ≡ vec_len start.nodes }
-    ensures many { IfOk result (λ r. vec_len r.nodes ≡ vec_len start.nodes) }
-    ensures runs { IfOk result (λ r. AreRuns M.has_work M.steps M.peer_count J.roots
-        r.nodes.items) }
-    ensures crew { IfOk result (λ r. vec_len r.refused ≡ crew.workers) }
+    ensures many { IfOk result (λ r. vec_len r ≡ vec_len start.nodes) }
+    ensures runs { IfOk result (λ r. AreRuns M.has_work M.steps M.peer_count J.roots r.items) }
 {
     let Start {
         nodes,
@@ -413,13 +412,12 @@ where
         claims,
     } = start;
     let places: Vec<CachePadded<Mutex<Seat<M, J>>>> = seated(alloc, nodes, ends, claims)?;
-    let refused = visits(rt, alloc, places.as_slice(), crew, gate)?;
-    if refused.iter().any(|b| *b) {
+    if visits(rt, alloc, places.as_slice(), crew, gate) {
         return Err(AllocError);
     }
     let found = unlocked(alloc, places)?;
     let nodes = sorted(alloc, found)?;
-    Ok(Joined { nodes, refused })
+    Ok(nodes)
 }
 
 // Steps the nodes of the start in threads. The node given back at each place is the replay of its log from the one at that place.
@@ -429,7 +427,7 @@ fn run_nodes<M: Machine + Send, G: Gate + Sync, R: Threads + Wait + Sync>(
     start: Start<M>,
     crew: Crew,
     gate: &G,
-) -> Result<Joined<M>, AllocError>
+) -> Result<Vec<Apart<M>>, AllocError>
 where
     M::Msg: Send,
     requires few { vec_len start.nodes < 256 }
@@ -437,10 +435,9 @@ where
     requires whole { All (λ b. b.parts ≡ 1) start.claims.items }
     requires each { vec_len start.ends ≡ vec_len start.nodes }
     requires each_claim { vec_len start.claims ≡ vec_len start.nodes }
-    ensures many { IfOk result (λ r. vec_len r.nodes ≡ vec_len start.nodes) }
+    ensures many { IfOk result (λ r. vec_len r ≡ vec_len start.nodes) }
     ensures runs { IfOk result (λ r. AreRuns M.has_work M.steps M.peer_count
-        (roots_of start.nodes.items start.ends.items) r.nodes.items) }
-    ensures crew { IfOk result (λ r. vec_len r.refused ≡ crew.workers) }
+        (roots_of start.nodes.items start.ends.items) r.items) }
 {
     run_named::<M, Brand, G, R>(rt, alloc, start, crew, gate)
 }
@@ -470,10 +467,7 @@ where
         ends,
         claims,
     };
-    let Joined {
-        nodes: done,
-        refused: _,
-    } = run_nodes(rt, alloc, start, crew, gate)?;
+    let done = run_nodes(rt, alloc, start, crew, gate)?;
     rejoin(alloc, done)
 }
 

@@ -12,10 +12,12 @@ use seam_logged::{Naming, Try};
 use seam_machine::Machine;
 use std::alloc::Global;
 use std::marker::Model;
+use std::sync::atomic::{AtomicBool, Ordering};
 use std::sync::{Mutex, Wait};
 use std::thread::Threads;
 
-/// How many tries a worker made, how many of the last ones found nothing to do, and whether memory was refused at the last one.
+/// How many tries a worker made, how many of the last ones found nothing to do, and whether memory was refused, at the last one or to
+/// another worker of its crew.
 #[derive(Drop)]
 pub struct Shift {
     tries: u32,
@@ -54,11 +56,22 @@ impl Shift {
         self.refused || self.idle as usize >= nodes
     }
 
-    /// Whether memory was refused.
-    pub fn is_refused(&self) -> bool
-        ensures { result ≡ self.now.refused }
+    /// Ends the shift if memory was refused to one of the crew.
+    pub fn heed(&mut self, refused: &AtomicBool)
+        ensures tries { self.new.tries ≡ self.old.tries }
+        ensures idle { self.new.idle ≡ self.old.idle }
+        ensures stays { self.old.refused ≡ true → self.new.refused ≡ true }
     {
-        self.refused
+        if refused.load(Ordering::SeqCst) {
+            self.refused = true;
+        }
+    }
+
+    /// Tells the crew if memory was refused.
+    pub fn tell(&self, refused: &AtomicBool) {
+        if self.refused {
+            refused.store(true, Ordering::SeqCst);
+        }
     }
 
     /// Counts a try.

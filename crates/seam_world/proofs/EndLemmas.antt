@@ -15,18 +15,18 @@ use Rattle.seam_args.specs.declared.TheConstants.{USAGE_TEXT, VERSION_TEXT}
 use Rattle.seam_world_rounds.specs.Transcripts.{IsOpen, IsEnded}
 use Rattle.seam_world_rounds.specs.Output.{text_output}
 use Rattle.seam_world_rounds.specs.declared.round.Output.TheVariants as output
-use Rattle.seam_world_run.specs.Storm.{StormEnds, TellsOfStorm, StormStopped}
+use Rattle.seam_world_rounds.specs.Storm.{StormEnds, MeansForStorm, StormStopped}
 use Rattle.seam_world_ends.specs.Status.{IsRunEnd}
 use Rattle.seam_world_ends.specs.Printing.{Printed, StopsBy}
-use Rattle.seam_world_ends.specs.Ends.{Tells, HasFaultLine, RunEnds, MayComplete}
-use Rattle.seam_world_run.specs.Histories.{OpenAs, EndedAs, Stopped}
+use Rattle.seam_world_ends.specs.Ends.{Means, HasFaultLine, RunEnds, MayComplete}
+use Rattle.seam_world_rounds.specs.Histories.{OpenAs, EndedAs, Stopped}
 use Rattle.seam_world_ends.specs.declared.status.Status.{Status}
 use Rattle.seam_world_ends.specs.declared.status.Status.TheVariants as status
-use Rattle.seam_world_run.proofs.HeaderRuns.{nothing_judged}
+use Rattle.seam_world_rounds.proofs.HeaderRuns.{nothing_judged}
 use Rattle.seam_world_ends.proofs.Completing.{is_complete}
-use Rattle.seam_world_run.proofs.StormRuns.{nothing_run}
+use Rattle.seam_world_rounds.proofs.StormRuns.{nothing_run}
 use Rattle.seam_world.specs.Requests.{Request, Usage, Version, Storm, Script, Nothing, request_of, request_for, request_unless, EndsAs}
-use Rattle.seam_world.specs.Requests.{UnplayedEnds, TellsOfShown}
+use Rattle.seam_world.specs.Requests.{UnplayedEnds, MeansForText}
 use Rattle.seam_world.specs.Stopping.{StopsAs, StopsShown, IsTextFor}
 use Rattle.seam_world.specs.Words.{is_of_words, asks_for}
 
@@ -36,7 +36,7 @@ module _ (Open Ended Open' Ended' : List Line → List ℕ → List Journal → 
     (is_ended : (ls : List Line) (t : List ℕ) (js : List Journal) → Ended ls t js → Ended' ls t js) (old new : SourceState)
     (given t : List ℕ)
     (js : List Journal) where
-  tells_others : (st : Status) → Tells Open Ended st old new given t js → Tells Open' Ended' st old new given t js
+  tells_others : (st : Status) → Means Open Ended st old new given t js → Means Open' Ended' st old new given t js
   tells_others status.Done (low, read, all, x) = (low, read, all, is_ended read t js x)
   tells_others status.Usage x = x
   tells_others (status.BadHeader k) x = x
@@ -48,8 +48,8 @@ module _ (Open Ended Open' Ended' : List Line → List ℕ → List Journal → 
 
 -- where rounds are printed, what is given of transcripts is their text
 tells_of_text : (traced : Bool) (totals : Totals) (st : Status) (old new : SourceState) (given t : List ℕ) (js : List Journal) →
-    Tells (OpenAs (text_output traced)) (EndedAs (text_output traced) totals) st old new given t js →
-    Tells (IsOpen traced) (IsEnded traced) st old new given t js
+    Means (OpenAs (text_output traced)) (EndedAs (text_output traced) totals) st old new given t js →
+    Means (IsOpen traced) (IsEnded traced) st old new given t js
 tells_of_text true totals st old new given t js =
     tells_others (OpenAs output.TracedRounds) (EndedAs output.TracedRounds totals) (IsOpen true) (IsEnded true) (λ ls t js x. x)
     (λ ls t js x. (x.0, x.1, x.2, x.3, x.4, x.5)) old new given t js st
@@ -75,7 +75,7 @@ with_tail traced totals st began now old mid new told told' s tail a f = record 
   took = s.took;
   most = s.most;
   wrote = Appends-trans old.written mid.written new.written s.text tail s.writing a;
-  tells = tells_of_text traced totals st began now s.given s.text s.steps s.tells;
+  means = tells_of_text traced totals st began now s.given s.text s.steps s.means;
   last = from_start st old mid new tail s.later f;
   watched = s.watched;
 }
@@ -89,7 +89,7 @@ storm_with_tail lines st before after old mid new told told' unread s tail a f =
   steps = s.steps;
   unread = unread;
   wrote = Appends-trans old.written mid.written new.written s.text tail s.writing a;
-  tells = s.tells;
+  means = s.means;
   last = from_start st old mid new tail s.later f;
   watched = s.watched;
 }
@@ -102,13 +102,13 @@ written_whole old mid text p =
 -- the fault line after a text that was asked for, or after a prefix of it
 shown_with_tail : (shown : List ℕ) (st : Status) (before after : SourceState) (old mid new : SinkState) (told told' : Told) →
     StopsShown shown st before after old mid told told' → (tail : List ℕ) → Appends mid.written new.written tail →
-    HasFaultLine st mid new tail → UnplayedEnds (TellsOfShown shown) st before after old new told told'
+    HasFaultLine st mid new tail → UnplayedEnds (MeansForText shown) st before after old new told told'
 shown_with_tail shown st before after old mid new told told' (unread, untold, inl (is, p)) tail a f = record {
   text = shown;
   tail = tail;
   unread = unread;
   wrote = Appends-trans old.written mid.written new.written shown tail (written_whole old mid shown p) a;
-  tells = subst (λ (x : Status). TellsOfShown shown x shown) (sym is) refl;
+  means = subst (λ (x : Status). MeansForText shown x shown) (sym is) refl;
   last = from_start st old mid new tail p.later f;
   untold = untold;
 }
@@ -117,7 +117,7 @@ shown_with_tail shown st before after old mid new told told' (unread, untold, in
   tail = tail;
   unread = unread;
   wrote = Appends-trans old.written mid.written new.written x.prefix tail x.writing a;
-  tells = subst (λ (s : Status). TellsOfShown shown s x.prefix) (sym is) x.proper;
+  means = subst (λ (s : Status). MeansForText shown s x.prefix) (sym is) x.proper;
   last = from_start st old mid new tail x.later f;
   untold = untold;
 }
@@ -137,27 +137,27 @@ ends_as_asked (Script traced) st before after old mid new told told' s tail a f 
 ends_as_asked Nothing st before after old mid new told told' s tail a f = absurd s
 
 -- nothing was written but the fault line
-untouched : (Tells : Status → List ℕ → Type 0) (st : Status) (source : SourceState) (old new : SinkState) (told : Told) → Tells st [] →
+untouched : (Means : Status → List ℕ → Type 0) (st : Status) (source : SourceState) (old new : SinkState) (told : Told) → Means st [] →
     (tail : List ℕ) → Appends old.written new.written tail → HasFaultLine st old new tail →
-    UnplayedEnds Tells st source source old new told told
-untouched Tells st source old new told tells tail a f =
-    record { text = []; tail = tail; unread = refl; wrote = a; tells = tells; last = f; untold = refl }
+    UnplayedEnds Means st source source old new told told
+untouched Means st source old new told means tail a f =
+    record { text = []; tail = tail; unread = refl; wrote = a; means = means; last = f; untold = refl }
 
 -- what a status tells where the words are refused
-abbrev TellsOfNone : Status → List ℕ → Type 0
-TellsOfNone ended text = ((ended ≡ status.Usage) ⊎ (ended ≡ status.NoMemory)) × (text ≡ [])
+abbrev MeansForNothing : Status → List ℕ → Type 0
+MeansForNothing ended text = ((ended ≡ status.Usage) ⊎ (ended ≡ status.NoMemory)) × (text ≡ [])
 
 -- there was no memory for the words
 starved : (r : Request) (source : SourceState) (old new : SinkState) (told : Told) (tail : List ℕ) → Appends old.written new.written tail →
     HasFaultLine status.NoMemory old new tail → EndsAs r status.NoMemory source source old new told told
-starved Usage source old new told tail a f = untouched (TellsOfShown USAGE_TEXT.now) status.NoMemory source old new told refl tail a f
-starved Version source old new told tail a f = untouched (TellsOfShown VERSION_TEXT.now) status.NoMemory source old new told refl tail a f
+starved Usage source old new told tail a f = untouched (MeansForText USAGE_TEXT.now) status.NoMemory source old new told refl tail a f
+starved Version source old new told tail a f = untouched (MeansForText VERSION_TEXT.now) status.NoMemory source old new told refl tail a f
 starved (Storm lines) source old new told tail a f =
     ends_as_asked (Storm lines) status.NoMemory source source old old new told told (refl, nothing_run lines old told) tail a f
 starved (Script traced) source old new told tail a f =
     let stopped = nothing_judged source source [] (Consumes-nil source.left) (omega arith) (text_output traced) (totals_of []) old told in
     ends_as_asked (Script traced) status.NoMemory source source old old new told told (totals_of [], stopped) tail a f
-starved Nothing source old new told tail a f = untouched TellsOfNone status.NoMemory source old new told (inr refl, refl) tail a f
+starved Nothing source old new told tail a f = untouched MeansForNothing status.NoMemory source old new told (inr refl, refl) tail a f
 
 -- the words were refused, or there was no memory for them
 pub ends_unasked : (r : Request) (st : Status) (source : SourceState) (old new : SinkState) (told : Told) →
@@ -168,7 +168,7 @@ ends_unasked r st source old new told (inl is) tail a f =
     (starved r source old new told tail a (subst (λ (x : Status). HasFaultLine x old new tail) is f))
 ends_unasked r st source old new told (inr (is, nothing)) tail a f =
     subst (λ (x : Request). EndsAs x st source source old new told told) (sym nothing)
-    (untouched TellsOfNone st source old new told (inl is, refl) tail a f)
+    (untouched MeansForNothing st source old new told (inl is, refl) tail a f)
 
 -- words that are refused ask for nothing
 pub refused_is_nothing : (answer : Answer) → AreRefused answer → request_of answer ≡ Nothing
@@ -242,20 +242,20 @@ completes_as_asked Version st before after old mid new told told' s later may =
     shown_completes VERSION_TEXT.now st before after old mid new told told' s later may
 completes_as_asked (Script traced) st before after old mid new told told' (totals, s) later may =
     is_complete (OpenAs (text_output traced)) (EndedAs (text_output traced) totals) st before after old new s.given s.text s.steps s.took
-    s.tells
+    s.means
     may (λ is. subst IsRunEnd is s.allowed) (λ is. let rose = s.failed is in omega (arith, rose, later))
 completes_as_asked (Storm lines) st before after old mid new told told' (unread, s) later may =
-    by_status st s.allowed s.tells s.failed
+    by_status st s.allowed s.means s.failed
   where
-    by_status : (x : Status) → IsRunEnd x → TellsOfStorm lines x s.text s.steps → (x ≡ status.WriteFault → Rose old.faults mid.faults) →
+    by_status : (x : Status) → IsRunEnd x → MeansForStorm lines x s.text s.steps → (x ≡ status.WriteFault → Rose old.faults mid.faults) →
         (x ≡ status.Done) ⊎ (x ≡ status.NoMemory)
-    by_status status.Done allowed tells failed = inl refl
-    by_status status.Usage allowed tells failed = absurd allowed
-    by_status (status.BadHeader k) allowed tells failed = absurd tells
-    by_status status.ReadFault allowed tells failed = absurd tells
-    by_status status.WriteFault allowed tells failed = absurd (may.writes (let rose = failed refl in omega (arith, rose, later)))
-    by_status status.Limit allowed tells failed = absurd tells
-    by_status status.NoMemory allowed tells failed = inr refl
+    by_status status.Done allowed means failed = inl refl
+    by_status status.Usage allowed means failed = absurd allowed
+    by_status (status.BadHeader k) allowed means failed = absurd means
+    by_status status.ReadFault allowed means failed = absurd means
+    by_status status.WriteFault allowed means failed = absurd (may.writes (let rose = failed refl in omega (arith, rose, later)))
+    by_status status.Limit allowed means failed = absurd means
+    by_status status.NoMemory allowed means failed = inr refl
 completes_as_asked Nothing st before after old mid new told told' s later may = absurd s
 
 -- words that pass are not refused

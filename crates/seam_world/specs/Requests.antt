@@ -10,7 +10,7 @@ use Rattle.seam_world_ends.specs.Ends.{IsProperPrefix, HasFaultLine, RunEnds}
 use Rattle.seam_world_ends.specs.declared.status.Status.{Status}
 use Rattle.seam_world_ends.specs.declared.status.Status.TheVariants as status
 use Rattle.seam_world_rounds.specs.Transcripts.{IsOpen, IsEnded}
-use Rattle.seam_world_run.specs.Storm.{StormEnds}
+use Rattle.seam_world_rounds.specs.Storm.{StormEnds}
 use Rattle.seam_world.specs.Words.{asks_for}
 
 -- what the words ask for: the usage text, the version, a generated input of so many lines, or a script with or without the steps of its
@@ -43,28 +43,28 @@ request_of (Ok words) = request_unless (fault_of command (words_of (Ok words))) 
 request_of (Err e) = Nothing
 
 -- what a status tells of the text that was written before the fault line, where nothing but `shown` was to be written
-abbrev pub TellsOfShown : (shown : List ℕ) → Status → List ℕ → Type 0
-TellsOfShown shown status.Done text = text ≡ shown
-TellsOfShown shown status.WriteFault text = IsProperPrefix text shown
-TellsOfShown shown status.NoMemory text = text ≡ []
-TellsOfShown shown other text = ⊥
+abbrev pub MeansForText : (shown : List ℕ) → Status → List ℕ → Type 0
+MeansForText shown status.Done text = text ≡ shown
+MeansForText shown status.WriteFault text = IsProperPrefix text shown
+MeansForText shown status.NoMemory text = text ≡ []
+MeansForText shown other text = ⊥
 
 -- How a call ends with a status that plays no round: the source is not read, and the watch is given nothing. They and the sink were at
 -- `old`, `told` and `sink` when the call began, and at `new`, `told'` and `sink'` when it ended.
-pub record UnplayedEnds (Tells : Status → List ℕ → Type 0) (ended : Status) (old new : SourceState) (sink sink' : SinkState)
+pub record UnplayedEnds (Means : Status → List ℕ → Type 0) (ended : Status) (old new : SourceState) (sink sink' : SinkState)
     (told told' : Told) : Type 0 where
   pub text : List ℕ
   pub tail : List ℕ
   pub unread : new ≡ old
   pub wrote : Appends sink.written sink'.written (text ++ tail)
-  pub tells : Tells ended text
+  pub means : Means ended text
   pub last : HasFaultLine ended sink sink' tail
   pub untold : told' ≡ told
 
 -- how the call ends, by what was asked for: where the words are refused nothing was written
 abbrev pub EndsAs : Request → Status → SourceState → SourceState → SinkState → SinkState → Told → Told → Type 0
-EndsAs Usage = UnplayedEnds (TellsOfShown USAGE_TEXT.now)
-EndsAs Version = UnplayedEnds (TellsOfShown VERSION_TEXT.now)
+EndsAs Usage = UnplayedEnds (MeansForText USAGE_TEXT.now)
+EndsAs Version = UnplayedEnds (MeansForText VERSION_TEXT.now)
 EndsAs (Storm lines) = StormEnds lines
 EndsAs (Script traced) = RunEnds (IsOpen traced) (IsEnded traced)
 EndsAs Nothing = UnplayedEnds (λ ended text. ((ended ≡ status.Usage) ⊎ (ended ≡ status.NoMemory)) × (text ≡ []))

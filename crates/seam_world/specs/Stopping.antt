@@ -7,8 +7,8 @@ use Rattle.seam_world_ends.specs.Printing.{StopsBy}
 use Rattle.seam_world_ends.specs.declared.status.Status.{Status}
 use Rattle.seam_world_ends.specs.declared.status.Status.TheVariants as status
 use Rattle.seam_world_rounds.specs.Output.{text_output}
-use Rattle.seam_world_run.specs.Histories.{Stopped}
-use Rattle.seam_world_run.specs.Storm.{StormStopped}
+use Rattle.seam_world_rounds.specs.Histories.{Stopped}
+use Rattle.seam_world_rounds.specs.Storm.{StormStopped}
 use Rattle.seam_world.specs.Requests.{Request, Usage, Version, Storm, Script, Nothing}
 
 -- a text was written, or a proper prefix of it, and nothing else was done

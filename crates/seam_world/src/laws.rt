@@ -1,7 +1,7 @@
 //! What the definitions of a run say together.
 ghost use Rattle.std.specs.Prelude.{◌≡◌, ℕ, List};
 ghost use Rattle.seam_watch.specs.declared.journal.Journal.{Journal};
-ghost use Rattle.seam_world_run.specs.Storm.{IsSummary};
+ghost use Rattle.seam_world_rounds.specs.Storm.{IsSummary};
 
 /// A generated input has one summary, whatever the cells and however its rounds were played.
 pub fn a_storm_has_one_summary()

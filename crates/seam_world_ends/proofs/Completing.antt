@@ -19,7 +19,7 @@ use Rattle.seam_toml.specs.Faults.{HeaderHas}
 use Rattle.seam_rule_lines.specs.Header.{AreHeaderLines, BeginWithHeader, AwaitHeader, RefusesHeader, separator, text_of_contents}
 use Rattle.seam_watch.specs.declared.journal.Journal.{Journal}
 use Rattle.seam_rule_lines.proofs.HeaderLemmas.{text_is_one, end_for_header}
-use Rattle.seam_world_ends.specs.Ends.{AreFirst, AreAll, IsPrefix, IsHeaderFault, Tells, MayComplete}
+use Rattle.seam_world_ends.specs.Ends.{AreFirst, AreAll, IsPrefix, IsHeaderFault, Means, MayComplete}
 use Rattle.seam_world_ends.specs.declared.status.Status.{Status}
 use Rattle.seam_world_ends.specs.declared.status.Status.TheVariants as status
 
@@ -214,18 +214,18 @@ within_bytes old new bytes given is took =
     omega (arith, size, parts)
 
 pub is_complete : (Open Ended : List Line → List ℕ → List Journal → Type 0) (st : Status) (old new : SourceState) (sink sink' : SinkState)
-    (given text : List ℕ) (steps : List Journal) → Consumes old.left new.left given → Tells Open Ended st old new given text steps →
+    (given text : List ℕ) (steps : List Journal) → Consumes old.left new.left given → Means Open Ended st old new given text steps →
     MayComplete old new sink sink' → (st ≡ status.Usage → ⊥) → (st ≡ status.WriteFault → Rose sink.faults sink'.faults) →
     (st ≡ status.Done) ⊎ (st ≡ status.NoMemory)
-is_complete Open Ended status.Done old new sink sink' given text steps took tells may usage failed = inl refl
-is_complete Open Ended status.NoMemory old new sink sink' given text steps took tells may usage failed = inr refl
-is_complete Open Ended status.Usage old new sink sink' given text steps took tells may usage failed = absurd (usage refl)
-is_complete Open Ended status.ReadFault old new sink sink' given text steps took tells may usage failed = absurd (may.reads tells.0)
-is_complete Open Ended status.WriteFault old new sink sink' given text steps took tells may usage failed = absurd (may.writes (failed refl))
-is_complete Open Ended status.Limit old new sink sink' given text steps took tells may usage failed =
-    let all = tells.0 in
+is_complete Open Ended status.Done old new sink sink' given text steps took means may usage failed = inl refl
+is_complete Open Ended status.NoMemory old new sink sink' given text steps took means may usage failed = inr refl
+is_complete Open Ended status.Usage old new sink sink' given text steps took means may usage failed = absurd (usage refl)
+is_complete Open Ended status.ReadFault old new sink sink' given text steps took means may usage failed = absurd (may.reads means.0)
+is_complete Open Ended status.WriteFault old new sink sink' given text steps took means may usage failed = absurd (may.writes (failed refl))
+is_complete Open Ended status.Limit old new sink sink' given text steps took means may usage failed =
+    let all = means.0 in
     let few = may.few in
     let within = within_bytes old new may.bytes given may.left took in
     absurd (omega (arith, all, few, within))
-is_complete Open Ended (status.BadHeader k) old new sink sink' given text steps took tells may usage failed =
-    absurd (no_header_fault old new sink sink' given k may took tells.2)
+is_complete Open Ended (status.BadHeader k) old new sink sink' given text steps took means may usage failed =
+    absurd (no_header_fault old new sink sink' given k may took means.2)

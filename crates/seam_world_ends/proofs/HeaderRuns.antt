@@ -13,7 +13,7 @@ use Rattle.seam_toml.specs.declared.header.HeaderError.TheVariants as error
 use Rattle.seam_toml.specs.Header.{number_of}
 use Rattle.seam_rule_lines.proofs.HeaderLemmas.{await_at_first, long_line_for_header}
 use Rattle.seam_world_ends.specs.Status.{IsHeaderCause, IsHeaderEnd, refused_with, refusal_of}
-use Rattle.seam_world_ends.specs.Ends.{Tells, most_bytes}
+use Rattle.seam_world_ends.specs.Ends.{Means, most_bytes}
 use Rattle.seam_world_ends.specs.Headers.{InHeader, HasHeader, HeaderLineRead, EndsInHeader, Awaits, Never}
 use Rattle.seam_world_ends.specs.declared.status.Status.{Status}
 use Rattle.seam_world_ends.specs.declared.status.Status.TheVariants as status
@@ -21,8 +21,8 @@ use Rattle.seam_world_ends.proofs.Prefixes.{are_first, within_limit}
 
 -- the run ended within the header
 header_stopped : (began now : SourceState) (st : Status) (given : List ℕ) → Consumes began.left now.left given →
-    length given ≤ most_bytes → Tells Awaits Never st began now given [] [] → IsHeaderEnd st → EndsInHeader st began now
-header_stopped began now st given took most tells end = record { given = given; took = took; most = most; end = end; tells = tells }
+    length given ≤ most_bytes → Means Awaits Never st began now given [] [] → IsHeaderEnd st → EndsInHeader st began now
+header_stopped began now st given took most means end = record { given = given; took = took; most = most; end = end; means = means }
 
 -- an allocation failed before a line was judged
 pub nothing_read : (began now : SourceState) (given : List ℕ) → Consumes began.left now.left given → length given ≤ most_bytes →

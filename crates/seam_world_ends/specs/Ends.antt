@@ -66,24 +66,23 @@ module _ (Open Ended : List Line → List ℕ → List Journal → Type 0) where
 
   -- What a status tells of the bytes `given` that were taken from the source, of the text that was written before the fault line, and of
   -- the steps of the rounds that were played. The source was at `old` when the call began, and at `new` when it ended.
-  abbrev pub Tells : Status → SourceState → SourceState → List ℕ → List ℕ → List Journal → Type 0
+  abbrev pub Means : Status → SourceState → SourceState → List ℕ → List ℕ → List Journal → Type 0
   -- the input ended within the limit, and the text is an ended transcript of all its lines
-  Tells status.Done old new given text steps =
+  Means status.Done old new given text steps =
       (length given < most_bytes) × (read : List Line) × AreAll old new given read × Ended read text steps
   -- nothing was read
-  Tells status.Usage old new given text steps = (given ≡ []) × (text ≡ []) × (steps ≡ [])
+  Means status.Usage old new given text steps = (given ≡ []) × (text ≡ []) × (steps ≡ [])
   -- the header is at fault
-  Tells (status.BadHeader k) old new given text steps = (text ≡ []) × (steps ≡ []) × IsHeaderFault old new given k
+  Means (status.BadHeader k) old new given text steps = (text ≡ []) × (steps ≡ []) × IsHeaderFault old new given k
   -- the source failed, and the text is an open transcript of the lines read
-  Tells status.ReadFault old new given text steps =
+  Means status.ReadFault old new given text steps =
       Rose old.faults new.faults × (length given < most_bytes) × Open (whole_lines_of given) text steps
   -- the sink failed within a transcript, of which a proper prefix was written
-  Tells status.WriteFault old new given text steps =
-      (whole : List ℕ) × IsProperPrefix text whole × IsSoFar old new given whole steps
+  Means status.WriteFault old new given text steps = (whole : List ℕ) × IsProperPrefix text whole × IsSoFar old new given whole steps
   -- as many bytes as may be were taken and no whole line is left, and the text is an open transcript of the lines read
-  Tells status.Limit old new given text steps = (length given ≡ most_bytes) × Open (whole_lines_of given) text steps
+  Means status.Limit old new given text steps = (length given ≡ most_bytes) × Open (whole_lines_of given) text steps
   -- an allocation failed, and the text is an open transcript of the first lines
-  Tells status.NoMemory old new given text steps = (read : List Line) × AreFirst old new given read × Open read text steps
+  Means status.NoMemory old new given text steps = (read : List Line) × AreFirst old new given read × Open read text steps
 
   -- How a run ends with a status: the bytes that it took, the text that it wrote, after it the fault line, and the steps of which the watch
   -- was told. They are those of the rounds of the transcript that the status tells of, all of them. Where the sink failed that is longer
@@ -97,7 +96,7 @@ module _ (Open Ended : List Line → List ℕ → List Journal → Type 0) where
     pub took : Consumes old.left new.left given
     pub most : length given ≤ most_bytes
     pub wrote : Appends sink.written sink'.written (text ++ tail)
-    pub tells : Tells ended old new given text steps
+    pub means : Means ended old new given text steps
     pub last : HasFaultLine ended sink sink' tail
     pub watched : told' ≡ after_all the_space steps told
 

@@ -4,7 +4,7 @@ use Rattle.std.specs.Io.KnownBytes.{Consumes}
 use Rattle.seam_rule_rounds.specs.Prelude.{SourceState, Line, Reader, Reading, Header, AreHeaderLines, BeginWithHeader, AwaitHeader}
 use Rattle.seam_rule_rounds.specs.Prelude.{Journal}
 use Rattle.seam_world_ends.specs.Status.{IsHeaderEnd}
-use Rattle.seam_world_ends.specs.Ends.{Tells, most_bytes}
+use Rattle.seam_world_ends.specs.Ends.{Means, most_bytes}
 use Rattle.seam_world_ends.specs.declared.status.Status.{Status}
 
 -- The header goes on: since the source was at `began`, the reader gave these lines, which come before a header's end and make this
@@ -37,7 +37,7 @@ pub record EndsInHeader (ended : Status) (began now : SourceState) : Type 0 wher
   pub took : Consumes began.left now.left given
   pub most : length given ≤ most_bytes
   pub end : IsHeaderEnd ended
-  pub tells : Tells Awaits Never ended began now given [] []
+  pub means : Means Awaits Never ended began now given [] []
 
 -- What came of the next line of a header, after these: it goes on, or the line ended it, or the run stopped.
 abbrev pub HeaderLineRead : SourceState → SourceState → Reader → List ℕ → List Line → Result (Option Header) Status → Type 0

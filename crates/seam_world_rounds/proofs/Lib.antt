@@ -1,7 +1,10 @@
-pub mod Counting
+mod Counting
 mod Following
 mod PlayedRounds
 mod TextsPlayed
 mod ScriptLemmas
-pub mod Results
-pub mod Worlds
+mod Results
+mod Worlds
+mod RunLemmas
+pub mod HeaderRuns
+pub mod StormRuns

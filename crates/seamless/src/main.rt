@@ -3,7 +3,7 @@
 //! Seamless: runs a script of commands from standard input, and prints its rounds to standard output.
 #![tactic(auto)]
 
-use seam_advice::{Listener, Speaker, tell_place};
+use seam_advice::{Listener, Speaker, print_fault_position};
 use seam_args::{refusal_text, usage_text};
 use seam_io::{Patient, RealSink, RealSource};
 use seam_watch::NoWatch;
@@ -42,7 +42,7 @@ fn explain(rt: &HostRuntime, status: Status, bytes: &[u8]) {
         Status::Usage => explain_words(rt),
         Status::BadHeader(cause) => {
             let _ = eprintln!(rt; "seamless: {}", status.message());
-            tell_place(rt, rt.alloc(), cause, bytes);
+            print_fault_position(rt, rt.alloc(), cause, bytes);
         }
         _ => {
             let _ = eprintln!(rt; "seamless: {}", status.message());

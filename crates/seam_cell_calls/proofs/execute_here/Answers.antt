@@ -19,13 +19,13 @@ module _ (c : goal.After-put_after) where
       ∙ ap (λ w. set_at w c.args.call.entity (option_map core_of c.execute_turn-called.result.left)) c.in-Ok.ensures.items
 
   leaves : OnOk c.execute_turn-called.result.result
-      (CallLeaves (cell_of c.args.known.now c.args.reals.now c.args.places.now c.args.lists.now)
-      (cell_of c.args.known.now c.put_after.new.reals c.execute_turn-called.new.places c.put_after.new.lists) c.args.call
+      (CallLeaves (cell_of c.args.known.now c.args.reals.now c.args.remotes.now c.args.lists.now)
+      (cell_of c.args.known.now c.put_after.new.reals c.execute_turn-called.new.remotes c.put_after.new.lists) c.args.call
       c.args.out.now.items c.execute_turn-called.new.out.items)
   leaves =
       let called = c.execute_turn-called in
       on_ok_weaker called.result.result
-      (λ done. turn_left c.args.known.now c.args.reals.now c.put_after.new.reals c.args.places.now called.new.places c.args.lists.now
+      (λ done. turn_left c.args.known.now c.args.reals.now c.put_after.new.reals c.args.remotes.now called.new.remotes c.args.lists.now
       c.put_after.new.lists c.args.out.now called.new.out c.args.call c.in-Ok.real.core (option_map core_of called.result.left)
       c.in-Ok.ensures.real items c.put_after.ensures.survey c.put_after.ensures.looks c.requires.whole c.requires.may c.requires.turn
       done)
@@ -41,7 +41,7 @@ pub returns-clause-err : goal.returns-clause-err
 returns-clause-err c =
     let called = c.execute_turn-called in
     on_err_weaker called.result.result
-    (λ both. undone c.args.known.now c.args.reals.now c.put_after.new.reals c.args.places.now called.new.places c.args.lists.now
+    (λ both. undone c.args.known.now c.args.reals.now c.put_after.new.reals c.args.remotes.now called.new.remotes c.args.lists.now
     c.put_after.new.lists c.args.out.now called.new.out c.args.call.entity c.in-Ok.real.core (option_map core_of called.result.left)
     c.in-Ok.ensures.real (items c) c.put_after.ensures.survey c.put_after.ensures.looks both.0 both.1)
     (both_err _ _ called.result.result called.ensures.err called.ensures.err_parts)

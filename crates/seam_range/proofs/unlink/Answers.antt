@@ -6,7 +6,7 @@ use Rattle.seam_range.proofs.unlink.Goals as goal
 
 pub returns-in_default-clause-linked : goal.returns-in_default-clause-linked
 returns-in_default-clause-linked c =
-    linked_when_none c.args.buckets.now c.take_key.new.buckets c.args.spots.now c.args.spots.now (bucket_of c.args.old.place)
+    linked_when_none c.args.buckets.now c.take_key.new.buckets c.args.spots.now c.args.spots.now (bucket_of c.args.old.location)
     c.args.old.rank
     c.requires
     (subst (λ z. IsTaken c.args.buckets.now c.take_key.new.buckets z c.args.old.rank None) c.bucket_of.ensures c.in_default.ensures)
@@ -14,7 +14,8 @@ returns-in_default-clause-linked c =
 pub unreachable-requires : goal.unreachable-requires
 unreachable-requires c =
     let y =
-    spot_when_moved c.args.buckets.now c.take_key.new.buckets c.args.spots.now c.args.spots.now (bucket_of c.args.old.place) c.args.old.rank
+    spot_when_moved c.args.buckets.now c.take_key.new.buckets c.args.spots.now c.args.spots.now
+    (bucket_of c.args.old.location) c.args.old.rank
     c.requires c.in-Some.moved
     (subst (λ z. IsTaken c.args.buckets.now c.take_key.new.buckets z c.args.old.rank (Some c.in-Some.moved)) c.bucket_of.ensures
     c.in-Some.ensures) in
@@ -22,9 +23,9 @@ unreachable-requires c =
 
 pub returns-clause-linked : goal.returns-clause-linked
 returns-clause-linked c =
-    linked_when_moved c.args.buckets.now c.take_key.new.buckets c.args.spots.now c.set_spot.new.spots (bucket_of c.args.old.place)
+    linked_when_moved c.args.buckets.now c.take_key.new.buckets c.args.spots.now c.set_spot.new.spots (bucket_of c.args.old.location)
     c.args.old.rank c.requires c.in-Some.moved c.in-Some-copied.spot
-    (record { entity = c.in-Some-copied.spot.entity; place = c.in-Some-copied.spot.place; rank = c.args.old.rank })
+    (record { entity = c.in-Some-copied.spot.entity; location = c.in-Some-copied.spot.location; rank = c.args.old.rank })
     (subst (λ z. IsTaken c.args.buckets.now c.take_key.new.buckets z c.args.old.rank (Some c.in-Some.moved)) c.bucket_of.ensures
     c.in-Some.ensures)
     (sym (c.in-Some-copied.ensures ∙ c.get.ensures)) c.set_spot.ensures refl refl

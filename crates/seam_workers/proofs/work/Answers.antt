@@ -9,4 +9,5 @@ returns-then-is_over g c = inr (c.is_over.ensures.over c.if-is_over.true)
 pub loop-turn-preserved : goal.loop-turn-preserved
 loop-turn-preserved g c =
     let one = c.visit.ensures.2 in
-    ap (λ (x : ShiftView). x.tries) one.counted ∙ (tries_counted c.loop-turn.shift one.tried ∙ ap (λ k. k + 1) c.loop-turn.invariant)
+    ap (λ (x : ShiftView). x.tries) one.counted ∙ (tries_counted _ one.tried
+    ∙ ap (λ k. k + 1) (c.heed.ensures.tries ∙ c.loop-turn.invariant))

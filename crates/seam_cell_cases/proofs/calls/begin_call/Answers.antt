@@ -29,8 +29,8 @@ returns-clause-begun c =
     let same = c.prepare.ensures.same in
     let of = c.in_ok-after.after in
     let props = c.props_over.ensures ∙ ap (λ s. unwrap_or of.props s.props) (c.state.ensures ∙ ap (λ x. x.state) same) in
-    let before = parts_of c.args.places.now c.args.out.now in
-    let after = parts_of c.begin.new.places c.begin.new.out in
+    let before = parts_of c.args.remotes.now c.args.out.now in
+    let after = parts_of c.begin.new.remotes c.begin.new.out in
     subst (λ b. HasBegun (here_in k) k.tree (executed (here_in k) r call) b before after c.in_ok-begun.begun) changed
     (c.in_ok-begun.ensures.begun (executed (here_in k) r call) (executed_later (here_in k) r c.prepare.new.self.core call same)
     (sym (c.ty.ensures ∙ ap (λ x. x.ty) same))

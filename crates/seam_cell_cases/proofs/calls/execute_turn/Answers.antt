@@ -49,15 +49,15 @@ returns-clause-done c =
     let r = c.args.turn.real.core in
     let k = c.args.turn.call in
     let left = option_map core_of c.settle_real.result in
-    let after = parts_of c.settle_real.new.places c.settle_real.new.out in
-    let before = parts_of c.args.places.now c.args.out.now in
+    let after = parts_of c.settle_real.new.remotes c.settle_real.new.out in
+    let before = parts_of c.args.remotes.now c.args.out.now in
     let is : c.execute_after.new.self.core ≡ executed h r k =
     c.execute_after.ensures
     ∙ ap (λ x. with_offer x k)
     (after_is h r c.begin_call.new.real.core c.in-Ok.made.after k c.in-Ok.ensures.same c.in-Ok.ensures.state c.in-Ok.ensures.changed)
     in
     let begun =
-    subst (λ x. HasBegun h t x (shows h r k) before (parts_of c.begin_call.new.places c.begin_call.new.out) c.in-Ok.made.begun) (sym is)
+    subst (λ x. HasBegun h t x (shows h r k) before (parts_of c.begin_call.new.remotes c.begin_call.new.out) c.in-Ok.made.begun) (sym is)
     c.in-Ok.ensures.begun in
     let done = c.settle_real.ensures.done h t (shows h r k) r before begun in
     subst (λ x. IsDone (settled h t (slot_in before x.entity r) x (shows h r k)) x.entity r left before after) is done

@@ -17,7 +17,7 @@ returns-then-is_moot c =
     let es = c.take_first.new.self in
     let lists = c.args.lists.now in
     let done =
-    moot_done c.args.known.now c.args.reals.now c.args.places.now lists (record { survey = es; looks = lists.looks }) c.args.out.now e es
+    moot_done c.args.known.now c.args.reals.now c.args.remotes.now lists (record { survey = es; looks = lists.looks }) c.args.out.now e es
     (c.is_moot.ensures.moot c.if-is_moot.true) (c.requires.whole.cell.cell.keys e)
     (first_taken c.take_first.result lists.survey es e c.take_first.ensures.some c.take_first.ensures.none c.in-Some.ensures) refl refl in
     record { state = done.0; sent = done.1; err = search rules; err_out = search rules; marks = search rules }
@@ -31,7 +31,7 @@ returns-in-Ok-clause-state c =
     let left = option_map core_of did.result.left in
     let is = first_taken c.take_first-in-Ok.result c.args.lists.now.survey c.take_first-in-Ok.new.self e
     c.take_first-in-Ok.ensures.some c.take_first-in-Ok.ensures.none c.in-Some.ensures in
-    surveyed c.args.known.now c.args.reals.now c.put_after.new.reals c.args.places.now did.new.places c.args.lists.now
+    surveyed c.args.known.now c.args.reals.now c.put_after.new.reals c.args.remotes.now did.new.remotes c.args.lists.now
     c.put_after.new.lists c.args.out.now did.new.out e c.take_first-in-Ok.new.self x left at (c.is_moot.ensures.due c.if-is_moot.false)
     (c.requires.whole.cell.cell.keys e x at) is (from_ok _ did.result.result c.in-Ok.field-0 c.in-Ok.is did.ensures.done)
     (c.put_after.ensures.items ∙ ap (λ w. set_at w e left) c.in_ok-real.ensures.items) c.put_after.ensures.survey
@@ -46,7 +46,7 @@ returns-in-Ok-clause-sent c =
     let left = option_map core_of did.result.left in
     let is = first_taken c.take_first-in-Ok.result c.args.lists.now.survey c.take_first-in-Ok.new.self e
     c.take_first-in-Ok.ensures.some c.take_first-in-Ok.ensures.none c.in-Some.ensures in
-    survey_told c.args.known.now c.args.reals.now c.put_after.new.reals c.args.places.now did.new.places c.args.lists.now
+    survey_told c.args.known.now c.args.reals.now c.put_after.new.reals c.args.remotes.now did.new.remotes c.args.lists.now
     c.put_after.new.lists c.args.out.now did.new.out e c.take_first-in-Ok.new.self x left at (c.is_moot.ensures.due c.if-is_moot.false)
     (c.requires.whole.cell.cell.keys e x at) is (from_ok _ did.result.result c.in-Ok.field-0 c.in-Ok.is did.ensures.done)
 
@@ -55,7 +55,7 @@ returns-in-Err-clause-err c =
     let did = c.settle_again-left in
     let e = c.in-Some.e in
     let left = option_map core_of did.result.left in
-    survey_undone c.args.known.now c.args.reals.now c.put_after-in-Err.new.reals c.args.places.now did.new.places c.args.lists.now
+    survey_undone c.args.known.now c.args.reals.now c.put_after-in-Err.new.reals c.args.remotes.now did.new.remotes c.args.lists.now
     c.put_after-in-Err.new.lists c.args.out.now did.new.out e c.in_ok-real.real.core left c.in_ok-real.ensures.real
     (from_err _ did.result.result c.in-Err.error c.in-Err.is did.ensures.err)
     (from_err _ did.result.result c.in-Err.error c.in-Err.is did.ensures.err_parts)

@@ -32,8 +32,8 @@ returns-clause-begun c o call is =
     let same = c.prepare_ready.ensures.same in
     let of = c.in_ok-after.after in
     let props = c.props_over.ensures ∙ ap (λ s. unwrap_or of.props s.props) (c.state.ensures ∙ ap (λ x. x.state) same) in
-    let before = parts_of c.args.places.now c.args.out.now in
-    let after = parts_of c.begin.new.places c.begin.new.out in
+    let before = parts_of c.args.remotes.now c.args.out.now in
+    let after = parts_of c.begin.new.remotes c.begin.new.out in
     subst (λ b. HasBegun (here_in k) k.tree (executed_ready (here_in k) r o call) b before after c.in_ok-begun.begun) changed
     (c.in_ok-begun.ensures.begun (executed_ready (here_in k) r o call) (ready_later (here_in k) r q o call same)
     (sym (c.ty.ensures ∙ ap (λ x. x.ty) same))

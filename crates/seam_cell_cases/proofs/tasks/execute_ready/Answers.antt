@@ -47,14 +47,14 @@ returns-clause-done c =
     let o = task.order in
     let k = task.call in
     let left = option_map core_of c.settle_real.result in
-    let after = parts_of c.settle_real.new.places c.settle_real.new.out in
-    let before = parts_of c.args.places.now c.args.out.now in
+    let after = parts_of c.settle_real.new.remotes c.settle_real.new.out in
+    let before = parts_of c.args.remotes.now c.args.out.now in
     let is : c.execute_ready_after.new.self.core ≡ executed_ready h r o k =
     c.execute_ready_after.ensures o k (same_ready r q o k c.in-Ok.ensures.same task.is)
     ∙ ap (λ x. with_order x o.0 (after_taking o.1))
     (after_is h r q c.in-Ok.made.after k c.in-Ok.ensures.same (c.in-Ok.ensures.state o k task.is) (c.in-Ok.ensures.changed o k task.is)) in
     let begun =
-    subst (λ x. HasBegun h t x (shows h r k) before (parts_of c.begin_ready.new.places c.begin_ready.new.out) c.in-Ok.made.begun) (sym is)
+    subst (λ x. HasBegun h t x (shows h r k) before (parts_of c.begin_ready.new.remotes c.begin_ready.new.out) c.in-Ok.made.begun) (sym is)
     (c.in-Ok.ensures.begun o k task.is) in
     let done = c.settle_real.ensures.done h t (shows h r k) r before begun in
     subst (λ s. IsDone s r.entity r left before after) (sym (task_is h t (slot_in before r.entity r) r o k task.is))

@@ -15,7 +15,7 @@ look_in c e reals ghosts =
 
 pub returns-clause-state : goal.returns-clause-state
 returns-clause-state c =
-    let d : CellView = cell_of c.args.known.now c.args.reals.now c.args.places.now c.args.lists.now in
+    let d : CellView = cell_of c.args.known.now c.args.reals.now c.args.remotes.now c.args.lists.now in
     let es = c.take_first.new.self in
     let left : CellView = record d { looks = es } in
     c.in_ok-look_around.ensures.reals left
@@ -25,7 +25,7 @@ returns-clause-state c =
 
 pub returns-clause-sent : goal.returns-clause-sent
 returns-clause-sent c =
-    let d : CellView = cell_of c.args.known.now c.args.reals.now c.args.places.now c.args.lists.now in
+    let d : CellView = cell_of c.args.known.now c.args.reals.now c.args.remotes.now c.args.lists.now in
     let es = c.take_first.new.self in
     let left : CellView = record d { looks = es } in
     c.in_ok-look_around.ensures.sent left

@@ -2,7 +2,7 @@ use Rattle.std.proofs.Common.{◌≡◌, ◌++◌, ◌-◌, ◌+◌, List, take,
 use Rattle.std.proofs.Math.Seq.{take-append_seam}
 use Rattle.std.specs.FinSet as set
 use Rattle.seam_node_steps.specs.Prelude.{standard, copy_with, node_with, word}
-use Rattle.seam_cell_parts.specs.News.{state_of, said, listed, news}
+use Rattle.seam_cell_parts.specs.News.{state_of, message_for, listed, news}
 use Rattle.seam_cell_parts.proofs.NewsLemmas.{news_more, news_same, news_end, left_later, left_without, left_none}
 use Rattle.seam_cell_parts.proofs.news.tell.Goals as goal
 use Rattle.seam_cell_parts.proofs.news.tell.Goals.{then-holds+in_ok-tell_cell, else-holds+else-holds-2}
@@ -49,7 +49,7 @@ loop-k-preserved c =
         told =
             λ me settings.
             let g = copy_with (node_with of.defs.now me settings) of.ty of.version (state_of of) in
-            let one = listed (said t g k (word t k)) in
+            let one = listed (message_for t g k (word t k)) in
             ap (λ o. o.items) w.out-is ∙ w.in_ok-tell_cell.ensures.ok me settings
             ∙ (ap (λ l. l ++ one) (c.loop-k.invariant.told me settings)
             ∙ (append_assoc sent (news t g k) one ∙ ap (λ l. sent ++ l) (sym (news_more t g k))));

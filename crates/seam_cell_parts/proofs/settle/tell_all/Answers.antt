@@ -14,7 +14,7 @@ pub returns-clause-ghosts : goal.returns-clause-ghosts
 returns-clause-ghosts c me settings =
     let t = c.args.t.now in
     let of = c.args.of.now in
-    let ghosts = c.args.places.now.copies.ghosts in
+    let ghosts = c.args.remotes.now.copies.ghosts in
     let copy = copy_with (node_with of.defs.now me settings) of.ty of.version (state_of of) in
     on_ok_weaker c.tell_own.result
     (λ e. e

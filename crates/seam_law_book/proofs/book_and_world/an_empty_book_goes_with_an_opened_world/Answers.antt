@@ -1,9 +1,5 @@
-use Rattle.std.proofs.Common.{sym, ap, ◌∙◌, arith}
-use Rattle.std.proofs.lemmas.Option.{none-some}
+use Rattle.seam_law_book.proofs.Prelude.{sym, ap, ◌∙◌, arith, none-some, real_in, IsFrame, first_frame, opened_is_new}
 use Rattle.seam_law_book.proofs.Untouched.{one_cell_tree}
-use Rattle.seam_law_calls.specs.Ones.{real_in, IsFrame}
-use Rattle.seam_law_rounds.specs.LastPhases.{first_frame}
-use Rattle.seam_law_rounds.proofs.Opened.{opened_is_new}
 use Rattle.seam_law_book.proofs.book_and_world.an_empty_book_goes_with_an_opened_world.Goals as goal
 
 pub returns : goal.returns

@@ -1,5 +1,4 @@
-use Rattle.std.proofs.Common.{◌≡◌, sym, ap, ◌∙◌}
-use Rattle.seam_node_steps.specs.Bases.{PartView}
+use Rattle.seam_law_book.proofs.Prelude.{◌≡◌, sym, ap, ◌∙◌, PartView}
 use Rattle.seam_law_book.proofs.book_and_world.base_lines_are_those_of_the_rules.Goals as goal
 
 pub returns : goal.returns

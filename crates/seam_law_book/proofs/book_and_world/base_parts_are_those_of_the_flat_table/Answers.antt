@@ -1,16 +1,9 @@
-use Rattle.std.proofs.Common.{◌≡◌, ℕ, ◌++◌, None, sym, ap, ◌∙◌, subst}
+use Rattle.seam_law_book.proofs.Prelude.{◌≡◌, ℕ, ◌++◌, None, sym, ap, ◌∙◌, subst, loaded, created_as, framed, MayBeLoaded, clients_loaded}
+use Rattle.seam_law_book.proofs.Prelude.{clients_shown, as_begun, IsUntouched, frame_of, base_node, done_by_part, IsPartInTable, batch_of}
+use Rattle.seam_law_book.proofs.Prelude.{in_frame, spared_loaded, search_real, may_begin, may_load}
 use Rattle.seam_defs.specs.declared.flags.Part.TheVariants as part
-use Rattle.seam_node_steps.specs.Prelude.{loaded}
-use Rattle.seam_rule_rounds.specs.Prelude.{created_as}
-use Rattle.seam_law_rounds.specs.Prelude.{framed, MayBeLoaded}
-use Rattle.seam_law_clients.specs.Prelude.{clients_loaded, clients_shown}
-use Rattle.seam_law_book.specs.Prelude.{as_begun, IsUntouched, frame_of, base_node, done_by_part, IsPartInTable}
-use Rattle.seam_accept.specs.Batches.{batch_of}
 use Rattle.seam_law_book.proofs.Present.{live_is_present}
 use Rattle.seam_law_book.proofs.Untouched.{orderly}
-use Rattle.seam_law_rounds.proofs.Framing.{in_frame}
-use Rattle.seam_law_rounds.proofs.Going.{spared_loaded}
-use Rattle.seam_law_rounds.proofs.Shape.{search_real}
 use Rattle.seam_law_book.proofs.Given.{present_one}
 use Rattle.seam_law_book.proofs.Ended.{live_ended}
 use Rattle.seam_law_book.proofs.Parts.{looks_leave_part}
@@ -18,7 +11,6 @@ use Rattle.seam_law_book.proofs.Bases.{part_leads}
 use Rattle.seam_law_book.proofs.Found.{part_is}
 use Rattle.seam_law_book.proofs.PartsTable.{began_somewhere, begins_part, part_in_table}
 use Rattle.seam_law_book.proofs.book_and_world.base_parts_are_those_of_the_flat_table.Goals as goal
-use Rattle.seam_law_all.specs.Prelude.{may_begin, may_load}
 
 pub returns-clause-loaded : goal.returns-clause-loaded
 returns-clause-loaded c h b t clients w play orders before e p made at there =

@@ -1,9 +1,5 @@
-use Rattle.std.proofs.Common.{◌≡◌, ℕ, None, refl}
-use Rattle.seam_rule_rounds.specs.Prelude.{created_as}
-use Rattle.seam_law_rounds.specs.Prelude.{framed}
-use Rattle.seam_law_clients.specs.Prelude.{clients_loaded, clients_shown}
-use Rattle.seam_law_book.specs.Prelude.{as_begun, IsUntouched, frame_of, done_in}
-use Rattle.seam_accept.specs.Batches.{batch_of}
+use Rattle.seam_law_book.proofs.Prelude.{◌≡◌, ℕ, None, refl, created_as, framed, clients_loaded, clients_shown, as_begun, IsUntouched}
+use Rattle.seam_law_book.proofs.Prelude.{frame_of, done_in, batch_of}
 use Rattle.seam_law_book.proofs.Given.{present_one}
 use Rattle.seam_law_book.proofs.Done.{all_executed, done_on}
 use Rattle.seam_law_book.proofs.book_and_world.each_part_executed_what_was_accepted.Goals as goal

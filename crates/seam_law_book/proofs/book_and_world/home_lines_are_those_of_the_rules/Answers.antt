@@ -1,7 +1,4 @@
-use Rattle.std.proofs.Common.{◌≡◌, sym, ap, ◌∙◌, inl, inr}
-use Rattle.std.proofs.lemmas.Bool.{cases_eq}
-use Rattle.seam_node_steps.specs.Prelude.{Place, RealView}
-use Rattle.seam_law_calls.specs.Prelude.{real_at}
+use Rattle.seam_law_book.proofs.Prelude.{◌≡◌, sym, ap, ◌∙◌, inl, inr, cases_eq, Place, RealView, real_at}
 use Rattle.seam_law_book.proofs.book_and_world.home_lines_are_those_of_the_rules.Goals as goal
 
 pub returns : goal.returns

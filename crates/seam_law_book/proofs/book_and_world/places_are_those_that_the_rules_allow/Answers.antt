@@ -1,23 +1,15 @@
-use Rattle.std.proofs.Common.{◌≡◌, ℕ, ◌++◌, None, Some, sym, ap, ◌∙◌, subst}
+use Rattle.seam_law_book.proofs.Prelude.{◌≡◌, ℕ, ◌++◌, None, Some, sym, ap, ◌∙◌, subst, RealView, loaded, created_as, real_at, framed}
+use Rattle.seam_law_book.proofs.Prelude.{first_place, made_real, IsRightPlace, clients_loaded, clients_shown, as_begun, IsUntouched}
+use Rattle.seam_law_book.proofs.Prelude.{frame_of, done_in, batch_of, search_real, may_begin}
 use Rattle.seam_defs.specs.declared.flags.Part.TheVariants as part
-use Rattle.seam_node_steps.specs.Prelude.{RealView, loaded}
-use Rattle.seam_rule_rounds.specs.Prelude.{created_as}
-use Rattle.seam_law_calls.specs.Prelude.{real_at}
-use Rattle.seam_law_rounds.specs.Prelude.{framed}
-use Rattle.seam_law_ghosts.specs.Prelude.{first_place, made_real, IsRightPlace}
-use Rattle.seam_law_clients.specs.Prelude.{clients_loaded, clients_shown}
-use Rattle.seam_law_book.specs.Prelude.{as_begun, IsUntouched, frame_of, done_in}
-use Rattle.seam_accept.specs.Batches.{batch_of}
 use Rattle.seam_law_book.proofs.Adding.{all_turn}
 use Rattle.seam_law_book.proofs.Present.{live_is_present}
 use Rattle.seam_law_book.proofs.Untouched.{orderly}
-use Rattle.seam_law_rounds.proofs.Shape.{search_real}
 use Rattle.seam_law_book.proofs.Given.{present_one}
 use Rattle.seam_law_book.proofs.Started.{real_comes}
 use Rattle.seam_law_book.proofs.Done.{began_by, done_cell}
 use Rattle.seam_law_book.proofs.Placing.{placed_by}
 use Rattle.seam_law_book.proofs.book_and_world.places_are_those_that_the_rules_allow.Goals as goal
-use Rattle.seam_law_all.specs.Prelude.{may_begin}
 
 pub returns : goal.returns
 returns c h s t tree clients w play before there v round orders left x k q at lives =

@@ -1,20 +1,13 @@
-use Rattle.std.proofs.Common.{◌≡◌, ℕ, None, sym, ap, ◌∙◌}
+use Rattle.seam_law_book.proofs.Prelude.{◌≡◌, ℕ, None, sym, ap, ◌∙◌, RealView, loaded, created_as, framed, clients_loaded, clients_shown}
+use Rattle.seam_law_book.proofs.Prelude.{as_begun, IsUntouched, frame_of, done_in, batch_of, search_real, may_begin}
 use Rattle.seam_defs.specs.declared.flags.Part.TheVariants as part
-use Rattle.seam_node_steps.specs.Prelude.{RealView, loaded}
-use Rattle.seam_rule_rounds.specs.Prelude.{created_as}
-use Rattle.seam_law_rounds.specs.Prelude.{framed}
-use Rattle.seam_law_clients.specs.Prelude.{clients_loaded, clients_shown}
-use Rattle.seam_law_book.specs.Prelude.{as_begun, IsUntouched, frame_of, done_in}
-use Rattle.seam_accept.specs.Batches.{batch_of}
 use Rattle.seam_law_book.proofs.Untouched.{orderly}
 use Rattle.seam_law_book.proofs.Present.{live_is_present}
-use Rattle.seam_law_rounds.proofs.Shape.{search_real}
 use Rattle.seam_law_book.proofs.Given.{present_one}
 use Rattle.seam_law_book.proofs.Done.{began_by, done_cell, done_on}
 use Rattle.seam_law_book.proofs.Ended.{live_ended}
 use Rattle.seam_law_book.proofs.Table.{begins_real, in_table}
 use Rattle.seam_law_book.proofs.book_and_world.reals_are_those_of_the_flat_table.Goals as goal
-use Rattle.seam_law_all.specs.Prelude.{may_begin}
 
 pub returns-clause-loaded : goal.returns-clause-loaded
 returns-clause-loaded c h b t clients w play orders before e home r made at there =

@@ -1,18 +1,8 @@
-use Rattle.std.proofs.Common.{◌≡◌, List, [], ◌++◌, sym, ap, ◌∙◌, subst, inl, inr, ◌⊎◌}
-use Rattle.seam_view.specs.Replica.{IsView}
-use Rattle.seam_node_steps.specs.Prelude.{Create}
-use Rattle.seam_rule_rounds.specs.Prelude.{Book, live_as, tree_of, with_round_ended, Lists, rows_but, look_by, one_look, properties}
-use Rattle.seam_law_flow.specs.Prelude.{letters_of}
-use Rattle.seam_law_calls.specs.Prelude.{shown_in, lines_in, proxy_of}
-use Rattle.seam_law_rounds.specs.Prelude.{framed}
-use Rattle.seam_law_clients.specs.Prelude.{clients_loaded, clients_shown}
-use Rattle.seam_law_all.specs.Prelude.{clients_looked, shown_to}
-use Rattle.seam_law_book.specs.Prelude.{frame_of, base_node, done_in, with_done}
-use Rattle.seam_accept.specs.Batches.{batch_of}
-use Rattle.seam_law_rounds.proofs.Shape.{Somewhere, Nowhere, search_real}
+use Rattle.seam_law_book.proofs.Prelude.{◌≡◌, List, [], ◌++◌, sym, ap, ◌∙◌, subst, inl, inr, ◌⊎◌, IsView, Create, Book, live_as, tree_of}
+use Rattle.seam_law_book.proofs.Prelude.{with_round_ended, Lists, rows_but, look_by, one_look, properties, letters_of, shown_in, lines_in}
+use Rattle.seam_law_book.proofs.Prelude.{proxy_of, framed, clients_loaded, clients_shown, clients_looked, shown_to, frame_of, base_node}
+use Rattle.seam_law_book.proofs.Prelude.{done_in, with_done, batch_of, Somewhere, Nowhere, search_real, row_found, row_nowhere}
 use Rattle.seam_law_clients.specs.Tables as world
-use Rattle.seam_law_clients.proofs.Rows.{row_found}
-use Rattle.seam_law_clients.proofs.OneLook.{row_nowhere}
 use Rattle.seam_law_book.proofs.Ended.{live_ended}
 use Rattle.seam_law_book.proofs.Rows.{rows_are}
 use Rattle.seam_law_book.proofs.Further.{has_witness, its_witness}

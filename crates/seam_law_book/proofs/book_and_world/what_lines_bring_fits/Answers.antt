@@ -1,18 +1,12 @@
-use Rattle.std.proofs.Common.{◌≡◌, ℕ, ◌+◌, ◌^◌, ◌<◌, true, None, arith, inl, inr, ◌⊎◌}
-use Rattle.std.proofs.lemmas.Bool.Decides.{nat_tests}
-use Rattle.seam_node_steps.specs.Prelude.{limit, may_rise, holders, loaded, RealView}
-use Rattle.seam_rule_rounds.specs.Prelude.{created_as}
-use Rattle.seam_law_rounds.specs.Prelude.{numbers_of, MayBeLoaded}
-use Rattle.seam_law_book.specs.Prelude.{as_begun, IsUntouched, frame_of}
-use Rattle.seam_accept.specs.Batches.{batch_of}
+use Rattle.seam_law_book.proofs.Prelude.{◌≡◌, ℕ, ◌+◌, ◌^◌, ◌<◌, true, None, arith, inl, inr, ◌⊎◌, nat_tests, limit, may_rise, holders}
+use Rattle.seam_law_book.proofs.Prelude.{loaded, RealView, created_as, numbers_of, MayBeLoaded, as_begun, IsUntouched, frame_of, batch_of}
+use Rattle.seam_law_book.proofs.Prelude.{Somewhere, Nowhere, search_real, may_load}
 use Rattle.seam_law_book.proofs.Adding.{all_turn}
-use Rattle.seam_law_rounds.proofs.Shape.{Somewhere, Nowhere, search_real}
 use Rattle.seam_law_book.proofs.Given.{may_be_given, present_one}
 use Rattle.seam_law_book.proofs.Started.{no_one, made_now, real_comes}
 use Rattle.seam_law_book.proofs.Origins.{was, made}
 use Rattle.seam_law_book.proofs.Clients.{client_given}
 use Rattle.seam_law_book.proofs.book_and_world.what_lines_bring_fits.Goals as goal
-use Rattle.seam_law_all.specs.Prelude.{may_load}
 
 pub returns-clause-given : goal.returns-clause-given
 returns-clause-given c h b t clients w play =

@@ -1,12 +1,6 @@
-use Rattle.std.proofs.Common.{[], length, ap, ◌∙◌}
-use Rattle.seam_node_steps.specs.Prelude.{link, loaded, World, node_steps, node_has_work}
-use Rattle.seam_law_rounds.specs.Prelude.{framed}
-use Rattle.seam_law_bounds.specs.Prelude.{LooksAmong, LooksFit}
-use Rattle.seam_machine.proofs.Quiet.{quiet_links}
-use Rattle.seam_net_runs.proofs.Runs.{leads_nowhere}
-use Rattle.seam_law_rounds.proofs.Framing.{in_frame}
-use Rattle.seam_law_rounds.proofs.Loading.{loaded_is}
-use Rattle.seam_law_clients.proofs.Round.{called_between, reaped_between, reaped_room}
+use Rattle.seam_law_bounds.proofs.Prelude.{[], length, ap, ◌∙◌, link, loaded, World, node_steps, node_has_work, framed, LooksAmong}
+use Rattle.seam_law_bounds.proofs.Prelude.{LooksFit, quiet_links, leads_nowhere, in_frame, loaded_is, called_between, reaped_between}
+use Rattle.seam_law_bounds.proofs.Prelude.{reaped_room}
 use Rattle.seam_law_bounds.proofs.Naming.{among_these}
 use Rattle.seam_law_bounds.proofs.RoundGrowth.{numbers_most, told_end}
 use Rattle.seam_law_bounds.proofs.growth.a_round_raises_numbers_little.Goals as goal
@@ -21,7 +15,7 @@ pub returns-clause-told : goal.returns-clause-told
 returns-clause-told c f w b may copies none sees us named v round quiet n low e k q at =
     let g = framed f b in
     let first = among_these f w b may copies
-    (c.views_name_what_is_there.ensures.calls f w b may copies sees (loaded w b) []
+    (c.what_is_seen_is_held.ensures.calls f w b may copies sees (loaded w b) []
     (leads_nowhere node_has_work node_steps (loaded w b))) us named in
     let between = called_between f w b may copies v round in
     let few : (u : World) → LooksAmong us (λ k. us) u → LooksFit (record { bases = 0; lines = length us; witnesses = λ k. length us }) u =

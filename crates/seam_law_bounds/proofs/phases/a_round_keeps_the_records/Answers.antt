@@ -1,5 +1,4 @@
-use Rattle.seam_law_rounds.specs.Prelude.{framed, MayBeLoaded}
-use Rattle.seam_law_clients.proofs.Round.{reaped_between, reaped_parts, reaped_small, reaped_copies}
+use Rattle.seam_law_bounds.proofs.Prelude.{framed, MayBeLoaded, reaped_between, reaped_parts, reaped_small, reaped_copies}
 use Rattle.seam_law_bounds.proofs.phases.a_round_keeps_the_records.Goals as goal
 use Rattle.seam_law_all.specs.Prelude.{may_begin, may_load}
 

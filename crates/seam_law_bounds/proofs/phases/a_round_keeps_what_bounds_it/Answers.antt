@@ -1,13 +1,12 @@
-use Rattle.seam_law_rounds.specs.Between.{framed}
+use Rattle.seam_law_bounds.proofs.Prelude.{framed, called_between, reaped_between, reaped_parts, reaped_small, reaped_copies, reaped_room}
 use Rattle.seam_law_clients.proofs.Room.{have_room}
-use Rattle.seam_law_clients.proofs.Round.{called_between, reaped_between, reaped_parts, reaped_small, reaped_copies, reaped_room}
 use Rattle.seam_law_bounds.proofs.Seen.{looks_see}
 use Rattle.seam_law_bounds.proofs.phases.a_round_keeps_what_bounds_it.Goals as goal
 
 pub returns-clause-opened : goal.returns-clause-opened
 returns-clause-opened c = λ defs settings frame some. (
   c.nothing_held_goes_from_record_to_record.ensures.opened defs settings frame some,
-  c.views_name_what_is_there.ensures.opened defs settings frame some,
+  c.what_is_seen_is_held.ensures.opened defs settings frame some,
 )
 
 pub returns-clause-looks : goal.returns-clause-looks

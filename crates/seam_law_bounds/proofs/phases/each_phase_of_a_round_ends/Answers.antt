@@ -1,6 +1,4 @@
-use Rattle.std.proofs.Common.{length}
-use Rattle.seam_law_rounds.specs.Between.{framed}
-use Rattle.seam_law_clients.proofs.Round.{called_between, reaped_between, reaped_parts, reaped_small}
+use Rattle.seam_law_bounds.proofs.Prelude.{length, framed, called_between, reaped_between, reaped_parts, reaped_small}
 use Rattle.seam_law_bounds.proofs.Bounds.{seers, among_each, names, watchers, called_among, looks_bounded}
 use Rattle.seam_law_bounds.proofs.phases.each_phase_of_a_round_ends.Goals as goal
 

@@ -1,6 +1,4 @@
-use Rattle.std.proofs.Common.{ap}
-use Rattle.seam_node_steps.specs.BaseCases.{stray_base_call}
-use Rattle.seam_law_calls.specs.Frames.{here_at}
+use Rattle.seam_law_calls.proofs.Prelude.{ap, stray_base_call, here_at}
 use Rattle.seam_law_calls.proofs.BaseQuiet.{no_call_left}
 use Rattle.seam_law_calls.proofs.Reaped.{reap_ends_part, part_stays_gone, no_call_comes, reaps_without_calls}
 use Rattle.seam_law_calls.proofs.base_calls.a_reap_ends_the_base_part.Goals as goal

@@ -1,4 +1,4 @@
-use Rattle.seam_node_steps.specs.EarlyCall.{world_0, steps}
+use Rattle.seam_law_calls.proofs.Prelude.{world_0, steps}
 use Rattle.seam_law_calls.proofs.ExampleMet.{frame_is, all_fit, spared, one_holder, row_leads}
 use Rattle.seam_law_calls.proofs.ones.a_loaded_world_has_what_the_laws_ask.Goals as goal
 

@@ -1,4 +1,4 @@
-use Rattle.std.proofs.Common.{arith}
+use Rattle.seam_law_clients.proofs.Prelude.{arith}
 use Rattle.seam_law_clients.proofs.Crossing.{quiet}
 use Rattle.seam_law_clients.proofs.ExampleCrossing.{may_be_loaded, no_copies, no_clients, clients_fit, witnesses, before, after, calls_lead}
 use Rattle.seam_law_clients.proofs.ExampleCrossing.{goes_round}

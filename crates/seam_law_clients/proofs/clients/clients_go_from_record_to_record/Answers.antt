@@ -1,5 +1,4 @@
-use Rattle.seam_law_clients.specs.Replicas.{clients_loaded}
-use Rattle.seam_law_rounds.specs.Between.{framed}
+use Rattle.seam_law_clients.proofs.Prelude.{clients_loaded, framed}
 use Rattle.seam_law_clients.proofs.Loading.{clients_fit_loaded}
 use Rattle.seam_law_clients.proofs.Reaping.{clients_fit_reaped}
 use Rattle.seam_law_clients.proofs.Room.{have_room}

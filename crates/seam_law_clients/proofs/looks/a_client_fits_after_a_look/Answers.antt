@@ -1,8 +1,5 @@
-use Rattle.std.proofs.Common.{Some, List, sym, subst}
-use Rattle.seam_node_steps.specs.Prelude.{Shown, RealView, WitnessView, looks_of, shown_of, after_looking, known_to}
-use Rattle.seam_law_clients.specs.Prelude.{rows_of, FitsWitness}
-use Rattle.seam_rule_clients.specs.Clients.{after_all_shown}
-use Rattle.seam_rule_clients.specs.Looks.{one_look}
+use Rattle.seam_law_clients.proofs.Prelude.{Some, List, sym, subst, Shown, RealView, WitnessView, looks_of, shown_of, after_looking}
+use Rattle.seam_law_clients.proofs.Prelude.{known_to, rows_of, FitsWitness, after_all_shown, one_look}
 use Rattle.seam_law_clients.proofs.After.{look_fits}
 use Rattle.seam_law_clients.proofs.looks.a_client_fits_after_a_look.Goals as goal
 

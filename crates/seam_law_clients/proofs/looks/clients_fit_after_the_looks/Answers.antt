@@ -1,5 +1,4 @@
-use Rattle.std.proofs.Common.{refl}
-use Rattle.seam_law_clients.specs.Phases.{witness_looked}
+use Rattle.seam_law_clients.proofs.Prelude.{refl, witness_looked}
 use Rattle.seam_law_clients.proofs.LookFits.{fit_again}
 use Rattle.seam_law_clients.proofs.looks.clients_fit_after_the_looks.Goals as goal
 

@@ -1,5 +1,4 @@
-use Rattle.std.proofs.Common.{sym, ◌∙◌}
-use Rattle.seam_law_rounds.proofs.Opened.{opened_has_none}
+use Rattle.seam_law_clients.proofs.Prelude.{sym, ◌∙◌, opened_has_none}
 use Rattle.seam_law_clients.proofs.looks.clients_of_an_opened_world_fit.Goals as goal
 
 pub returns : goal.returns

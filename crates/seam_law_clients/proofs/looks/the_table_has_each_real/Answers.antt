@@ -1,5 +1,4 @@
-use Rattle.std.proofs.Common.{◌∙◌}
-use Rattle.seam_law_calls.proofs.Counting.{counted_none}
+use Rattle.seam_law_clients.proofs.Prelude.{◌∙◌, counted_none}
 use Rattle.seam_law_clients.proofs.Rows.{row_found}
 use Rattle.seam_law_clients.proofs.OneLook.{row_there, row_nowhere}
 use Rattle.seam_law_clients.proofs.looks.the_table_has_each_real.Goals as goal

@@ -1,4 +1,4 @@
-use Rattle.seam_law_rounds.proofs.Framing.{in_frame}
+use Rattle.seam_law_clients.proofs.Prelude.{in_frame}
 use Rattle.seam_law_clients.proofs.RoundTruth.{absent_at_start}
 use Rattle.seam_law_clients.proofs.Ending.{fits_then}
 use Rattle.seam_law_clients.proofs.shown.a_client_fits_where_calls_end.Goals as goal

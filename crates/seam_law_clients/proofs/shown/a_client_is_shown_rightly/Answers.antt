@@ -1,4 +1,4 @@
-use Rattle.seam_law_clients.specs.RoundTruths.{known_between, true_between}
+use Rattle.seam_law_clients.proofs.Prelude.{known_between, true_between}
 use Rattle.seam_law_clients.proofs.Starts.{shown_rightly, fits_shown}
 use Rattle.seam_law_clients.proofs.shown.a_client_is_shown_rightly.Goals as goal
 

@@ -1,7 +1,4 @@
-use Rattle.std.proofs.Common.{ap, ◌∙◌}
-use Rattle.seam_rule_clients.specs.Clients.{after_all_shown}
-use Rattle.seam_rule_clients.specs.Looks.{one_look}
-use Rattle.seam_law_clients.specs.Tables.{rows_of}
+use Rattle.seam_law_clients.proofs.Prelude.{ap, ◌∙◌, after_all_shown, one_look, rows_of}
 use Rattle.seam_law_clients.proofs.FurtherLooks.{none_shown, same_table}
 use Rattle.seam_law_clients.proofs.shown.a_further_look_shows_nothing.Goals as goal
 

@@ -1,7 +1,5 @@
-use Rattle.std.proofs.Common.{Some, refl, sym, subst}
-use Rattle.seam_node_steps.specs.Prelude.{WitnessView, shown_of, known_to}
-use Rattle.seam_law_clients.specs.Prelude.{FitsWithin, truth_of_look}
-use Rattle.seam_rule_clients.specs.Clients.{after_all_shown}
+use Rattle.seam_law_clients.proofs.Prelude.{Some, refl, sym, subst, WitnessView, shown_of, known_to, FitsWithin, truth_of_look}
+use Rattle.seam_law_clients.proofs.Prelude.{after_all_shown}
 use Rattle.seam_law_clients.proofs.Looking.{look_shows, look_fits}
 use Rattle.seam_law_clients.proofs.shown.a_look_is_shown_rightly.Goals as goal
 

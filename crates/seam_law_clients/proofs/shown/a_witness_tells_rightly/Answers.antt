@@ -1,8 +1,4 @@
-use Rattle.std.proofs.Common.{refl}
-use Rattle.seam_law_rounds.specs.Between.{framed}
-use Rattle.seam_law_rounds.proofs.Framing.{in_frame}
-use Rattle.seam_node_steps.specs.Loads.{loaded}
-use Rattle.seam_law_clients.specs.RoundTruths.{known_between, true_between}
+use Rattle.seam_law_clients.proofs.Prelude.{refl, framed, in_frame, loaded, known_between, true_between}
 use Rattle.seam_law_clients.proofs.Along.{rightly_leads}
 use Rattle.seam_law_clients.proofs.RoundTruth.{round_is_true}
 use Rattle.seam_law_clients.proofs.Starts.{rightly_starts}

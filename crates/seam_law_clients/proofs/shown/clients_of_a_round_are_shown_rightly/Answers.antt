@@ -1,4 +1,4 @@
-use Rattle.seam_law_rounds.proofs.Framing.{in_frame}
+use Rattle.seam_law_clients.proofs.Prelude.{in_frame}
 use Rattle.seam_law_clients.proofs.RoundTruth.{round_is_true}
 use Rattle.seam_law_clients.proofs.Joined.{client_shown, nothing_shown, clients_fit}
 use Rattle.seam_law_clients.proofs.shown.clients_of_a_round_are_shown_rightly.Goals as goal

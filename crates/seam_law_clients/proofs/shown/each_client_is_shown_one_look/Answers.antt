@@ -1,6 +1,4 @@
-use Rattle.std.proofs.Common.{◌++◌, refl, ap, ◌∙◌}
-use Rattle.std.specs.Prelude.{slice_get}
-use Rattle.seam_law_calls.specs.Prelude.{entity_flow, home_of, shown_at}
+use Rattle.seam_law_clients.proofs.Prelude.{◌++◌, refl, ap, ◌∙◌, slice_get, entity_flow, home_of, shown_at}
 use Rattle.seam_law_clients.proofs.ShownOnce.{cell_at, shown_until, shown_once}
 use Rattle.seam_law_clients.proofs.shown.each_client_is_shown_one_look.Goals as goal
 

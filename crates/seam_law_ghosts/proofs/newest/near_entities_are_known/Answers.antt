@@ -1,9 +1,6 @@
-use Rattle.std.proofs.Common.{◌≡◌, ℕ, ◌<◌, true, inl, inr, Some, ap, ◌∙◌, arith}
+use Rattle.seam_law_ghosts.proofs.Prelude.{◌≡◌, ℕ, ◌<◌, true, inl, inr, Some, ap, ◌∙◌, arith, cells_of, cell_count, RealView, copy_if}
+use Rattle.seam_law_ghosts.proofs.Prelude.{World, Frame, real_at, IsBetweenRounds, present, copy_at, AreCopiesBetweenRounds}
 use Rattle.std.specs.FinSet as set
-use Rattle.seam_node_steps.specs.Prelude.{cells_of, cell_count, RealView, copy_if, World}
-use Rattle.seam_law_calls.specs.Prelude.{Frame, real_at}
-use Rattle.seam_law_rounds.specs.Prelude.{IsBetweenRounds}
-use Rattle.seam_law_ghosts.specs.Prelude.{present, copy_at, AreCopiesBetweenRounds}
 use Rattle.seam_law_ghosts.proofs.newest.near_entities_are_known.Goals as goal
 
 module _ (f : Frame) (w : World) (between : IsBetweenRounds f w) (copies : AreCopiesBetweenRounds f w) where

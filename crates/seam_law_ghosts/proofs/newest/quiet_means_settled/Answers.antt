@@ -1,4 +1,4 @@
-use Rattle.seam_law_rounds.proofs.CallsEnd.{calls_end_between}
+use Rattle.seam_law_ghosts.proofs.Prelude.{calls_end_between}
 use Rattle.seam_law_ghosts.proofs.Rounding.{calls_end_copied}
 use Rattle.seam_law_ghosts.proofs.Ending.{looks_stay}
 use Rattle.seam_law_ghosts.proofs.newest.quiet_means_settled.Goals as goal

@@ -1,4 +1,4 @@
-use Rattle.std.proofs.Common.{arith}
+use Rattle.seam_law_ghosts.proofs.Prelude.{arith}
 use Rattle.seam_law_ghosts.proofs.Telling.{true_first}
 use Rattle.seam_law_ghosts.proofs.Books.{risen_leads, copies_rise}
 use Rattle.seam_law_ghosts.proofs.truths.copies_never_grow_older.Goals as goal

@@ -1,5 +1,4 @@
-use Rattle.std.proofs.Common.{sym, subst}
-use Rattle.seam_law_ghosts.specs.Truths.{IsHushed}
+use Rattle.seam_law_ghosts.proofs.Prelude.{sym, subst, IsHushed}
 use Rattle.seam_law_ghosts.proofs.Telling.{true_first, first_place}
 use Rattle.seam_law_ghosts.proofs.Hushing.{quelled_leads, hushed_where}
 use Rattle.seam_law_ghosts.proofs.truths.no_news_comes_to_the_real.Goals as goal

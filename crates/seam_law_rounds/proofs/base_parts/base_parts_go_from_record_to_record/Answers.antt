@@ -1,6 +1,4 @@
-use Rattle.std.proofs.Common.{sym, ap, ◌∙◌}
-use Rattle.seam_ghosts.specs.Book.{copy_in}
-use Rattle.seam_law_calls.specs.Ones.{real_in}
+use Rattle.seam_law_rounds.proofs.Prelude.{sym, ap, ◌∙◌, copy_in, real_in}
 use Rattle.seam_law_rounds.proofs.Opened.{opened_is_new, opened_has_none}
 use Rattle.seam_law_rounds.proofs.BaseCallsEnd.{calls_end_with_parts, calls_end_small}
 use Rattle.seam_law_rounds.proofs.Calms.{reaps_end_with_parts, reaps_end_small, look_ends_with_parts}

@@ -1,4 +1,4 @@
-use Rattle.seam_law_calls.proofs.BaseQuiet.{all_shown}
+use Rattle.seam_law_rounds.proofs.Prelude.{all_shown}
 use Rattle.seam_law_rounds.proofs.PartsGoing.{serves_after}
 use Rattle.seam_law_rounds.proofs.Calms.{look_serves}
 use Rattle.seam_law_rounds.proofs.base_parts.each_client_is_shown_its_updates_in_order.Goals as goal

@@ -1,20 +1,9 @@
-use Rattle.std.proofs.Common.{◌≡◌, [], sym, ap, ◌∙◌, subst, inl, inr, ◌⊎◌}
-use Rattle.std.proofs.lemmas.List.Sums.{fold-append}
-use Rattle.seam_view.specs.Replica.{IsView}
-use Rattle.seam_rule_rounds.specs.Prelude.{live_as, tree_of, with_round_ended, Lists, after_shown, after_all_shown, rows_but, look_by}
-use Rattle.seam_rule_rounds.specs.Prelude.{one_look, rows_of, replica_of}
-use Rattle.seam_law_rounds.specs.Prelude.{framed}
-use Rattle.seam_law_clients.specs.Prelude.{clients_loaded, clients_shown}
-use Rattle.seam_law_all.specs.Prelude.{shown_to}
-use Rattle.seam_law_book.specs.Prelude.{frame_of}
-use Rattle.seam_law_transcript.specs.Prelude.{may_play, standing_of}
-use Rattle.seam_accept.specs.Batches.{batch_of}
-use Rattle.seam_law_rounds.proofs.Shape.{Somewhere, Nowhere, search_real}
+use Rattle.seam_law_transcript.proofs.Prelude.{◌≡◌, [], sym, ap, ◌∙◌, subst, inl, inr, ◌⊎◌, fold-append, IsView, live_as, tree_of}
+use Rattle.seam_law_transcript.proofs.Prelude.{with_round_ended, Lists, after_shown, after_all_shown, rows_but, look_by, one_look, rows_of}
+use Rattle.seam_law_transcript.proofs.Prelude.{replica_of, framed, clients_loaded, clients_shown, shown_to, frame_of, may_play, standing_of}
+use Rattle.seam_law_transcript.proofs.Prelude.{batch_of, Somewhere, Nowhere, search_real, row_found, row_nowhere, live_ended, has_witness}
+use Rattle.seam_law_transcript.proofs.Prelude.{its_witness}
 use Rattle.seam_law_clients.specs.Tables as world
-use Rattle.seam_law_clients.proofs.Rows.{row_found}
-use Rattle.seam_law_clients.proofs.OneLook.{row_nowhere}
-use Rattle.seam_law_book.proofs.Ended.{live_ended}
-use Rattle.seam_law_book.proofs.Further.{has_witness, its_witness}
 use Rattle.seam_law_transcript.proofs.legal_rounds.a_look_after_the_round_shows_nothing.Goals as goal
 
 pub returns : goal.returns

@@ -1,6 +1,5 @@
-use Rattle.std.proofs.Common.{None, Some, refl, sym, subst}
-use Rattle.seam_rule_lines.specs.Book.{with_round_ended, with_tree}
-use Rattle.seam_law_transcript.specs.Playing.{ContinuesLines, standing_of}
+use Rattle.seam_law_transcript.proofs.Prelude.{None, Some, refl, sym, subst, with_round_ended, with_tree, standing_of}
+use Rattle.seam_law_transcript.specs.Playing.{ContinuesLines}
 use Rattle.seam_law_transcript.proofs.legal_rounds.a_played_round_is_legal.Goals as goal
 
 pub returns-clause-with_bounds : goal.returns-clause-with_bounds

@@ -1,15 +1,8 @@
-use Rattle.std.proofs.Common.{◌≡◌, [], ◌∷◌, Some, refl, ap, ◌∙◌}
-use Rattle.std.specs.Prelude.{Contains}
+use Rattle.seam_law_transcript.proofs.Prelude.{◌≡◌, [], ◌∷◌, Some, refl, ap, ◌∙◌, Contains, Create, live_as, tree_of, with_round_ended}
+use Rattle.seam_law_transcript.proofs.Prelude.{replica_of, HasPlace, home_line, base_line, ghost_lines, framed, clients_loaded}
+use Rattle.seam_law_transcript.proofs.Prelude.{clients_shown, frame_of, base_node, AreInPlace, ghosts_read, part_is, may_play, standing_of}
+use Rattle.seam_law_transcript.proofs.Prelude.{homes_read, base_if, bases_read, place_read, batch_of, live_ended}
 use Rattle.seam_defs.specs.declared.flags.Part.TheVariants as part
-use Rattle.seam_node_steps.specs.Prelude.{Create}
-use Rattle.seam_rule_rounds.specs.Prelude.{live_as, tree_of, with_round_ended, replica_of, HasPlace, home_line, base_line, ghost_lines}
-use Rattle.seam_law_rounds.specs.Prelude.{framed}
-use Rattle.seam_law_clients.specs.Prelude.{clients_loaded, clients_shown}
-use Rattle.seam_law_book.specs.Prelude.{frame_of, base_node, AreInPlace, ghosts_read}
-use Rattle.seam_law_book.proofs.Found.{part_is}
-use Rattle.seam_law_transcript.specs.Prelude.{may_play, standing_of, homes_read, base_if, bases_read, place_read}
-use Rattle.seam_accept.specs.Batches.{batch_of}
-use Rattle.seam_law_book.proofs.Ended.{live_ended}
 use Rattle.seam_law_transcript.proofs.Held.{one_of_each, same_of_each, all_of_each, home_is, place_is}
 use Rattle.seam_law_transcript.proofs.legal_rounds.a_played_round_is_legal_but_for_clients.Goals as goal
 

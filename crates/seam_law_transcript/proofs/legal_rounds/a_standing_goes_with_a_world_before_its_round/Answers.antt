@@ -1,12 +1,5 @@
-use Rattle.std.proofs.Common.{◌≡◌, ℕ, refl, sym, ap, ◌∙◌}
-use Rattle.std.proofs.lemmas.Option.{none-some}
-use Rattle.seam_law_book.proofs.Untouched.{one_cell_tree}
-use Rattle.seam_node_steps.specs.Prelude.{opened}
-use Rattle.seam_rule_rounds.specs.Prelude.{after_header, replica_of}
-use Rattle.seam_law_calls.specs.Prelude.{has_none, entity_flow, real_in, IsFrame}
-use Rattle.seam_law_rounds.specs.Prelude.{first_frame}
-use Rattle.seam_law_book.specs.Prelude.{base_node}
-use Rattle.seam_law_rounds.proofs.Opened.{opened_is_new}
+use Rattle.seam_law_transcript.proofs.Prelude.{◌≡◌, ℕ, refl, sym, ap, ◌∙◌, none-some, one_cell_tree, opened, after_header, replica_of}
+use Rattle.seam_law_transcript.proofs.Prelude.{has_none, entity_flow, real_in, IsFrame, first_frame, base_node, opened_is_new}
 use Rattle.seam_law_transcript.proofs.legal_rounds.a_standing_goes_with_a_world_before_its_round.Goals as goal
 
 pub returns-clause-opened : goal.returns-clause-opened

@@ -1,21 +1,10 @@
-use Rattle.std.proofs.Common.{◌≡◌, ◌+◌, Bool, true, false, ◌++◌, length, Option, None, Some, refl, sym, ap, ◌∙◌, subst, length-append}
-use Rattle.std.proofs.Common.{append-nil}
-use Rattle.std.specs.Prelude.{is_some, not, filter, ◌&&◌}
-use Rattle.std.specs.List.{list_any}
-use Rattle.seam_node_steps.specs.Prelude.{Create, is_from, PartView, ProxyView}
-use Rattle.seam_rule_rounds.specs.Prelude.{entries, creates_of, calls_of, created_as, live_as, joins, destroys, was_dead, tree_of}
-use Rattle.seam_rule_rounds.specs.Prelude.{with_round_ended, with_tree, IsFull, told_in, replica_of}
-use Rattle.seam_law_calls.specs.Prelude.{entity_flow}
-use Rattle.seam_law_rounds.specs.Prelude.{framed}
-use Rattle.seam_law_clients.specs.Prelude.{clients_loaded, clients_shown}
-use Rattle.seam_law_book.specs.Prelude.{frame_of, base_node, done_in, with_done, AreInPlace}
-use Rattle.seam_law_transcript.specs.Prelude.{may_play, data_of, place_read}
-use Rattle.seam_rule_lines.proofs.BookEntries.{live_is_created}
-use Rattle.seam_rule_lines.proofs.InOrderLemmas.{found_entity}
-use Rattle.seam_accept.specs.Batches.{batch_of}
-use Rattle.seam_law_book.proofs.Present.{any_split, alive, neither, undestroyed}
-use Rattle.seam_law_book.proofs.Ended.{live_ended, client_of}
-use Rattle.seam_law_book.proofs.Parts.{both_seen}
+use Rattle.seam_law_transcript.proofs.Prelude.{◌≡◌, ◌+◌, Bool, true, false, ◌++◌, length, Option, None, Some, refl, sym, ap, ◌∙◌, subst}
+use Rattle.seam_law_transcript.proofs.Prelude.{length-append, append-nil, is_some, not, filter, ◌&&◌, list_any, Create, is_from, PartView}
+use Rattle.seam_law_transcript.proofs.Prelude.{ProxyView, entries, creates_of, calls_of, created_as, live_as, joins, destroys, was_dead}
+use Rattle.seam_law_transcript.proofs.Prelude.{tree_of, with_round_ended, with_tree, IsFull, told_in, replica_of, entity_flow, framed}
+use Rattle.seam_law_transcript.proofs.Prelude.{clients_loaded, clients_shown, frame_of, base_node, done_in, with_done, AreInPlace, may_play}
+use Rattle.seam_law_transcript.proofs.Prelude.{data_of, place_read, live_is_created, found_entity, batch_of, any_split, alive, neither}
+use Rattle.seam_law_transcript.proofs.Prelude.{undestroyed, live_ended, client_of, both_seen}
 use Rattle.seam_law_transcript.proofs.Held.{place_is}
 use Rattle.seam_law_transcript.proofs.Replicas.{is_shown_by}
 use Rattle.seam_law_transcript.proofs.legal_rounds.a_standing_goes_with_the_world_after_its_round.Goals as goal

@@ -1,10 +1,6 @@
-use Rattle.std.proofs.Common.{◌≡◌, ℕ, Bool, false, List, [], ◌∷◌, map, Some, refl, sym, ap, ◌∙◌, subst}
-use Rattle.std.specs.Prelude.{Contains, IsTrue, filter}
-use Rattle.std.specs.List.{All, AllByRecursion}
-use Rattle.seam_node_steps.specs.Prelude.{Division, Create, Line, World}
-use Rattle.seam_rule_rounds.specs.Prelude.{Header, created_as, is_shown, Standing}
-use Rattle.seam_law_transcript.specs.Prelude.{IsPlayed, lines_told}
-use Rattle.seam_judge_expected.proofs.ListedLemmas.{filter_has}
+use Rattle.seam_law_transcript.proofs.Prelude.{◌≡◌, ℕ, Bool, false, List, [], ◌∷◌, map, Some, refl, sym, ap, ◌∙◌, subst, Contains, IsTrue}
+use Rattle.seam_law_transcript.proofs.Prelude.{filter, All, AllByRecursion, Division, Create, Line, World, Header, created_as, is_shown}
+use Rattle.seam_law_transcript.proofs.Prelude.{Standing, IsPlayed, lines_told, filter_has}
 use Rattle.seam_law_transcript.proofs.Gathered.{Rises, rises, rises_kept, all_pass, all_in, all_of, lines_rise, lines_found, none_of}
 use Rattle.seam_law_transcript.proofs.Gathered.{line_of_each}
 use Rattle.seam_law_transcript.proofs.legal_rounds.client_lines_are_gathered.Goals as goal

@@ -1,29 +1,16 @@
-use Rattle.std.proofs.Common.{◌≡◌, ℕ, ◌+◌, true, false, [], ◌++◌, map, length, None, Some, sym, ap, ◌∙◌, subst}
-use Rattle.std.specs.Prelude.{if◌then◌else◌}
-use Rattle.std.specs.List.{list_any}
+use Rattle.seam_law_transcript.proofs.Prelude.{◌≡◌, ℕ, ◌+◌, true, false, [], ◌++◌, map, length, None, Some, sym, ap, ◌∙◌, subst}
+use Rattle.seam_law_transcript.proofs.Prelude.{if◌then◌else◌, list_any, PartView, ProxyView, loaded, created_as, destroys, is_new_client}
+use Rattle.seam_law_transcript.proofs.Prelude.{base_shown, base_versions, replica_of, here_at, entity_flow, framed, MayBeLoaded, base_lines}
+use Rattle.seam_law_transcript.proofs.Prelude.{first_lines, lines_after, clients_loaded, clients_shown, as_begun, IsUntouched, frame_of}
+use Rattle.seam_law_transcript.proofs.Prelude.{base_node, done_by_part, done_in, part_is, may_play, standing_of, lines_told, batch_of}
+use Rattle.seam_law_transcript.proofs.Prelude.{settled_loaded, no_mail, one_holder, quiet_home, is_among, among_is, live_ended}
+use Rattle.seam_law_transcript.proofs.Prelude.{among_joined, may_begin, may_load}
 use Rattle.seam_defs.specs.declared.flags.Part.TheVariants as part
-use Rattle.seam_node_steps.specs.Prelude.{PartView, ProxyView, loaded}
-use Rattle.seam_rule_rounds.specs.Prelude.{created_as, destroys, is_new_client, base_shown, base_versions, replica_of}
-use Rattle.seam_law_calls.specs.Prelude.{here_at, entity_flow}
-use Rattle.seam_law_rounds.specs.Prelude.{framed, MayBeLoaded}
-use Rattle.seam_law_clients.specs.Prelude.{base_lines, first_lines, lines_after, clients_loaded, clients_shown}
-use Rattle.seam_law_book.specs.Prelude.{as_begun, IsUntouched, frame_of, base_node, done_by_part, done_in}
-use Rattle.seam_law_book.proofs.Found.{part_is}
-use Rattle.seam_law_transcript.specs.Prelude.{may_play, standing_of, lines_told}
 use Rattle.seam_law_transcript.proofs.LinesHeld.{lines_held, told_held}
-use Rattle.seam_accept.specs.Batches.{batch_of}
-use Rattle.seam_law_rounds.proofs.Going.{settled_loaded}
-use Rattle.seam_law_rounds.proofs.Loaded.{no_mail}
-use Rattle.seam_law_rounds.proofs.Ready.{one_holder, quiet_home}
-use Rattle.seam_law_rounds.proofs.Joining.{is_among}
-use Rattle.seam_law_clients.proofs.Loading.{among_is}
-use Rattle.seam_law_book.proofs.Ended.{live_ended}
-use Rattle.seam_law_book.proofs.Parts.{among_joined}
-use Rattle.seam_law_transcript.proofs.Who.{is_there, was_joined, lives_on, unjoined_before, client_by}
+use Rattle.seam_law_transcript.proofs.Who.{is_present, was_joined, lives_on, unjoined_before, client_by}
 use Rattle.seam_law_transcript.proofs.BaseVersions.{texts_are}
 use Rattle.seam_law_transcript.proofs.Told.{IsShown, by_death, base_texts_are, called_shown, ended_shown, ended_last}
 use Rattle.seam_law_transcript.proofs.legal_rounds.clients_are_shown_base_parts.Goals as goal
-use Rattle.seam_law_all.specs.Prelude.{may_begin, may_load}
 
 pub returns : goal.returns
 returns c h s tree w v p bounds next x is shown =
@@ -50,7 +37,7 @@ returns c h s tree w v p bounds next x is shown =
     round.reaps round.reaps_done in
     let on = c.a_book_goes_with_the_world_after_its_round.ensures.round h b tree clients w play v round p.ended in
     -- as the batch is loaded
-    let there = is_there b e x is shown in
+    let there = is_present b e x is shown in
     let l = c.what_lines_bring_fits.ensures.there h b tree clients w play e x there in
     let y = client_by l.base.proxy (l.client ∙ was_joined b e x is shown) in
     let here = here_at f (base_node h e) in

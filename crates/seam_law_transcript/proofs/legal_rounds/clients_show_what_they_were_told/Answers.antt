@@ -1,27 +1,13 @@
-use Rattle.std.proofs.Common.{◌≡◌, ℕ, true, eqb, ◌++◌, Some, None, sym, ap, ◌∙◌, subst, inl, inr}
-use Rattle.std.specs.Prelude.{is_some, if◌then◌else◌}
-use Rattle.std.specs.List.{list_any}
-use Rattle.std.proofs.lemmas.Bool.{cases_eq}
-use Rattle.seam_node_steps.specs.Prelude.{Create, RealView}
-use Rattle.seam_rule_rounds.specs.Prelude.{entries, creates_of, created_as, live_as, joins, destroys, new_client, after_all_shown}
-use Rattle.seam_rule_rounds.specs.Prelude.{after_lines, told_in, replica_of}
-use Rattle.seam_law_flow.specs.Prelude.{letters_of}
-use Rattle.seam_law_calls.specs.Prelude.{shown_in, real_at}
-use Rattle.seam_law_rounds.specs.Prelude.{framed, MayBeLoaded}
-use Rattle.seam_law_clients.specs.Prelude.{clients_loaded, clients_shown}
-use Rattle.seam_law_book.specs.Prelude.{as_begun, IsUntouched, frame_of}
-use Rattle.seam_law_transcript.specs.Prelude.{may_play, data_of, standing_of, clients_ended_in}
+use Rattle.seam_law_transcript.proofs.Prelude.{◌≡◌, ℕ, true, eqb, ◌++◌, Some, None, sym, ap, ◌∙◌, subst, inl, inr, is_some, if◌then◌else◌}
+use Rattle.seam_law_transcript.proofs.Prelude.{list_any, cases_eq, Create, RealView, entries, creates_of, created_as, live_as, joins}
+use Rattle.seam_law_transcript.proofs.Prelude.{destroys, new_client, after_all_shown, after_lines, told_in, replica_of, letters_of}
+use Rattle.seam_law_transcript.proofs.Prelude.{shown_in, real_at, framed, MayBeLoaded, clients_loaded, clients_shown, as_begun, IsUntouched}
+use Rattle.seam_law_transcript.proofs.Prelude.{frame_of, may_play, data_of, standing_of, clients_ended_in, live_is_created, found_entity}
+use Rattle.seam_law_transcript.proofs.Prelude.{batch_of, any_split, alive, neither, undestroyed, among_is, live_ended, client_of, may_load}
 use Rattle.seam_law_transcript.proofs.LinesHeld.{lines_held, told_held}
-use Rattle.seam_rule_lines.proofs.BookEntries.{live_is_created}
-use Rattle.seam_rule_lines.proofs.InOrderLemmas.{found_entity}
-use Rattle.seam_accept.specs.Batches.{batch_of}
-use Rattle.seam_law_book.proofs.Present.{any_split, alive, neither, undestroyed}
-use Rattle.seam_law_clients.proofs.Loading.{among_is}
-use Rattle.seam_law_book.proofs.Ended.{live_ended, client_of}
 use Rattle.seam_law_transcript.proofs.Who.{unjoined_before}
 use Rattle.seam_law_transcript.proofs.Replicas.{begun_by, after_more, fit_by, is_shown_by}
 use Rattle.seam_law_transcript.proofs.legal_rounds.clients_show_what_they_were_told.Goals as goal
-use Rattle.seam_law_all.specs.Prelude.{may_load}
 
 pub returns-clause-replicas : goal.returns-clause-replicas
 returns-clause-replicas c h s tree w v p bounds next e k q at seen =

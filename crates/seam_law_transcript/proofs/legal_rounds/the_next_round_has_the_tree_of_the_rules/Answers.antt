@@ -1,6 +1,4 @@
-use Rattle.std.proofs.Common.{◌≡◌, Bool, true, false, refl}
-use Rattle.std.specs.Prelude.{MatchBool}
-use Rattle.seam_rule_lines.specs.Book.{has_balance}
+use Rattle.seam_law_transcript.proofs.Prelude.{◌≡◌, Bool, true, false, refl, MatchBool, has_balance}
 use Rattle.seam_law_transcript.proofs.legal_rounds.the_next_round_has_the_tree_of_the_rules.Goals as goal
 
 where_true : (b : Bool) (A B : Type 0) → b ≡ true → A → MatchBool b A B

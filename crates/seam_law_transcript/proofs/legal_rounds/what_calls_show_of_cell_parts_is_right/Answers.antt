@@ -1,33 +1,18 @@
-use Rattle.std.proofs.Common.{◌≡◌, ℕ, ◌≤◌, true, eqb, List, ◌++◌, length, Option, None, Some, refl, sym, ap, ◌∙◌, subst, arith}
-use Rattle.std.specs.Prelude.{is_some, slice_get}
-use Rattle.std.specs.List.{AllByRecursion, list_any}
-use Rattle.seam_law_flow.proofs.TokenLemmas.{sole_here}
-use Rattle.seam_node_steps.specs.Prelude.{Event, other_of, ghost_of, projected, type_of, Property, State, Call, Create, GhostCopy}
-use Rattle.seam_node_steps.specs.Prelude.{cell_count, RealView, WitnessView, loaded, World}
-use Rattle.seam_rule_rounds.specs.Prelude.{entries, creates_of, created_as, new_client, after_lines, ShowsRightly, IsOwn, IsOther, truth_of}
-use Rattle.seam_rule_rounds.specs.Prelude.{replica_of}
-use Rattle.seam_law_calls.specs.Prelude.{entity_flow, real_in, real_of, HasOne, account_of, RunsTo, real_at}
-use Rattle.seam_law_rounds.specs.Prelude.{framed}
-use Rattle.seam_law_clients.specs.Prelude.{clients_loaded, WasOther, true_between}
-use Rattle.seam_law_all.specs.Prelude.{shown_to, may_begin}
-use Rattle.seam_law_book.specs.Prelude.{as_begun, IsPresent, IsUntouched, frame_of, IsDoneOn, done_by_real, done_in, real_here}
-use Rattle.seam_law_transcript.specs.Prelude.{may_play, standing_of}
+use Rattle.seam_law_transcript.proofs.Prelude.{◌≡◌, ℕ, ◌≤◌, true, eqb, List, ◌++◌, length, Option, None, Some, refl, sym, ap, ◌∙◌, subst}
+use Rattle.seam_law_transcript.proofs.Prelude.{arith, is_some, slice_get, AllByRecursion, list_any, sole_here, Event, other_of, ghost_of}
+use Rattle.seam_law_transcript.proofs.Prelude.{projected, type_of, Property, State, Call, Create, GhostCopy, cell_count, RealView}
+use Rattle.seam_law_transcript.proofs.Prelude.{WitnessView, loaded, World, entries, creates_of, created_as, new_client, after_lines}
+use Rattle.seam_law_transcript.proofs.Prelude.{ShowsRightly, IsOwn, IsOther, truth_of, replica_of, entity_flow, real_in, real_of, HasOne}
+use Rattle.seam_law_transcript.proofs.Prelude.{account_of, RunsTo, real_at, framed, clients_loaded, true_between, shown_to, may_begin}
+use Rattle.seam_law_transcript.proofs.Prelude.{as_begun, IsPresent, IsUntouched, frame_of, IsDoneOn, done_by_real, done_in, real_here}
+use Rattle.seam_law_transcript.proofs.Prelude.{may_play, standing_of, found_entity, batch_of, in_frame, settled_loaded, spared_loaded}
+use Rattle.seam_law_transcript.proofs.Prelude.{no_mail, one_holder, quiet_home, are_for_loaded, among_is, done_after, one_in, real_is}
+use Rattle.seam_law_transcript.proofs.Prelude.{both_seen}
+use Rattle.seam_law_clients.specs.Prelude.{WasOther}
 use Rattle.seam_defs.specs.declared.flags.Group.TheVariants as group
 use Rattle.seam_defs.specs.declared.flags.Part.TheVariants as part
-use Rattle.seam_rule_lines.proofs.InOrderLemmas.{found_entity}
-use Rattle.seam_accept.specs.Batches.{batch_of}
-use Rattle.seam_law_rounds.proofs.Framing.{in_frame}
-use Rattle.seam_law_rounds.proofs.Going.{settled_loaded, spared_loaded}
-use Rattle.seam_law_rounds.proofs.Loaded.{no_mail}
-use Rattle.seam_law_rounds.proofs.Ready.{one_holder, quiet_home}
-use Rattle.seam_law_rounds.proofs.Attaching.{are_for_loaded}
-use Rattle.seam_law_clients.proofs.Loading.{among_is}
 use Rattle.seam_law_clients.specs.RoundTruths.{WasOwn}
-use Rattle.seam_law_book.proofs.Accounts.{done_after}
-use Rattle.seam_law_book.proofs.Executed.{one_in}
-use Rattle.seam_law_book.proofs.Found.{real_is}
-use Rattle.seam_law_book.proofs.Parts.{both_seen}
-use Rattle.seam_law_transcript.proofs.Who.{is_there, was_joined, unjoined_before, client_by, there_created, there_alive}
+use Rattle.seam_law_transcript.proofs.Who.{is_present, was_joined, unjoined_before, client_by, there_created, there_alive}
 use Rattle.seam_law_transcript.proofs.Replicas.{begun_by}
 use Rattle.seam_law_transcript.proofs.Truths.{own_now_is, from_start, up_to_end, other_is, not_before, not_after, at}
 use Rattle.seam_law_calls.proofs.OneReal.{spared_leads}
@@ -58,7 +43,7 @@ returns c h s tree w v p bounds next x is shown =
     let law = c.calls_obey_the_laws.ensures.laws f clients w play.keeps B may round.call_events round.called round.calls in
     let called = c.calls_obey_the_laws.ensures.records f clients w play.keeps B may round.call_events round.called round.calls
     round.calls_done in
-    let there = is_there b x.entity x is shown in
+    let there = is_present b x.entity x is shown in
     let l = c.what_lines_bring_fits.ensures.there h b tree clients w play x.entity x there in
     let y = client_by l.base.proxy (l.client ∙ was_joined b x.entity x is shown) in
     let z = witness_by l.real.witness

@@ -1,22 +1,12 @@
-use Rattle.std.proofs.Common.{◌≡◌, ℕ, ◌≤◌, true, false, eqb, ◌++◌, length, None, refl, sym, ap, ◌∙◌, subst, arith, length-append}
-use Rattle.std.specs.Prelude.{slice_get}
-use Rattle.std.specs.List.{list_any}
-use Rattle.seam_node_steps.specs.Prelude.{Cell}
-use Rattle.seam_rule_rounds.specs.Prelude.{created_as, live_as, destroys, tree_of, with_round_ended, Lists, new_client, after_lines}
-use Rattle.seam_rule_rounds.specs.Prelude.{shown_by_lines, MayShowAll, ShowsRightly, one_look, truth_of, rows_of, replica_of}
-use Rattle.seam_law_rounds.specs.Prelude.{framed}
-use Rattle.seam_law_clients.specs.Prelude.{clients_loaded, clients_shown}
-use Rattle.seam_law_all.specs.Prelude.{shown_to}
-use Rattle.seam_law_book.specs.Prelude.{as_begun, IsUntouched, frame_of, done_in}
-use Rattle.seam_law_transcript.specs.Prelude.{may_play, standing_of}
+use Rattle.seam_law_transcript.proofs.Prelude.{◌≡◌, ℕ, ◌≤◌, true, false, eqb, ◌++◌, length, None, refl, sym, ap, ◌∙◌, subst, arith}
+use Rattle.seam_law_transcript.proofs.Prelude.{length-append, slice_get, list_any, Cell, created_as, live_as, destroys, tree_of}
+use Rattle.seam_law_transcript.proofs.Prelude.{with_round_ended, Lists, new_client, after_lines, shown_by_lines, MayShowAll, ShowsRightly}
+use Rattle.seam_law_transcript.proofs.Prelude.{one_look, truth_of, rows_of, replica_of, framed, clients_loaded, clients_shown, shown_to}
+use Rattle.seam_law_transcript.proofs.Prelude.{as_begun, IsUntouched, frame_of, done_in, may_play, standing_of, batch_of, among_is, cell_at}
+use Rattle.seam_law_transcript.proofs.Prelude.{live_ended, has_witness, its_witness}
 use Rattle.seam_law_transcript.proofs.LinesHeld.{lines_held, told_held}
 use Rattle.seam_defs.specs.declared.flags.Part.TheVariants as part
-use Rattle.seam_accept.specs.Batches.{batch_of}
 use Rattle.seam_law_clients.proofs.InTurn.{rightly_append}
-use Rattle.seam_law_clients.proofs.Loading.{among_is}
-use Rattle.seam_law_clients.proofs.ShownOnce.{cell_at}
-use Rattle.seam_law_book.proofs.Ended.{live_ended}
-use Rattle.seam_law_book.proofs.Further.{has_witness, its_witness}
 use Rattle.seam_law_transcript.proofs.Who.{lives_on, unjoined_before}
 use Rattle.seam_law_transcript.proofs.Replicas.{begun_by, shown_is}
 use Rattle.seam_law_transcript.proofs.Told.{by_death}

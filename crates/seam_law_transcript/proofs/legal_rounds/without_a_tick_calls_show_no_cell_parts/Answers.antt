@@ -1,25 +1,12 @@
-use Rattle.std.proofs.Common.{◌≡◌, ℕ, true, [], length, Option, None, Some, refl, ap, ◌∙◌}
-use Rattle.std.specs.Prelude.{is_some}
-use Rattle.seam_node_steps.specs.Prelude.{WitnessView, loaded}
-use Rattle.seam_rule_rounds.specs.Prelude.{created_as, replica_of}
-use Rattle.seam_law_calls.specs.Prelude.{sent_by}
-use Rattle.seam_law_rounds.specs.Prelude.{framed, MayBeLoaded, next_to, base_calls_of}
-use Rattle.seam_law_book.specs.Prelude.{as_begun, IsUntouched, frame_of}
-use Rattle.seam_law_transcript.specs.Prelude.{may_play}
-use Rattle.seam_accept.specs.Batches.{batch_of}
-use Rattle.seam_law_rounds.proofs.Framing.{in_frame}
-use Rattle.seam_law_rounds.proofs.Going.{settled_loaded}
-use Rattle.seam_law_rounds.proofs.Loaded.{no_mail}
-use Rattle.seam_law_rounds.proofs.Ready.{one_holder, quiet_home}
-use Rattle.seam_law_rounds.proofs.Attaching.{are_for_loaded}
-use Rattle.seam_law_rounds.proofs.Joining.{is_among}
-use Rattle.seam_law_book.proofs.Parts.{both_seen}
-use Rattle.seam_law_transcript.proofs.Who.{is_there, was_joined, unjoined_before, client_by}
+use Rattle.seam_law_transcript.proofs.Prelude.{◌≡◌, ℕ, true, [], length, Option, None, Some, refl, ap, ◌∙◌, is_some, WitnessView, loaded}
+use Rattle.seam_law_transcript.proofs.Prelude.{created_as, replica_of, sent_by, framed, MayBeLoaded, next_to, base_calls_of, as_begun}
+use Rattle.seam_law_transcript.proofs.Prelude.{IsUntouched, frame_of, may_play, batch_of, in_frame, settled_loaded, no_mail, one_holder}
+use Rattle.seam_law_transcript.proofs.Prelude.{quiet_home, are_for_loaded, is_among, both_seen, may_begin, may_load}
+use Rattle.seam_law_transcript.proofs.Who.{is_present, was_joined, unjoined_before, client_by}
 use Rattle.seam_law_transcript.proofs.Numbered.{loaded_unshown}
 use Rattle.seam_law_transcript.proofs.OneLook.{no_ticks}
 use Rattle.seam_law_transcript.proofs.Tickless.{nothing_shown}
 use Rattle.seam_law_transcript.proofs.legal_rounds.without_a_tick_calls_show_no_cell_parts.Goals as goal
-use Rattle.seam_law_all.specs.Prelude.{may_begin, may_load}
 
 witness_by : (o : Option WitnessView) → is_some o ≡ true → (x : WitnessView) × (o ≡ Some x)
 witness_by None is = absurd (let z = is in cc)
@@ -43,7 +30,7 @@ returns c h s tree w v p tickless x is shown =
     let loads : MayBeLoaded f w B = may_load play.keeps may in
     let called = c.calls_obey_the_laws.ensures.records f clients w play.keeps B may round.call_events round.called round.calls
     round.calls_done in
-    let there = is_there b e x is shown in
+    let there = is_present b e x is shown in
     let l = c.what_lines_bring_fits.ensures.there h b tree clients w play e x there in
     let y = client_by l.base.proxy (l.client ∙ was_joined b e x is shown) in
     let start = loaded w B in

@@ -1,35 +1,19 @@
-use Rattle.std.proofs.Common.{◌≡◌, ℕ, true, false, eqb, [], ◌++◌, map, length, None, Some, refl, sym, ap, ◌∙◌, subst, inl, inr, append-nil}
-use Rattle.std.proofs.Common.{◌⊎◌}
-use Rattle.std.specs.Prelude.{filter, IsTrue}
-use Rattle.std.specs.List.{list_any}
-use Rattle.seam_node_steps.specs.Prelude.{Create}
-use Rattle.seam_rule_rounds.specs.Prelude.{entries, creates_of, created_as, live_as, destroys, is_shown, tree_of, with_round_ended, Lists}
-use Rattle.seam_rule_rounds.specs.Prelude.{new_client, after_all_shown, after_lines, rows_but, look_by, one_look, is_base, base_texts}
-use Rattle.seam_rule_rounds.specs.Prelude.{texts_to, rows_of, replica_of}
-use Rattle.seam_law_flow.specs.Prelude.{letters_of}
-use Rattle.seam_law_calls.specs.Prelude.{shown_in}
-use Rattle.seam_law_rounds.specs.Prelude.{framed, MayBeLoaded}
-use Rattle.seam_law_clients.specs.Prelude.{clients_loaded, clients_shown}
-use Rattle.seam_law_book.specs.Prelude.{as_begun, IsUntouched, frame_of, base_node}
-use Rattle.seam_law_transcript.specs.Prelude.{may_play, data_of, standing_of}
+use Rattle.seam_law_transcript.proofs.Prelude.{◌≡◌, ℕ, true, false, eqb, [], ◌++◌, map, length, None, Some, refl, sym, ap, ◌∙◌, subst, inl}
+use Rattle.seam_law_transcript.proofs.Prelude.{inr, append-nil, ◌⊎◌, filter, IsTrue, list_any, Create, entries, creates_of, created_as}
+use Rattle.seam_law_transcript.proofs.Prelude.{live_as, destroys, is_shown, tree_of, with_round_ended, Lists, new_client, after_all_shown}
+use Rattle.seam_law_transcript.proofs.Prelude.{after_lines, rows_but, look_by, one_look, is_base, base_texts, texts_to, rows_of, replica_of}
+use Rattle.seam_law_transcript.proofs.Prelude.{letters_of, shown_in, framed, MayBeLoaded, clients_loaded, clients_shown, as_begun}
+use Rattle.seam_law_transcript.proofs.Prelude.{IsUntouched, frame_of, base_node, may_play, data_of, standing_of, found_entity, batch_of}
+use Rattle.seam_law_transcript.proofs.Prelude.{undestroyed, Somewhere, Nowhere, search_real, is_among, among_is, row_found, row_nowhere}
+use Rattle.seam_law_transcript.proofs.Prelude.{live_ended, may_load}
 use Rattle.seam_law_transcript.proofs.LinesHeld.{lines_held, told_held}
 use Rattle.seam_call.specs.declared.shown.ClientText.TheVariants as text
-use Rattle.seam_rule_lines.proofs.InOrderLemmas.{found_entity}
-use Rattle.seam_accept.specs.Batches.{batch_of}
-use Rattle.seam_law_book.proofs.Present.{undestroyed}
-use Rattle.seam_law_rounds.proofs.Shape.{Somewhere, Nowhere, search_real}
-use Rattle.seam_law_rounds.proofs.Joining.{is_among}
-use Rattle.seam_law_clients.proofs.Loading.{among_is}
 use Rattle.seam_law_clients.specs.Tables as world
-use Rattle.seam_law_clients.proofs.Rows.{row_found}
-use Rattle.seam_law_clients.proofs.OneLook.{row_nowhere}
-use Rattle.seam_law_book.proofs.Ended.{live_ended}
-use Rattle.seam_law_transcript.proofs.Who.{is_there, was_joined, was_created, lives_on, unjoined_before, client_by}
+use Rattle.seam_law_transcript.proofs.Who.{is_present, was_joined, was_created, lives_on, unjoined_before, client_by}
 use Rattle.seam_law_transcript.proofs.Replicas.{begun_by}
 use Rattle.seam_law_transcript.proofs.Told.{by_death, later_lines}
 use Rattle.seam_law_transcript.proofs.OneLook.{one_look_after}
 use Rattle.seam_law_transcript.proofs.legal_rounds.without_a_tick_each_client_is_shown_one_look.Goals as goal
-use Rattle.seam_law_all.specs.Prelude.{may_load}
 
 pub returns : goal.returns
 returns c h s tree w v p bounds next tickless d seen =
@@ -57,7 +41,7 @@ returns c h s tree w v p bounds next tickless d seen =
     let mid = clients_shown g (clients_loaded f B clients) round.called in
     let called = c.calls_obey_the_laws.ensures.records f clients w play.keeps B may round.call_events round.called round.calls
     round.calls_done in
-    let there = is_there b e x is shown in
+    let there = is_present b e x is shown in
     let l = c.what_lines_bring_fits.ensures.there h b tree clients w play e x there in
     let y = client_by l.base.proxy (l.client ∙ was_joined b e x is shown) in
     let reaped = c.reaps_obey_the_laws.ensures.records g mid round.called called round.gone round.may round.reap_events round.reaped

@@ -1,16 +1,8 @@
-use Rattle.std.proofs.Common.{◌≡◌, ℕ, [], ◌∷◌, ◌++◌, sym, ap, ◌∙◌, arith, length-append, append-nil}
-use Rattle.std.specs.Prelude.{find, ◌==◌}
-use Rattle.std.specs.Option.{option_or}
-use Rattle.std.proofs.lemmas.Option.{none-some}
-use Rattle.seam_node_steps.specs.Prelude.{opened}
+use Rattle.seam_law_transcript.proofs.Prelude.{◌≡◌, ℕ, [], ◌∷◌, ◌++◌, sym, ap, ◌∙◌, arith, length-append, append-nil, find, ◌==◌, option_or}
+use Rattle.seam_law_transcript.proofs.Prelude.{none-some, opened, with_line, with_entry, creates_of, after_header, replica_of, created_with}
+use Rattle.seam_law_transcript.proofs.Prelude.{has_none, entity_flow, real_in, IsFrame, first_frame, empty, accepts, one_cell_tree}
+use Rattle.seam_law_transcript.proofs.Prelude.{opened_is_new}
 use Rattle.seam_defs.specs.declared.flags.Part.TheVariants as part
-use Rattle.seam_rule_rounds.specs.Prelude.{with_line, with_entry, creates_of, after_header, replica_of}
-use Rattle.seam_accept.proofs.Books.{created_with}
-use Rattle.seam_law_calls.specs.Prelude.{has_none, entity_flow, real_in, IsFrame}
-use Rattle.seam_law_rounds.specs.Prelude.{first_frame}
-use Rattle.seam_law_book.specs.Prelude.{empty, accepts}
-use Rattle.seam_law_book.proofs.Untouched.{one_cell_tree}
-use Rattle.seam_law_rounds.proofs.Opened.{opened_is_new}
 use Rattle.seam_law_transcript.proofs.Truly.{new_is_true, truly_later}
 use Rattle.seam_law_transcript.proofs.whole_runs.a_course_begins_and_goes_on.Goals as goal
 

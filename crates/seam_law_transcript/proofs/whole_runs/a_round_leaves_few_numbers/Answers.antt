@@ -1,17 +1,9 @@
-use Rattle.std.proofs.Common.{◌+◌, ◌*◌, length, sym, subst, arith}
-use Rattle.seam_node_steps.specs.Prelude.{loaded}
-use Rattle.seam_rule_rounds.specs.Prelude.{entries, replica_of}
-use Rattle.seam_law_calls.specs.Prelude.{sent_by}
-use Rattle.seam_law_rounds.specs.Prelude.{numbers_of, MayBeLoaded}
-use Rattle.seam_law_bounds.specs.Prelude.{AreAtMost, AreAmong}
-use Rattle.seam_law_book.specs.Prelude.{frame_of}
-use Rattle.seam_law_transcript.specs.Prelude.{may_play, most_lines_of_look}
-use Rattle.seam_accept.specs.Batches.{batch_of}
+use Rattle.seam_law_transcript.proofs.Prelude.{◌+◌, ◌*◌, length, sym, subst, arith, loaded, entries, replica_of, sent_by, numbers_of}
+use Rattle.seam_law_transcript.proofs.Prelude.{MayBeLoaded, AreAtMost, AreAmong, frame_of, may_play, most_lines_of_look, batch_of, may_load}
 use Rattle.seam_law_transcript.proofs.Created.{few_created}
 use Rattle.seam_law_transcript.proofs.Present.{names, names_many, is_named}
 use Rattle.seam_law_transcript.proofs.Ends.{reals_after, told_after}
 use Rattle.seam_law_transcript.proofs.whole_runs.a_round_leaves_few_numbers.Goals as goal
-use Rattle.seam_law_all.specs.Prelude.{may_load}
 
 pub returns-clause-bounded : goal.returns-clause-bounded
 returns-clause-bounded c h s tree w g end v round ended =

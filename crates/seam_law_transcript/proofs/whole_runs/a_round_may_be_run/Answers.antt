@@ -1,9 +1,6 @@
-use Rattle.std.proofs.Common.{length, ap, arith, length-append, append-nil}
+use Rattle.seam_law_transcript.proofs.Prelude.{length, ap, arith, length-append, append-nil, entries, called, calls_of, replica_of}
+use Rattle.seam_law_transcript.proofs.Prelude.{as_begun, may_play, mapped_few}
 use Rattle.seam_defs.specs.declared.flags.Part.TheVariants as part
-use Rattle.seam_rule_rounds.specs.Prelude.{entries, called, calls_of, replica_of}
-use Rattle.seam_law_book.specs.Prelude.{as_begun}
-use Rattle.seam_law_transcript.specs.Prelude.{may_play}
-use Rattle.seam_law_calls.proofs.Below.{mapped_few}
 use Rattle.seam_law_transcript.proofs.Fewer.{no_more}
 use Rattle.seam_law_transcript.proofs.whole_runs.a_round_may_be_run.Goals as goal
 

@@ -1,6 +1,4 @@
-use Rattle.std.proofs.Common.{sym, subst}
-use Rattle.seam_rule_rounds.specs.Prelude.{Standing}
-use Rattle.seam_law_transcript.specs.Prelude.{GoesOn, HasNextLine, as_it_is, one_read, one_accepted}
+use Rattle.seam_law_transcript.proofs.Prelude.{sym, subst, Standing, GoesOn, HasNextLine, as_it_is, one_read, one_accepted}
 use Rattle.seam_law_transcript.proofs.whole_runs.a_round_may_break_off.Goals as goal
 
 pub returns : goal.returns

@@ -1,12 +1,8 @@
-use Rattle.std.proofs.Common.{◌≡◌, ℕ, List, [], ◌++◌, length, None, Some, refl, sym, ap, ◌∙◌, arith, append-nil}
-use Rattle.std.specs.Prelude.{find, ◌==◌}
+use Rattle.seam_law_transcript.proofs.Prelude.{◌≡◌, ℕ, List, [], ◌++◌, length, None, Some, refl, sym, ap, ◌∙◌, arith, append-nil, find}
+use Rattle.seam_law_transcript.proofs.Prelude.{◌==◌, Book, entries, creates_of, created_as, tree_of, with_round_ended, with_tree, Create}
+use Rattle.seam_law_transcript.proofs.Prelude.{Header, ClientReplica, after_lines, Standing, replica_of, RoundData, IsRound, Line, ends}
+use Rattle.seam_law_transcript.proofs.Prelude.{balances, IsPlayed, standing_of, ShowsTruly}
 use Rattle.seam_defs.specs.declared.flags.Part.TheVariants as part
-use Rattle.seam_rule_lines.specs.Book.{Book, entries, creates_of, created_as, tree_of, with_round_ended, with_tree}
-use Rattle.seam_rule_rounds.specs.Prelude.{Create, Header, ClientReplica, after_lines, Standing, replica_of, RoundData, IsRound}
-use Rattle.seam_call.specs.declared.shown.Line.{Line}
-use Rattle.seam_law_book.specs.Books.{ends, balances}
-use Rattle.seam_law_transcript.specs.Playing.{IsPlayed, standing_of}
-use Rattle.seam_law_transcript.specs.Truly.{ShowsTruly}
 use Rattle.seam_law_transcript.proofs.Truly.{truly_later, truly_then}
 use Rattle.seam_law_transcript.proofs.whole_runs.a_run_round_is_legal.Goals as goal
 

@@ -1,5 +1,4 @@
-use Rattle.std.proofs.Common.{ap, sym, ◌∙◌}
-use Rattle.seam_rule_rounds.specs.Prelude.{rows_but, look_by, rows_of, replica_of}
+use Rattle.seam_law_transcript.proofs.Prelude.{ap, sym, ◌∙◌, rows_but, look_by, rows_of, replica_of}
 use Rattle.seam_law_transcript.proofs.Truly.{truly_then, shows_present}
 use Rattle.seam_law_transcript.proofs.whole_runs.clients_see_all_within_their_radius.Goals as goal
 

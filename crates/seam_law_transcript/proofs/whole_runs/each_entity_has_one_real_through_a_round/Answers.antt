@@ -1,16 +1,7 @@
-use Rattle.std.proofs.Common.{◌≡◌, ℕ, [], Some, eqb, false, refl, sym, ◌∙◌}
-use Rattle.std.specs.List.{AllByRecursion, filter_map}
-use Rattle.std.proofs.lemmas.Bool.{eq-eqb}
-use Rattle.seam_node_steps.specs.Prelude.{Create, World, holders, loaded, look_loaded}
-use Rattle.seam_rule_rounds.specs.Prelude.{live_as, replica_of}
-use Rattle.seam_law_rounds.specs.Prelude.{framed, AreReapable}
-use Rattle.seam_law_clients.specs.Prelude.{clients_loaded, clients_shown}
-use Rattle.seam_law_all.specs.Prelude.{KeepsRecordsWithin}
-use Rattle.seam_law_book.specs.Prelude.{IsPresent, frame_of}
-use Rattle.seam_law_transcript.specs.Prelude.{may_play, dying, EndCalls}
-use Rattle.seam_accept.specs.Batches.{batch_of, destroyed}
-use Rattle.seam_law_book.proofs.Adding.{all_turn}
-use Rattle.seam_law_book.proofs.Present.{live_is_present, undestroyed, undestroyed_apart}
+use Rattle.seam_law_transcript.proofs.Prelude.{◌≡◌, ℕ, [], Some, eqb, false, refl, sym, ◌∙◌, AllByRecursion, filter_map, eq-eqb, Create}
+use Rattle.seam_law_transcript.proofs.Prelude.{World, holders, loaded, look_loaded, live_as, replica_of, framed, AreReapable}
+use Rattle.seam_law_transcript.proofs.Prelude.{clients_loaded, clients_shown, KeepsRecordsWithin, IsPresent, frame_of, may_play, dying}
+use Rattle.seam_law_transcript.proofs.Prelude.{EndCalls, batch_of, destroyed, all_turn, live_is_present, undestroyed, undestroyed_apart}
 use Rattle.seam_law_transcript.specs.OneReal.{KeepsReals}
 use Rattle.seam_law_transcript.proofs.whole_runs.each_entity_has_one_real_through_a_round.Goals as goal
 

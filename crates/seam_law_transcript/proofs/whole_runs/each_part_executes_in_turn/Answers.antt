@@ -1,19 +1,9 @@
-use Rattle.std.proofs.Common.{ℕ, false, refl}
-use Rattle.seam_node_steps.specs.Prelude.{Create, World, loaded, reaps_loaded, look_loaded}
-use Rattle.seam_rule_rounds.specs.Prelude.{replica_of}
-use Rattle.seam_law_rounds.specs.Prelude.{framed, AreReapable}
-use Rattle.seam_law_clients.specs.Prelude.{clients_loaded, clients_shown}
-use Rattle.seam_law_all.specs.Prelude.{KeepsRecordsWithin}
-use Rattle.seam_law_book.specs.Prelude.{IsPresent, frame_of}
-use Rattle.seam_law_transcript.specs.Prelude.{may_play, dying, EndCalls, KeepsFirstCalls}
-use Rattle.seam_accept.specs.Batches.{batch_of}
-use Rattle.seam_law_rounds.proofs.Ready.{quiet_home}
-use Rattle.seam_law_rounds.proofs.Phases.{calm_leads}
+use Rattle.seam_law_transcript.proofs.Prelude.{ℕ, false, refl, Create, World, loaded, reaps_loaded, look_loaded, replica_of, framed}
+use Rattle.seam_law_transcript.proofs.Prelude.{AreReapable, clients_loaded, clients_shown, KeepsRecordsWithin, IsPresent, frame_of}
+use Rattle.seam_law_transcript.proofs.Prelude.{may_play, dying, EndCalls, KeepsFirstCalls, batch_of, quiet_home, calm_leads, reaps_leave}
+use Rattle.seam_law_transcript.proofs.Prelude.{looks_leave, looks_execute_none, live_is_present}
 use Rattle.seam_law_rounds.proofs.Reaping as reaping
 use Rattle.seam_law_rounds.proofs.Looking as looking
-use Rattle.seam_law_ghosts.proofs.Ends.{reaps_leave, looks_leave}
-use Rattle.seam_law_book.proofs.Parts.{looks_execute_none}
-use Rattle.seam_law_book.proofs.Present.{live_is_present}
 use Rattle.seam_law_transcript.proofs.Turns.{first_calls, still_first}
 use Rattle.seam_law_transcript.proofs.whole_runs.each_part_executes_in_turn.Goals as goal
 

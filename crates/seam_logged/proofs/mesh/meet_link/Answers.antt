@@ -47,8 +47,8 @@ unreachable-requires-in_default-pop g c =
     let old = last_taken n from to ends ea os cut refl r c.requires.from is_a eb is_b in
     omega (arith, old, none)
 
-pub meet-requires : goal.meet-requires
-meet-requires g c =
+pub drain-requires : goal.drain-requires
+drain-requires g c =
     let ends = c.args.ends.now.items in
     let n = length ends in
     let from = c.args.from in

@@ -1,8 +1,7 @@
 use Rattle.std.proofs.Common.{length, [], ◌∷◌, ap, ◌∙◌, arith}
 use Rattle.std.proofs.lemmas.List.{length-append}
-use Rattle.seam_net_runs.proofs.Runs.{leads_extend}
+use Rattle.seam_net_runs.proofs.Runs.{leads_extend, fewer}
 use Rattle.seam_node_steps.specs.Nodes.{node_steps, node_has_work}
-use Rattle.seam_net_runs.proofs.Firsts.{fewer}
 use Rattle.seam_quiet.proofs.round.come_to_rest.Goals as goal
 
 pub loop-event-preserved : goal.loop-event-preserved

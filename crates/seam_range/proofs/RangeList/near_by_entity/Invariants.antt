@@ -7,4 +7,4 @@ abbrev pub invariant-loop-e : goal.invariant-loop-e
 invariant-loop-e l =
     goal.iterator-loop-e.can_next l.e-iterator ×
     goal.iterator-loop-e.is_finite l.e-iterator ×
-    (l.found.items ++ filter (λ e. is_within l.p l.d e.1) (each (λ r. (r.0, r.1.place)) l.e-iterator) ≡ within l.self l.p l.d)
+    (l.found.items ++ filter (λ e. is_within l.p l.d e.1) (each (λ r. (r.0, r.1.location)) l.e-iterator) ≡ within l.self l.p l.d)

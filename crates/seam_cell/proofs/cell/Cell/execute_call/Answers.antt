@@ -17,7 +17,8 @@ pub invariant_of-self : goal.invariant_of-self
 invariant_of-self c =
     let old = c.self.inside in
     let new = c.execute_here.new in (
-      whole_either old.known old.reals new.reals old.places new.places old.lists new.lists (From 0 (Call c.args.call)) c.execute_here.result
+      whole_either old.known old.reals new.reals old.remotes new.remotes old.lists new.lists
+          (From 0 (Call c.args.call)) c.execute_here.result
           c.self.invariant.0 c.execute_here.ensures.marks (c.execute_here.ensures.state 0) c.execute_here.ensures.err,
       none_told _ c.clear.new.self c.clear.ensures,
     )

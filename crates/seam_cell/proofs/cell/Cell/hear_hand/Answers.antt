@@ -8,7 +8,7 @@ use Rattle.seam_cell.proofs.cell.Cell.hear_hand.Goals as goal
 pub invariant_of-self : goal.invariant_of-self
 invariant_of-self c =
     let old = c.self.inside in (
-      whole_either old.known old.reals c.arrive.new.reals old.places c.arrive.new.places old.lists old.lists (From 0 (Hand c.args.parcel))
+      whole_either old.known old.reals c.arrive.new.reals old.remotes c.arrive.new.remotes old.lists old.lists (From 0 (Hand c.args.parcel))
           c.arrive.result c.self.invariant.0 c.arrive.ensures.marks (c.arrive.ensures.state old.lists 0) (c.arrive.ensures.err old.lists),
       none_told _ c.clear.new.self c.clear.ensures,
     )

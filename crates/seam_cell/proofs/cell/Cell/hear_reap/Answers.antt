@@ -8,7 +8,7 @@ use Rattle.seam_cell.proofs.cell.Cell.hear_reap.Goals as goal
 pub invariant_of-self : goal.invariant_of-self
 invariant_of-self c =
     let old = c.self.inside in (
-      whole_either old.known old.reals c.reap.new.reals old.places c.reap.new.places old.lists c.reap.new.lists (From 0 (Reap c.args.e))
+      whole_either old.known old.reals c.reap.new.reals old.remotes c.reap.new.remotes old.lists c.reap.new.lists (From 0 (Reap c.args.e))
           c.reap.result c.self.invariant.0 c.reap.ensures.marks (c.reap.ensures.state old.known 0) (c.reap.ensures.err old.known),
       none_told _ c.clear.new.self c.clear.ensures,
     )

@@ -25,16 +25,16 @@ invariant_of-self-2 c =
     c.put_in.ensures.items ∙ ap (λ w. table.insert w k.entity held.real.core) c.in-Ok.ensures.items in
     let may = subst (λ v. is_called v k ≡ true) (sym c.self.view_is) c.requires.may in
     let not_turn = subst (λ v. IsTurn v k → ⊥) (sym c.self.view_is) c.requires.not_turn in (
-      by_result held.result (AreWhole old.known s old.places old.lists)
+      by_result held.result (AreWhole old.known s old.remotes old.lists)
           (on_ok_weaker held.result
-          (λ is. whole_after old.known old.reals s old.places old.places old.lists old.lists (From 0 (Call k)) c.self.invariant.0
+          (λ is. whole_after old.known old.reals s old.remotes old.remotes old.lists old.lists (From 0 (Call k)) c.self.invariant.0
           c.put_in.ensures.kept
-          (held_left old.known old.reals s old.places old.lists k c.in-Ok.real.core held.real.core c.in-Ok.ensures.real items may
+          (held_left old.known old.reals s old.remotes old.lists k c.in-Ok.real.core held.real.core c.in-Ok.ensures.real items may
           not_turn is 0))
           c.hold-held.ensures.after)
           (on_err_weaker held.result
-          (λ is. whole_again old.known old.reals s old.places old.places old.lists old.lists c.self.invariant.0 c.put_in.ensures.kept
-          (held_not old.known old.reals s old.places old.lists k.entity c.in-Ok.real.core held.real.core c.in-Ok.ensures.real items is))
+          (λ is. whole_again old.known old.reals s old.remotes old.remotes old.lists old.lists c.self.invariant.0 c.put_in.ensures.kept
+          (held_not old.known old.reals s old.remotes old.lists k.entity c.in-Ok.real.core held.real.core c.in-Ok.ensures.real items is))
           c.hold-held.ensures.err),
       none_told _ c.clear.new.self c.clear.ensures,
     )
@@ -50,7 +50,7 @@ returns-clause-state c from =
     let may = subst (λ v. is_called v k ≡ true) (sym c.self.view_is) c.requires.may in
     let not_turn = subst (λ v. IsTurn v k → ⊥) (sym c.self.view_is) c.requires.not_turn in
     on_ok_weaker held.result
-    (λ is. held_left old.known old.reals s old.places old.lists k c.in-Ok.real.core held.real.core c.in-Ok.ensures.real items may not_turn
+    (λ is. held_left old.known old.reals s old.remotes old.lists k c.in-Ok.real.core held.real.core c.in-Ok.ensures.real items may not_turn
     is from
     ∙ ap (λ v. (cell_steps v (From from (Call k))).state) c.self.view_is)
     c.hold-held.ensures.after
@@ -63,7 +63,7 @@ returns-clause-err c =
     let items =
     c.put_in.ensures.items ∙ ap (λ w. table.insert w k.entity held.real.core) c.in-Ok.ensures.items in
     on_err_weaker held.result
-    (λ is. held_not old.known old.reals c.put_in.new.reals old.places old.lists k.entity c.in-Ok.real.core held.real.core
+    (λ is. held_not old.known old.reals c.put_in.new.reals old.remotes old.lists k.entity c.in-Ok.real.core held.real.core
     c.in-Ok.ensures.real items is
     ∙ c.self.view_is)
     c.hold-held.ensures.err

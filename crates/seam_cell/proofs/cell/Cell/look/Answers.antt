@@ -6,16 +6,16 @@ use Rattle.seam_cell_cases.proofs.StepLemmas.{whole_either, task_looks}
 use Rattle.seam_cell.proofs.cell.Cell.look.Goals as goal
 
 module _ (c : goal.After-look_task) where
-  looks : cell_steps (cell_of c.self.inside.known c.self.inside.reals c.self.inside.places c.self.inside.lists) Task
-      ≡ look_next (cell_of c.self.inside.known c.self.inside.reals c.self.inside.places c.self.inside.lists) c.self.inside.lists.looks
+  looks : cell_steps (cell_of c.self.inside.known c.self.inside.reals c.self.inside.remotes c.self.inside.lists) Task
+      ≡ look_next (cell_of c.self.inside.known c.self.inside.reals c.self.inside.remotes c.self.inside.lists) c.self.inside.lists.looks
   looks =
-      task_looks (cell_of c.self.inside.known c.self.inside.reals c.self.inside.places c.self.inside.lists)
+      task_looks (cell_of c.self.inside.known c.self.inside.reals c.self.inside.remotes c.self.inside.lists)
       (ap (λ v. v.survey) c.self.view_is ∙ c.requires.surveyed) (ap ready_entity c.self.view_is ∙ c.requires.not_ready)
 
 pub invariant_of-self : goal.invariant_of-self
 invariant_of-self c =
     let old = c.self.inside in (
-      whole_either old.known old.reals c.look_task.new.reals old.places c.look_task.new.places old.lists c.look_task.new.lists
+      whole_either old.known old.reals c.look_task.new.reals old.remotes c.look_task.new.remotes old.lists c.look_task.new.lists
           Task c.look_task.result
           c.self.invariant.0 c.look_task.ensures.marks
           (on_ok_weaker c.look_task.result (λ e. e ∙ ap (λ w. w.state) (sym (looks c))) c.look_task.ensures.state) c.look_task.ensures.err,

@@ -22,10 +22,10 @@ module _ (c : goal.After-put_after) where
       ∙ ap (λ w. set_at w c.args.e (option_map core_of c.execute_ready-tasked.result.left)) c.in_ok-real.ensures.items
 
   abbrev new : CellView
-  new = cell_of c.self.inside.known c.put_after.new.reals c.execute_ready-tasked.new.places c.put_after.new.lists
+  new = cell_of c.self.inside.known c.put_after.new.reals c.execute_ready-tasked.new.remotes c.put_after.new.lists
 
   abbrev old : CellView
-  old = cell_of c.self.inside.known c.self.inside.reals c.self.inside.places c.self.inside.lists
+  old = cell_of c.self.inside.known c.self.inside.reals c.self.inside.remotes c.self.inside.lists
 
   may : may_execute c.in_ok-real.real.core ≡ true
   may =
@@ -42,7 +42,7 @@ module _ (c : goal.After-put_after) where
       let surveyed = ap (λ v. v.survey) c.self.view_is ∙ c.requires.surveyed in
       let ready = ap ready_entity c.self.view_is ∙ c.requires.ready in
       on_ok_weaker c.execute_ready-tasked.result.result
-      (λ done. ready_left was.known was.reals c.put_after.new.reals was.places c.execute_ready-tasked.new.places was.lists
+      (λ done. ready_left was.known was.reals c.put_after.new.reals was.remotes c.execute_ready-tasked.new.remotes was.lists
       c.put_after.new.lists c.args.out.now c.execute_ready-tasked.new.out c.args.e c.in_ok-real.real.core
       (option_map core_of c.execute_ready-tasked.result.left) c.in_ok-real.ensures.real items c.put_after.ensures.survey
       c.put_after.ensures.looks c.self.invariant.0 surveyed ready may done)
@@ -52,7 +52,7 @@ module _ (c : goal.After-put_after) where
   rests =
       let was = c.self.inside in
       on_err_weaker c.execute_ready-tasked.result.result
-      (λ both. undone was.known was.reals c.put_after.new.reals was.places c.execute_ready-tasked.new.places was.lists
+      (λ both. undone was.known was.reals c.put_after.new.reals was.remotes c.execute_ready-tasked.new.remotes was.lists
       c.put_after.new.lists c.args.out.now c.execute_ready-tasked.new.out c.args.e c.in_ok-real.real.core
       (option_map core_of c.execute_ready-tasked.result.left) c.in_ok-real.ensures.real items c.put_after.ensures.survey
       c.put_after.ensures.looks both.0 both.1)
@@ -62,14 +62,14 @@ pub invariant_of-self-2 : goal.invariant_of-self-2
 invariant_of-self-2 c =
     let was = c.self.inside in
     let s = c.put_after.new.reals in
-    let q = c.execute_ready-tasked.new.places in
+    let q = c.execute_ready-tasked.new.remotes in
     let m = c.put_after.new.lists in
     let kept = c.put_after.ensures.kept in (
       by_result c.execute_ready-tasked.result.result (AreWhole was.known s q m)
           (on_ok_weaker c.execute_ready-tasked.result.result
-          (λ is. whole_after was.known was.reals s was.places q was.lists m Task c.self.invariant.0 kept is.state) (leaves c))
+          (λ is. whole_after was.known was.reals s was.remotes q was.lists m Task c.self.invariant.0 kept is.state) (leaves c))
           (on_err_weaker c.execute_ready-tasked.result.result
-          (λ is. whole_again was.known was.reals s was.places q was.lists m c.self.invariant.0 kept is) (rests c)),
+          (λ is. whole_again was.known was.reals s was.remotes q was.lists m c.self.invariant.0 kept is) (rests c)),
       none_told _ c.clear.new.self c.clear.ensures,
     )
 

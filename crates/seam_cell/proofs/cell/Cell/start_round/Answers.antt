@@ -7,7 +7,7 @@ pub invariant_of-self-2 : goal.invariant_of-self-2
 invariant_of-self-2 c =
     let old = c.self.inside in
     let new = c.begin_round.new in (
-      round_whole old.known c.args.tree old.reals new.reals old.places (record { nexts = c.new.result; copies = old.places.copies })
+      round_whole old.known c.args.tree old.reals new.reals old.remotes (record { nexts = c.new.result; copies = old.remotes.copies })
           old.lists
           (record { survey = new.survey; looks = old.lists.looks }) c.self.invariant.0 c.begin_round.ensures.kept c.size.ensures.tree
           (c.requires ∙ ap (λ v. v.here.settings.size) (sym c.self.view_is)) c.in_ok-begin_round.ensures.reals

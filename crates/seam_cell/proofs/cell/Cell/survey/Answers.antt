@@ -9,7 +9,7 @@ pub invariant_of-self : goal.invariant_of-self
 invariant_of-self c =
     let old = c.self.inside in
     let new = c.survey_task.new in (
-      whole_either old.known old.reals new.reals old.places new.places old.lists new.lists Task c.survey_task.result c.self.invariant.0
+      whole_either old.known old.reals new.reals old.remotes new.remotes old.lists new.lists Task c.survey_task.result c.self.invariant.0
           c.survey_task.ensures.marks c.survey_task.ensures.state c.survey_task.ensures.err,
       none_told _ c.clear.new.self c.clear.ensures,
     )

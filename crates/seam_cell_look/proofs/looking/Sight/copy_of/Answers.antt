@@ -3,7 +3,7 @@ use Rattle.seam_node_steps.specs.Cells.{CellView}
 use Rattle.seam_cell_parts.specs.Kept.{here_in}
 use Rattle.seam_cell_look.specs.Looking.{seeing}
 use Rattle.seam_cell_seen.specs.Known.{known_with}
-use Rattle.seam_cell_told.specs.Told.{AreToldBut}
+use Rattle.seam_cell_told.specs.Told.{AreAsKnownBut}
 use Rattle.seam_cell_look.proofs.LookLemmas.{self_unknown, known_here}
 use Rattle.seam_cell_told.proofs.ToldAgain.{still_told}
 use Rattle.seam_cell_look.proofs.looking.Sight.copy_of.Goals as goal
@@ -37,7 +37,7 @@ returns-clause-told c =
     let same = c.copy_of.ensures.same in
     still_told own known c.args.told.now c.copy_of.new.self c.keep.new.self same
     (c.keep.ensures.told own known c.if-e-self.false (sym c.in_ok-copy-2.ensures ∙ (c.in-Some-2.is ∙ ap Some (sym c.in_ok-copy-3.ensures)))
-    (subst (AreToldBut own known) (sym same) c.requires.told))
+    (subst (AreAsKnownBut own known) (sym same) c.requires.told))
 
 pub returns-in_err-keep-clause-told : goal.returns-in_err-keep-clause-told
 returns-in_err-keep-clause-told c =
@@ -46,4 +46,4 @@ returns-in_err-keep-clause-told c =
     let same = c.copy_of.ensures.same in
     still_told own known c.args.told.now c.copy_of.new.self c.keep.new.self same
     (c.keep.ensures.told own known c.if-e-self.false (sym c.in_ok-copy-2.ensures ∙ (c.in-Some-2.is ∙ ap Some (sym c.in_ok-copy-3.ensures)))
-    (subst (AreToldBut own known) (sym same) c.requires.told))
+    (subst (AreAsKnownBut own known) (sym same) c.requires.told))

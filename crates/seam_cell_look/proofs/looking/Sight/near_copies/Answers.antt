@@ -1,7 +1,7 @@
 use Rattle.std.proofs.Common.{subst, sym, ap, ◌∙◌}
 use Rattle.std.specs.List.{filter}
 use Rattle.seam_range.specs.Locations.{is_within}
-use Rattle.seam_cell_parts.specs.Spots.{copy_places, placed_copies}
+use Rattle.seam_cell_parts.specs.Spots.{copy_locations, located_copies}
 use Rattle.seam_cell_parts.proofs.SpotLemmas.{copy_list, copies_list_rise}
 use Rattle.seam_cell_look.specs.Near.{AreNear}
 use Rattle.seam_cell_look.proofs.NearLemmas.{listed_near, walked_near}
@@ -12,12 +12,12 @@ returns-in_default c =
     let m = c.args.self.now.copies.now.ghosts in
     let p = c.args.own in
     let is = c.those_within.ensures ∙ ap (filter (λ e. is_within p c.args.reach e.1)) c.in_ok-all.ensures in
-    subst (AreNear p c.args.reach c.args.self.now.own (copy_places m)) (sym is)
-    (walked_near p c.args.reach c.args.self.now.own (copy_places m) (placed_copies m) (copies_list_rise m) (copy_list m))
+    subst (AreNear p c.args.reach c.args.self.now.own (copy_locations m)) (sym is)
+    (walked_near p c.args.reach c.args.self.now.own (copy_locations m) (located_copies m) (copies_list_rise m) (copy_list m))
 
 pub returns : goal.returns
 returns c =
     let m = c.args.self.now.copies.now.ghosts in
     let p = c.args.own in
-    subst (AreNear p c.args.reach c.args.self.now.own (copy_places m)) (sym c.in_ok-near.ensures)
-    (listed_near p c.args.reach c.args.self.now.own (copy_places m) c.in-Some.list.now c.in-Some.ensures)
+    subst (AreNear p c.args.reach c.args.self.now.own (copy_locations m)) (sym c.in_ok-near.ensures)
+    (listed_near p c.args.reach c.args.self.now.own (copy_locations m) c.in-Some.list.now c.in-Some.ensures)

@@ -1,7 +1,7 @@
 use Rattle.std.proofs.Common.{None, ap, sym, ◌∙◌}
 use Rattle.std.specs.FinMap as map
 use Rattle.seam_node_steps.specs.Prelude.{Ghost, GhostCopy, ghost_after, set_at}
-use Rattle.seam_cell_parts.specs.Spots.{copy_places}
+use Rattle.seam_cell_parts.specs.Spots.{copy_locations}
 use Rattle.seam_cell_parts.proofs.SettleLemmas.{book_after}
 use Rattle.seam_cell_parts.proofs.SpotLemmas.{copy_changed}
 use Rattle.seam_cell_parts.proofs.copy_book.CopyBook.drop_copy.Goals as goal
@@ -9,8 +9,8 @@ use Rattle.seam_cell_parts.proofs.copy_book.CopyBook.drop_copy.Goals as goal
 pub invariant_of-self : goal.invariant_of-self
 invariant_of-self c =
     let g : Ghost GhostCopy = record { beat = c.args.beat; copy = None } in
-    c.forget.ensures (copy_places c.self.inside.book.ghosts) (copy_places c.drop_copy.new.self.ghosts) c.self.invariant
-    (λ q. ap (λ w. copy_places w.ghosts q) c.in-Ok-Taken.ensures.after
+    c.forget.ensures (copy_locations c.self.inside.book.ghosts) (copy_locations c.drop_copy.new.self.ghosts) c.self.invariant
+    (λ q. ap (λ w. copy_locations w.ghosts q) c.in-Ok-Taken.ensures.after
     ∙ copy_changed c.self.inside.book c.args.e g (sym c.in-Ok-Taken.field-0-is ∙ c.in-Ok-Taken.ensures.answer) q)
 
 pub returns-in-Ok-Ignored-clause-ok : goal.returns-in-Ok-Ignored-clause-ok

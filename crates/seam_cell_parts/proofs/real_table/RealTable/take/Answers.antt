@@ -1,10 +1,10 @@
 use Rattle.std.proofs.Common.{None, ap, ◌∙◌}
-use Rattle.seam_cell_parts.specs.Spots.{real_places}
+use Rattle.seam_cell_parts.specs.Spots.{real_locations}
 use Rattle.seam_cell_parts.proofs.SpotLemmas.{real_set}
 use Rattle.seam_cell_parts.proofs.real_table.RealTable.take.Goals as goal
 
 pub invariant_of-self : goal.invariant_of-self
 invariant_of-self c =
     let m = c.self.inside.items.items in
-    c.let_out.ensures (real_places m) (real_places c.take.new.self.items) c.self.invariant
-    (λ q. ap (λ w. real_places w.items q) c.take.ensures.after ∙ real_set m c.args.e None q)
+    c.let_out.ensures (real_locations m) (real_locations c.take.new.self.items) c.self.invariant
+    (λ q. ap (λ w. real_locations w.items q) c.take.ensures.after ∙ real_set m c.args.e None q)

@@ -12,10 +12,11 @@ loop-e-init c = λ q. ap (λ l. map.get l q) c.new-list.ensures ∙ map.get-empt
 pub loop-e-preserved : goal.loop-e-preserved
 loop-e-preserved c =
     let none : ℕ × Location = (0, record { version = 0; pos = record { x = 0; z = 0 } }) in
-    listed_more c.args.places.now c.loop-e.e-index none c.loop-e.list c.put.new.self c.requires c.loop-e-test.true c.in_ok-put.ensures.after
+    listed_more c.args.locations.now c.loop-e.e-index none c.loop-e.list c.put.new.self c.requires c.loop-e-test.true
+    c.in_ok-put.ensures.after
     c.loop-e.invariant
 
 pub returns-clause-list : goal.returns-clause-list
 returns-clause-list c =
-    ap (λ l. Some l) (all_listed c.args.places.now c.loop-e.list c.requires (λ q.
-    c.loop-e.invariant q ∙ ap (map.find nat_cmp q) (take_all c.loop-e.e-index c.args.places.now c.loop-e-test.false)))
+    ap (λ l. Some l) (all_listed c.args.locations.now c.loop-e.list c.requires (λ q.
+    c.loop-e.invariant q ∙ ap (map.find nat_cmp q) (take_all c.loop-e.e-index c.args.locations.now c.loop-e-test.false)))

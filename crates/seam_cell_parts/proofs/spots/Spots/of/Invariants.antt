@@ -4,4 +4,4 @@ use Rattle.std.specs.FinMap as map
 use Rattle.seam_cell_parts.proofs.spots.Spots.of.Given as goal
 
 abbrev pub invariant-loop-e : goal.invariant-loop-e
-invariant-loop-e l = (q : ℕ) → map.get l.list q ≡ map.find nat_cmp q (take l.e-index l.places)
+invariant-loop-e l = (q : ℕ) → map.get l.list q ≡ map.find nat_cmp q (take l.e-index l.locations)

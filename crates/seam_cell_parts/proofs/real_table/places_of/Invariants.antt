@@ -1,7 +1,0 @@
-use Rattle.std.proofs.Common.{◌≡◌, take, map as each}
-use Rattle.std.specs.FinMap as map
-use Rattle.seam_cell_parts.specs.Spots.{place_of_real}
-use Rattle.seam_cell_parts.proofs.real_table.places_of.Given as goal
-
-abbrev pub invariant-loop-e : goal.invariant-loop-e
-invariant-loop-e l = l.places.items ≡ each (λ r. (r.0, place_of_real r.1)) (take l.e-index (map.entries l.items.items))

@@ -1,5 +1,0 @@
-use Rattle.seam_defs.proofs.WellFormed.{builtin-are-defs}
-use Rattle.seam_defs.proofs.defs.Defs.builtin.Goals as goal
-
-pub of_types-requires : goal.of_types-requires
-of_types-requires c = rw (c.in_ok-types.ensures) builtin-are-defs

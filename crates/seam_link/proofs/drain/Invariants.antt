@@ -1,0 +1,15 @@
+use Rattle.std.proofs.Common.{◌≡◌, ◌+◌, ◌≤◌, ◌++◌, length}
+use Rattle.rtrb.specs.Ring.{sent, known_items}
+use Rattle.seam_link.proofs.drain.Given as goal
+
+abbrev pub invariant-loop-i : goal.invariant-loop-i
+invariant-loop-i g l =
+    (l._i + length (known_items l.consumer) ≡ l.n) × (l.fn.end.taken ++ (l.left.items ++ known_items l.consumer) ≡ sent l.ring)
+    × (length l.left.items + (l.n) ≤ l.left.cap + l._i)
+
+abbrev pub invariant-loop-item : goal.invariant-loop-item
+invariant-loop-item g l =
+    (l.fn.end.taken ++ (l.left.items ++ l.spill.items) ≡ l.fn.out.put) × (length l.left.items + length l.spill.items ≤ l.left.cap)
+
+abbrev pub decreases-loop-item : goal.decreases-loop-item
+decreases-loop-item g l = length l.spill.items

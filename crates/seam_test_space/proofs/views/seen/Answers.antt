@@ -1,6 +1,0 @@
-use Rattle.std.specs.List.Sorted.{IsStrictlySortedBy}
-use Rattle.seam_test_space.proofs.views.seen.Goals as goal
-
-pub returns : goal.returns
-unfolding IsStrictlySortedBy
-returns c = (tt, tt)

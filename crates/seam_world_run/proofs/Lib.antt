@@ -1,3 +1,0 @@
-mod RunLemmas
-pub mod HeaderRuns
-pub mod StormRuns
