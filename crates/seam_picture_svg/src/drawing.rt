@@ -68,8 +68,8 @@ pub(crate) fn push_rectangle(
     )
 }
 
-/// Appends a circle about a point.
-pub(crate) fn push_circle(
+// Appends a circle about a point, up to the end of its open tag.
+fn begin_circle(
     out: &mut Vec<u8>,
     style: Style,
     center: Point,
@@ -88,9 +88,19 @@ pub(crate) fn push_circle(
             Piece::Number(center.y),
             Piece::Text("\" r=\""),
             Piece::Number(radius),
-            Piece::Text("\"/>\n"),
         ],
     )
+}
+
+/// Appends a circle about a point.
+pub(crate) fn push_circle(
+    out: &mut Vec<u8>,
+    style: Style,
+    center: Point,
+    radius: u64,
+) -> Result<(), AllocError> {
+    begin_circle(out, style, center, radius)?;
+    push_pieces(out, &[Piece::Text("\"/>\n")])
 }
 
 /// Appends a filled circle about a point, with a number as its title.
@@ -101,19 +111,10 @@ pub(crate) fn push_dot(
     radius: u64,
     title: u32,
 ) -> Result<(), AllocError> {
+    begin_circle(out, style, center, radius)?;
     push_pieces(
         out,
         &[
-            Piece::Text("<circle class=\""),
-            Piece::Text(style.sign),
-            Piece::Text(style.color),
-            Piece::Text(style.size),
-            Piece::Text("\" cx=\""),
-            Piece::Number(center.x),
-            Piece::Text("\" cy=\""),
-            Piece::Number(center.y),
-            Piece::Text("\" r=\""),
-            Piece::Number(radius),
             Piece::Text("\"><title>"),
             Piece::Number(u64::from(title)),
             Piece::Text("</title></circle>\n"),

@@ -302,7 +302,7 @@ fn write_name(words: &mut Vec<u8>, from: Point, cell: u8, area: Rect) -> Result<
     )
 }
 
-/// Appends what comes before the shapes: the size, a title for those who do not see the picture, the style sheet and the paper.
+/// Appends what comes before the shapes: the size, a title for those who do not see the picture, the style sheet and the ground.
 pub(crate) fn push_head(out: &mut Vec<u8>, number: u64) -> Result<(), AllocError> {
     push_pieces(
         out,

@@ -5,7 +5,7 @@
 // are fewer than the turns of one worker, each worker ended with a visit of all nodes at which it found nothing; the last of them to make a
 // step did so too, and after it there was nothing left. Then the steps of a node that did not happen before workers were called are no more
 // than the tries at it.
-use crate::runs::{Run, play};
+use crate::runs::{GOOD, Run, play};
 use seam_watch::{Journal, JournalLog};
 use seam_workers::Gate;
 use seam_world::Status;
@@ -179,9 +179,10 @@ fn tried<R: Threads + Wait + Sync + RandomSource>(
     let mut log = JournalLog::new(alloc);
     let run = Run {
         words: row.words,
-        script,
+        script: script.as_bytes(),
+        streams: GOOD,
     };
-    let status = play(rt, alloc, &run, &tries, &mut log)?;
+    let (status, _out) = play(rt, alloc, &run, &tries, &mut log)?;
     Ok((status, is_as_said(&log, &tries, row)))
 }
 

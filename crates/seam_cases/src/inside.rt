@@ -1,5 +1,5 @@
 // Two base nodes that are inside their steps at once.
-use crate::runs::{Run, play};
+use crate::runs::{GOOD, Run, play};
 use seam_watch::NoWatch;
 use seam_workers::Gate;
 use seam_world::Status;
@@ -58,9 +58,10 @@ fn two_nodes_are_inside_their_steps_at_once(rt: HostRuntime) -> Result<(), Fail>
     let script = many_calls(rt.alloc(), 6_000)?;
     let run = Run {
         words: TWO_WORKERS,
-        script: &script,
+        script: script.as_bytes(),
+        streams: GOOD,
     };
-    let status = play(&rt, rt.alloc(), &run, &gate, &mut NoWatch)?;
+    let (status, _out) = play(&rt, rt.alloc(), &run, &gate, &mut NoWatch)?;
     let inside = gate.inside.load(Ordering::SeqCst);
     let given_up = gate.given_up.load(Ordering::SeqCst);
     assert_eq!(rt; (status, inside, given_up), (Status::Done, 3, 0));
