@@ -220,6 +220,6 @@ module _ (old : Command) (m : ArgMatches) (p : IsParsedFrom old m) (is : app_of 
   pub has_numbers : (d : Arg) → HasNumbers (found_of m)
   has_numbers d = record {
     workers = has_number 0 d (omega arith) (codes "workers") MOST_WORKERS (codes "4" ∷ []) refl (omega arith);
-    turns = has_number 1 d (omega arith) (codes "turns") MOST_TURNS (codes "1000" ∷ []) refl (omega arith);
+    turns = has_number 1 d (omega arith) (codes "turns") MOST_TURNS (codes "1000000" ∷ []) refl (omega arith);
     storm = may_have_number 2 d (omega arith) (codes "storm") LONGEST_STORM [] refl;
   }

@@ -31,7 +31,7 @@ command =
     let app = new_app (codes "seamless") in
     with_rule (with_rule (with_rule (with_rule (with_rule (with_rule (record app { top = record app.top { disable_help_flag = true } })
     (number_rule (codes "workers") MOST_WORKERS (codes "4" ∷ [])))
-    (number_rule (codes "turns") MOST_TURNS (codes "1000" ∷ [])))
+    (number_rule (codes "turns") MOST_TURNS (codes "1000000" ∷ [])))
     (number_rule (codes "storm") LONGEST_STORM []))
     (flag_rule (codes "trace")))
     (record (flag_rule (codes "help")) { short = Some 104 }))

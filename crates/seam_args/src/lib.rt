@@ -36,7 +36,7 @@ pub const LONGEST_STORM: u32 = 1_000_000;
 const DEFAULT_WORKERS: &str = "4";
 
 /// The number of turns where the words give none.
-const DEFAULT_TURNS: &str = "1000";
+const DEFAULT_TURNS: &str = "1000000";
 
 /// What the words of the command line ask for.
 #[derive(Clone, Copy, Debug, PartialEq, Eq)]
@@ -229,7 +229,7 @@ Reads a script from standard input: a header that a line %% ends, and then one c
 it writes to standard output which calls were executed, and where each entity is and what it holds.
 
   --workers N   how many workers run the cells and base nodes, 1 to 16 (4 if not given)
-  --turns N     how many turns each worker has in a phase of a round, 1 to 1000000 (1000 if not given)
+  --turns N     how many turns each worker has in a phase of a round, 1 to 1000000 (1000000 if not given)
   --trace       adds the journal of events to each round (no journal if not given)
   --storm N     runs a generated input of N lines in place of standard input, 1 to 1000000 (none if not given)
   -h, --help    writes this text to standard output, and does nothing else

@@ -1,4 +1,4 @@
-// Two base nodes that are inside their steps at once.
+// Base nodes, and workers, that are inside their steps at once.
 use crate::runs::{GOOD, Run, play};
 use seam_watch::NoWatch;
 use seam_workers::Gate;
@@ -47,7 +47,30 @@ impl Gate for BothInside {
     }
 }
 
+// Holds each worker that comes inside until so many are.
+#[derive(Drop)]
+struct AllInside {
+    all: u64,
+    inside: AtomicU64,
+    given_up: AtomicU64,
+}
+
+impl Gate for AllInside {
+    fn at_step<R: Threads + Wait + Sync>(&self, _rt: &R, _node: u8) {
+        self.inside.fetch_add(1, Ordering::SeqCst);
+        for _look in 0..MOST_LOOKS {
+            if self.inside.load(Ordering::SeqCst) >= self.all {
+                return;
+            }
+            thread::yield_now();
+        }
+        self.given_up.store(1, Ordering::SeqCst);
+    }
+}
+
 const TWO_WORKERS: &[&str] = &["--workers", "2"];
+
+const FOUR_WORKERS: &[&str] = &["--workers", "4"];
 
 #[test]
 fn two_nodes_are_inside_their_steps_at_once(rt: HostRuntime) -> Result<(), Fail> {
@@ -65,5 +88,26 @@ fn two_nodes_are_inside_their_steps_at_once(rt: HostRuntime) -> Result<(), Fail>
     let inside = gate.inside.load(Ordering::SeqCst);
     let given_up = gate.given_up.load(Ordering::SeqCst);
     assert_eq!(rt; (status, inside, given_up), (Status::Done, 3, 0));
+    Ok(())
+}
+
+// Who is inside holds its node, so that those who come inside before the gate opens are different workers.
+#[test]
+fn four_workers_are_inside_at_once(rt: HostRuntime) -> Result<(), Fail> {
+    let gate = AllInside {
+        all: 4,
+        inside: AtomicU64::new(0),
+        given_up: AtomicU64::new(0),
+    };
+    let script = many_calls(rt.alloc(), 6_000)?;
+    let run = Run {
+        words: FOUR_WORKERS,
+        script: script.as_bytes(),
+        streams: GOOD,
+    };
+    let (status, _out) = play(&rt, rt.alloc(), &run, &gate, &mut NoWatch)?;
+    let inside = gate.inside.load(Ordering::SeqCst);
+    let given_up = gate.given_up.load(Ordering::SeqCst);
+    assert_eq!(rt; (status, inside >= 4, given_up), (Status::Done, true, 0));
     Ok(())
 }

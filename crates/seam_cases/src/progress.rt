@@ -1,10 +1,10 @@
 // Workers step all nodes until nothing is left to do, and leave nothing to the caller.
 //
-// The gate is called by workers alone, before each try of a node, whether there is a step to make or not. A worker has done its part when
-// so many tries in a row as there are nodes found no step, each at another node, or when its turns are over. So where all tries together
-// are fewer than the turns of one worker, each worker ended with a visit of all nodes at which it found nothing; the last of them to make a
-// step did so too, and after it there was nothing left. Then the steps of a node that did not happen before workers were called are no more
-// than the tries at it.
+// The gate is called by workers alone, before the first step of each visit of a node, whether there is a step to make or not. A worker has
+// done its part when sixteen times as many visits in a row as there are nodes found no step, or when its turns are over. So where all
+// visits together are fewer than the turns of one worker, each worker ended with passes over all nodes that found nothing; the last of them
+// to make a step did so too, and after it there was nothing left. Then the steps of a node that did not happen before workers were called
+// are no more than its visits make.
 use crate::runs::{GOOD, Run, play};
 use seam_watch::{Journal, JournalLog};
 use seam_workers::Gate;
@@ -23,6 +23,9 @@ const NODES: u8 = 18;
 
 // How many calls of each base node an avatar gets.
 const CALLS: usize = 400;
+
+// The most steps of a visit.
+const STEPS: u64 = 64;
 
 // How many events of a phase happen before workers are called.
 const ALONE: usize = 8192;
@@ -52,7 +55,7 @@ const CALLS_OF_ALL: &str =
     call b2 11 heal 1\ncall b1 12 hit 1\ncall b2 12 heal 1\ncall b1 13 hit 1\ncall b2 13 heal 1\ncall b1 14 hit 1\n\
     call b2 14 heal 1\ncall b1 15 hit 1\ncall b2 15 heal 1\ncall b1 16 hit 1\ncall b2 16 heal 1\n";
 
-// How often workers tried each node.
+// How often workers visited each node.
 #[derive(Drop)]
 struct Tries {
     of_nodes: Vec<AtomicU64>,
@@ -117,7 +120,7 @@ fn all_steps(node: u8) -> usize {
     }
 }
 
-// The words of a run, the most tries that its workers make, and whether each node makes steps that are theirs.
+// The words of a run, the most visits that its workers make, and whether each node makes steps that are theirs.
 struct Row {
     words: &'static [&'static str],
     tries: u64,
@@ -148,14 +151,14 @@ static ROWS: [Row; 4] = [
     },
 ];
 
-// Whether the node makes all its steps, and some of them and no more than were tried after workers were called, if that is asked.
+// Whether the node makes all its steps, and some of them and no more than its visits make after workers were called, if that is asked.
 fn is_stepped(journal: &Journal, node: u8, tries: u64, theirs: bool) -> bool {
     let after = steps(journal, node, ALONE) as u64;
-    let is_tried = !theirs || (0 < after && after <= tries);
+    let is_tried = !theirs || (0 < after && after <= tries.saturating_mul(STEPS));
     is_tried && steps(journal, node, 0) == all_steps(node)
 }
 
-// Whether the only round and the tries in it are as the row says.
+// Whether the only round and the visits in it are as the row says.
 fn is_as_said(log: &JournalLog, tries: &Tries, row: &Row) -> bool {
     let Some((_, journal)) = log.at(0) else {
         return false;

@@ -8,7 +8,7 @@ use Rattle.seam_rule_rounds.specs.Prelude.{MOST_CELLS, Division, cells_of, IsBal
 use Rattle.seam_rule_rounds.specs.Prelude.{Shown, Own, Enter, Set, Leave, ShowsTruth, Header, tree_of, has_balance, with_round_ended}
 use Rattle.seam_rule_rounds.specs.Prelude.{with_tree, version_of, position_at, positions_past, Standing, distances, place_before, HasPlace}
 use Rattle.seam_rule_rounds.specs.Prelude.{RoundData, IsOther, truth_of, ShowsClient, HasShown, HasLooked, home_line, ghost_lines}
-use Rattle.seam_rule_rounds.specs.Prelude.{with_bounds, IsRound}
+use Rattle.seam_rule_rounds.specs.Prelude.{live_as, with_bounds, IsRound}
 use Rattle.seam_defs.specs.declared.flags.Part.TheVariants as part
 use Rattle.seam_rule_lines.proofs.Lists.{contains_first, contains_later}
 use Rattle.seam_judge_rounds.specs.After.{AreForMade, place_in, after_round}
@@ -75,6 +75,10 @@ module _ (h : Header) (s : Standing) (r : RoundData) (t : Standing) (made : AreF
     shown_at : (c : Create) → Contains x.live c → place_in r c.entity ≡ t.places c.entity
     shown_at c has = place_shown h s t r x.live x.listed few x.places x.homes x.ghosts c has
 
+    -- an entity that lives is held where its lines show it
+    pub place_left : (c : Create) → live_as s.book c.entity ≡ Some c → place_in r c.entity ≡ t.places c.entity
+    place_left c lives = shown_at c ((x.listed.exact c).1 lives)
+
     places_too : All (HasPlace h s held) x.live
     places_too k d within =
         let c : Create = get_or x.live k d in
@@ -137,7 +141,8 @@ module _ (h : Header) (s : Standing) (r : RoundData) (t : Standing) (made : AreF
         bases_executed s.book (s.orders part.Cell) (t.orders part.Cell) (s.orders part.Base) (t.orders part.Base) r.did r.dob made x.did
         x.dob e
 
-    left_is : held ≡ after_round s r
+    -- the standing that its lines show differs from the one that it leaves in places alone
+    pub left_is : held ≡ after_round s r
     left_is = λ i. record {
       lines = x.lines i;
       rounds = x.rounds i;

@@ -5,7 +5,7 @@ mod ClientLists
 mod Executed
 mod Held
 mod Homes
-mod Leaves
+pub mod Leaves
 mod Leaving
 mod Pieces
 mod Rightly

@@ -6,6 +6,8 @@
 //!
 //! Of the points about clients, `has_shown` decides *HasShown* and `has_looked` *HasLooked*; `show_rightly` decides one field of one client
 //! (*right* of *ShowsClient*), `are_true` a part of it, and `is_nothing_left` one field for all (*nothing_left* of *HasLooked*).
+//!
+//! For callers, of `proofs/`: `Leaves` (what a legal round leaves).
 #![tactic(auto)]
 
 mod after;

@@ -1,5 +1,5 @@
 mod Members
-mod Made
+pub mod Made
 mod States
 mod Executed
 mod Entities

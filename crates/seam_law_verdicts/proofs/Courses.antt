@@ -23,11 +23,12 @@ use Rattle.seam_law_texts.proofs.Beginnings.{first_round}
 use Rattle.seam_law_book.specs.Prelude.{IsOfLines, accepts}
 use Rattle.seam_law_book.proofs.Proper.{IsProper, accepted_is_proper}
 use Rattle.seam_law_book.proofs.Untouched.{orderly}
-use Rattle.seam_law_forms.specs.Counting.{AreCounted, WereWhole}
+use Rattle.seam_law_forms.specs.Counting.{AreCounted}
 use Rattle.seam_law_forms.proofs.Clients.{were_whole}
 use Rattle.seam_law_forms.proofs.Rounds.{in_form, leaves_book, leaves_homes}
 use Rattle.seam_judge_rounds.specs.After.{after_round, place_at}
 use Rattle.seam_law_verdicts.specs.Due.{Due, RoundDue, EndDue, MakesDue}
+use Rattle.seam_law_verdicts.specs.Kept.{Keeps}
 use Rattle.seam_law_verdicts.specs.Verdicts.{AreAllCounted, Fails, FailsRound, LeaveShown}
 use Rattle.seam_law_verdicts.proofs.Failing.{does_not_fail, one_point}
 
@@ -56,11 +57,6 @@ run_then h (line ∷ first) later s t ps last d (a, b, mid, is, step, run) path 
 
 -- ---- what holds of each standing
 
-pub record Keeps (h : Header) (s : Standing) : Type 0 where
-  pub of_lines : IsOfLines h s.book
-  pub homes : (e : ℕ) → (s.places e).home < cells_of (tree_of s.book)
-  pub were : WereWhole s
-
 home_shown : (n : ℕ) (r : RoundData) (homes : List HomeLine) (e : ℕ) → 0 < n → All (λ (l : HomeLine). l.cell < n) homes →
     (unwrap_or (option_map (place_at r) (find (λ (l : HomeLine). l.entity == e) homes)) in_first_cell).home < n
 home_shown n r [] e some all = some
@@ -77,7 +73,7 @@ module _ (h : Header) (legal : AreLegal h.settings) (defs : AreDefs h.defs) wher
   abbrev text : List Piece → List ℕ
   text ps = text_of false h.defs ps
 
-  kept_line : (s : Standing) → Keeps h s → Keeps h (with_line s)
+  pub kept_line : (s : Standing) → Keeps h s → Keeps h (with_line s)
   kept_line s k = record { of_lines = k.of_lines; homes = k.homes; were = k.were }
 
   -- an accepted line takes no cell away
@@ -88,7 +84,7 @@ module _ (h : Header) (legal : AreLegal h.settings) (defs : AreDefs h.defs) wher
       omega (arith, same, more)
   more_cells b x of_lines proper = let same = ap cells_of (tree_with b x) in omega (arith, same)
 
-  kept_entry : (s : Standing) (line : Line) (x : Entry) → Keeps h s → Judges h s.book line (verdict.Accepted x) →
+  pub kept_entry : (s : Standing) (line : Line) (x : Entry) → Keeps h s → Judges h s.book line (verdict.Accepted x) →
       Keeps h (with_book (with_line s) (with_entry s.book x))
   kept_entry s line x k judged = record {
     of_lines = accepts s.book x k.of_lines (line, judged);
@@ -101,6 +97,16 @@ module _ (h : Header) (legal : AreLegal h.settings) (defs : AreDefs h.defs) wher
 
   -- ---- a round ends
 
+  -- it holds after a legal round, too, where that leaves what its lines show
+  pub keeps_after : (s : Standing) (r : RoundData) (t : Standing) → Keeps h s → t ≡ after_round s r → IsRound h s r t → Keeps h t
+  keeps_after s r t k left round = record {
+    of_lines = leaves_book h s r t legal k.of_lines round;
+    homes = λ e.
+        subst (λ (p : Place). p.home < cells_of (tree_of t.book)) (sym (ap (λ (u : Standing). u.places e) left))
+        (home_shown (cells_of (tree_of t.book)) r r.homes e (omega arith) (leaves_homes h s r t legal k.of_lines k.homes round));
+    were = were_whole h s r t k.of_lines k.were round;
+  }
+
   -- the round that ended, in form
   pub record HasEnded (s : Standing) (ps : List Piece) (t : Standing) : Type 0 where
     pub round : RoundData
@@ -110,7 +116,7 @@ module _ (h : Header) (legal : AreLegal h.settings) (defs : AreDefs h.defs) wher
     pub is : text ps ≡ round_text h.defs round
     pub keeps : Keeps h t
 
-  has_ended : (s : Standing) (ps : List Piece) (t : Standing) → Keeps h s → LeaveShown ps → AreAllCounted ps → EndsRound h s ps t →
+  pub has_ended : (s : Standing) (ps : List Piece) (t : Standing) → Keeps h s → LeaveShown ps → AreAllCounted ps → EndsRound h s ps t →
       HasEnded s ps t
   has_ended s ps t k shown counted (r, j, is, round) =
       let left : t ≡ after_round s r = (subst LeaveShown is shown).0 in
@@ -121,13 +127,7 @@ module _ (h : Header) (legal : AreLegal h.settings) (defs : AreDefs h.defs) wher
         left = left;
         form = in_form h s r t legal defs k.of_lines k.homes k.were few round;
         is = ap text is ∙ append-nil (round_text h.defs r);
-        keeps = record {
-          of_lines = leaves_book h s r t legal k.of_lines round;
-          homes = λ e.
-              subst (λ (p : Place). p.home < cells_of (tree_of t.book)) (sym (ap (λ (u : Standing). u.places e) left))
-              (home_shown (cells_of (tree_of t.book)) r r.homes e (omega arith) (leaves_homes h s r t legal k.of_lines k.homes round));
-          were = were_whole h s r t k.of_lines k.were round;
-        };
+        keeps = keeps_after s r t k left round;
       }
 
   -- so what is due there does not fail
@@ -143,7 +143,7 @@ module _ (h : Header) (legal : AreLegal h.settings) (defs : AreDefs h.defs) wher
     pub left : t ≡ u
     pub rest : x ≡ y
 
-  rounds_agree : (s : Standing) (ps qs : List Piece) (t u : Standing) → HasEnded s ps t → HasEnded s qs u → (x y : List ℕ) →
+  pub rounds_agree : (s : Standing) (ps qs : List Piece) (t u : Standing) → HasEnded s ps t → HasEnded s qs u → (x y : List ℕ) →
       text ps ++ x ≡ text qs ++ y → Agree ps qs t u x y
   rounds_agree s ps qs t u one other x y e =
       let both =
@@ -180,7 +180,7 @@ module _ (h : Header) (legal : AreLegal h.settings) (defs : AreDefs h.defs) wher
       record { agree = rounds_agree s a c t u first (has_ended s c u k sc cc_ other) x y e; keeps = first.keeps }
 
   -- what one verdict prints is one
-  follows_go : (s : Standing) (line : Line) (v : Verdict) → Keeps h s → Judges h s.book line v → (a c : List Piece) (t u : Standing) →
+  pub follows_go : (s : Standing) (line : Line) (v : Verdict) → Keeps h s → Judges h s.book line v → (a c : List Piece) (t u : Standing) →
       LeaveShown a → LeaveShown c → AreAllCounted a → AreAllCounted c → Follows h (with_line s) v a t → Follows h (with_line s) v c u →
       (x y : List ℕ) → text a ++ x ≡ text c ++ y → Goes a c t u x y
   follows_go s line verdict.Skipped k judged a c t u sa sc ca cb one other x y e =
@@ -207,7 +207,7 @@ module _ (h : Header) (legal : AreLegal h.settings) (defs : AreDefs h.defs) wher
       round_goes (with_line s) (kept_line s k) a c t u sa sc ca cb one other x y e
 
   -- where something fails that a line makes due, the line prints nothing else
-  stops : (s : Standing) (line : Line) (v : Verdict) → Keeps h s → Judges h s.book line v → (d : Due) → MakesDue (with_line s) v d →
+  pub stops : (s : Standing) (line : Line) (v : Verdict) → Keeps h s → Judges h s.book line v → (d : Due) → MakesDue (with_line s) v d →
       (a : List Piece) (t : Standing) → LeaveShown a → AreAllCounted a → Follows h (with_line s) v a t → (whole after : List ℕ) (n : ℕ) →
       whole ≡ text a ++ after → Fails h d whole n → ⊥
   stops s line verdict.Skipped k judged d makes a t shown counted follows whole after n is fails = makes
@@ -245,16 +245,16 @@ module _ (h : Header) (legal : AreLegal h.settings) (defs : AreDefs h.defs) wher
   texts_split : (a b : List Piece) → text (a ++ b) ≡ text a ++ text b
   texts_split a b = flat_map-append (piece_text false h.defs) a b
 
-  split_is : (ps a b : List Piece) (x : List ℕ) → ps ≡ a ++ b → text ps ++ x ≡ text a ++ (text b ++ x)
+  pub split_is : (ps a b : List Piece) (x : List ℕ) → ps ≡ a ++ b → text ps ++ x ≡ text a ++ (text b ++ x)
   split_is ps a b x is =
       ap (λ (z : List Piece). text z ++ x) is ∙ ap (λ (z : List ℕ). z ++ x) (texts_split a b) ∙ append_assoc (text a) (text b) x
 
-  shown_split : (a b : List Piece) → LeaveShown (a ++ b) → LeaveShown a × LeaveShown b
+  pub shown_split : (a b : List Piece) → LeaveShown (a ++ b) → LeaveShown a × LeaveShown b
   shown_split [] b all = (tt, all)
   shown_split (Refusal line cause ∷ a) b all = shown_split a b all
   shown_split (Ended s r j t ∷ a) b all = let both = shown_split a b all.1 in ((all.0, both.0), both.1)
 
-  counted_split : (a b : List Piece) → AreAllCounted (a ++ b) → AreAllCounted a × AreAllCounted b
+  pub counted_split : (a b : List Piece) → AreAllCounted (a ++ b) → AreAllCounted a × AreAllCounted b
   counted_split [] b all = (tt, all)
   counted_split (Refusal line cause ∷ a) b all = counted_split a b all
   counted_split (Ended s r j t ∷ a) b all = let both = counted_split a b all.1 in ((all.0, both.0), both.1)
@@ -277,7 +277,7 @@ module _ (h : Header) (legal : AreLegal h.settings) (defs : AreDefs h.defs) wher
       }
 
   -- where the input ends
-  round_or_end : (s : Standing) → Keeps h s → (qs : List Piece) → LeaveShown qs → AreAllCounted qs → open_lines s.book ≢ 0 →
+  pub round_or_end : (s : Standing) → Keeps h s → (qs : List Piece) → LeaveShown qs → AreAllCounted qs → open_lines s.book ≢ 0 →
       EndsInput h s qs → (x y : List ℕ) → x ≡ text qs ++ y → (n : ℕ) → FailsRound h s x n → ⊥
   round_or_end s k qs shown counted has_lines ends x y is n fails = by (open_lines s.book == 0) refl ends
     where

@@ -1,3 +1,7 @@
 mod Failing
-mod Courses
+pub mod Courses
 mod OnePlace
+mod Places
+mod Twins
+mod Headers
+mod OneVerdict

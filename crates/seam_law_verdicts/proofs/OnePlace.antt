@@ -11,16 +11,17 @@ use Rattle.seam_rule_lines.proofs.HeaderLemmas.{header_is_one, header_of_append}
 use Rattle.seam_law_book.specs.Prelude.{empty}
 use Rattle.seam_law_verdicts.specs.Due.{Due, RefusalDue, RoundDue, EndDue, IsDue}
 use Rattle.seam_law_verdicts.specs.Verdicts.{AreAllCounted, Fails, FailsAt, LeaveShown}
-use Rattle.seam_law_verdicts.proofs.Courses.{Keeps, Path, paths_one, run_then}
+use Rattle.seam_law_verdicts.specs.Kept.{Keeps}
+use Rattle.seam_law_verdicts.proofs.Courses.{Path, paths_one, run_then}
 
 -- lines begin with a header, and those after it print the pieces, up to something that is due
-record Course (lines : List Line) (h : Header) (pieces : List Piece) (d : Due) : Type 0 where
-  count : ℕ
-  rest : List Line
-  begins : BeginWithHeader lines h count rest
-  path : Path h (after_header h count) rest pieces d
+pub record Course (lines : List Line) (h : Header) (pieces : List Piece) (d : Due) : Type 0 where
+  pub count : ℕ
+  pub rest : List Line
+  pub begins : BeginWithHeader lines h count rest
+  pub path : Path h (after_header h count) rest pieces d
 
-course_of : (lines : List Line) (h : Header) (pieces : List Piece) (d : Due) → IsDue lines h pieces d → Course lines h pieces d
+pub course_of : (lines : List Line) (h : Header) (pieces : List Piece) (d : Due) → IsDue lines h pieces d → Course lines h pieces d
 course_of lines h pieces d (inl k) =
     let p = k.printed in
     record {
@@ -66,7 +67,7 @@ record FailsAfter (h : Header) (count : ℕ) (rest : List Line) (text : List ℕ
   fails : Fails h due after number
   at : place ≡ count_by is_feed (text_of false h.defs pieces) + 1
 
-keeps_first : (h : Header) (count : ℕ) → Keeps h (after_header h count)
+pub keeps_first : (h : Header) (count : ℕ) → Keeps h (after_header h count)
 keeps_first h count = record { of_lines = empty; homes = λ e. omega arith; were = λ e. tt }
 
 one_after : (h : Header) → AreLegal h.settings → AreDefs h.defs → (count : ℕ) (rest : List Line) (text : List ℕ)

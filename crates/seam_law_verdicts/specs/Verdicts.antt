@@ -100,3 +100,9 @@ abbrev pub Says : List Line → List ℕ → Verdict → Type 0
 Says lines text (verdict.Header k) = HasBadHeader lines k
 Says lines text verdict.Yes = IsTranscript lines text
 Says lines text (verdict.No place number) = FailsAt lines text place number
+
+-- the numbers that the rounds show by which a verdict says so are those that 64 bits hold
+abbrev pub IsCounted : (lines : List Line) (text : List ℕ) (v : Verdict) → Says lines text v → Type 0
+IsCounted lines text (verdict.Header k) bad = ⊤
+IsCounted lines text verdict.Yes whole = AreAllCounted whole.1
+IsCounted lines text (verdict.No place number) fails = AreAllCounted fails.pieces

@@ -6,7 +6,8 @@ ghost use Rattle.seam_law_texts.specs.Forms.{IsFormed};
 ghost use Rattle.seam_judge_rounds.specs.After.{after_round};
 ghost use Rattle.seam_law_verdicts.specs.Due.{Due};
 ghost use Rattle.seam_io.specs.Lines.{Line};
-ghost use Rattle.seam_law_verdicts.specs.Verdicts.{AreAllCounted, Fails, FailsAt, FailsRound};
+ghost use Rattle.seam_law_verdicts.specs.Verdicts.{AreAllCounted, Fails, FailsAt, FailsRound, IsCounted, Says};
+ghost use Rattle.seam_law_verdicts.specs.declared.verdict.Verdict.{Verdict};
 
 /// Where the text of a legal round in form comes next, the round that is due does not fail, whatever comes after it.
 pub fn a_legal_round_does_not_fail()
@@ -27,4 +28,11 @@ pub fn a_text_fails_at_one_place()
         (x : FailsAt lines text place number) (y : FailsAt lines text other another) →
         AreAllCounted x.pieces → AreAllCounted y.pieces →
         (place ≡ other) × (number ≡ another) }
+{}
+
+/// One verdict says something true of a text beside the lines of an input: the header is refused, for one cause; or the text is a
+/// transcript; or it fails at one place and in one point. So a true answer is the right one. The numbers of the rounds are below 2^64.
+pub fn a_text_has_one_verdict()
+    ensures { (lines : List Line) (text : List ℕ) (v w : Verdict) (x : Says lines text v)
+        (y : Says lines text w) → IsCounted lines text v x → IsCounted lines text w y → v ≡ w }
 {}

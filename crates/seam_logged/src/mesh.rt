@@ -5,8 +5,8 @@
 //
 // With n nodes, the link from a to b is at place `a * n + b` of a list of links.
 //
-// Rings are small, since most of what it costs to make those of all pairs of nodes is memory that is touched anew: 324 rings for 64 letters
-// of 16 bytes took 121 microseconds and 80 page faults in a plain program, rings for 8 took 43 and 10.
+// A node empties its rings once for many steps, so rings have room for what comes meanwhile: with rings for 8 letters most of them went
+// through the spill, and rounds of walkers over sixteen cells took a sixth longer with four workers.
 
 ghost use Rattle.std.specs.Prelude.{◌≡◌, ◌≢◌, ℕ, ◌+◌, ◌*◌, ◌<◌, ◌≤◌, ◌⊎◌, List, [], ◌∷◌, ◌++◌, length, drop, map, OnOk, IfOk};
 ghost use Rattle.std.specs.Prelude.{slice_index_or};
@@ -22,9 +22,9 @@ use seam_stamp::Letter;
 use std::alloc::{AllocError, Global};
 use std::collections::VecDeque;
 
-/// How many letters a link's ring has room for; more wait in its spill. The rings of all pairs of nodes are made for each run, and
-/// fresh memory for larger ones would cost more than the way through the spill.
-pub const RING_CAPACITY: u32 = 8;
+/// How many letters a link's ring has room for; more wait in its spill. The rings of all pairs of nodes are made for each run, so that
+/// much larger ones would cost fresh memory.
+pub const RING_CAPACITY: u32 = 128;
 
 /// The ends of the links of n nodes, into which the letters were put, each with the stamp 0.
 pub fn linked<T: Drop>(

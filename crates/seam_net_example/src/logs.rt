@@ -14,17 +14,16 @@ fn equal_stamps_are_ordered_by_node(rt: HostRuntime) -> Result<(), AllocError> {
         vec![in alloc; entry(2, 1), entry(4, 1)]?,
     ]?;
     let merged = merge(alloc, logs)?;
-    let wanted = [entry(1, 0), entry(2, 1), entry(4, 0), entry(4, 1)];
-    assert_eq!(rt; merged.as_slice(), &wanted[..]);
+    assert_eq!(rt; merged.as_slice(), &[(1, 0), (2, 1), (4, 0), (4, 1)][..]);
     Ok(())
 }
 
-fn entry(stamp: u64, node: u8) -> Stamped<u64>
-    ensures { result ≡ record { stamp = stamp; node = node; item = stamp } }
+fn entry(stamp: u64, node: u8) -> Stamped<(u64, u8)>
+    ensures { result ≡ record { stamp = stamp; node = node; item = (stamp, node) } }
 {
     Stamped {
         stamp,
         node,
-        item: stamp,
+        item: (stamp, node),
     }
 }

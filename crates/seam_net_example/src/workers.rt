@@ -1,7 +1,7 @@
-//! Workers in real threads: they get on, and two of them are inside their steps at once. And a node without a task and a letter makes no
-//! step.
+//! Workers in real threads: they get on, and each of two and of four is inside a step at once. And a node without a task and a letter
+//! makes no step.
 
-ghost use Rattle.std.specs.Prelude.{◌≡◌, IfOk, Some, length, slice_get};
+ghost use Rattle.std.specs.Prelude.{◌≡◌, ◌≤◌, IfOk, Some, length, slice_get};
 ghost use Rattle.seam_machine.specs.Nets.{ArePeers};
 
 use crate::{Counter, ring};
@@ -20,19 +20,25 @@ use std::thread::Threads;
 // How often a node that is held looks for the other one before it gives up: seconds, on a machine with nothing else to do.
 const MOST_LOOKS: u32 = 20_000_000;
 
-// Holds each of the nodes 0 and 1 until both were inside.
+// Holds each of four nodes, or the first ones of them, until all were inside.
 #[derive(Drop)]
-struct BothInside {
+struct AllInside {
+    all: u64,
     inside: AtomicU64,
     given_up: AtomicU64,
 }
 
-impl Gate for BothInside {
+impl Gate for AllInside {
     fn at_step<R: Threads + Wait + Sync>(&self, _rt: &R, node: u8) {
-        let mine = if node == 0 { 1 } else { 2 };
+        let mine = match node {
+            0 => 1,
+            1 => 2,
+            2 => 4,
+            _ => 8,
+        };
         self.inside.fetch_or(mine, Ordering::SeqCst);
         for _look in 0..MOST_LOOKS {
-            if self.inside.load(Ordering::SeqCst) == 3 {
+            if self.inside.load(Ordering::SeqCst) == self.all {
                 return;
             }
             thread::yield_now();
@@ -52,9 +58,25 @@ fn pair(alloc: Global) -> Result<Net<Counter>, AllocError>
     Net::new(alloc, nodes)
 }
 
-// What the first two of three counters are to pass on, how many workers step them, and how many turns each has; whether they leave the
-// ring quiet, and the least and the greatest number of events that they make. With one number one counter alone has something to do at
-// any time.
+// Four counters that pass a number each to the next.
+fn quartet(alloc: Global) -> Result<Net<Counter>, AllocError>
+    ensures { IfOk result (λ w. ArePeers (λ c. c.peers) w) }
+{
+    let nodes = Vec::from_array(
+        alloc,
+        [
+            Counter::new(1, 4, Some(3)),
+            Counter::new(2, 4, Some(3)),
+            Counter::new(3, 4, Some(3)),
+            Counter::new(0, 4, Some(3)),
+        ],
+    )?;
+    Net::new(alloc, nodes)
+}
+
+// What the first two of three counters are to pass on, how many workers step them, and how many turns each has; whether the ring is
+// certain to be quiet afterwards, and the least and the greatest number of events that there are. With one number one counter alone has
+// something to do at any time.
 #[derive(Clone, Copy)]
 struct Row {
     first: Option<u64>,
@@ -110,7 +132,7 @@ const ROWS: [Row; 5] = [
         turns: 5,
         quiet: false,
         least: 5,
-        most: usize::MAX,
+        most: 22,
     },
 ];
 
@@ -126,7 +148,7 @@ fn is_left<R: Threads + Wait + Sync>(rt: &R, alloc: Global, row: Row) -> Result<
     let net = ring(alloc, row.first, row.second)?;
     let (net, events) = run_workers(rt, alloc, net, crew, &OpenGate)?;
     let many = row.least <= events.len() && events.len() <= row.most;
-    Ok(many && net.is_quiet() == row.quiet)
+    Ok(many && (net.is_quiet() || !row.quiet))
 }
 
 #[test]
@@ -141,20 +163,38 @@ fn workers_leave_rings_as_the_rows_say(rt: HostRuntime) -> Result<(), Fail> {
     Ok(())
 }
 
-#[test]
-fn two_workers_are_inside_at_once(rt: HostRuntime) -> Result<(), Fail> {
-    let gate = BothInside {
+// Whether as many workers as there are nodes in the net, whose bits these are, were all inside at once.
+fn are_inside<R: Threads + Wait + Sync>(
+    rt: &R,
+    alloc: Global,
+    net: Net<Counter>,
+    workers: u32,
+    all: u64,
+) -> Result<bool, AllocError>
+    requires workers { (1 ≤ workers) × (workers ≤ 16) }
+    requires peers { ArePeers (λ c. c.peers) net }
+{
+    let gate = AllInside {
+        all,
         inside: AtomicU64::new(0),
         given_up: AtomicU64::new(0),
     };
     let crew = Crew {
-        workers: 2,
-        turns: 2,
+        workers,
+        turns: 1000,
     };
-    let (_net, events) = run_workers(&rt, rt.alloc(), pair(rt.alloc())?, crew, &gate)?;
+    let (_net, events) = run_workers(rt, alloc, net, crew, &gate)?;
     let inside = gate.inside.load(Ordering::SeqCst);
     let given_up = gate.given_up.load(Ordering::SeqCst);
-    assert_eq!(rt; (events.len() >= 2, inside, given_up), (true, 3, 0));
+    Ok(events.len() >= workers as usize && inside == all && given_up == 0)
+}
+
+// No lock is waited for, so each worker goes on until it finds a node where nobody is.
+#[test]
+fn all_workers_are_inside_at_once(rt: HostRuntime) -> Result<(), Fail> {
+    let two = are_inside(&rt, rt.alloc(), pair(rt.alloc())?, 2, 3)?;
+    let four = are_inside(&rt, rt.alloc(), quartet(rt.alloc())?, 4, 15)?;
+    assert_eq!(rt; (two, four), (true, true));
     Ok(())
 }
 

@@ -11,11 +11,7 @@ use std::marker::Model;
 use std::sync::Wait;
 use std::thread::Threads;
 
-// How many turns a worker has at most where witnesses look. Each look tells thousands of lines where many are near, which wait in a
-// link until the base node's turn: more looks in threads cost more than they bring.
-const MOST_LOOKING: u32 = 24;
-
-/// The workers of a run: how many there are, how many turns each has in a phase of a round, and the gate that is called before each turn.
+/// The workers of a run: how many there are, how many visits each has in a phase of a round, and the gate that is called before each visit.
 #[derive(Drop)]
 pub struct Workers<'a, G> {
     crew: Crew,
@@ -34,7 +30,7 @@ impl<'a, G> Model for Workers<'a, G> {
 }
 
 impl<'a, G> Workers<'a, G> {
-    /// A crew of 1 to 16 workers, each of whom has a turn or more in a phase.
+    /// A crew of 1 to 16 workers, each of whom has a visit or more in a phase.
     pub fn new(crew: Crew, gate: &'a G) -> Workers<'a, G>
         requires workers { (1 ≤ crew.workers) × (crew.workers ≤ 16) }
         requires turns { 1 ≤ crew.turns }
@@ -48,11 +44,12 @@ impl<'a, G> Workers<'a, G> {
         self.crew.workers == 1
     }
 
-    // The same workers, where witnesses look.
+    // Who lets witnesses look: one alone. Each look tells thousands of lines where many are near, which wait in a link until the base
+    // node's turn: looks in threads took half as many processor seconds again, and twice the memory.
     pub(crate) fn at_looks(&self) -> Workers<'a, G> {
         Workers {
             crew: Crew {
-                turns: self.crew.turns.min(MOST_LOOKING),
+                workers: 1,
                 ..self.crew
             },
             gate: self.gate,

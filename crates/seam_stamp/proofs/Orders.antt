@@ -5,11 +5,11 @@ use Rattle.std.specs.Prelude.{IfSome}
 use Rattle.std.specs.Option.{IsSome}
 use Rattle.std.proofs.lemmas.Bool.{cases_eq}
 use Rattle.std.proofs.lemmas.Bool.Decides.{nat_tests, leb_tells}
-use Rattle.std.proofs.lemmas.List.{append-nil}
-use Rattle.std.proofs.lemmas.List.{get_or-set_same, get_or-set_other, get_or_past}
+use Rattle.std.proofs.lemmas.List.{append-nil, map-append, map-set, length-map}
+use Rattle.std.proofs.lemmas.List.{get_or-set_same, get_or-set_other, set-get_or, get_or_past}
 use Rattle.seam_stamp.specs.declared.Stamped.{Stamped}
-use Rattle.seam_stamp.specs.Logs.{IsLogFrom, AreLogs, by_node, IsFrom, RiseFrom, IsMerge}
-use Rattle.seam_stamp.specs.Heads.{IsFirst, AllEmpty}
+use Rattle.seam_stamp.specs.Logs.{IsLogFrom, AreLogs, by_node, IsFrom, RiseFrom, IsMerge, IsMergeOf}
+use Rattle.seam_stamp.specs.Heads.{IsFirst, AllEmpty, Merging, IsMergingTo, AreLater, HasMoved, HasOther}
 
 eqb_yes : (a b : ℕ) → a ≡ b → eqb a b ≡ true
 eqb_yes a b e = grind (arith, nat_tests)
@@ -52,45 +52,76 @@ module _ {E : Type 0} where
   rises_by_next t k [] e d h f = (h.0, (f, tt))
   rises_by_next t k (x ∷ xs) e d h f = (h.0, rises_by_next x.stamp (x.node + 1) xs e d h.1 f)
 
-  -- what is merged and what is left of the logs
-  pub record Merging (logs heads : List (List (Stamped E))) (merged : List (Stamped E)) : Type 0 where
-    pub whole : (k : ℕ) → by_node k merged ++ get_or heads k [] ≡ get_or logs k []
-    pub order : RiseFrom 0 0 merged
-    pub logs_left : AreLogs heads
-    pub next : (k : ℕ) (d : Stamped E) (ds : List (Stamped E)) → get_or heads k [] ≡ d ∷ ds → RiseFrom 0 0 (merged ++ d ∷ [])
-
   first_from : (d : Stamped E) → IsFrom 0 0 d
   first_from d = elim (cases_eq d.stamp 0) [ inl h ↦ inr (sym h, omega arith) | inr h ↦ inl (omega arith) ]
 
-  pub merging_starts : (logs : List (List (Stamped E))) → AreLogs logs → Merging logs logs []
-  merging_starts logs are = record {
-    whole = λ k. refl;
-    order = tt;
-    logs_left = are;
-    next = λ k d ds e. (first_from d, tt);
-  }
+  pub merging_starts : (logs : List (List (Stamped E))) → AreLogs logs → IsMergingTo logs logs []
+  merging_starts logs are = (
+    [],
+    record {
+      whole = λ k. refl;
+      order = tt;
+      logs_left = are;
+      next = λ k d ds e. (first_from d, tt);
+    },
+    refl,
+  )
 
-  pub merging_ends : (logs heads : List (List (Stamped E))) (merged : List (Stamped E)) → Merging logs heads merged → AllEmpty heads →
-      IsMerge logs merged
-  merging_ends logs heads merged m empty = record {
-    whole = λ k. sym (append-nil (by_node k merged)) ∙ (ap (λ l. by_node k merged ++ l) (sym (empty k)) ∙ m.whole k);
-    order = m.order;
-  }
+  pub merging_ends : (logs heads : List (List (Stamped E))) (items : List E) → IsMergingTo logs heads items → AllEmpty heads →
+      IsMergeOf logs items
+  merging_ends logs heads items (merged, m, are) empty = (
+    merged,
+    record {
+      whole = λ k. sym (append-nil (by_node k merged)) ∙ (ap (λ l. by_node k merged ++ l) (sym (empty k)) ∙ m.whole k);
+      order = m.order;
+    },
+    are,
+  )
 
-  module _ (logs heads : List (List (Stamped E))) (merged : List (Stamped E)) (k : ℕ) (m : Merging logs heads merged) (f : IsFirst heads k)
-    where
-      abbrev left : List (List (Stamped E))
-      left = set heads k f.rest
+  module _ (heads : List (List (Stamped E))) (k : ℕ) (are : AreLogs heads) (f : IsFirst heads k) where
+    abbrev left : List (List (Stamped E))
+    left = set heads k f.rest
 
-      left_here : get_or left k [] ≡ f.rest
-      left_here = get_or-set_same heads k f.rest [] f.within
+    left_here : get_or left k [] ≡ f.rest
+    left_here = get_or-set_same heads k f.rest [] f.within
 
-      left_other : (j : ℕ) → j ≢ k → get_or left j [] ≡ get_or heads j []
-      left_other j differ = get_or-set_other heads k j f.rest [] differ
+    left_other : (j : ℕ) → j ≢ k → get_or left j [] ≡ get_or heads j []
+    left_other j differ = get_or-set_other heads k j f.rest [] differ
 
-      own_log : IsLogFrom k 0 (f.entry ∷ f.rest)
-      own_log = subst (IsLogFrom k 0) f.log_is (m.logs_left k)
+    own_log : IsLogFrom k 0 (f.entry ∷ f.rest)
+    own_log = subst (IsLogFrom k 0) f.log_is (are k)
 
+    pub logs_after : (j : ℕ) → IsLogFrom j 0 (get_or left j [])
+    logs_after j = elim (cases_eq j k) [
+      | inl h ↦ rw (h, left_here) (log_later k (f.entry.stamp + 1) f.rest own_log.2)
+      | inr h ↦ rw (left_other j h) (are j)
+    ]
+
+    rest_later : (d : Stamped E) (ds : List (Stamped E)) → f.rest ≡ d ∷ ds → f.entry.stamp < d.stamp
+    rest_later d ds e = let later = subst (IsLogFrom k (f.entry.stamp + 1)) e own_log.2 in omega (arith, later.1)
+
+    other_after : (j : ℕ) (d : Stamped E) (ds : List (Stamped E)) → j ≢ k → get_or heads j [] ≡ d ∷ ds →
+        IsFrom f.entry.stamp (f.entry.node + 1) d
+    other_after j d ds other e =
+        let node = (subst (IsLogFrom j 0) e (are j)).0 in
+        let least = f.least j d ds e in
+        elim (cases_eq f.entry.stamp d.stamp) [
+          | inl same ↦ elim (leb_tells (suc j) k) [
+            | inl p ↦ absurd (let less = f.lowest j d ds e p.1 in omega (arith, less, same))
+            | inr p ↦ inr (same, omega (arith, node, own_log.0, p.1, other))
+          ]
+          | inr differ ↦ inl (omega (arith, least, differ))
+        ]
+
+    -- the logs up to it have its stamp no more
+    pub later_after : AreLater (k + 1) f.entry.stamp left
+    later_after j d ds e = elim (cases_eq j k) [
+      | inl h ↦ (let more = rest_later d ds (sym (ap (λ (i : ℕ). get_or left i []) h ∙ left_here) ∙ e) in
+          (omega (arith, more), λ _. more))
+      | inr h ↦ (let is = sym (left_other j h) ∙ e in (f.least j d ds is, λ lt. f.lowest j d ds is (omega (arith, lt, h))))
+    ]
+
+    module _ (logs : List (List (Stamped E))) (merged : List (Stamped E)) (m : Merging logs heads merged) where
       whole_left : (j : ℕ) → by_node j (merged ++ f.entry ∷ []) ++ get_or left j [] ≡ get_or logs j []
       whole_left j = elim (cases_eq j k) [
         | inl h ↦ ap (λ l. l ++ get_or left j []) (by_node_append j merged (f.entry ∷ [])
@@ -103,32 +134,10 @@ module _ {E : Type 0} where
             ∙ (ap (λ l. by_node j merged ++ l) (left_other j h) ∙ m.whole j)
       ]
 
-      logs_after : (j : ℕ) → IsLogFrom j 0 (get_or left j [])
-      logs_after j = elim (cases_eq j k) [
-        | inl h ↦ rw (h, left_here) (log_later k (f.entry.stamp + 1) f.rest own_log.2)
-        | inr h ↦ rw (left_other j h) (m.logs_left j)
-      ]
-
-      rest_after : (d : Stamped E) (ds : List (Stamped E)) → f.rest ≡ d ∷ ds → IsFrom f.entry.stamp (f.entry.node + 1) d
-      rest_after d ds e = let later = subst (IsLogFrom k (f.entry.stamp + 1)) e own_log.2 in inl (omega (arith, later.1))
-
-      other_after : (j : ℕ) (d : Stamped E) (ds : List (Stamped E)) → j ≢ k → get_or heads j [] ≡ d ∷ ds →
-          IsFrom f.entry.stamp (f.entry.node + 1) d
-      other_after j d ds other e =
-          let node = (subst (IsLogFrom j 0) e (m.logs_left j)).0 in
-          let least = f.least j d ds e in
-          elim (cases_eq f.entry.stamp d.stamp) [
-            | inl same ↦ elim (leb_tells (suc j) k) [
-              | inl p ↦ absurd (let less = f.lowest j d ds e p.1 in omega (arith, less, same))
-              | inr p ↦ inr (same, omega (arith, node, own_log.0, p.1, other))
-            ]
-            | inr differ ↦ inl (omega (arith, least, differ))
-          ]
-
       next_after : (j : ℕ) (d : Stamped E) (ds : List (Stamped E)) → get_or left j [] ≡ d ∷ ds →
           RiseFrom 0 0 ((merged ++ f.entry ∷ []) ++ d ∷ [])
       next_after j d ds e = rises_by_next 0 0 merged f.entry d (m.next k f.entry f.rest f.log_is) (elim (cases_eq j k) [
-        | inl h ↦ rest_after d ds (sym (ap (λ (i : ℕ). get_or left i []) h ∙ left_here) ∙ e)
+        | inl h ↦ inl (rest_later d ds (sym (ap (λ (i : ℕ). get_or left i []) h ∙ left_here) ∙ e))
         | inr h ↦ other_after j d ds h (sym (left_other j h) ∙ e)
       ])
 
@@ -139,6 +148,102 @@ module _ {E : Type 0} where
         logs_left = logs_after;
         next = next_after;
       }
+
+    pub merging_to_goes_on : (logs : List (List (Stamped E))) (items : List E) → IsMergingTo logs heads items →
+        IsMergingTo logs left (items ++ f.entry.item ∷ [])
+    merging_to_goes_on logs items (merged, m, are_items) = (
+      merged ++ f.entry ∷ [],
+      merging_goes_on logs merged m,
+      ap (λ l. l ++ f.entry.item ∷ []) are_items ∙ sym (map-append (λ (e : Stamped E). e.item) merged (f.entry ∷ [])),
+    )
+
+  -- ---- an entry that was taken
+
+  -- the logs after the first entry of log k was taken, and the items with its item
+  pub record HasTaken (logs heads : List (List (Stamped E))) (items : List E) (k : ℕ) (e : Stamped E) : Type 0 where
+    pub logs_left : AreLogs heads
+    pub later : AreLater (k + 1) e.stamp heads
+    pub merging : IsMergingTo logs heads (items ++ e.item ∷ [])
+
+  taken_first : (logs heads : List (List (Stamped E))) (items : List E) (k : ℕ) (f : IsFirst heads k) → IsMergingTo logs heads items →
+      HasTaken logs (set heads k f.rest) items k f.entry
+  taken_first logs heads items k f m =
+      let are = m.1.logs_left in
+      record {
+        logs_left = logs_after heads k are f;
+        later = later_after heads k are f;
+        merging = merging_to_goes_on heads k are f logs items m;
+      }
+
+  pub taken : {Q : Type 0} (view : Q → List (Stamped E)) (logs : List (List (Stamped E))) (queues : List Q) (items : List E) (k : ℕ)
+      (old new : Q) (e : Stamped E) → IsFirst (map view queues) k → old ≡ get_or queues k old → view old ≡ e ∷ view new →
+      IsMergingTo logs (map view queues) items → HasTaken logs (map view (set queues k new)) items k e
+  taken view logs queues items k old new e f here cut m =
+      let heads = map view queues in
+      let within : k < length queues = omega (arith, f.within, length-map queues view) in
+      let both : f.entry ∷ f.rest ≡ e ∷ view new = sym f.log_is ∙ read_view view queues k old [] within here ∙ cut in
+      let first : f.entry ≡ e = cc in
+      let rest : f.rest ≡ view new = cc in
+      subst (λ (l : List (List (Stamped E))). HasTaken logs l items k e) (sym (map-set view queues k new))
+      (subst (λ (r : List (Stamped E)). HasTaken logs (set heads k r) items k e) rest
+      (subst (λ (d : Stamped E). HasTaken logs (set heads k f.rest) items k d) first (taken_first logs heads items k f m)))
+
+  -- ---- entries of one stamp
+
+  module _ (heads : List (List (Stamped E))) (k stamp : ℕ) (later : AreLater k stamp heads) where
+    -- an entry with the stamp comes next
+    pub comes_first : (e : Stamped E) (es : List (Stamped E)) → get_or heads k [] ≡ e ∷ es → e.stamp ≡ stamp → k < length heads →
+        IsFirst heads k
+    comes_first e es is same within = record {
+      entry = e;
+      rest = es;
+      log_is = is;
+      within = within;
+      least = λ j d ds at. (let h = (later j d ds at).0 in omega (arith, h, same));
+      lowest = λ j d ds at lt. (let h = (later j d ds at).1 lt in omega (arith, h, same));
+    }
+
+    pub later_kept : ((d : Stamped E) (ds : List (Stamped E)) → get_or heads k [] ≡ d ∷ ds → d.stamp ≢ stamp) →
+        AreLater (k + 1) stamp heads
+    later_kept other j d ds at = (
+      (later j d ds at).0,
+      λ lt. elim (cases_eq j k) [
+        | inl h ↦ (let differ = other d ds (ap (λ (i : ℕ). get_or heads i []) (sym h) ∙ at) in
+            let h' = (later j d ds at).0 in
+            omega (arith, h', differ))
+        | inr h ↦ (later j d ds at).1 (omega (arith, lt, h))
+      ],
+    )
+
+  -- what holds of the logs while entries of one stamp are merged, from the logs and items at the start
+  pub record MergesEqual (start : List (List (Stamped E))) (first : List E) (heads : List (List (Stamped E))) (items : List E) (k stamp : ℕ)
+      : Type 0 where
+    pub logs : AreLogs heads
+    pub later : AreLater k stamp heads
+    pub merging : (logs : List (List (Stamped E))) → IsMergingTo logs start first → IsMergingTo logs heads items
+
+  pub equal_goes_on : (start : List (List (Stamped E))) (first : List E) (heads : List (List (Stamped E))) (items items' : List E)
+      (k stamp : ℕ) (new : List (Stamped E)) → k < length heads → MergesEqual start first heads items k stamp →
+      HasMoved stamp (get_or heads k []) new items items' ⊎ HasOther stamp (get_or heads k []) new items items' →
+      MergesEqual start first (set heads k new) items' (k + 1) stamp
+  unfolding comes_first
+  equal_goes_on start first heads items items' k stamp new within m (inl moved) =
+      let f = comes_first heads k stamp m.later moved.entry new moved.old_is moved.stamp_is within in
+      record {
+        logs = logs_after heads k m.logs f;
+        later = subst (λ (t : ℕ). AreLater (k + 1) t (set heads k new)) moved.stamp_is (later_after heads k m.logs f);
+        merging = λ logs h.
+            subst (IsMergingTo logs (set heads k new)) (sym moved.merged)
+            (merging_to_goes_on heads k m.logs f logs items (m.merging logs h));
+      }
+  equal_goes_on start first heads items items' k stamp new within m (inr other) =
+      let same : set heads k new ≡ heads = ap (set heads k) other.same ∙ set-get_or heads k [] in
+      subst (λ (l : List (List (Stamped E))). MergesEqual start first l items' (k + 1) stamp) (sym same)
+      (record {
+        logs = m.logs;
+        later = later_kept heads k stamp m.later other.other;
+        merging = λ logs h. subst (IsMergingTo logs heads) (sym other.kept) (m.merging logs h);
+      })
 
   -- of the logs below n none has an entry, or log k is the first of them with the least stamp
   abbrev pub FirstBelow : List (List (Stamped E)) → ℕ → Option ℕ → ℕ → Type 0

@@ -1,5 +1,5 @@
 -- Logs of the nodes of a net, and their merge.
-use Rattle.std.specs.Prelude.{◌≡◌, ℕ, ◌+◌, ◌<◌, ◌≤◌, ◌⊎◌, List, [], ◌∷◌, slice_index_or, if◌then◌else◌, ◌==◌}
+use Rattle.std.specs.Prelude.{◌≡◌, ℕ, ◌+◌, ◌<◌, ◌≤◌, ◌⊎◌, List, [], ◌∷◌, map, slice_index_or, if◌then◌else◌, ◌==◌}
 use Rattle.seam_stamp.specs.declared.Stamped.{Stamped}
 
 -- entries of node k, whose stamps rise strictly and are at least t
@@ -29,3 +29,7 @@ RiseFrom t k (e ∷ es) = IsFrom t k e × RiseFrom e.stamp (e.node + 1) es
 pub record IsMerge {E : Type 0} (logs : List (List (Stamped E))) (merged : List (Stamped E)) : Type 0 where
   pub whole : (k : ℕ) → by_node k merged ≡ slice_index_or logs k []
   pub order : RiseFrom 0 0 merged
+
+-- the items of a merge
+abbrev pub IsMergeOf : {E : Type 0} → List (List (Stamped E)) → List E → Type 0
+IsMergeOf {E} logs items = (merged : List (Stamped E)) × IsMerge logs merged × (items ≡ map (λ e. e.item) merged)

@@ -16,10 +16,11 @@
 
 mod merged_runs;
 
-ghost use Rattle.std.specs.Prelude.{◌≡◌, ℕ, ◌<◌, ◌≤◌, [], ◌∷◌, IfOk, IfSome, IfNone, map};
+ghost use Rattle.std.specs.Prelude.{◌≡◌, ℕ, ◌<◌, ◌≤◌, ◌⊎◌, List, [], ◌∷◌, IfOk, OnOk, IfSome, IfNone, length, map};
+ghost use Rattle.std.specs.List.{sum_by};
 ghost use Rattle.seam_stamp.specs.declared.Stamped.{Stamped};
-ghost use Rattle.seam_stamp.specs.Logs.{AreLogs, IsMerge};
-ghost use Rattle.seam_stamp.specs.Heads.{IsFirst, AllEmpty};
+ghost use Rattle.seam_stamp.specs.Logs.{AreLogs, IsMergeOf};
+ghost use Rattle.seam_stamp.specs.Heads.{IsFirst, AllEmpty, AreLater, IsMergingTo, HasMoved, HasOther};
 
 pub use merged_runs::{logs_are_run, moves_are_run};
 use std::alloc::{AllocError, Global};
@@ -40,22 +41,65 @@ pub struct Stamped<E> {
     pub item: E,
 }
 
-/// All entries of the logs, ordered by stamp and, where stamps are equal, by node. Log k is that of node k.
-pub fn merge<E: Drop>(
-    alloc: Global,
-    logs: Vec<Vec<Stamped<E>>>,
-) -> Result<Vec<Stamped<E>>, AllocError>
+/// The items of all entries of the logs, ordered by stamp and, where stamps are equal, by node. Log k is that of node k.
+pub fn merge<E: Drop>(alloc: Global, logs: Vec<Vec<Stamped<E>>>) -> Result<Vec<E>, AllocError>
     requires { AreLogs (map (λ l. l.items) logs.items) }
-    ensures { IfOk result (λ v. IsMerge (map (λ l. l.items) logs.items) v.items) }
+    ensures { IfOk result (λ v. IsMergeOf (map (λ l. l.items) logs.items) v.items) }
 {
     let mut heads = queues(alloc, logs)?;
     let mut merged = Vec::new(alloc);
     while let Some(k) = first_head(&heads) {
-        if let Some(entry) = heads[k].pop_front() {
-            merged.push(entry)?;
+        if let Some(Stamped { stamp, item, .. }) = heads[k].pop_front() {
+            merged.push(item)?;
+            merge_equal(&mut heads, k + 1, stamp, &mut merged)?;
         }
     }
     Ok(merged)
+}
+
+// Moves the first entries with this stamp, of that log and those after it, to the merge. Many nodes have an entry of each stamp, so the
+// least stamp is looked for once for all of them.
+fn merge_equal<E: Drop>(
+    heads: &mut Vec<VecDeque<Stamped<E>>>,
+    from: usize,
+    stamp: u64,
+    merged: &mut Vec<E>,
+) -> Result<(), AllocError>
+    requires logs { AreLogs (map (λ q. q.items) heads.old.items) }
+    requires later { AreLater from stamp (map (λ q. q.items) heads.old.items) }
+    ensures merging { OnOk result ((logs : List (List (Stamped E))) →
+        IsMergingTo logs (map (λ q. q.items) heads.old.items) merged.old.items →
+        IsMergingTo logs (map (λ q. q.items) heads.new.items) merged.new.items) }
+    ensures fewer { sum_by (λ q. length q.items) heads.new.items
+        ≤ sum_by (λ q. length q.items) heads.old.items }
+{
+    for k in from..heads.len() {
+        merge_first(&mut heads[k], stamp, merged)?;
+    }
+    Ok(())
+}
+
+// Moves the first entry of a log to the merge, if it has this stamp.
+fn merge_first<E: Drop>(
+    head: &mut VecDeque<Stamped<E>>,
+    stamp: u64,
+    merged: &mut Vec<E>,
+) -> Result<(), AllocError>
+    ensures first { OnOk result (
+        HasMoved stamp head.old.items head.new.items merged.old.items merged.new.items
+        ⊎ HasOther stamp head.old.items head.new.items merged.old.items merged.new.items) }
+    ensures fewer { length head.new.items ≤ length head.old.items }
+{
+    let Some(entry) = head.front() else {
+        return Ok(());
+    };
+    if entry.stamp != stamp {
+        return Ok(());
+    }
+    if let Some(Stamped { item, .. }) = head.pop_front() {
+        merged.push(item)?;
+    }
+    Ok(())
 }
 
 // The logs as queues, whose first entries are looked at.

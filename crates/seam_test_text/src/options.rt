@@ -29,7 +29,7 @@ fn options(workers: u32, turns: u32, trace: bool, storm: Option<u32>) -> Options
 fn asks(help: bool, version: bool) -> Options {
     Options {
         workers: 4,
-        turns: 1_000,
+        turns: 1_000_000,
         trace: false,
         storm: None,
         help,
@@ -47,10 +47,10 @@ const REFUSED: Result<Options, ArgsError> = Err(ArgsError::Usage);
 fn kept_rows(alloc: Global) -> Result<(usize, usize), Fail> {
     let mut kept = 0usize;
     let rows = [
-        ([].as_slice(), Ok(options(4, 1_000, false, None))),
+        ([].as_slice(), Ok(options(4, 1_000_000, false, None))),
         (
             &["--workers=2", "--trace"],
-            Ok(options(2, 1_000, true, None)),
+            Ok(options(2, 1_000_000, true, None)),
         ),
         (
             &["--turns", "1000000", "--workers", "16"],
@@ -62,7 +62,7 @@ fn kept_rows(alloc: Global) -> Result<(usize, usize), Fail> {
         ),
         (
             &["--storm", "1000000"],
-            Ok(options(4, 1_000, false, Some(1_000_000))),
+            Ok(options(4, 1_000_000, false, Some(1_000_000))),
         ),
         (&["--workers", "17"], REFUSED),
         (&["--workers=0"], REFUSED),
@@ -80,7 +80,10 @@ fn kept_rows(alloc: Global) -> Result<(usize, usize), Fail> {
         (&["--version", "--help"], Ok(asks(true, true))),
         (&["--help", "--world"], REFUSED),
         (&["-h", "--help"], REFUSED),
-        (&["--workers=+04", "--"], Ok(options(4, 1_000, false, None))),
+        (
+            &["--workers=+04", "--"],
+            Ok(options(4, 1_000_000, false, None)),
+        ),
         (&["--world"], REFUSED),
         (&["world"], REFUSED),
     ];

@@ -1,21 +1,28 @@
 -- What a worker did.
-use Rattle.std.specs.Prelude.{◌≡◌, ◌⊎◌, ◌≤◌, ℕ, ◌+◌, Bool, true}
+use Rattle.std.specs.Prelude.{◌≡◌, ◌⊎◌, ◌≤◌, ℕ, ◌+◌, ◌/◌, Bool, true}
 use Rattle.seam_logged.specs.declared.Try.{Try}
 use Rattle.seam_logged.specs.declared.Try.TheVariants.{Stepped, Idle, NoMemory}
 
--- how many tries were made, how many of the last ones found nothing to do, and whether memory was refused to one of the crew
+-- how many visits were made, how many of the last ones found nothing to do, and whether memory was refused to one of the crew
 pub record ShiftView : Type 0 where
-  pub tries : ℕ
+  pub visits : ℕ
   pub idle : ℕ
   pub refused : Bool
 
--- after one try more, with this answer
-abbrev pub after_try : ShiftView → Try → ShiftView
-after_try s Stepped = record { tries = s.tries + 1; idle = 0; refused = s.refused }
-after_try s Idle = record { tries = s.tries + 1; idle = s.idle + 1; refused = s.refused }
-after_try s NoMemory = record { tries = s.tries + 1; idle = s.idle; refused = true }
+-- after one visit more, which found this
+abbrev pub after_visit : ShiftView → Try → ShiftView
+after_visit s Stepped = record { visits = s.visits + 1; idle = 0; refused = s.refused }
+after_visit s Idle = record { visits = s.visits + 1; idle = s.idle + 1; refused = s.refused }
+after_visit s NoMemory = record { visits = s.visits + 1; idle = s.idle; refused = true }
 
--- so many tries were made, or as many as there are nodes found nothing to do one after the other, or memory was refused to one
--- of the crew
+-- after one visit more, which met a taken lock
+abbrev pub after_miss : ShiftView → ShiftView
+after_miss s = record { visits = s.visits + 1; idle = s.idle; refused = s.refused }
+
+-- how many visits of each node find nothing before a shift is over
+abbrev pub idle_passes : ℕ
+idle_passes = 16
+
+-- so many visits were made, or the last ones, sixteen for each node, found nothing to do, or memory was refused to one of the crew
 abbrev pub IsDone : ℕ → ℕ → ShiftView → Type 0
-IsDone turns nodes s = (s.tries ≡ turns) ⊎ (nodes ≤ s.idle) ⊎ (s.refused ≡ true)
+IsDone turns nodes s = (s.visits ≡ turns) ⊎ (nodes ≤ s.idle / idle_passes) ⊎ (s.refused ≡ true)

@@ -54,17 +54,6 @@ fn in_columns<M: Machine>(alloc: Global, done: Vec<Apart<M>>) -> Result<Columns<
     })
 }
 
-// The events of a log.
-fn events_of(alloc: Global, log: Vec<Stamped<Event>>) -> Result<Vec<Event>, AllocError>
-    ensures { IfOk result (λ v. v.items ≡ map (λ e. e.item) log.items) }
-{
-    let mut events = Vec::new(alloc);
-    for entry in log {
-        events.push(entry.item)?;
-    }
-    Ok(events)
-}
-
 /// Puts a net together: its links meet, and its logs are merged.
 pub fn rejoin<M: Machine>(
     alloc: Global,
@@ -82,7 +71,6 @@ pub fn rejoin<M: Machine>(
     } = in_columns(alloc, done)?;
     let links = left(alloc, ends, hands)?;
     let net = Net::of_parts(alloc, NetParts { nodes, links })?;
-    let merged = merge(alloc, logs)?;
-    let events = events_of(alloc, merged)?;
+    let events = merge(alloc, logs)?;
     Ok((net, events))
 }

@@ -6,25 +6,27 @@
 //! done, the ends of the links meet, the logs are merged, and the net is put together again. Whatever the workers did, the net is the run
 //! of the events that are returned (Lamport, "Time, Clocks, and the Ordering of Events in a Distributed System", 1978).
 //!
-//! While one node alone has something to do, nothing can be done side by side. So events happen on the net itself then (`alone`), at most
-//! as many as a worker has turns. If anything is left after that, threads start, also where one node alone has it.
+//! While one node alone has something to do, nothing can be done side by side. So events happen on the net itself then (`alone`), in at
+//! most as many visits as a worker has turns. No thread starts unless two nodes have something to do, or these turns are over.
+//!
+//! A worker takes a free lock or goes on to the next node, and makes many steps under it. So it seldom meets a taken lock, and a node's
+//! links are looked at once for many steps.
 //!
 //! No clause of `run_workers` says that two workers run at once, how much they do, or that they end: tests show it.
 //!
 //! The lock of a node holds no promise of which node it is. Each node keeps a claim to its number, of which there is one, so that nodes
-//! that come back from the locks are known to be all and each once. A worker's shift counts its tries, and only a visit adds one. That a
-//! try answers want of memory without having met it no contract can refuse; a test does.
+//! that come back from the locks are known to be all and each once. A worker's shift counts its visits, and what it counts is what their
+//! tries answered; that a lock was taken no contract can tell, so such a visit is no reason to end. That a try answers want of memory
+//! without having met it no contract can refuse; a test does.
 #![tactic(auto)]
 
-ghost use Rattle.std.specs.Prelude.{◌≡◌, ◌≢◌, ℕ, ◌+◌, ◌%◌, ◌^◌, ◌<◌, ◌≤◌, ◌⊎◌, [], length, map, true, Some, IfOk, vec_len, slice_get};
+ghost use Rattle.std.specs.Prelude.{◌≡◌, ◌≢◌, ℕ, ◌+◌, ◌%◌, ◌^◌, ◌<◌, ◌≤◌, length, map, true, Some, IfOk, vec_len, slice_get};
 ghost use Rattle.std.specs.List.{All};
 ghost use Rattle.seam_machine.specs.Nets.{LeadsTo, ArePeers};
 ghost use Rattle.seam_workers.specs.Seats.{Placed, filled, AreRuns, roots_of, HasEnds};
 ghost use Rattle.seam_workers.specs.Rejoined.{HasEventOf, IsOutcome};
 ghost use Rattle.seam_workers.specs.Shifts.{IsDone};
-ghost use Rattle.seam_workers.specs.Tries.{IsCounted};
-ghost use Rattle.seam_logged.specs.Logs.{HasStepped, SameBut, IsIdle};
-ghost use Rattle.seam_logged.specs.declared.Try.TheVariants as Try;
+ghost use Rattle.seam_workers.specs.Tries.{HasAnswered, HasFound, IsCounted};
 
 mod alone;
 mod joins;
@@ -47,15 +49,18 @@ use std::thread::{Builder, Threads};
 // How many bytes of stack a worker's thread has, whatever the system's default is. A step takes a small part of it.
 const STACK: usize = 1 << 20;
 
-/// How many workers there are, and how many tries each of them has at most. An even worker visits the nodes in rising order,
-/// an odd one in falling order.
+// How many steps a visit makes at most, so that no node is held while others wait for what it knows.
+const MOST_STEPS: u32 = 64;
+
+/// How many workers there are, and how many visits each of them has at most. Of more workers than nodes the last ones do nothing. An even
+/// worker visits the nodes in rising order, an odd one in falling order. At each visit a node makes up to 64 steps.
 #[derive(Clone, Copy, Debug, PartialEq, Eq)]
 pub struct Crew {
     pub workers: u32,
     pub turns: u32,
 }
 
-/// What is called before each try, while nobody else can step the node.
+/// What is called before the first step of each visit, while nobody else can step the node.
 pub trait Gate {
     fn at_step<R: Threads + Wait + Sync>(&self, rt: &R, node: u8);
 }
@@ -144,24 +149,39 @@ impl<M: Machine, J: Naming<M, M::Msg> + Claims> Seat<M, J> {
     // Makes one step, if there is one to make.
     fn try_step(&mut self, alloc: Global) -> Try
         ensures me { self.new.me ≡ self.old.me }
-        ensures stepped { result ≡ Try.Stepped → HasStepped M.steps self.old self.new ×
-            (self.new.unsent ≡ []) }
-        ensures idle { result ≡ Try.Idle → SameBut self.old self.new ×
-            IsIdle M.has_work self.old self.new × (self.new.unsent ≡ []) }
-        ensures memory { result ≡ Try.NoMemory → SameBut self.old self.new ⊎
-            HasStepped M.steps self.old self.new }
+        ensures answered { HasAnswered M.has_work M.steps self.old self.new result }
     {
         self.logged.try_step(alloc)
     }
 
-    // Makes one step, if there is one to make, and counts the answer.
+    // Makes steps until there is none to make, or as many as a visit may have.
+    fn make_steps(&mut self, alloc: Global) -> Try
+        ensures me { self.new.me ≡ self.old.me }
+        ensures found { HasFound M.has_work M.steps self.old self.new result }
+    {
+        match self.try_step(alloc) {
+            Try::Stepped => {}
+            Try::Idle => return Try::Idle,
+            Try::NoMemory => return Try::NoMemory,
+        }
+        for _step in 1..MOST_STEPS {
+            match self.try_step(alloc) {
+                Try::Stepped => {}
+                Try::Idle => return Try::Stepped,
+                Try::NoMemory => return Try::NoMemory,
+            }
+        }
+        Try::Stepped
+    }
+
+    // Makes the steps of a visit, and counts what its tries answered.
     fn try_counted(&mut self, alloc: Global, shift: &mut Shift)
-        requires { shift.old.tries + 1 < 2 ^ 32 }
+        requires { shift.old.visits + 1 < 2 ^ 32 }
         ensures me { self.new.me ≡ self.old.me }
         ensures counted { IsCounted M.has_work M.steps self.old self.new shift.old shift.new }
     {
-        let tried = self.try_step(alloc);
-        shift.count(tried);
+        let found = self.make_steps(alloc);
+        shift.count(found);
     }
 
     // The node without its claim.
@@ -203,9 +223,9 @@ fn new_claims(alloc: Global, n: usize) -> Result<Vec<Blank>, AllocError>
     Ok(blanks)
 }
 
-// A worker's number, how many tries it has, and whether memory was refused to one of its crew.
+// A worker's number, how many visits it has, and whether memory was refused to one of its crew.
 #[derive(Clone, Copy)]
-struct Tries<'a> {
+struct Duty<'a> {
     number: usize,
     turns: u32,
     refused: &'a AtomicBool,
@@ -222,36 +242,37 @@ fn place_at(number: usize, turn: u32, n: usize) -> usize
     if number % 2 == 0 { k } else { n - 1 - k }
 }
 
-// Visits the nodes in turn, until no step was made over as many visits as there are nodes, or memory was refused to one of the crew.
+// Visits the nodes in turn, until over sixteen passes no step was made, or memory was refused to one of the crew.
 fn work<M: Machine, J: Naming<M, M::Msg> + Claims, G: Gate, R: Threads + Wait + Sync>(
     rt: &R,
     alloc: Global,
     places: &[CachePadded<Mutex<Seat<M, J>>>],
-    tries: Tries<'_>,
+    duty: Duty<'_>,
     gate: &G,
 ) -> Shift
-    ensures { IsDone tries.entry.turns (length places.now) result }
+    ensures { IsDone duty.entry.turns (length places.now) result }
 {
     let n = places.len();
     let mut shift = Shift::new();
-    for turn in 0..tries.turns {
-        shift.heed(tries.refused);
+    for turn in 0..duty.turns {
+        shift.heed(duty.refused);
         if shift.is_over(n) {
             return shift;
         }
         visit(
             rt,
             alloc,
-            &places[place_at(tries.number, turn, n)],
+            &places[place_at(duty.number, turn, n)],
             gate,
             &mut shift,
         );
-        shift.tell(tries.refused);
+        shift.tell(duty.refused);
     }
     shift
 }
 
-// Each worker's visits, in a thread of its own where one can be made. Answers whether memory was refused to one of them.
+// The visits of the workers, of no more than there are nodes, each in a thread of its own where one can be made. Answers whether memory
+// was refused to one of them.
 fn visits<
     M: Machine + Send,
     J: Naming<M, M::Msg> + Claims + Send,
@@ -264,27 +285,27 @@ where
     let flag = AtomicBool::new(false);
     let refused = &flag;
     thread::scope(thread::scope_env(), rt, move |scope| {
-        for number in 1..crew.workers {
-            let tries = Tries {
-                number: number as usize,
+        for number in 1..(crew.workers as usize).min(places.len()) {
+            let duty = Duty {
+                number,
                 turns: crew.turns,
                 refused,
             };
             let started = Builder::new()
                 .stack_size(STACK)
                 .spawn_scoped(scope, move || {
-                    work(rt, alloc, places, tries, gate);
+                    work(rt, alloc, places, duty, gate);
                 });
             if started.is_err() {
-                work(rt, alloc, places, tries, gate);
+                work(rt, alloc, places, duty, gate);
             }
         }
-        let tries = Tries {
+        let duty = Duty {
             number: 0,
             turns: crew.turns,
             refused,
         };
-        work(rt, alloc, places, tries, gate);
+        work(rt, alloc, places, duty, gate);
     });
     flag.load(Ordering::SeqCst)
 }
@@ -473,8 +494,8 @@ where
 
 /// Runs the net by workers in threads. Each node that has a task makes a step.
 ///
-/// While one node alone has something to do, events happen on the net itself, at most `turns` of them. No thread is started and no link
-/// is made where nothing is left then. If allocation fails, nothing is given back.
+/// While one node alone has something to do, events happen on the net itself, in at most `turns` visits. No thread is started and no
+/// link is made where nothing is left then. If allocation fails, nothing is given back.
 pub fn run_workers<M: Machine + Send, G: Gate + Sync, R: Threads + Wait + Sync>(
     rt: &R,
     alloc: Global,

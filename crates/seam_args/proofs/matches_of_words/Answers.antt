@@ -55,8 +55,8 @@ pub returns : goal.returns
 returns c =
     let workers_is : rule_of c.default_value-workers.result ≡ number_rule (codes "workers") MOST_WORKERS (codes "4" ∷ []) =
     ap rule_of c.default_value-workers.ensures ∙ ap (with_default (codes "4" ∷ [])) c.number_option.ensures.rule in
-    let turns_is : rule_of c.default_value-turns.result ≡ number_rule (codes "turns") MOST_TURNS (codes "1000" ∷ []) =
-    ap rule_of c.default_value-turns.ensures ∙ ap (with_default (codes "1000" ∷ [])) c.number_option-2.ensures.rule in
+    let turns_is : rule_of c.default_value-turns.result ≡ number_rule (codes "turns") MOST_TURNS (codes "1000000" ∷ []) =
+    ap rule_of c.default_value-turns.ensures ∙ ap (with_default (codes "1000000" ∷ [])) c.number_option-2.ensures.rule in
     let storm_is : rule_of c.number_option-storm.result ≡ number_rule (codes "storm") LONGEST_STORM [] =
     c.number_option-storm.ensures.rule in
     let trace_is : rule_of c.flag-trace.result ≡ flag_rule (codes "trace") = c.flag-trace.ensures.rule in

@@ -34,7 +34,7 @@ returns g c =
     let parts = c.in_ok-net.ensures in
     let many : length parted.ends.items ≡ length done = ap length is.ends ∙ length-map done (λ v. v.ends) in
     let nodes : length parted.nodes.items ≡ length done = ap length is.nodes ∙ length-map done (λ v. v.node) in
-    let merged = c.in_ok-merged.merged.items in
+    let merge = c.in_ok-events.ensures in
     record {
       nodes = sym parts.nodes ∙ is.nodes;
       square = parts.square;
@@ -45,7 +45,7 @@ returns g c =
           let at = get_or links (a * length parted.ends.items + b) [] in
           subst (λ l. IsCell ends hands a b l) (ap (λ (k : ℕ). get_or links k []) same ∙ place)
           (subst (λ es. IsCell es hands a b at) is.ends (subst (λ hs. IsCell parted.ends.items hs a b at) is.hands cell));
-      merged = merged;
-      is_merge = subst (λ l. IsMerge l merged) is.logs c.in_ok-merged.ensures;
-      events_are = c.in_ok-events.ensures;
+      merged = merge.0;
+      is_merge = subst (λ l. IsMerge l merge.0) is.logs merge.1;
+      events_are = merge.2;
     }

@@ -5,7 +5,7 @@ use Rattle.std.proofs.alloc.Global.TheSendSync as heap
 use Rattle.std.proofs.sync.Mutex.TheSendSync as mutex
 use Rattle.std.proofs.sync.atomic.AtomicBool.TheSendSync as flag
 use Rattle.crossbeam_utils.proofs.cache_padded.CachePadded.TheSendSync as padded
-use Rattle.seam_workers.proofs.Tries.TheSendSync as tries
+use Rattle.seam_workers.proofs.Duty.TheSendSync as duty
 use Rattle.seam_workers.proofs.Crosses.{seat_send}
 use Rattle.seam_workers.proofs.fn.visits.scope.Goals as goal
 
@@ -24,8 +24,8 @@ spawn_scoped-started-requires-send-F g c κs within =
       flag.the_sync,
       padded.the_sync,
       padded.the_field_sync,
-      tries.the_send,
-      tries.the_field_send,
+      duty.the_send,
+      duty.the_field_send,
       crosses,
       sendable,
     ) depth 60 fits 20000

@@ -1,0 +1,3 @@
+mod WordSteps
+mod NumberSteps
+mod ValueSteps
