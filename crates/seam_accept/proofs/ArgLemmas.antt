@@ -7,7 +7,7 @@ use Rattle.seam_value.specs.Values.{Fits, text_of}
 use Rattle.seam_value.specs.declared.types.ValueType.{ValueType}
 use Rattle.seam_value.specs.declared.values.Value.{Value}
 use Rattle.seam_value.specs.declared.values.Value.TheVariants.{Number}
-use Rattle.seam_defs.specs.Deeds.{TakesArgs}
+use Rattle.seam_defs.specs.Deeds.{AreArgsOf}
 use Rattle.seam_defs.specs.declared.types.Method.{Method}
 use Rattle.seam_rule_lines.specs.Judging.{SpellsArgs}
 use Rattle.seam_rule_lines.specs.declared.verdict.Cause.TheVariants as cause
@@ -18,7 +18,7 @@ use Rattle.seam_accept.specs.declared.answers.Refusal.TheVariants as refusal
 
 -- the values are of the first types, and the first words spell them
 pub record SpellFirst (types : List ValueType) (arguments : List (Bor (List ℕ))) (i : ℕ) (values : List Value) : Type 0 where
-  pub takes : TakesArgs (take i types) values
+  pub takes : AreArgsOf (take i types) values
   pub spelled : map text_of values ≡ texts_of (take i arguments)
 
 all_zip_more : {A B : Type 0} (R : A → B → Type 0) (xs : List A) (ys : List B) (x : A) (y : B) → AllZip R xs ys → R x y →
@@ -46,7 +46,7 @@ pub spell_more : (types : List ValueType) (arguments : List (Bor (List ℕ))) (i
     (w : Bor (List ℕ)) (v : Value) → SpellFirst types arguments i values → i < length types → i < length arguments
     → Fits v (get_or types i t) → text_of v ≡ (get_or arguments i w).now → SpellFirst types arguments (i + 1) (values ++ v ∷ [])
 spell_more types arguments i values t w v before in_types in_arguments fits spelled = record {
-  takes = subst (λ (ts : List ValueType). TakesArgs ts (values ++ v ∷ [])) (sym (take_more types i t in_types))
+  takes = subst (λ (ts : List ValueType). AreArgsOf ts (values ++ v ∷ [])) (sym (take_more types i t in_types))
       (all_zip_more (λ s u. Fits u s) (take i types) values (get_or types i t) v before.takes fits);
   spelled =
       map-append text_of values (v ∷ [])
@@ -61,7 +61,7 @@ pub spell_all : (m : Method) (types : List ValueType) (arguments : List (Bor (Li
     length arguments ≡ length types → i ≡ length arguments → SpellFirst types arguments i values
     → SpellsArgs m (texts_of arguments) values
 spell_all m types arguments values i are long is spells = record {
-  takes = subst (λ (ts : List ValueType). TakesArgs ts values) (take_all i types (omega (arith, long, is)) ∙ are) spells.takes;
+  takes = subst (λ (ts : List ValueType). AreArgsOf ts values) (take_all i types (omega (arith, long, is)) ∙ are) spells.takes;
   spelled = spells.spelled ∙ ap texts_of (take_all i arguments (omega (arith, is)));
 }
 
@@ -80,7 +80,7 @@ pub one_is_none : (m : Method) (types : List ValueType) (arguments : List (Bor (
     ¬ (SpellsArgs m (texts_of arguments) args)
 one_is_none m types arguments i t w are in_types in_arguments none args spells =
     let v : Value = get_or args i (Number (pos 0)) in
-    let takes = subst (λ (ts : List ValueType). TakesArgs ts args) (sym are) spells.takes in
+    let takes = subst (λ (ts : List ValueType). AreArgsOf ts args) (sym are) spells.takes in
     let same = all_zip_length (λ s u. Fits u s) types args takes in
     none v (all_zip_at (λ s u. Fits u s) types args i t (Number (pos 0)) takes in_types)
     (sym (get_or-map text_of args i (Number (pos 0)) [] (omega (arith, same, in_types)))

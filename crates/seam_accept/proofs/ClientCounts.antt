@@ -70,10 +70,10 @@ one_more_or_less f g e (x ∷ xs) made agree (apart, distinct) found = elim (eqb
 -- who has a client stays where an entry is about neither its client nor its death
 client_same : (b : Book) (x : Entry) (e : ℕ) → created_as (with_entry b x) e ≡ created_as b e → destroys e x ≡ false → joins e x ≡ false →
     has_client (with_entry b x) e ≡ has_client b e
-client_same b x e made spared alone =
+client_same b x e made spared clientless =
     let dead = any_with (destroys e) b x ∙ ap (λ (y : Bool). list_any (destroys e) (entries b) || y) spared
     ∙ or_false (list_any (destroys e) (entries b)) in
-    let client = any_with (joins e) b x ∙ ap (λ (y : Bool). list_any (joins e) (entries b) || y) alone
+    let client = any_with (joins e) b x ∙ ap (λ (y : Bool). list_any (joins e) (entries b) || y) clientless
     ∙ or_false (list_any (joins e) (entries b)) in
     λ i. is_some (cond (dead i) None (made i)) && client i
 
@@ -89,20 +89,20 @@ creates_stay b x none =
 -- an entry that is about no client and no death
 count_stays : (b : Book) (x : Entry) → creates_of (x ∷ []) ≡ [] → ((e : ℕ) → destroys e x ≡ false) → ((e : ℕ) → joins e x ≡ false) →
     count_of_clients (with_entry b x) ≡ count_of_clients b
-count_stays b x none spared alone =
+count_stays b x none spared clientless =
     ap (count_by (λ (c : Create). has_client (with_entry b x) c.entity)) (creates_stay b x none)
     ∙ same_count (has_client (with_entry b x)) (has_client b) (creates_of (entries b))
-    (λ e. client_same b x e (created_stays b x e none) (spared e) (alone e))
+    (λ e. client_same b x e (created_stays b x e none) (spared e) (clientless e))
 
 -- an entity that lives without a client is given one
 one_more : (b : Book) (e : ℕ) (made : Create) → IsDistinct eqb (map (λ c. c.entity) (creates_of (entries b))) →
     created_as b e ≡ Some made → has_client b e ≡ false → has_client (with_entry b (entry.Joined e)) e ≡ true →
     count_of_clients (with_entry b (entry.Joined e)) ≡ count_of_clients b + 1
-one_more b e made distinct is alone joined =
+one_more b e made distinct is clientless joined =
     let x : Entry = entry.Joined e in
     let here = one_more_or_less (has_client b) (has_client (with_entry b x)) e (creates_of (entries b)) made
     (λ d ne. sym (client_same b x d (created_stays b x d refl) refl (differ e d (λ s. ne (sym s))))) distinct is in
-    let before = ap bit alone in
+    let before = ap bit clientless in
     let after = ap bit joined in
     let all = ap (count_by (λ (c : Create). has_client (with_entry b x) c.entity)) (creates_stay b x refl) in
     omega (arith, here, before, after, all)
@@ -159,9 +159,9 @@ module _ (b : Book) (c : Create) (unknown : IsUnknown b c.entity) where
 -- they stay where an entry makes no entity, and is about neither a client nor a death
 pub clients_stay : (b : Book) (x : Entry) (clients : List ℕ) → ClientsRefine b clients → creates_of (x ∷ []) ≡ [] →
     ((e : ℕ) → destroys e x ≡ false) → ((e : ℕ) → joins e x ≡ false) → ClientsRefine (with_entry b x) clients
-clients_stay b x clients was none spared alone = record {
-  count = was.count ∙ sym (count_stays b x none spared alone);
-  each = λ e. was.each e ∙ sym (client_same b x e (created_stays b x e none) (spared e) (alone e));
+clients_stay b x clients was none spared clientless = record {
+  count = was.count ∙ sym (count_stays b x none spared clientless);
+  each = λ e. was.each e ∙ sym (client_same b x e (created_stays b x e none) (spared e) (clientless e));
 }
 
 pub clients_with_new : (b : Book) (c : Create) (clients : List ℕ) → ClientsRefine b clients → IsUnknown b c.entity →
@@ -191,9 +191,9 @@ clients_set b x e is old new was sets count here others = record {
 pub clients_with_one : (b : Book) (e : ℕ) (made : Create) (old new : List ℕ) → ClientsRefine b old → SetsClient old new e true →
     length new ≡ length old + 1 → IsDistinct eqb (map (λ c. c.entity) (creates_of (entries b))) → created_as b e ≡ Some made →
     has_client b e ≡ false → has_client (with_entry b (entry.Joined e)) e ≡ true → ClientsRefine (with_entry b (entry.Joined e)) new
-clients_with_one b e made old new was sets count distinct is alone joined =
+clients_with_one b e made old new was sets count distinct is clientless joined =
     clients_set b (entry.Joined e) e true old new was sets
-    (count ∙ ap (λ (n : ℕ). n + 1) was.count ∙ sym (one_more b e made distinct is alone joined)) joined
+    (count ∙ ap (λ (n : ℕ). n + 1) was.count ∙ sym (one_more b e made distinct is clientless joined)) joined
     (λ d ne. client_same b (entry.Joined e) d (created_stays b (entry.Joined e) d refl) refl (differ e d (λ s. ne (sym s))))
 
 pub clients_without_one : (b : Book) (e : ℕ) (made : Create) (old new : List ℕ) → ClientsRefine b old → SetsClient old new e false →

@@ -35,8 +35,8 @@ module _ (h : Header) (b : Book) (w : List ℕ) (e : ℕ) (spells : SpellsPositi
       record { number = subst (SpellsPositive w) (sym same) spells; lives = ap (live_as b) same ∙ is }
 
   alone_there : has_client b e ≡ false → ¬ (HoldsAgainst h b (Client w) cause.Exists)
-  alone_there alone (d, number, has) =
-      false≢true (sym alone ∙ ap (has_client b) (positive_is_one w e d spells number) ∙ has)
+  alone_there clientless (d, number, has) =
+      false≢true (sym clientless ∙ ap (has_client b) (positive_is_one w e d spells number) ∙ has)
 
   pub exists_first : has_client b e ≡ true → IsFirst (HoldsAgainst h b (Client w)) cause.Exists
   exists_first has = record {
@@ -46,28 +46,30 @@ module _ (h : Header) (b : Book) (w : List ℕ) (e : ℕ) (spells : SpellsPositi
 
   pub clients_full_first : (made : Create) → live_as b e ≡ Some made → has_client b e ≡ false → MOST_CLIENTS ≤ count_of_clients b →
       IsFirst (HoldsAgainst h b (Client w)) cause.Full
-  clients_full_first made is alone full = record {
+  clients_full_first made is clientless full = record {
     here = (
       made,
       named made is,
-      subst (λ (n : ℕ). has_client b n ≡ false) (sym (found_entity (creates_of (entries b)) e made (live_is_created b e made is))) alone,
+      subst (λ (n : ℕ). has_client b n ≡ false)
+          (sym (found_entity (creates_of (entries b)) e made (live_is_created b e made is))) clientless,
       full,
     );
-    first = against_client h b w _ (λ k. absurd (number_there k)) (λ k. absurd (alone_there alone k)) (λ k. omega arith) (λ k. omega arith);
+    first = against_client h b w _ (λ k. absurd (number_there k)) (λ k. absurd (alone_there clientless k)) (λ k. omega arith)
+        (λ k. omega arith);
   }
 
   pub client_dead_first : live_as b e ≡ None → has_client b e ≡ false → IsFirst (HoldsAgainst h b (Client w)) cause.Dead
-  client_dead_first dead alone = record {
+  client_dead_first dead clientless = record {
     here = (e, spells, dead);
-    first = against_client h b w _ (λ k. absurd (number_there k)) (λ k. absurd (alone_there alone k))
+    first = against_client h b w _ (λ k. absurd (number_there k)) (λ k. absurd (alone_there clientless k))
         (λ (made, names, alone_, full). absurd (none-some made (sym dead
         ∙ ap (live_as b) (positive_is_one w e made.entity spells names.number) ∙ names.lives))) (λ k. omega arith);
   }
 
   pub client_accepted : (made : Create) → live_as b e ≡ Some made → has_client b e ≡ false → count_of_clients b < MOST_CLIENTS →
       Accepts h b (Client w) (Joined e)
-  client_accepted made is alone room = record {
-    none = against_client h b w _ number_there (alone_there alone) (λ (made, names, alone_, full). omega (arith, full, room))
+  client_accepted made is clientless room = record {
+    none = against_client h b w _ number_there (alone_there clientless) (λ (made, names, alone_, full). omega (arith, full, room))
         (not_dead made is);
     adds = (e, spells, refl);
   }

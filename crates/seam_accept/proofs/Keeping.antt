@@ -395,8 +395,8 @@ module _ (h : Header) (b : Book) (old : BookView) (was : Refines h b old) where
 pub client_kept : (h : Header) (b : Book) (old new : BookView) (e : ℕ) → Refines h b old → LivesWithoutClient b e →
     new.entities ≡ old.entities → SetsClient old.clients new.clients e true → length new.clients ≡ length old.clients + 1 →
     HoldsMore h (entry.Joined e) old new → Refines h (with_entry b (entry.Joined e)) new
-client_kept h b old new e was alone entities sets count more =
-    let there = live_is_there b old.entities e was.entities alone.lives in
+client_kept h b old new e was clientless entities sets count more =
+    let there = live_is_there b old.entities e was.entities clientless.lives in
     let here = entity_found b old.entities e there.0 was.entities there.1 in
     entry_kept h b (entry.Joined e) old new was more
     (subst (EntitiesRefine (with_entry b (entry.Joined e))) (sym entities)
@@ -404,8 +404,8 @@ client_kept h b old new e was alone entities sets count more =
     (was.entities.count ∙ sym (count_without_create b (entry.Joined e) refl))
     (subst (IsKept (with_entry b (entry.Joined e)) e) (sym there.1) (entity_joined b e there.0 here)) (λ other ne. refl)
     (λ other ne. spares_joined e other ne) (once_stays b (entry.Joined e) refl was.entities.once)))
-    (clients_with_one b e here.made old.clients new.clients was.clients sets count was.entities.once here.is alone.alone
-    (client_now b e there.0 here alone))
+    (clients_with_one b e here.made old.clients new.clients was.clients sets count was.entities.once here.is clientless.clientless
+    (client_now b e there.0 here clientless))
 
 -- after one was destroyed
 pub destroy_kept : (h : Header) (b : Book) (old new : BookView) (e : ℕ) → Refines h b old → IsSome (live_as b e) →

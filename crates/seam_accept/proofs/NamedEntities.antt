@@ -23,7 +23,7 @@ use Rattle.seam_rule_lines.specs.Book.{Book, entries, created_as, live_as, destr
 use Rattle.seam_rule_lines.specs.declared.verdict.Entry.TheVariants as entry
 use Rattle.seam_rule_lines.proofs.BookEntries.{same}
 use Rattle.seam_accept.proofs.Books.{any_with, created_with, or_false, or_none}
-use Rattle.seam_accept.specs.Entities.{EntitiesRefine, EntityRefines, IsUnknown, IsLive, IsPlaceOf, LivesWithoutClient, ChangesOne}
+use Rattle.seam_accept.specs.Entities.{EntitiesRefine, EntityRefines, IsUnknown, IsLive, IsIndexOf, LivesWithoutClient, ChangesOne}
 use Rattle.seam_accept.specs.Entities.{entity_at}
 use Rattle.seam_accept.specs.declared.entity.Entity.{Entity}
 
@@ -95,13 +95,13 @@ given_back m n e v w writes found same =
 
 -- what `get_full` found
 pub place_found : (entities : List (ℕ × Entity)) (e place key : ℕ) (v : Entity) → Some key ≡ lookup_key (eqb e) entities →
-    slice_get entities place ≡ Some (key, v) → IsPlaceOf entities e place
+    slice_get entities place ≡ Some (key, v) → IsIndexOf entities e place
 place_found entities e place key v keyed at =
     let same : e ≡ key = eqb-true e key (lookup_key_passes (eqb e) entities key (sym keyed)) in
     record { entity = v; at = at ∙ ap (λ (k : ℕ). Some (k, v)) (sym same) }
 
 -- what `get_index_mut` lends at the place of an entity is the entity
-pub lent_at_place : (entities : List (ℕ × Entity)) (e place : ℕ) (v : Entity) (is : IsPlaceOf entities e place) →
+pub lent_at_place : (entities : List (ℕ × Entity)) (e place : ℕ) (v : Entity) (is : IsIndexOf entities e place) →
     Some v ≡ slice_get (map (λ p. p.1) entities) place → v ≡ is.entity
 lent_at_place entities e place v is lent =
     let same : Some v ≡ Some is.entity =
@@ -119,7 +119,7 @@ back_at_place (x ∷ xs) (suc place) e v at = ap (λ (ys : List (ℕ × Entity))
 
 -- or was changed
 pub changed_at_place : {S : Type 0} (m : IndexMap ℕ Entity S) (e place : ℕ) (w : Entity) (Changes : Entity → Entity → Type 0)
-    (is : IsPlaceOf m.entries e place) → IsUnique eqb m → Changes is.entity w →
+    (is : IsIndexOf m.entries e place) → IsUnique eqb m → Changes is.entity w →
     ChangesOne m.entries (set_value_at m.entries place w) e Changes
 changed_at_place m e place w Changes is unique changes =
     let found = hash_map_get_place nat_eq_equiv m place e is.entity unique is.at in
@@ -145,8 +145,8 @@ live_is_there b entities e was lives = cases (entity_at entities e) refl (was.ea
 -- an entity that was given a client has one now
 pub client_now : (b : Book) (e : ℕ) (v : Entity) → EntityRefines b e v → LivesWithoutClient b e →
     has_client (with_entry b (entry.Joined e)) e ≡ true
-client_now b e v was alone =
-    (λ i. is_some (cond (dead i) None (made i)) && joined i) ∙ ap (λ (x : Bool). x && true) alone.lives
+client_now b e v was clientless =
+    (λ i. is_some (cond (dead i) None (made i)) && joined i) ∙ ap (λ (x : Bool). x && true) clientless.lives
   where
     dead : list_any (destroys e) (entries (with_entry b (entry.Joined e))) ≡ list_any (destroys e) (entries b)
     dead = any_with (destroys e) b (entry.Joined e) ∙ or_false (list_any (destroys e) (entries b))

@@ -54,7 +54,7 @@ abbrev pub entity_at : List (ℕ × Entity) → ℕ → Option Entity
 entity_at entities e = lookup (eqb e) entities
 
 -- the place of an entity among entities
-pub record IsPlaceOf (entities : List (ℕ × Entity)) (e place : ℕ) : Type 0 where
+pub record IsIndexOf (entities : List (ℕ × Entity)) (e place : ℕ) : Type 0 where
   pub entity : Entity
   pub at : slice_get entities place ≡ Some (e, entity)
 
@@ -82,7 +82,7 @@ pub record IsLive (b : Book) (e : ℕ) (v : Bor Entity) : Type 0 where
 -- an entity lives without a client
 pub record LivesWithoutClient (b : Book) (e : ℕ) : Type 0 where
   pub lives : IsSome (live_as b e)
-  pub alone : has_client b e ≡ false
+  pub clientless : has_client b e ≡ false
 
 -- a call that comes next: its entity is one of the book, and it has its sender's next number
 pub record IsNextCall (b : Book) (c : Call) : Type 0 where

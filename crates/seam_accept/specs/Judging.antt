@@ -18,7 +18,7 @@ use Rattle.seam_rule_lines.specs.declared.verdict.Cause.TheVariants as cause
 use Rattle.seam_accept.specs.Commands.{texts_of}
 use Rattle.seam_accept.specs.Entities.{IsNext}
 use Rattle.seam_accept.specs.declared.command.MethodWords.{MethodWords}
-use Rattle.seam_accept.specs.declared.command.PlaceWords.{PlaceWords}
+use Rattle.seam_accept.specs.declared.command.PositionWords.{PositionWords}
 use Rattle.seam_accept.specs.declared.command.DeedWords.{DeedWords}
 use Rattle.seam_accept.specs.declared.command.DeedWords.TheVariants as words
 use Rattle.seam_accept.specs.declared.answers.Refusal.{Refusal}
@@ -59,7 +59,7 @@ NoMethod s e w t (refusal.Cause k) = ⊥
 NoMethod s e w t refusal.NoMemory = ⊤
 
 -- why a sender does not move an entity to where these words say
-abbrev pub NoMove : Header → Sender → ℕ → PlaceWords → Refusal → Type 0
+abbrev pub NoMove : Header → Sender → ℕ → PositionWords → Refusal → Type 0
 NoMove h s e w (refusal.Cause cause.UnknownMethod) = ¬ (MayMove s e)
 NoMove h s e w (refusal.Cause cause.IllTyped) = MayMove s e × ((p : Pos) → ¬ (SpellsPosition h w.x.now w.z.now p))
 NoMove h s e w (refusal.Cause k) = ⊥

@@ -49,7 +49,7 @@ CommandAccepted h b c answer.Synced after = (c ≡ Sync) × Refines h b after
 CommandAccepted h b c answer.Skipped after = ⊥
 
 -- the same before the line is counted
-abbrev pub CommandTaken : Header → Book → Command → Accepted → BookView → Type 0
-CommandTaken h b c answer.Kept after = (x : Entry) × Accepts h b c x × Refines h (with_entry b x) (counted after)
-CommandTaken h b c answer.Synced after = (c ≡ Sync) × Refines h b after
-CommandTaken h b c answer.Skipped after = ⊥
+abbrev pub CommandUncounted : Header → Book → Command → Accepted → BookView → Type 0
+CommandUncounted h b c answer.Kept after = (x : Entry) × Accepts h b c x × Refines h (with_entry b x) (counted after)
+CommandUncounted h b c answer.Synced after = (c ≡ Sync) × Refines h b after
+CommandUncounted h b c answer.Skipped after = ⊥

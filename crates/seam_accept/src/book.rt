@@ -7,11 +7,11 @@ ghost use Rattle.seam_rule_lines.specs.Book.{Book as Books, empty_book, open_lin
 ghost use Rattle.seam_rule_lines.specs.Book.{created_as, live_as};
 ghost use Rattle.seam_defs.specs.declared.limits.TheConstants.{MOST_BASE_NODES};
 ghost use Rattle.seam_accept.specs.Commands.{command_of};
-ghost use Rattle.seam_accept.specs.Entities.{IsNextCall, IsPlaceOf, LivesWithoutClient};
+ghost use Rattle.seam_accept.specs.Entities.{IsNextCall, IsIndexOf, LivesWithoutClient};
 ghost use Rattle.seam_accept.specs.Judging.{Refuses};
 ghost use Rattle.seam_accept.specs.Batches.{batch_of, passes_to, node_of as node_of_sender};
 ghost use Rattle.seam_accept.specs.BookView.{counted};
-ghost use Rattle.seam_accept.specs.Refines.{Refines, LineAccepted, LineRefused, CommandAccepted, CommandTaken};
+ghost use Rattle.seam_accept.specs.Refines.{Refines, LineAccepted, LineRefused, CommandAccepted, CommandUncounted};
 
 use crate::answers::{Accepted, Refusal};
 use crate::command::{Command, Form, read_line};
@@ -138,7 +138,7 @@ impl Book {
     // Judges a command and keeps what it adds, in all but the count.
     fn take(&mut self, form: &Form) -> Result<Accepted, Refusal>
         ensures accepted { IfOk result (λ a. (h : Headers) (b : Books) → Refines h b self.old
-            → CommandTaken h b (command_of form.now) a self.new) }
+            → CommandUncounted h b (command_of form.now) a self.new) }
         ensures refused { IfErr result (λ r. (h : Headers) (b : Books) → Refines h b self.old
             → Refuses h b (command_of form.now) r) }
         ensures unchanged { OnErr result (self.new ≡ self.old) }
@@ -185,7 +185,7 @@ impl Book {
 
     // Keeps a call to the entity at a place.
     fn add_call(&mut self, place: usize, call: Call) -> Result<(), AllocError>
-        requires { IsPlaceOf self.old.entities call.entity place }
+        requires { IsIndexOf self.old.entities call.entity place }
         ensures kept { OnOk result ((h : Headers) (b : Books) → Refines h b self.old →
             IsNextCall b call → Refines h (with_entry b (Entry.Called call))
             (counted self.new)) }

@@ -19,7 +19,7 @@ use std::marker::Model;
 pub struct CreateWords<'a> {
     pub entity: &'a [u8],
     pub type_name: &'a [u8],
-    pub place: PlaceWords<'a>,
+    pub place: PositionWords<'a>,
 }
 
 /// The words of a method with arguments.
@@ -31,7 +31,7 @@ pub struct MethodWords<'a, 'b> {
 
 /// The words of a position.
 #[derive(Clone, Copy)]
-pub struct PlaceWords<'a> {
+pub struct PositionWords<'a> {
     pub x: &'a [u8],
     pub z: &'a [u8],
 }
@@ -40,7 +40,7 @@ pub struct PlaceWords<'a> {
 #[derive(Clone, Copy)]
 pub enum DeedWords<'a, 'b> {
     Method(MethodWords<'a, 'b>),
-    Move(PlaceWords<'a>),
+    Move(PositionWords<'a>),
 }
 
 /// The words of a `call` or a `move`: a sender, an entity, and what is asked of it.
@@ -279,7 +279,7 @@ fn read_create<'a, 'b>(words: &'b [&'a [u8]]) -> Option<Command<'a, 'b>>
         [entity, type_name, x, z] => Some(Command::of(Form::Create(CreateWords {
             entity,
             type_name,
-            place: PlaceWords { x, z },
+            place: PositionWords { x, z },
         }))),
         _ => None,
     }
@@ -313,7 +313,7 @@ fn read_move<'a, 'b>(words: &'b [&'a [u8]]) -> Option<Command<'a, 'b>>
         [sender_name, entity, x, z] => Some(Command::of(Form::Call(CallWords {
             sender_name,
             entity,
-            deed: DeedWords::Move(PlaceWords { x, z }),
+            deed: DeedWords::Move(PositionWords { x, z }),
         }))),
         _ => None,
     }

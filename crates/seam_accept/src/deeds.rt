@@ -8,7 +8,7 @@ ghost use Rattle.seam_accept.specs.Commands.{texts_of};
 ghost use Rattle.seam_accept.specs.Judging.{Asks, MayAsk, NoMethod, NoMove, NoDeed, IsIllTyped};
 
 use crate::answers::Refusal;
-use crate::command::{DeedWords, MethodWords, PlaceWords};
+use crate::command::{DeedWords, MethodWords, PositionWords};
 use crate::naming::{method_named, position_named};
 use seam_defs::{Args, Deed, Method, TypeDef};
 use seam_rule_lines::{Asked, Cause, Header, may_call, may_move};
@@ -36,7 +36,7 @@ pub fn deed_named(
 }
 
 // A move to the place that the words spell.
-fn move_deed(header: &Header, asked: &Asked, words: &PlaceWords) -> Result<Deed, Refusal>
+fn move_deed(header: &Header, asked: &Asked, words: &PositionWords) -> Result<Deed, Refusal>
     ensures deed { IfOk result (NamesMove header.now words.now.x.now words.now.z.now) }
     ensures may { IfOk result (λ _. MayMove asked.now.sender asked.now.entity) }
     ensures none { IfErr result (NoMove header.now asked.now.sender asked.now.entity words.now) }

@@ -4,7 +4,7 @@ ghost use Rattle.seam_call.specs.Senders.{IsSender};
 ghost use Rattle.seam_call.specs.declared.sender.Sender.{Sender as Senders};
 ghost use Rattle.seam_defs.specs.declared.flags.Part.{Part as Parts};
 ghost use Rattle.seam_accept.specs.Last.{number_of};
-ghost use Rattle.seam_accept.specs.Entities.{last_of, IsPlaceOf, Remembers, ChangesOne, Dies, KeepsLast};
+ghost use Rattle.seam_accept.specs.Entities.{last_of, IsIndexOf, Remembers, ChangesOne, Dies, KeepsLast};
 
 use crate::count::next_count;
 use crate::last::LastCalls;
@@ -85,7 +85,7 @@ pub fn keep_last(
     place: usize,
     call: &Call,
 ) -> Result<(), AllocError>
-    requires { IsPlaceOf entities.old.entries call.now.entity place }
+    requires { IsIndexOf entities.old.entries call.now.entity place }
     ensures kept { OnOk result (KeepsLast entities.old.entries entities.new.entries call.now) }
     ensures unchanged { OnErr result (entities.new.entries ≡ entities.old.entries) }
 {

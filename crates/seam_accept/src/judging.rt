@@ -5,7 +5,7 @@ ghost use Rattle.seam_rule_lines.specs.Language.{Client, Destroy};
 ghost use Rattle.seam_rule_lines.specs.Book.{Book, tree_of};
 ghost use Rattle.seam_rule_lines.specs.Judging.{HoldsAgainst, IsFirst};
 ghost use Rattle.seam_accept.specs.Commands.{create_of, call_of, cut_of, shift_of};
-ghost use Rattle.seam_accept.specs.Entities.{EntitiesRefine, ClientsRefine, IsPlaceOf};
+ghost use Rattle.seam_accept.specs.Entities.{EntitiesRefine, ClientsRefine, IsIndexOf};
 ghost use Rattle.seam_accept.specs.Judging.{Judged, Refuses};
 
 use crate::answers::Refusal;
@@ -160,7 +160,7 @@ pub fn judge_call(
     ensures judged { IfOk result (λ r. (b : Book) → EntitiesRefine b entities.now.entries →
         ClientsRefine b clients.now.keys → Judged header.now b (call_of words.now)
         (Some (Entry.Called r.1))) }
-    ensures place { IfOk result (λ r. IsPlaceOf entities.now.entries r.1.entity r.0) }
+    ensures place { IfOk result (λ r. IsIndexOf entities.now.entries r.1.entity r.0) }
     ensures refused { IfErr result (λ r. (b : Book) → EntitiesRefine b entities.now.entries →
         ClientsRefine b clients.now.keys → Refuses header.now b (call_of words.now) r) }
 {

@@ -8,10 +8,10 @@ ghost use Rattle.seam_rule_lines.specs.Language.{sender_text, axis_text};
 ghost use Rattle.seam_tree.specs.declared.boundary.Axis.{Axis as Axes};
 ghost use Rattle.seam_call.specs.declared.sender.Sender.{Sender as Senders};
 ghost use Rattle.seam_rule_lines.specs.Book.{Book, has_client, live_as};
-ghost use Rattle.seam_accept.specs.Entities.{EntitiesRefine, ClientsRefine, IsLive, IsPlaceOf};
+ghost use Rattle.seam_accept.specs.Entities.{EntitiesRefine, ClientsRefine, IsLive, IsIndexOf};
 ghost use Rattle.seam_rule_lines.specs.Judging.{NamesSender, NamesType, NamesMethod, SpellsPosition};
 
-use crate::command::PlaceWords;
+use crate::command::PositionWords;
 use crate::entity::Entity;
 use indexmap::IndexMap;
 use seam_call::{BaseNode, Sender};
@@ -85,7 +85,7 @@ pub fn live_entity(
 ) -> Option<(usize, &Entity)>
     ensures live { (b : Book) → EntitiesRefine b entities.now.entries →
         MatchOption result (live_as b entity ≡ None) (λ found. IsLive b entity found.1) }
-    ensures place { IfSome result (λ found. IsPlaceOf entities.now.entries entity found.0) }
+    ensures place { IfSome result (λ found. IsIndexOf entities.now.entries entity found.0) }
 {
     match entities.get_full(&entity) {
         Some((place, _, found)) => {
@@ -107,7 +107,7 @@ fn is_base_node(number: u32, bases: u32) -> bool
 }
 
 /// The position of the space that words spell.
-pub fn position_named(header: &Header, words: &PlaceWords) -> Option<Pos>
+pub fn position_named(header: &Header, words: &PositionWords) -> Option<Pos>
     ensures { MatchOption result
         ((p : Positions) → ¬ (SpellsPosition header.now words.now.x.now words.now.z.now p))
         (SpellsPosition header.now words.now.x.now words.now.z.now) }

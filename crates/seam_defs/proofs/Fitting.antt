@@ -8,12 +8,12 @@ use Rattle.seam_value.specs.declared.values.Value.{Value}
 use Rattle.seam_defs.specs.declared.flags.Group.{Group}
 use Rattle.seam_defs.specs.declared.types.Property.{Property}
 use Rattle.seam_defs.specs.Groups.{in_group}
-use Rattle.seam_defs.specs.Deeds.{properties_of, IsOfGroup, TakesArgs}
+use Rattle.seam_defs.specs.Deeds.{properties_of, IsOfGroup, AreArgsOf}
 use Rattle.seam_defs.specs.Fitting.{FitsAt, FitBelow, ArgsFitBelow}
 use Rattle.seam_defs.proofs.PropertyPlaces.{place-in, place-out}
 
 pub takes-to : (types : List ValueType) (values : List Value) → length types ≡ length values → ArgsFitBelow types values (length types) →
-    TakesArgs types values
+    AreArgsOf types values
 takes-to [] [] long fit = tt
 takes-to [] (v ∷ values) long fit = absurd (omega arith)
 takes-to (t ∷ types) [] long fit = absurd (omega arith)
@@ -25,7 +25,7 @@ takes-at : (t : ValueType) (types : List ValueType) (v : Value) (values : List V
 takes-at t types v values fits rest zero d below = fits
 takes-at t types v values fits rest (suc k) d below = rest k d (omega arith)
 
-pub takes-from : (types : List ValueType) (values : List Value) → TakesArgs types values →
+pub takes-from : (types : List ValueType) (values : List Value) → AreArgsOf types values →
     (length types ≡ length values) × ArgsFitBelow types values (length types)
 takes-from [] [] takes = (refl, λ k d below. absurd (omega arith))
 takes-from [] (v ∷ values) takes = absurd takes

@@ -23,7 +23,7 @@ use Rattle.seam_defs.specs.declared.types.Operation.TheVariants.{Put, Add, Sub}
 use Rattle.seam_defs.specs.Groups.{in_group, held_by}
 use Rattle.seam_defs.specs.Types.{IsMethod, IsOperation, OperandFits}
 use Rattle.seam_defs.specs.Deeds.{nearest, place_of, type_at, value_at, number_of, operated, target, operand, operand_value}
-use Rattle.seam_defs.specs.Deeds.{after_operation, after_body, IsOfGroup, TakesArgs}
+use Rattle.seam_defs.specs.Deeds.{after_operation, after_body, IsOfGroup, AreArgsOf}
 use Rattle.seam_defs.specs.Fitting.{is_in, FitsAt, FitBelow}
 use Rattle.seam_defs.proofs.Fitting.{of-to, of-from, takes-from}
 use Rattle.seam_defs.proofs.PropertyPlaces.{one-place}
@@ -50,7 +50,7 @@ fits-value t [] j d fits = absurd fits
 fits-value t (v ∷ values) zero d fits = fits
 fits-value t (v ∷ values) (suc j) d fits = fits-value t values j d fits
 
-operand-fits : (types : List ValueType) (args : List Value) (t : ValueType) (a : Operand) → TakesArgs types args → OperandFits types t a →
+operand-fits : (types : List ValueType) (args : List Value) (t : ValueType) (a : Operand) → AreArgsOf types args → OperandFits types t a →
     Fits (operand_value args a) t
 operand-fits types args t (Constant v) takes fits = fits
 operand-fits types args t (Arg k) takes (counted, at) =
@@ -86,7 +86,7 @@ is-in-at [] g k d within at = absurd (omega arith)
 is-in-at (p ∷ ps) g zero d within at = at
 is-in-at (p ∷ ps) g (suc k) d within at = is-in-at ps g k d (omega arith) at
 
-module _ (ps : List Property) (m : Method) (args : List Value) (takes : TakesArgs m.args args) where
+module _ (ps : List Property) (m : Method) (args : List Value) (takes : AreArgsOf m.args args) where
   -- the property that an operation is on, and that what the operation gives fits it
   given : (op : Operation) → IsOperation ps m op → (p : Property) × (slice_get ps (target op) ≡ Some p)
       × (in_group p.flag (held_by m.part) ≡ true) × ((z : ℤ) → Fits (operated op p.ty z (operand_value args (operand op))) p.ty)

@@ -56,13 +56,13 @@ values_text ps g values = flat_map property_text (zip (properties_of ps g) value
 -- ---- one deed
 
 -- the arguments are those that a method takes: as many, and each of its type
-abbrev pub TakesArgs : List ValueType → List Value → Type 0
-TakesArgs types args = AllZip (λ t v. Fits v t) types args
+abbrev pub AreArgsOf : List ValueType → List Value → Type 0
+AreArgsOf types args = AllZip (λ t v. Fits v t) types args
 
 -- the deed is one that the type can do: a move, or one of its methods with the arguments that it takes
 abbrev pub FitsDeed : TypeDef → Deed → Type 0
 FitsDeed t (Move p) = ⊤
-FitsDeed t (Method m args) = (m < length t.methods) × TakesArgs (method_of t m).args args
+FitsDeed t (Method m args) = (m < length t.methods) × AreArgsOf (method_of t m).args args
 
 -- the nearest number of a number type
 abbrev pub nearest : ValueType → ℤ → ℤ

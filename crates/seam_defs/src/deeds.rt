@@ -4,7 +4,7 @@ ghost use Rattle.seam_defs.specs.Groups.{held_by, shown_by};
 ghost use Rattle.seam_defs.specs.Types.{IsType, IsMethod};
 ghost use Rattle.seam_defs.specs.Tests.{changes};
 ghost use Rattle.seam_defs.specs.Deeds.{nearest as nearest_number, number_of, operand_value, operated, target, operand, place_of, type_at};
-ghost use Rattle.seam_defs.specs.Deeds.{after_with, after_body, after, part_of_deed, projected, SameShown, IsOfGroup, TakesArgs};
+ghost use Rattle.seam_defs.specs.Deeds.{after_with, after_body, after, part_of_deed, projected, SameShown, IsOfGroup, AreArgsOf};
 ghost use Rattle.seam_defs.specs.Deeds.{FitsDeed, with_later};
 
 use crate::groups::OfGroup;
@@ -149,7 +149,7 @@ fn run(
     props: &Props,
 ) -> Result<(Props, bool), AllocError>
     requires { IsMethod properties.now method.now }
-    ensures kept { IfOk result (λ r. TakesArgs method.now.args args.now →
+    ensures kept { IfOk result (λ r. AreArgsOf method.now.args args.now →
         IsOfGroup properties.now (held_by method.now.part) props.now →
         IsOfGroup properties.now (held_by method.now.part) r.0) }
     ensures after { IfOk result (λ r. r.0 ≡ after_body properties.now (held_by method.now.part)

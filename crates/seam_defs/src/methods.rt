@@ -1,6 +1,6 @@
 // The methods of a type.
 ghost use Rattle.std.specs.Prelude.{◌≡◌, ◌<◌, ◌≤◌, ◌↔◌, ℕ, IsTrue, IfSome, IfNone, Some, length, slice_get};
-ghost use Rattle.seam_defs.specs.Deeds.{TakesArgs, FitsDeed, part_of_deed};
+ghost use Rattle.seam_defs.specs.Deeds.{AreArgsOf, FitsDeed, part_of_deed};
 ghost use Rattle.seam_defs.specs.Tests.{fit_values, fits_deed};
 ghost use Rattle.seam_defs.specs.Types.{IsType, IsMethod, method_of, no_method, names_of_methods};
 
@@ -79,7 +79,7 @@ impl TypeDef {
 impl Method {
     /// Whether the values are the arguments that the method takes: as many, and each of its type.
     pub fn takes(&self, args: &[Value]) -> bool
-        ensures takes { IsTrue result ↔ TakesArgs self.now.args args.now }
+        ensures takes { IsTrue result ↔ AreArgsOf self.now.args args.now }
         ensures test { result ≡ fit_values self.now.args args.now }
     {
         are_fitting(self.args.as_slice(), args)
@@ -88,7 +88,7 @@ impl Method {
 
 // Whether the values are as many as the types, and each is of its type.
 fn are_fitting(types: &[ValueType], values: &[Value]) -> bool
-    ensures { IsTrue result ↔ TakesArgs types.now values.now }
+    ensures { IsTrue result ↔ AreArgsOf types.now values.now }
 {
     for (i, ty) in types.iter().enumerate() {
         if !fits_at(*ty, values, i) {

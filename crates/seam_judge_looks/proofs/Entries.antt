@@ -5,7 +5,7 @@ use Rattle.std.specs.List.{remove}
 use Rattle.std.proofs.lemmas.Bool.Decides.{nat_tests}
 use Rattle.std.specs.List.{list_any}
 use Rattle.seam_view.specs.Replica.{placed, without}
-use Rattle.seam_judge_looks.specs.Replicas.{IsNotAmong, IsPlaceOf}
+use Rattle.seam_judge_looks.specs.Replicas.{IsNotAmong, IsIndexOf}
 
 neither : (a b : Bool) → (a || b) ≡ false → (a ≡ false) × (b ≡ false)
 neither true b is = absurd (cc)
@@ -28,7 +28,7 @@ same_key : (e k : ℕ) → nat_eq e k ≡ true → e ≡ k
 same_key e k is = grind (arith, nat_tests, is)
 
 -- an entity that is among them keeps its place
-pub placed_there : (e v : ℕ) (es : List (ℕ × ℕ)) (i : ℕ) → IsPlaceOf e es i → slice_set es i (e, v) ≡ placed e v es
+pub placed_there : (e v : ℕ) (es : List (ℕ × ℕ)) (i : ℕ) → IsIndexOf e es i → slice_set es i (e, v) ≡ placed e v es
 placed_there e v [] i (within, none, is) = absurd (omega (arith, within))
 placed_there e v (p ∷ ps) zero (within, none, is) =
     ap (λ (k : ℕ). (k, v) ∷ ps) (same_key e p.0 is) ∙ sym (ap (λ (b : Bool). cond b ((p.0, v) ∷ ps) (p ∷ placed e v ps)) is)
@@ -38,7 +38,7 @@ placed_there e v (p ∷ ps) (suc i) (within, none, is) =
     ∙ sym (ap (λ (b : Bool). cond b ((p.0, v) ∷ ps) (p ∷ placed e v ps)) both.0)
 
 -- and is taken from its place
-pub without_there : (e : ℕ) (es : List (ℕ × ℕ)) (i : ℕ) → IsPlaceOf e es i → remove es i ≡ without e es
+pub without_there : (e : ℕ) (es : List (ℕ × ℕ)) (i : ℕ) → IsIndexOf e es i → remove es i ≡ without e es
 without_there e [] i (within, none, is) = absurd (omega (arith, within))
 without_there e (p ∷ ps) zero (within, none, is) = sym (ap (λ (b : Bool). cond b ps (p ∷ without e ps)) is)
 without_there e (p ∷ ps) (suc i) (within, none, is) =

@@ -57,5 +57,5 @@ abbrev pub IsNotAmong : ℕ → List (ℕ × ℕ) → Type 0
 IsNotAmong e entries = list_any (λ p. nat_eq e p.0) entries ≡ false
 
 -- it is at this place, and at none before
-abbrev pub IsPlaceOf : ℕ → List (ℕ × ℕ) → ℕ → Type 0
-IsPlaceOf e entries i = (i < length entries) × IsNotBefore e entries i × (nat_eq e (slice_index_or entries i (0, 0)).0 ≡ true)
+abbrev pub IsIndexOf : ℕ → List (ℕ × ℕ) → ℕ → Type 0
+IsIndexOf e entries i = (i < length entries) × IsNotBefore e entries i × (nat_eq e (slice_index_or entries i (0, 0)).0 ≡ true)

@@ -4,7 +4,7 @@ ghost use Rattle.std.specs.List.{list_any};
 ghost use Rattle.std.specs.FinMap as table;
 ghost use Rattle.seam_view.specs.Replica.{placed, without};
 ghost use Rattle.seam_rule_clients.specs.Clients.{new_client, after_lines, shown_by_lines};
-ghost use Rattle.seam_judge_looks.specs.Replicas.{client_of, last_own, own_after, version_after, entries_after, IsPlaceOf, IsNotAmong};
+ghost use Rattle.seam_judge_looks.specs.Replicas.{client_of, last_own, own_after, version_after, entries_after, IsIndexOf, IsNotAmong};
 
 use seam_call::{ClientText, Line, Shown};
 use seam_defs::Settings;
@@ -63,7 +63,7 @@ fn version_after(entity: u32, version: Option<u64>, x: &Shown) -> Option<u64>
 
 // Where an entity is among those in view.
 fn place_of(entries: &[(u32, u64)], entity: u32) -> Option<usize>
-    ensures some { IfSome result (λ i. IsPlaceOf entity entries.now i) }
+    ensures some { IfSome result (λ i. IsIndexOf entity entries.now i) }
     ensures none { result ≡ None → IsNotAmong entity entries.now }
 {
     for i in 0..entries.len() {

@@ -6,7 +6,7 @@ use Rattle.seam_value.specs.Values.{Fits, text_of}
 use Rattle.seam_value.specs.declared.values.Value.{Value}
 use Rattle.seam_value.specs.declared.types.ValueType.{ValueType}
 use Rattle.seam_defs.specs.Groups.{in_group}
-use Rattle.seam_defs.specs.Deeds.{properties_of, TakesArgs}
+use Rattle.seam_defs.specs.Deeds.{properties_of, AreArgsOf}
 use Rattle.seam_defs.specs.declared.types.Property.{Property}
 use Rattle.seam_defs.specs.declared.flags.Group.{Group}
 use Rattle.seam_law_texts.specs.TextLines.{property_word}
@@ -97,24 +97,24 @@ values_end g left words values all none come =
 -- ---- arguments
 
 abbrev pub FittingArgs : (all left : List ValueType) → List Value → Type 0
-FittingArgs all left values = (more : List Value) → TakesArgs left more → TakesArgs all (values ++ more)
+FittingArgs all left values = (more : List Value) → AreArgsOf left more → AreArgsOf all (values ++ more)
 
 pub args_fitting : (all others : List ValueType) (t : ValueType) (values : List Value) (v : Value) → Fits v t →
     FittingArgs all (t ∷ others) values → FittingArgs all others (values ++ v ∷ [])
 args_fitting all others t values v fits fit more rest =
-    subst (TakesArgs all) (sym (append_assoc values (v ∷ []) more)) (fit (v ∷ more) (fits, rest))
+    subst (AreArgsOf all) (sym (append_assoc values (v ∷ []) more)) (fit (v ∷ more) (fits, rest))
 
-pub args_fitting_end : (all left : List ValueType) (values : List Value) → left ≡ [] → FittingArgs all left values → TakesArgs all values
+pub args_fitting_end : (all left : List ValueType) (values : List Value) → left ≡ [] → FittingArgs all left values → AreArgsOf all values
 args_fitting_end all left values none fit =
-    subst (TakesArgs all) (append-nil values) (fit [] (subst (λ (ts : List ValueType). TakesArgs ts []) (sym none) tt))
+    subst (AreArgsOf all) (append-nil values) (fit [] (subst (λ (ts : List ValueType). AreArgsOf ts []) (sym none) tt))
 
 pub record ArgsToCome (left : List ValueType) (words : List (List ℕ)) (values all : List Value) : Type 0 where
   pub more : List Value
-  pub fit : TakesArgs left more
+  pub fit : AreArgsOf left more
   pub spelled : words ≡ map text_of more
   pub whole : values ++ more ≡ all
 
-pub args_begin : (left : List ValueType) (words : List (List ℕ)) (all : List Value) → TakesArgs left all → words ≡ map text_of all →
+pub args_begin : (left : List ValueType) (words : List (List ℕ)) (all : List Value) → AreArgsOf left all → words ≡ map text_of all →
     ArgsToCome left words [] all
 args_begin left words all fit spelled = record { more = all; fit = fit; spelled = spelled; whole = refl }
 
@@ -123,7 +123,7 @@ pub args_step : (t : ValueType) (others : List ValueType) (words : List (List �
     ArgsToCome others (drop 1 words) (values ++ v ∷ []) all
 args_step t others words values all v told come = by come.more come.fit come.spelled come.whole
   where
-    by : (more : List Value) → TakesArgs (t ∷ others) more → words ≡ map text_of more → values ++ more ≡ all →
+    by : (more : List Value) → AreArgsOf (t ∷ others) more → words ≡ map text_of more → values ++ more ≡ all →
         ArgsToCome others (drop 1 words) (values ++ v ∷ []) all
     by [] fit spelled whole = absurd fit
     by (w ∷ more) fit spelled whole = record {
@@ -138,8 +138,8 @@ args_step t others words values all v told come = by come.more come.fit come.spe
 pub args_end : (left : List ValueType) (words : List (List ℕ)) (values all : List Value) → left ≡ [] → ArgsToCome left words values all →
     values ≡ all
 args_end left words values all none come =
-    by come.more (subst (λ (ts : List ValueType). TakesArgs ts come.more) none come.fit) come.whole
+    by come.more (subst (λ (ts : List ValueType). AreArgsOf ts come.more) none come.fit) come.whole
   where
-    by : (more : List Value) → TakesArgs [] more → values ++ more ≡ all → values ≡ all
+    by : (more : List Value) → AreArgsOf [] more → values ++ more ≡ all → values ≡ all
     by [] fit whole = sym (append-nil values) ∙ whole
     by (w ∷ more) fit whole = absurd fit

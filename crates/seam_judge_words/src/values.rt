@@ -2,7 +2,7 @@
 ghost use Rattle.std.specs.Prelude.{◌≡◌, ◌∷◌, ◌++◌, List, ℕ, length, map, IfOk};
 ghost use Rattle.seam_value.specs.Values.{Fits, text_of};
 ghost use Rattle.seam_value.specs.declared.values.Value.{Value as Values};
-ghost use Rattle.seam_defs.specs.Deeds.{IsOfGroup, TakesArgs, properties_of};
+ghost use Rattle.seam_defs.specs.Deeds.{IsOfGroup, AreArgsOf, properties_of};
 ghost use Rattle.seam_defs.specs.Types.{IsType};
 ghost use Rattle.seam_defs.specs.declared.states.State.{State as States};
 ghost use Rattle.seam_law_texts.specs.TextLines.{property_word, value_words, state_words};
@@ -95,8 +95,8 @@ pub fn arguments(
     types: &[ValueType],
     words: &[&[u8]],
 ) -> Result<Vec<Value>, AllocError>
-    ensures form { IfOk result (λ vs. TakesArgs types.now vs.items) }
-    ensures told { IfOk result (λ vs. (ws : List Values) → TakesArgs types.now ws →
+    ensures form { IfOk result (λ vs. AreArgsOf types.now vs.items) }
+    ensures told { IfOk result (λ vs. (ws : List Values) → AreArgsOf types.now ws →
         map (λ w. w.now) words.now ≡ map text_of ws → vs.items ≡ ws) }
 {
     let mut values = Vec::new(alloc);

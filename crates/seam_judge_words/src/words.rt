@@ -10,7 +10,7 @@ ghost use Rattle.seam_tree.specs.declared.boundary.Axis.{Axis as Axes};
 ghost use Rattle.seam_call.specs.declared.sender.Sender.{Sender as Senders};
 ghost use Rattle.seam_rule_lines.specs.Language.{sender_text, axis_text};
 ghost use Rattle.seam_law_texts.specs.Words.{is_plain as is_plain_byte, ArePlain, IsWord, AreWords, spaced};
-ghost use Rattle.seam_law_texts.specs.Forms.{IsSmall, IsLong, IsPlace, MaySend};
+ghost use Rattle.seam_law_texts.specs.Forms.{IsSmall, IsLong, IsPosition, MaySend};
 ghost use Rattle.seam_judge_words.specs.WordEnds.{StopsPlain, StopsWord};
 
 use seam_call::{BaseNode, Sender};
@@ -181,8 +181,8 @@ pub fn small_number(word: &[u8]) -> u8
 
 /// A position.
 pub fn position(x: &[u8], z: &[u8]) -> Pos
-    ensures form { IsPlace result }
-    ensures told { (p : Places) → IsPlace p → x.now ≡ decimal_of p.x → z.now ≡ decimal_of p.z →
+    ensures form { IsPosition result }
+    ensures told { (p : Places) → IsPosition p → x.now ≡ decimal_of p.x → z.now ≡ decimal_of p.z →
         result ≡ p }
 {
     Pos {

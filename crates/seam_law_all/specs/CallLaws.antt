@@ -4,7 +4,7 @@ use Rattle.seam_node_steps.specs.Prelude.{link, Batch, cell_count, RealView, Wit
 use Rattle.seam_node_steps.specs.Prelude.{slot_of, holders, loaded, World, Cell}
 use Rattle.seam_law_flow.specs.Prelude.{letters_of, TokenPlace}
 use Rattle.seam_law_calls.specs.Prelude.{Frame, entity_flow, IsOne, OneFrom, AllLead, from_sender, CellCallsInTurn, home_of, HasBaseCalls}
-use Rattle.seam_law_calls.specs.Prelude.{shown_at, FindsClient, NothingIsStray, real_at}
+use Rattle.seam_law_calls.specs.Prelude.{shown_at, CallsFindTheirWay, FindsClient, NoneIsStrayAtBases, NothingIsStray, real_at}
 use Rattle.seam_law_rounds.specs.Prelude.{calls_of, framed, next_from, base_calls_of, next_to, IsServed, NewestRouteIsRight}
 use Rattle.seam_law_ghosts.specs.Prelude.{HasNoStrayTask, IsRightPlace, IsTrue, place_of, present, NewestAreWanted, AreSettled}
 use Rattle.seam_law_clients.specs.Prelude.{true_between, clients_loaded}
@@ -63,8 +63,11 @@ pub record ObeysLaws (f : Frame) (clients : ℕ → ClientReplica) (w : World) (
   pub no_other : (e : ℕ) → holders (loaded w b) e ≡ 0 → holders v e ≡ 0
   -- what is true of each
   pub each : (e k : ℕ) (r : RealView) → real_at e (loaded w b) k ≡ Some r → GoesRightly f clients w b e r v
-  -- nothing is stray
+  -- each call on a link, about any entity, comes where the entity's real is or was, or after the hand-over that brings it
+  pub ways : CallsFindTheirWay v
+  -- nothing is stray, whatever entity it is about
   pub cells : NoneIsStrayAtCells v
+  pub base_nodes : NoneIsStrayAtBases v
   pub updates : UpdatesFindClients (framed f b) v
 
 -- ---- where the calls leave the world quiet

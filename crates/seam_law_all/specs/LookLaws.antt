@@ -2,7 +2,8 @@
 use Rattle.std.specs.Prelude.{◌≡◌, ℕ, List, ◌++◌, Some}
 use Rattle.seam_node_steps.specs.Prelude.{Shown, GhostCopy, RealView, WitnessView, holders, World}
 use Rattle.seam_law_flow.specs.Prelude.{In}
-use Rattle.seam_law_calls.specs.Prelude.{Frame, entity_flow, home_of, shown_at, real_at, real_in, NothingIsStray}
+use Rattle.seam_law_calls.specs.Prelude.{Frame, entity_flow, home_of, shown_at, real_at, real_in, CallsFindTheirWay, NoneIsStrayAtBases}
+use Rattle.seam_law_calls.specs.Prelude.{NothingIsStray}
 use Rattle.seam_law_rounds.specs.Prelude.{HasNoCalls, IsServed, HasNoCallsToBase}
 use Rattle.seam_law_ghosts.specs.Prelude.{NewestAreWanted, HadSameReal, copy_at}
 use Rattle.seam_law_clients.specs.Prelude.{rows_of}
@@ -34,8 +35,11 @@ pub record ObeysLawsOfLooks (f : Frame) (clients : ℕ → ClientReplica) (u v :
   -- and that is a first part of exactly one look at the flat table
   pub until : (e k : ℕ) (r : RealView) → real_at e u k ≡ Some r → (x : WitnessView) → r.witness ≡ Some x →
       (rest : List Shown) × (shown_to f e v ++ rest ≡ shown_to f e u ++ one_look (clients e) e (rows_of u))
+  -- calls find their way, about any entity: there are none
+  pub ways : CallsFindTheirWay v
   -- nothing is stray, at a cell or at a base node
   pub cells : NoneIsStrayAtCells v
+  pub base_nodes : NoneIsStrayAtBases v
   pub bases : (e : ℕ) → holders u e ≡ 1 → NothingIsStray f e v
   pub updates : UpdatesFindClients f v
 

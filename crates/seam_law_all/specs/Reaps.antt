@@ -4,6 +4,7 @@ use Rattle.std.specs.List.{AllByRecursion}
 use Rattle.seam_node_steps.specs.Prelude.{cell_count, GhostCopy, RealView, PartView, holders, World}
 use Rattle.seam_law_flow.specs.Prelude.{In}
 use Rattle.seam_law_calls.specs.Prelude.{Frame, entity_flow, HasNoPart, NoUpdateComes, real_at, real_in, NothingIsStray}
+use Rattle.seam_law_calls.specs.Prelude.{CallsFindTheirWay, NoneIsStrayAtBases}
 use Rattle.seam_law_rounds.specs.Prelude.{HasNoCalls, HasNoCallsToBase}
 use Rattle.seam_law_ghosts.specs.Prelude.{copy_at, NewestAreWanted, IsForgotten, HadSameReal}
 use Rattle.seam_law_all.specs.CallLaws.{NoneIsStrayAtCells}
@@ -28,8 +29,11 @@ pub record ObeysLawsOfReaps (f : Frame) (u : World) (es : List ℕ) (v : World) 
   -- a base part that is still there is what it was, with what its client was shown
   pub parts : (e home : ℕ) (r : RealView) → real_at e u home ≡ Some r → (k : ℕ) (p : PartView) →
       ((entity_flow e v).slot k).base.part ≡ Some p → ((entity_flow e u).slot k).base.part ≡ Some p
+  -- calls find their way, about any entity: there are none
+  pub ways : CallsFindTheirWay v
   -- nothing is stray, at a cell or at a base node, and no order to reap among it; and no update is on its way
   pub cells : NoneIsStrayAtCells v
+  pub base_nodes : NoneIsStrayAtBases v
   pub bases : (e : ℕ) → holders u e ≡ 1 → NothingIsStray f e v
   pub updates : (e : ℕ) → NoUpdateComes e v
 

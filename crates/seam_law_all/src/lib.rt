@@ -3,8 +3,8 @@
 //! All laws of a round, together: what a world keeps between rounds, and what is then true over every list of events of each phase.
 //!
 //! The laws are proved one by one in the crates below. Here they stand as records with a field for each, in one place: `specs/Records` has
-//! what a world keeps between rounds and which batches it may be given, `specs/Calls`, `specs/Reaps` and `specs/LookLaws` what is true in
-//! the three phases of a round, at each moment and where the phase leaves the world quiet.
+//! what a world keeps between rounds and which batches it may be given, `specs/CallLaws`, `specs/Reaps` and `specs/LookLaws` what is true
+//! in the three phases of a round, at each moment and where the phase leaves the world quiet.
 //!
 //! `specs/Prelude` re-exports what crates above cite of this one and of those below it, so that one import names it.
 #![tactic(auto)]
@@ -75,6 +75,8 @@ pub fn calls_obey_the_laws()
     seam_law_ghosts::copies_go_from_record_to_record();
     seam_law_clients::clients_of_a_round_are_shown_rightly();
     seam_law_clients::clients_go_from_record_to_record();
+    seam_law_rounds::each_call_finds_its_way();
+    seam_law_clients::no_input_of_a_base_node_is_stray_in_any_phase();
     seam_law_clients::an_update_without_a_client_never_comes();
 }
 
@@ -109,6 +111,8 @@ pub fn reaps_obey_the_laws()
     seam_law_ghosts::no_copy_comes_in_the_last_phases();
     seam_law_clients::a_reaped_client_is_shown_no_more();
     seam_law_clients::nothing_is_stray_at_a_base_node_in_the_last_phases();
+    seam_law_rounds::each_call_finds_its_way();
+    seam_law_clients::no_input_of_a_base_node_is_stray_in_any_phase();
     seam_law_clients::an_update_without_a_client_never_comes();
 }
 
@@ -142,6 +146,8 @@ pub fn looks_obey_the_laws()
     seam_law_ghosts::no_copy_comes_in_the_last_phases();
     seam_law_clients::each_client_is_shown_one_look();
     seam_law_clients::nothing_is_stray_at_a_base_node_in_the_last_phases();
+    seam_law_rounds::each_call_finds_its_way();
+    seam_law_clients::no_input_of_a_base_node_is_stray_in_any_phase();
     seam_law_clients::an_update_without_a_client_never_comes();
 }
 

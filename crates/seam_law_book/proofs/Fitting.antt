@@ -154,7 +154,7 @@ module _ (h : Header) (b : Book) (t : Division) (w : World) (between : IsBetween
   no_witness (Some x) is = absurd (let z = is in cc)
 
   pub unseen_by : (e : ℕ) → has_client (as_begun b) e ≡ false → (k : ℕ) (r : RealView) → real_at e w k ≡ Some r → r.witness ≡ None
-  unseen_by e alone k r at =
+  unseen_by e clientless k r at =
       let l = goes.reals e k r at in
       no_witness r.witness (sym (ap (λ (y : RealView). is_some y.witness) (held_is e k r at l.0 l.1)) ∙ (held e k r at l.0 l.1).client
-      ∙ alone)
+      ∙ clientless)

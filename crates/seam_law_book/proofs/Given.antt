@@ -199,7 +199,8 @@ module _ (h : Header) (some : 1 ≤ h.settings.bases) (b : Book) (t : Division) 
     creates = creates;
     once = R.once;
     clients = all_turn (GetsClient b) (λ e. holders (loaded w B) e ≡ 1) (λ e g. present_one e g.made g.present) B.clients R.clients;
-    unseen = all_turn (GetsClient b) (HasNoWitness w) (λ e g. unseen_by h b t w between goes R untouched e g.alone) B.clients R.clients;
+    unseen = all_turn (GetsClient b) (HasNoWitness w)
+        (λ e g. unseen_by h b t w between goes R untouched e g.clientless) B.clients R.clients;
     one_each = R.one_each;
     destroys = all_turn (HasEntity b) (λ e. holders (loaded w B) e ≡ 1) (λ e g. present_one e g.0 g.1) B.destroys R.destroys;
     ends_once = R.ends_once;

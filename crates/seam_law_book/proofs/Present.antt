@@ -85,10 +85,10 @@ module _ (b : Book) (e : ℕ) where
   -- one without a client was given none, before the round and in it
   pub unjoined : (c : Create) → live_as b e ≡ Some c → has_client b e ≡ false →
       (list_any (joins e) b.past ≡ false) × (list_any (joins e) b.current ≡ false)
-  unjoined c lives alone =
+  unjoined c lives clientless =
       neither (list_any (joins e) b.past) (list_any (joins e) b.current)
       (sym (any_split (joins e)) ∙ unjoined_by c (list_any (joins e) (entries b))
-      (sym (ap (λ o. is_some o && list_any (joins e) (entries b)) lives) ∙ alone))
+      (sym (ap (λ o. is_some o && list_any (joins e) (entries b)) lives) ∙ clientless))
 
   and_false : (x y : Bool) → y ≡ false → (x && y) ≡ false
   and_false true y h = h

@@ -41,7 +41,7 @@ pub record IsProperCall (h : Header) (b : Book) (c : Call) : Type 0 where
 pub record IsProperClient (b : Book) (e : ℕ) : Type 0 where
   pub made : Create
   pub lives : live_as b e ≡ Some made
-  pub alone : has_client b e ≡ false
+  pub clientless : has_client b e ≡ false
 
 -- the tree after a cut or a shift, where it was one
 pub record IsProperTree (t u : Division) : Type 0 where
@@ -175,7 +175,7 @@ module _ (h : Header) (b : Book) where
       let proper : IsProperClient b e = record {
         made = lives.0;
         lives = lives.1;
-        alone = false_of (has_client b e) (λ has. none.exists (e, spells, has));
+        clientless = false_of (has_client b e) (λ has. none.exists (e, spells, has));
       } in
       subst (IsProper h b) (sym is) proper
   proper_of language.Tick x is none = subst (IsProper h b) (sym is) tt

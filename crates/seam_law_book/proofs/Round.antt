@@ -41,7 +41,7 @@ module _ (h : Header) (b : Book) (k : IsOrderly h b) (was : HasFitRound h b) (x 
 
   -- what was brought is brought still
   gets_still : (e : ℕ) → GetsClient b e → GetsClient next e
-  gets_still e g = record { made = g.made; present = present_more b e x g.made g.present; alone = g.alone }
+  gets_still e g = record { made = g.made; present = present_more b e x g.made g.present; clientless = g.clientless }
 
   there_still : (e : ℕ) → HasEntity b e → HasEntity next e
   there_still e t = (t.0, present_more b e x t.0 t.1)
@@ -158,7 +158,7 @@ module _ (h : Header) (b : Book) (k : IsOrderly h b) (was : HasFitRound h b) whe
   client_more : (e : ℕ) → IsProper h b (entry.Joined e) → More h b k was (entry.Joined e)
   client_more e p =
       let x = entry.Joined e in
-      let none = unjoined b e p.made p.lives p.alone in
+      let none = unjoined b e p.made p.lives p.clientless in
       record {
         creates = tt;
         once = same_once h b k was x refl;
@@ -166,7 +166,7 @@ module _ (h : Header) (b : Book) (k : IsOrderly h b) (was : HasFitRound h b) whe
           record {
             made = p.made;
             present = present_more b e x p.made (live_is_present b e p.made p.lives);
-            alone = alone_begun b e none.0;
+            clientless = alone_begun b e none.0;
           },
           tt,
         );

@@ -29,7 +29,7 @@ IsPresent b e made = (live_as (as_begun b) e ≡ Some made) ⊎ (made_among (cre
 pub record GetsClient (b : Book) (e : ℕ) : Type 0 where
   pub made : Create
   pub present : IsPresent b e made
-  pub alone : has_client (as_begun b) e ≡ false
+  pub clientless : has_client (as_begun b) e ≡ false
 
 abbrev pub HasEntity : Book → ℕ → Type 0
 HasEntity b e = (made : Create) × IsPresent b e made

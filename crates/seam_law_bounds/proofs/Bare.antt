@@ -1,14 +1,13 @@
 -- Without looks, and without calls to an entity's base part, nothing comes to it: a part that holds nothing never holds anything.
 use Rattle.seam_law_bounds.proofs.Prelude.{◌≡◌, ℕ, true, List, [], ◌∷◌, Option, None, Some, refl, sym, ap, ◌∙◌, subst, arith}
-use Rattle.seam_law_bounds.proofs.Prelude.{AllByRecursion, happens, enabled, Event, Order, Msg, Tick, Here, PartView, World, node_steps}
-use Rattle.seam_law_bounds.proofs.Prelude.{node_has_work, comes, letters_of, IsSilent, carried_in, Frame, here_at, IsInFrame, Has, AtBase}
-use Rattle.seam_law_bounds.proofs.Prelude.{entity_flow, Moves, at_a_cell, at_a_base, held_in, real_in, base_call_in, update_in}
-use Rattle.seam_law_bounds.proofs.Prelude.{base_call_of, calls_ordered, called, PartMoves, WitnessMoves, HasNoBaseCalls, HasToldAtMost}
-use Rattle.seam_law_bounds.proofs.Prelude.{HasNoLooks, RunsTo, part_weight, occurs, weight_or, leads_by_one, leads_keeps, all_append}
-use Rattle.seam_law_bounds.proofs.Prelude.{slots_kept, letters_kept, came, event_moves, frame_happens, taken_counts, items_all, IsTickOrder}
-use Rattle.seam_law_bounds.proofs.Prelude.{IsTick, IsUnknown, unknown_leads, looks_lead, part_moves}
+use Rattle.seam_law_bounds.proofs.Prelude.{AllByRecursion, happens, enabled, Event, Msg, Tick, Here, PartView, World, node_steps}
+use Rattle.seam_law_bounds.proofs.Prelude.{node_has_work, comes, IsSilent, carried_in, Frame, here_at, IsInFrame, Has, AtBase, entity_flow}
+use Rattle.seam_law_bounds.proofs.Prelude.{Moves, at_a_cell, at_a_base, held_in, real_in, base_call_in, update_in, calls_ordered, called}
+use Rattle.seam_law_bounds.proofs.Prelude.{PartMoves, WitnessMoves, HasNoBaseCalls, HasToldAtMost, HasNoLooks, RunsTo, part_weight, occurs}
+use Rattle.seam_law_bounds.proofs.Prelude.{weight_or, leads_by_one, leads_keeps, all_append, slots_kept, letters_kept, came, event_moves}
+use Rattle.seam_law_bounds.proofs.Prelude.{frame_happens, taken_counts, items_all, IsTickTo, IsUnknown, only_ticks, unknown_leads}
+use Rattle.seam_law_bounds.proofs.Prelude.{looks_lead, part_moves}
 use Rattle.seam_law_calls.specs.Prelude.{told}
-use Rattle.seam_call.specs.declared.order.Order.TheVariants as order
 use Rattle.seam_law_calls.specs.PartMoves as part
 use Rattle.seam_law_calls.specs.WitnessMoves as witness
 use Rattle.seam_law_calls.proofs.BaseSilent.{sees_no_update, base_silent}
@@ -157,18 +156,13 @@ module _ (f : Frame) (e : ℕ) where
 
 -- ---- an entity that is nowhere
 
-only_ticks : (os : List Order) → AllByRecursion IsTickOrder os → letters_of base_call_of os ≡ []
-only_ticks [] h = refl
-only_ticks (order.Tick ∷ os) h = only_ticks os h.1
-only_ticks _ h = absurd h.0
+no_call_of : (k : ℕ) (m : Msg) → IsTickTo k m → base_call_in m ≡ None
+no_call_of k Tick h = refl
+no_call_of k _ h = absurd h
 
-no_call_of : (m : Msg) → IsTick m → base_call_in m ≡ None
-no_call_of Tick h = refl
-no_call_of _ h = absurd h
-
-no_update_of : (m : Msg) → IsTick m → update_in m ≡ None
-no_update_of Tick h = refl
-no_update_of _ h = absurd h
+no_update_of : (k : ℕ) (m : Msg) → IsTickTo k m → update_in m ≡ None
+no_update_of k Tick h = refl
+no_update_of k _ h = absurd h
 
 module _ (f : Frame) (e : ℕ) where
   -- nothing but ticks comes, and the part, if there is one, holds nothing
@@ -189,8 +183,8 @@ module _ (f : Frame) (e : ℕ) where
         parts =
             slots_kept (λ k x. HoldsNone x.base) g h.parts
             (part_bare (here_at f g.k) e s.base (comes g.input) t.base g.moves.sent (h.parts g.k)
-            (none_by f e 0 base_call_in (comes g.input) (λ m is. no_call_of m (came (λ a k x. IsTick x) g m is u.letters).1))
-            (none_by f e 0 update_in (comes g.input) (λ m is. no_update_of m (came (λ a k x. IsTick x) g m is u.letters).1))
+            (none_by f e 0 base_call_in (comes g.input) (λ m is. no_call_of g.k m (came (λ a k x. IsTickTo k x) g m is u.letters).1))
+            (none_by f e 0 update_in (comes g.input) (λ m is. no_update_of g.k m (came (λ a k x. IsTickTo k x) g m is u.letters).1))
             (only_ticks s.base.orders (u.slots g.k).orders) (part_moves f e g.k s (comes g.input) t g.moves.sent g.moves.moves));
       }
 

@@ -25,7 +25,8 @@ pub use Rattle.seam_law_calls.proofs.Prelude.{slot_stepped, slot_steps, stays, s
 pub use Rattle.seam_law_calls.proofs.Prelude.{unlisted_by, whole, with_copy, with_item, with_reap, ◌==◌}
 pub use Rattle.seam_law_calls.proofs.WayMoves.{call_in}
 pub use Rattle.seam_law_calls.proofs.WitnessKept.{ByWitness, all_weaker}
-pub use Rattle.seam_law_calls.specs.Prelude.{called, entity_of}
+pub use Rattle.seam_law_calls.proofs.Unknown.{only_ticks, unknown_leads}
+pub use Rattle.seam_law_calls.specs.Prelude.{IsTickOrder, IsTickTo, IsUnknown, called, entity_of}
 pub use Rattle.seam_law_clients.proofs.Prelude.{Acts, AllByRecursion, Any, AreCopiesBetweenRounds, AreFor, AreReapable, AtBase, AtCell}
 pub use Rattle.seam_law_clients.proofs.Prelude.{Base, BaseCall, BaseMoves, BaseView, Batch, Bool, Call, Cell, CellMoves, CellView}
 pub use Rattle.seam_law_clients.proofs.Prelude.{ClientText, Create, Current, Division, Does, EachReal, Equal, Event, Frame, From, GhostCopy}
@@ -73,7 +74,7 @@ pub use Rattle.seam_law_clients.proofs.Prelude.{witness_looked, witnesses, zero,
 pub use Rattle.seam_law_clients.proofs.Round.{called_between, reaped_between, reaped_copies, reaped_parts, reaped_room, reaped_small}
 pub use Rattle.seam_law_clients.proofs.ShownOnce.{cell_at}
 pub use Rattle.seam_law_flow.proofs.Following.{own}
-pub use Rattle.seam_law_ghosts.proofs.NoStrays.{look_tasks, reaps_tasks, round_tasks, unknown_look}
+pub use Rattle.seam_law_ghosts.proofs.NoStrays.{look_tasks, reaps_tasks, round_tasks}
 pub use Rattle.seam_law_ghosts.proofs.Prelude.{Cells, FindsRoom, Flow, Ghost, IsFrame, NextPlace, Settings, Sole, about, are_calls}
 pub use Rattle.seam_law_ghosts.proofs.Prelude.{base_keeps, beat_in, both, cell_numbers, copy_of_real, created, drop_at, drop_if, eqb-true}
 pub use Rattle.seam_law_ghosts.proofs.Prelude.{first_frame, get-each_value, ghost_message, goes, holds_kept, home_after, its, kept_if, made}
@@ -81,7 +82,6 @@ pub use Rattle.seam_law_ghosts.proofs.Prelude.{may_call, may_settle, next_from, 
 pub use Rattle.seam_law_ghosts.proofs.Prelude.{one_holder, one_loaded, opened, opened_is_new, order_about, order_concerns, order_is_ready}
 pub use Rattle.seam_law_ghosts.proofs.Prelude.{order_of, orders_of, room, routed_loaded, settled_to, sole_came, stray_call, stray_hand}
 pub use Rattle.seam_law_ghosts.proofs.Prelude.{stray_reap, stray_survey, told_unless, unlisted_if, weight_or, with_witness, ◌-◌}
-pub use Rattle.seam_law_ghosts.proofs.Unknown.{IsTick, IsTickOrder, IsUnknown, unknown_leads}
 pub use Rattle.seam_law_rounds.proofs.Loading.{loaded_is, nodes_after, set_keeps}
 pub use Rattle.seam_law_rounds.proofs.Looking.{look_keeps, look_makes_none}
 pub use Rattle.seam_law_rounds.proofs.Prelude.{AllEnabled, AreCallsOf, IsAt, IsBaseAt, IsCell, Mail, as_sender, base_burden_leads}
@@ -91,6 +91,7 @@ pub use Rattle.seam_law_rounds.proofs.Prelude.{is_tick_order, looks_left, node_m
 pub use Rattle.seam_law_rounds.proofs.Prelude.{reaped_by_order, run, sent_is, slice_get_within, weight, weight_moves, with_value, ◌*◌}
 pub use Rattle.seam_law_rounds.proofs.RoadRuns.{Came, IsRouted, grown, place_then, road, routed_by}
 pub use Rattle.seam_law_rounds.proofs.Room.{Surveys, loaded_surveys, no_held, one_if, real_room, rows_none, weighs}
+pub use Rattle.seam_law_rounds.proofs.Unknown.{unknown_look}
 pub use Rattle.seam_machine.proofs.Occurring.{node_here, occurs_works}
 pub use Rattle.seam_machine.proofs.Totals.{total-append, total-push}
 pub use Rattle.seam_net_runs.proofs.Keeping.{each_link, each_node}

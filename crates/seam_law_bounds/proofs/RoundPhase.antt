@@ -12,8 +12,7 @@ use Rattle.std.specs.FinMap as table
 use Rattle.seam_call.specs.declared.order.Order.TheVariants as order
 use Rattle.seam_entity.specs.declared.message.Msg.TheVariants.{Call}
 use Rattle.seam_node_steps.specs.BaseCases as base
-use Rattle.seam_law_ghosts.proofs.Beginning.{unknown_loaded}
-use Rattle.seam_law_ghosts.proofs.InRound.{nobody}
+use Rattle.seam_law_rounds.proofs.Unknown.{nobody, unknown_loaded}
 use Rattle.seam_law_bounds.proofs.HandedOver.{passed_few}
 use Rattle.seam_law_calls.proofs.NodeStray.{none_is_stray}
 use Rattle.seam_law_rounds.proofs.PartsGoing.{none_strays}
@@ -106,7 +105,7 @@ module _ (f : Frame) (w : World) (b : Batch) (may : MayBeLoaded f w b) (none : H
     frame_then = frame_leads g start v es frame_start run
 
     nowhere_none : (e : ℕ) → Nowhere e start → holders start e ≡ 0
-    nowhere_none e n = nobody f w b may.begin v es run e n
+    nowhere_none e n = nobody f w b may.begin e n
 
     pub idle_then : (e : ℕ) → Nowhere e start → IsIdle g e v
     idle_then e no_one =

@@ -1,6 +1,6 @@
 -- In a quiet world nothing of a base part's calls waits: no message, no order, and no held call whose turn it is.
 use Rattle.seam_law_calls.proofs.Prelude.{◌≡◌, ℕ, false, is_some, List, [], Option, None, Some, refl, sym, ap, ◌∙◌, subst, AllByRecursion}
-use Rattle.seam_law_calls.proofs.Prelude.{IsQuiet, next_item, Call as CallData, order_or, has_any, BaseView, PartView, ProxyView}
+use Rattle.seam_law_calls.proofs.Prelude.{IsQuiet, next_item, Call as CallData, order_or, has_any, has_ready, BaseView, PartView, ProxyView}
 use Rattle.seam_law_calls.proofs.Prelude.{part_is_ready, ready_part, proxy_is_ready, client_is_ready, ready_proxy, base_has_work, NodeView}
 use Rattle.seam_law_calls.proofs.Prelude.{World, node_has_work, Cell, Base, letters_of, Desk, desk_of, parcel_of, IsStill, Frame, IsInFrame}
 use Rattle.seam_law_calls.proofs.Prelude.{Has, mine, has_of, has_none, orders_of, entity_flow, from_sender, numbered_from, base_call_in}
@@ -12,25 +12,26 @@ use Rattle.seam_law_calls.proofs.ExampleMet.{slots}
 use Rattle.seam_law_calls.proofs.Quieting.{neither, none_left, none_some, got_fails, no_turn_by}
 use Rattle.seam_law_calls.proofs.PartSeen.{desk_of_part}
 
--- no call of a part is ready in a base node without a task
+-- neither a call of a part nor an update of its client is ready in a base node without a task
+pub none_is_ready : (b : BaseView) (e : ℕ) (p : PartView) → base_has_work b ≡ false → table.get b.parts e ≡ Some p →
+    (has_ready p.orders ≡ false) × (proxy_is_ready p.proxy ≡ false)
+none_is_ready b e p h at =
+    let two = neither (is_some (ready_part b)) _ (neither (has_any b.orders) _ h).1 in (
+      got_fails part_is_ready (λ a b x. refl) b.parts e p (none_some (ready_part b) two.0) at,
+      got_fails client_is_ready (λ a b x. refl) b.parts e p (none_some (ready_proxy b) two.1) at,
+    )
+
 no_call : (b : BaseView) (e s : ℕ) (p : PartView) → base_has_work b ≡ false → table.get b.parts e ≡ Some p →
     next_item (order_or (table.get p.orders s)) ≡ None
-no_call b e s p h at =
-    let two = neither (has_any b.orders) _ h in
-    let none = none_some (ready_part b) (neither (is_some (ready_part b)) _ two.1).0 in
-    no_turn_by p.orders s (table.get p.orders s) (got_fails part_is_ready (λ a b x. refl) b.parts e p none at) refl
+no_call b e s p h at = no_turn_by p.orders s (table.get p.orders s) (none_is_ready b e p h at).0 refl
 
--- and no update of a client
 no_update_by : (o : Option ProxyView) → proxy_is_ready o ≡ false → next_item (order_in o) ≡ None
 no_update_by None h = refl
 no_update_by (Some x) h = none_some (next_item x.updates) h
 
 no_update : (b : BaseView) (e : ℕ) (p : PartView) → base_has_work b ≡ false → table.get b.parts e ≡ Some p →
     next_item (order_in p.proxy) ≡ None
-no_update b e p h at =
-    let two = neither (has_any b.orders) _ h in
-    let none = none_some (ready_proxy b) (neither (is_some (ready_part b)) _ two.1).1 in
-    no_update_by p.proxy (got_fails client_is_ready (λ a b x. refl) b.parts e p none at)
+no_update b e p h at = no_update_by p.proxy (none_is_ready b e p h at).1
 
 -- ---- what a node has of an entity then
 

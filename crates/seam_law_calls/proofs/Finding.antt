@@ -1,9 +1,13 @@
 -- Calls find their way after every list of events.
-use Rattle.seam_law_calls.proofs.Prelude.{◌≡◌, ℕ, ◌<◌, Bool, true, false, not, ◌&&◌, ◌||◌, is_some, List, [], ◌∷◌, length, None, Some, refl}
+use Rattle.seam_law_calls.proofs.Prelude.{◌≡◌, ℕ, ◌<◌, Bool, true, false, not, ◌&&◌, ◌||◌, is_some, List, [], ◌∷◌, ◌++◌, length, None}
+use Rattle.seam_law_calls.proofs.Prelude.{Some, refl, letters_of, more_letter, letters_of-append, mine, is_call, is_hand, has_hand}
+use Rattle.seam_law_calls.proofs.Prelude.{CallsFindTheirWay}
 use Rattle.seam_law_calls.proofs.Prelude.{sym, ap, ◌∙◌, subst, AllByRecursion, happens, Event, Call as CallData, Msg, RouteView, World}
 use Rattle.seam_law_calls.proofs.Prelude.{node_steps, Flow, comes, Frame, Has, entity_flow, IsSpared, IsFrame, HasOne, is_visited, follow}
 use Rattle.seam_law_calls.proofs.Prelude.{NamesVisited, AllLead, RunsTo}
 use Rattle.seam_entity.specs.declared.message.Msg.TheVariants.{Call}
+use Rattle.seam_law_calls.proofs.Holds.{both}
+use Rattle.seam_law_calls.proofs.Lists.{mine_own}
 use Rattle.seam_law_calls.proofs.OneReal.{goes, room, one_keeps}
 use Rattle.seam_law_calls.proofs.WayMoves.{leads}
 use Rattle.seam_law_calls.proofs.Leading.{lead_goes}
@@ -38,3 +42,29 @@ starts_leading w mail nexts routes = record {
   currents = λ a k. subst (AllByRecursion (NamesVisited w)) (sym (mail a k)) tt;
   calls = λ a k. ap (follow (is_visited (w.slot k))) (mail a k);
 }
+
+-- a call that is not the first comes after what is before it
+after_by : (v a b : Bool) → ((v || a) || b) ≡ true → (v || (a || b)) ≡ true
+after_by true a b h = refl
+after_by false a b h = h
+
+last_by : (v : Bool) → v ≡ true → (v || false) ≡ true
+last_by true h = refl
+last_by false h = cc
+
+follows_at : (v : Bool) (xs : List Msg) (c : CallData) (ys : List Msg) → follow v (xs ++ Call c ∷ ys) ≡ true → (v || has_hand xs) ≡ true
+follows_at v [] c ys h = last_by v (first_by v (follow (v || false) ys) h)
+follows_at v (x ∷ xs) c ys h =
+    after_by v (is_hand x) (has_hand xs)
+    (follows_at (v || is_hand x) xs c ys (both (not (is_call x) || v) (follow (v || is_hand x) (xs ++ Call c ∷ ys)) h).1)
+
+-- so each call on a link finds a place, where all follow
+pub each_finds : (w : World) → ((e a k : ℕ) → follow (is_visited ((entity_flow e w).slot k)) ((entity_flow e w).mail a k) ≡ true) →
+    CallsFindTheirWay w
+each_finds w all a k c before after at =
+    let e = c.entity in
+    let seen : (entity_flow e w).mail a k ≡ letters_of (mine e) before ++ Call c ∷ letters_of (mine e) after =
+    ap (letters_of (mine e)) at ∙ (letters_of-append (mine e) before (Call c ∷ after)
+    ∙ ap (λ o. letters_of (mine e) before ++ more_letter o (letters_of (mine e) after)) (mine_own e (Call c) refl)) in
+    follows_at (is_visited ((entity_flow e w).slot k)) (letters_of (mine e) before) c (letters_of (mine e) after)
+    (sym (ap (follow (is_visited ((entity_flow e w).slot k))) seen) ∙ all e a k)

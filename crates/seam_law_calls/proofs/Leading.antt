@@ -24,7 +24,7 @@ no_call_by m true c h = let z = sym (ap kept c) ∙ h in cc
 no_call_by m false c h = c
 
 -- where no call is, all follow
-none_follow : (v : Bool) (ms : List Msg) → AllByRecursion (λ m. is_call m ≡ false) ms → follow v ms ≡ true
+pub none_follow : (v : Bool) (ms : List Msg) → AllByRecursion (λ m. is_call m ≡ false) ms → follow v ms ≡ true
 none_follow v [] h = refl
 none_follow v (m ∷ ms) h = by (is_call m) h.0 (none_follow (v || is_hand m) ms h.1)
   where

@@ -54,6 +54,8 @@ pub mod StrayRuns
 pub mod Reaped
 pub mod NoLooks
 pub mod NodeStray
+pub mod Unknown
+pub mod BaseStrays
 pub mod Below
 pub mod Absent
 pub mod Looking

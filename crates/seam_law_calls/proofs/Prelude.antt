@@ -21,6 +21,7 @@ pub use Rattle.seam_law_calls.specs.Prelude.{Frame, Has, HasBaseCalls, HasClient
 pub use Rattle.seam_law_calls.specs.Prelude.{HasNoPart, HasNoProxy, HasNoReaps, HasOne, HasOneTree, HasPart, HasRoomFor, HasRoutes}
 pub use Rattle.seam_law_calls.specs.Prelude.{HasToldAtMost, IsAbsent, IsAt, IsBaseCallOf, IsBaseNumber, IsBlank, IsCallOf, IsFewView}
 pub use Rattle.seam_law_calls.specs.Prelude.{IsFitHand, IsFitReal, IsForNode, IsFrame, IsHomeward, IsInFrame, IsLaterTree, IsOne, IsSpared}
+pub use Rattle.seam_law_calls.specs.Prelude.{CallsFindTheirWay, IsTickOrder, IsTickTo, IsUnknown, NoneIsStrayAtBases, OnlyTicks}
 pub use Rattle.seam_law_calls.specs.Prelude.{IsTreeOf, LinesHaveRoom, Missed, Moves, MovesTo, NamesVisited, NoReapComes, NoUpdateComes}
 pub use Rattle.seam_law_calls.specs.Prelude.{NoneIsStray, NothingIsStray, Offered, OneFrom, PartMoves, RealFits, Replays, RunsTo, SeesFew}
 pub use Rattle.seam_law_calls.specs.Prelude.{WitnessMoves, account_of, after_call, after_calls, as_base_sender, as_sender, at_a_base}

@@ -16,6 +16,7 @@ pub mod WitnessMoves
 pub mod BaseTurns
 pub mod ClientUpdates
 pub mod Strays
+pub mod Unknown
 pub mod Reaps
 pub mod Telling
 pub mod Prelude

@@ -26,9 +26,10 @@ pub use Rattle.seam_law_calls.specs.Runs.{RunsTo}
 pub use Rattle.seam_law_calls.specs.Sights.{AtBase, AtCell, Has, at_base, at_cell, concerned, concerning, concerns, entity_flow, entity_of}
 pub use Rattle.seam_law_calls.specs.Sights.{has_none, has_of, kept_if, mine, no_base, no_cell, one_more_if, order_about, order_concerns}
 pub use Rattle.seam_law_calls.specs.Sights.{orders_of, times}
-pub use Rattle.seam_law_calls.specs.Strays.{HasRoutes, IsBaseNumber, IsForNode, LinesHaveRoom, NoneIsStray, NothingIsStray, client}
-pub use Rattle.seam_law_calls.specs.Strays.{is_for_cells, no_client}
+pub use Rattle.seam_law_calls.specs.Strays.{HasRoutes, IsBaseNumber, IsForNode, LinesHaveRoom, NoneIsStray, NoneIsStrayAtBases}
+pub use Rattle.seam_law_calls.specs.Strays.{NothingIsStray, client, is_for_cells, no_client}
 pub use Rattle.seam_law_calls.specs.Telling.{CarriesNoEntity, HasFewEntities, IsAbsent, IsBlank, IsFewView, NoUpdateComes, SeesFew}
 pub use Rattle.seam_law_calls.specs.Telling.{looks_left, mine_looks, most_entities, most_shown, node_looks, order_looks}
-pub use Rattle.seam_law_calls.specs.Ways.{AllLead, NamesVisited, follow, has_hand, is_call, is_hand, is_visited}
+pub use Rattle.seam_law_calls.specs.Unknown.{IsTickOrder, IsTickTo, IsUnknown, OnlyTicks}
+pub use Rattle.seam_law_calls.specs.Ways.{AllLead, CallsFindTheirWay, NamesVisited, follow, has_hand, is_call, is_hand, is_visited}
 pub use Rattle.seam_law_calls.specs.WitnessMoves.{WitnessMoves, sent_by, sent_of}

@@ -1,9 +1,10 @@
 -- No stray input at a base node: what a world has of all that comes to its base nodes about an entity.
-use Rattle.std.specs.Prelude.{◌≡◌, ℕ, ◌+◌, ◌<◌, ◌≤◌, Bool, true, false, List, ◌∷◌, Some}
+use Rattle.std.specs.Prelude.{◌≡◌, ℕ, ◌+◌, ◌<◌, ◌≤◌, Bool, true, false, List, ◌∷◌, Some, slice_get}
 use Rattle.std.specs.List.{AllByRecursion}
 use Rattle.std.specs.FinMap as table
 use Rattle.seam_node_steps.specs.Prelude.{link, Order, Msg, BaseCall, Current, Update, limit}
-use Rattle.seam_node_steps.specs.Prelude.{cell_count, about, BaseView, PartView, RouteView, stray_order, World}
+use Rattle.seam_node_steps.specs.Prelude.{cell_count, has_ready, about, BaseView, PartView, RouteView, may_show, proxy_is_ready}
+use Rattle.seam_node_steps.specs.Prelude.{stray_order, World, Base}
 use Rattle.seam_node_steps.specs.BaseCases.{may_execute, is_stray}
 use Rattle.seam_law_calls.specs.Frames.{Frame, here_at}
 use Rattle.seam_law_calls.specs.Sights.{order_about, entity_flow}
@@ -61,3 +62,18 @@ pub record NoneIsStray (e : ℕ) (w : World) (k : ℕ) (b : BaseView) : Type 0 w
   pub orders : (o : Order) (os : List Order) → b.orders ≡ o ∷ os → order_about o ≡ Some e → stray_order b o ≡ false
   -- its part may execute a call, and its client be shown a line
   pub parts : (p : PartView) → table.get b.parts e ≡ Some p → may_execute p ≡ true
+
+-- no input of a base node is stray, whatever entity it is about
+pub record NoneIsStrayAtBases (w : World) : Type 0 where
+  -- no message that is the first of its link
+  pub messages : (a k : ℕ) (b : BaseView) (m : Msg) (ms : List Msg) → slice_get w.nodes k ≡ Some (Base b) →
+      link w.rows a k ≡ m ∷ ms → is_stray b m ≡ false
+  -- no order that is the node's first
+  pub orders : (k : ℕ) (b : BaseView) (o : Order) (os : List Order) → slice_get w.nodes k ≡ Some (Base b) →
+      b.orders ≡ o ∷ os → stray_order b o ≡ false
+  -- no call that is ready: its part may execute it
+  pub calls : (k : ℕ) (b : BaseView) (e : ℕ) (p : PartView) → slice_get w.nodes k ≡ Some (Base b) →
+      table.get b.parts e ≡ Some p → has_ready p.orders ≡ true → may_execute p ≡ true
+  -- no update that is ready: its client may be shown it
+  pub updates : (k : ℕ) (b : BaseView) (e : ℕ) (p : PartView) → slice_get w.nodes k ≡ Some (Base b) →
+      table.get b.parts e ≡ Some p → proxy_is_ready p.proxy ≡ true → may_show p.proxy ≡ true

@@ -1,10 +1,10 @@
 -- Calls find their way: where a call is sent, the entity's real is, was, or comes before it.
-use Rattle.std.specs.Prelude.{◌≡◌, ℕ, Bool, true, false, not, ◌&&◌, ◌||◌, is_some, List, [], ◌∷◌, Some}
+use Rattle.std.specs.Prelude.{◌≡◌, ℕ, Bool, true, false, not, ◌&&◌, ◌||◌, is_some, List, [], ◌∷◌, ◌++◌, Some}
 use Rattle.std.specs.List.{AllByRecursion}
-use Rattle.seam_node_steps.specs.Prelude.{Msg, Current, NextPlace, RouteView}
-use Rattle.seam_law_flow.specs.Prelude.{Flow}
+use Rattle.seam_node_steps.specs.Prelude.{link, Call as CallData, Msg, Current, NextPlace, RouteView, World}
+use Rattle.seam_law_flow.specs.Prelude.{Flow, letters_of}
 use Rattle.seam_entity.specs.declared.message.Msg.TheVariants.{Call}
-use Rattle.seam_law_calls.specs.Sights.{Has}
+use Rattle.seam_law_calls.specs.Sights.{Has, mine, entity_flow}
 use Rattle.seam_law_calls.specs.Ones.{real_of}
 
 -- the node has the entity's real, or had it and has the next place
@@ -38,3 +38,8 @@ pub record AllLead (w : Flow Has Msg) : Type 0 where
   pub routes : (k : ℕ) (r : RouteView) → (w.slot k).base.route ≡ Some r → is_visited (w.slot r.cell) ≡ true
   pub currents : (a k : ℕ) → AllByRecursion (NamesVisited w) (w.mail a k)
   pub calls : (a k : ℕ) → follow (is_visited (w.slot k)) (w.mail a k) ≡ true
+
+-- each call on a link, about any entity, comes where the entity's real is or was, or after the hand-over that brings it
+abbrev pub CallsFindTheirWay : World → Type 0
+CallsFindTheirWay w = (a k : ℕ) (c : CallData) (before after : List Msg) → link w.rows a k ≡ before ++ Call c ∷ after →
+    (is_visited ((entity_flow c.entity w).slot k) || has_hand (letters_of (mine c.entity) before)) ≡ true

@@ -7,8 +7,9 @@
 //! order).
 //!
 //! A part may have a client. It is shown what its witness told, in the order of its numbers, and the base part whenever that changes; so
-//! its lines are no more than the updates and the calls (`specs/Clients`). How many updates there may be in a round is a question of what a
-//! witness has in view, and a premise here (*HasToldAtMost*). Together with routes (`specs/Strays`) no message is stray at a base node.
+//! its lines are no more than the updates and the calls (`specs/ClientUpdates`). How many updates there may be in a round is a question of
+//! what a witness has in view, and a premise here (*HasToldAtMost*). Together with routes (`specs/Strays`) no message is stray at a base
+//! node.
 //!
 //! The moves of a base part and of a witness are digests of the moves of a node (`specs/PartMoves`, `specs/WitnessMoves`): each law is
 //! proved over them.
@@ -16,11 +17,13 @@
 //! For callers, of `proofs/`: `PartSteps` (each move is one of a base part's), `BaseRuns` (an event), `AloneRuns` and `ClientLeads` (a list
 //! of events, without and with a client), `ClientRuns` (what an update finds), `BaseQuiet` (what a quiet world has left), `PartEasing`
 //! (what a part has yet to do), `RoutesKept` (a route stays one), `NoStray` (a node with orders is a base node), `StrayRuns` (routes, and
-//! that nothing is stray), `NodeStray` (the node's own tests of that), `Reaped` (after a reap), `ClientTold` (what a step does with a
+//! that nothing is stray), `NodeStray` (the node's own tests of that), `Unknown`
+//! (an entity that is not there), `BaseStrays` (the tests for all entities), `Reaped` (after a reap), `ClientTold` (what a step does with a
 //! client's updates), `WitnessSteps` and `WitnessKept` (what a step does with a witness, and what stays true of it), `NoLooks` (no ticks)
 //! and `BaseSilent` (what base nodes do not send).
 
-ghost use Rattle.std.specs.Prelude.{◌≡◌, ℕ, ◌<◌, ◌≤◌, List, ◌∷◌, length, true, None, Some, is_some, slice_get};
+ghost use Rattle.std.specs.Prelude.{◌≡◌, ℕ, ◌<◌, ◌≤◌, List, ◌∷◌, length, true, None, Some, is_some};
+ghost use Rattle.std.specs.Prelude.{slice_get, ◌⊎◌};
 ghost use Rattle.std.specs.FinMap as table;
 ghost use Rattle.seam_node_steps.specs.Prelude.{IsQuiet, Event, Task, Call as CallData, Order, Msg, BaseCall, Update, BaseView};
 ghost use Rattle.seam_node_steps.specs.Prelude.{PartView, base_steps, reaps_loaded, World, node_has_work};
@@ -29,7 +32,8 @@ ghost use Rattle.seam_law_flow.specs.Prelude.{letters_of};
 ghost use Rattle.seam_law_calls.specs.Prelude.{Frame, here_at, IsInFrame, strays_at, entity_flow, IsFrame, IsSpared, HasOne};
 ghost use Rattle.seam_law_calls.specs.Prelude.{from_sender, base_burden, home_of, FindsPart, HasBaseCalls, HasNoClient, shown_at};
 ghost use Rattle.seam_law_calls.specs.Prelude.{HasClient, HasNoLooks, HasToldAtMost, HasRoomFor, FindsClient, HasNoBaseCalls, HasNoPart};
-ghost use Rattle.seam_law_calls.specs.Prelude.{HasRoutes, LinesHaveRoom, NoneIsStray, NothingIsStray, RunsTo};
+ghost use Rattle.seam_law_calls.specs.Prelude.{HasRoutes, LinesHaveRoom, NoneIsStray, NothingIsStray, NoneIsStrayAtBases, IsUnknown};
+ghost use Rattle.seam_law_calls.specs.Prelude.{RunsTo};
 ghost use Rattle.seam_call.specs.declared.order.Order.TheVariants as order;
 ghost use Rattle.seam_call.specs.declared.shown.Update.{Update as UpdateData};
 
@@ -119,6 +123,20 @@ pub fn nothing_is_stray_at_a_base_node()
         HasRoomFor e n w → RunsTo w es v → HasToldAtMost e n v → NothingIsStray f e v }
     ensures node { (f : Frame) (e : ℕ) (w : World) → IsInFrame f w → NothingIsStray f e w →
         (k : ℕ) (b : BaseView) → slice_get w.nodes k ≡ Some (Base b) → NoneIsStray e w k b }
+{}
+
+/// Of an entity that is not there, nothing is due or on its way but ticks, which concern each entity and go to cells (`specs/Unknown`).
+/// It stays so over every list of events.
+pub fn an_unknown_entity_stays_unknown()
+    ensures { (f : Frame) (e : ℕ) (w v : World) (es : List Event) → IsUnknown f e w →
+        RunsTo w es v → IsUnknown f e v }
+{}
+
+/// So no input of a base node is stray, whatever entity it is about, where each entity is one about which nothing is stray, or one that is
+/// not there: no message that is the first of its link, no order that is the node's first, no ready call and no ready update.
+pub fn no_input_of_a_base_node_is_stray()
+    ensures { (f : Frame) (w : World) → IsInFrame f w →
+        ((e : ℕ) → NothingIsStray f e w ⊎ IsUnknown f e w) → NoneIsStrayAtBases w }
 {}
 
 /// The order to reap an entity leaves no base part at its node (`ends`), and an entity whose part is gone gets none (`gone`). A call that

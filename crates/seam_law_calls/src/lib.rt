@@ -9,8 +9,8 @@
 //! Each law is a clause of a function that does nothing; the head of each module says which modules of `proofs/` are for callers.
 //!
 //! `specs/` has the moves (`Moves`, `CellMoves`, `BaseMoves`, `PartMoves`, `WitnessMoves`) and what the laws speak of, a file a topic.
-//! `HandOverExample`, `TurnsExample` and `BaseCallsExample` are worlds for which what the laws ask is true. `specs/Prelude` re-exports what
-//! crates above cite of this one and of those below it, so that one import names it.
+//! `HandOverExample` has the run of a world of which what the laws of the one real ask is true. `specs/Prelude` re-exports what crates
+//! above cite of this one and of those below it, so that one import names it.
 //!
 //! The moves of an entity name every case of a step, stray input too, so that a step is a move without a premise. A move of a cell holds
 //! the step of the entity's slot as it is, so that no case is written twice.
@@ -32,8 +32,9 @@ mod ways;
 
 pub use base_calls::{
     a_base_call_is_never_stray, a_clients_updates_come_in_order, a_reap_ends_the_base_part,
-    a_witness_tells_only_in_looks, all_base_calls_are_executed, base_numbers_stay_small,
-    each_base_call_waits_once, nothing_is_stray_at_a_base_node, routes_are_kept,
+    a_witness_tells_only_in_looks, all_base_calls_are_executed, an_unknown_entity_stays_unknown,
+    base_numbers_stay_small, each_base_call_waits_once, no_input_of_a_base_node_is_stray,
+    nothing_is_stray_at_a_base_node, routes_are_kept,
 };
 pub use moves::{a_step_is_a_move, an_event_is_a_move};
 pub use once::{
@@ -46,4 +47,5 @@ pub use ones::{
 pub use told::{a_witness_tells_few, entities_stay_few, nothing_is_told_without_looks};
 pub use ways::{
     a_call_that_comes_finds_a_place, a_round_begins_with_all_ways, calls_find_their_way,
+    each_call_on_a_link_finds_a_place,
 };

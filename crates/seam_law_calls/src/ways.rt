@@ -10,6 +10,7 @@ ghost use Rattle.std.specs.Prelude.{◌≡◌, ℕ, ◌<◌, List, [], ◌∷◌
 ghost use Rattle.seam_node_steps.specs.Prelude.{Event, Call as CallData, RealView, Msg, RouteView, World};
 ghost use Rattle.seam_law_flow.specs.Prelude.{Flow, TokenPlace};
 ghost use Rattle.seam_law_calls.specs.Prelude.{Frame, Has, entity_flow, IsOne, IsSpared, AllFits, IsFrame, is_visited, AllLead, RunsTo};
+ghost use Rattle.seam_law_calls.specs.Prelude.{CallsFindTheirWay, follow};
 ghost use Rattle.seam_entity.specs.declared.message.Msg.TheVariants.{Call};
 
 /// In a world of an entity that fits and is not reaped, where all that leads to a cell leads to where the real is, was or comes, it does so
@@ -24,6 +25,13 @@ pub fn calls_find_their_way()
 pub fn a_call_that_comes_finds_a_place()
     ensures { (w : Flow Has Msg) → AllLead w → (a k : ℕ) (c : CallData) (ms : List Msg) →
         w.mail a k ≡ Call c ∷ ms → is_visited (w.slot k) ≡ true }
+{}
+
+/// Where that is so of each entity, each call on a link, also behind others, is for an entity whose real is at the link's node, or whose
+/// next place the node has, or whose hand-over is before the call on the same link.
+pub fn each_call_on_a_link_finds_a_place()
+    ensures { (w : World) → ((e a k : ℕ) → follow (is_visited ((entity_flow e w).slot k))
+        ((entity_flow e w).mail a k) ≡ true) → CallsFindTheirWay w }
 {}
 
 /// So it is at the start of a round, with nothing on its way, no next place, and each route to the cell of the real.

@@ -143,6 +143,9 @@ module _ (f : Frame) (u : World) (between : IsBetweenRounds f u) (parts : HasPar
           subst (AllByRecursion (λ x. update_in x ≡ None)) at (none a k) in
           absurd (let z = all.0 in cc)
 
+      pub reaps_stray_none_of : NothingIsStray f e v
+      reaps_stray_none_of = none_stray f e home r u (between.settled e home r here) (reaping.is_told e es) v calm rests untold
+
     pub reaps_make_no_call : (e : ℕ) → holders u e ≡ 1 → HasNoCallsToBase e v
     reaps_make_no_call e one =
         let h = quiet_home f u between e one in
@@ -151,9 +154,7 @@ module _ (f : Frame) (u : World) (between : IsBetweenRounds f u) (parts : HasPar
 
     pub reaps_stray_none : (e : ℕ) → holders u e ≡ 1 → NothingIsStray f e v
     reaps_stray_none e one =
-        let h = quiet_home f u between e one in
-        none_stray f e h.node h.real u (between.settled e h.node h.real h.here) (reaping.is_told e es) v (calm e h.node h.real h.here)
-        (rests e h.node h.real h.here) (untold e h.node h.real h.here)
+        let h = quiet_home f u between e one in reaps_stray_none_of e h.node h.real h.here
 
 -- ---- the phase of looks
 
@@ -186,6 +187,9 @@ module _ (f : Frame) (u : World) (between : IsBetweenRounds f u) (parts : HasPar
         let finds = look_finds f u between parts small vs v run e home r here a k m ms at in
         finds.may
 
+    pub looks_stray_none_of : NothingIsStray f e v
+    looks_stray_none_of = none_stray f e home r u (between.settled e home r here) false v looked rests_now told_rightly
+
   pub looks_make_no_call : (e : ℕ) → holders u e ≡ 1 → HasNoCallsToBase e v
   looks_make_no_call e one =
       let h = quiet_home f u between e one in
@@ -194,6 +198,4 @@ module _ (f : Frame) (u : World) (between : IsBetweenRounds f u) (parts : HasPar
 
   pub looks_stray_none : (e : ℕ) → holders u e ≡ 1 → NothingIsStray f e v
   looks_stray_none e one =
-      let h = quiet_home f u between e one in
-      none_stray f e h.node h.real u (between.settled e h.node h.real h.here) false v (looked e h.node h.real h.here)
-      (rests_now e h.node h.real h.here) (told_rightly e h.node h.real h.here)
+      let h = quiet_home f u between e one in looks_stray_none_of e h.node h.real h.here

@@ -31,6 +31,7 @@ pub mod Reaped
 pub mod Finding
 pub mod Room
 pub mod LastBases
+pub mod BaseInputs
 pub mod Round
 pub mod Crossing
 pub mod CrossingLooks

@@ -8,6 +8,7 @@ pub use Rattle.std.specs.Map.{keys_of, lookup}
 pub use Rattle.std.specs.Prelude.{drop, max}
 pub use Rattle.seam_call.specs.declared.shown.Update.{Update}
 pub use Rattle.seam_law_calls.proofs.Absent.{absent_leads}
+pub use Rattle.seam_law_calls.proofs.BaseStrays.{none_at_bases}
 pub use Rattle.seam_law_calls.proofs.ClientRuns.{client_happens, never_missed, one_of}
 pub use Rattle.seam_law_calls.proofs.Looking.{LooksAt, NotTaken, as_often, cell_looks, elsewhere, gone, looks, still, ticked}
 pub use Rattle.seam_law_calls.proofs.PartSteps.{part_moves}
@@ -22,8 +23,9 @@ pub use Rattle.seam_law_calls.proofs.Prelude.{witnesses}
 pub use Rattle.seam_law_calls.proofs.Quieting.{got_fails, neither, none_left, none_some}
 pub use Rattle.seam_law_calls.proofs.RoutesKept.{HasRoute, route_moves}
 pub use Rattle.seam_law_calls.proofs.Telling.{event_fact, told_few}
+pub use Rattle.seam_law_calls.proofs.Unknown.{unknown_leads}
 pub use Rattle.seam_law_calls.proofs.WitnessKept.{OfReal, each_happens, none_carried}
-pub use Rattle.seam_law_calls.specs.Prelude.{executes, home_of, order_in, shown_at, shows}
+pub use Rattle.seam_law_calls.specs.Prelude.{IsUnknown, NoneIsStrayAtBases, executes, home_of, order_in, shown_at, shows}
 pub use Rattle.seam_law_clients.specs.Prelude.{ClientsFit, ComesBetween, FitsWithin, FitsWitness, HaveRoomToLook, IsTrueBetween, KnowsTruth}
 pub use Rattle.seam_law_clients.specs.Prelude.{ShowsItsPart, TellsRightly, WasOther, base_in, base_lines, batch, clients_loaded}
 pub use Rattle.seam_law_clients.specs.Prelude.{clients_shown, first_lines, having_looked, line_where, lines_after, look_0, look_11}
@@ -32,6 +34,7 @@ pub use Rattle.seam_law_clients.specs.Prelude.{state_after, state_with, steps, t
 pub use Rattle.seam_law_clients.specs.RoundTruths.{known_between}
 pub use Rattle.seam_law_ghosts.proofs.Ending.{opened_copied, reaps_end_copied}
 pub use Rattle.seam_law_ghosts.proofs.Ends.{calls_place, looks_leave, reaps_leave, stays_placed}
+pub use Rattle.seam_law_ghosts.proofs.NoStrays.{frame_look, frame_reaps}
 pub use Rattle.seam_law_ghosts.proofs.Prelude.{Account, Acts, AllByRecursion, Any, AreCopiesBetweenRounds, AreNumbered, ArePlaced}
 pub use Rattle.seam_law_ghosts.proofs.Prelude.{AreReapable, AtBase, AtCell, Base, BaseCall, BaseMoves, Batch, Bool, Call, Cell, CellMoves}
 pub use Rattle.seam_law_ghosts.proofs.Prelude.{CellView, Create, Current, Division, Does, EachFrom, Event, Frame, From, GhostCopy}
@@ -73,7 +76,7 @@ pub use Rattle.seam_law_rounds.proofs.Joining.{bare_peopled, is_among, part_peop
 pub use Rattle.seam_law_rounds.proofs.Looking.{look_ends_between, tick}
 pub use Rattle.seam_law_rounds.proofs.Making.{Creation, creation_of, middle, nowhere, once}
 pub use Rattle.seam_law_rounds.proofs.PartLoads.{part_at, parts_ordered}
-pub use Rattle.seam_law_rounds.proofs.PartsGoing.{executed_then, few_lines, its_part, serves_after, told, update_finds_it}
+pub use Rattle.seam_law_rounds.proofs.PartsGoing.{executed_then, few_lines, its_part, none_strays, serves_after, told, update_finds_it}
 pub use Rattle.seam_law_rounds.proofs.Prelude.{AreBaseNumbered, AreFor, AreInStep, BaseView, CarriesNoEntity, ClientText, Delivery}
 pub use Rattle.seam_law_rounds.proofs.Prelude.{EachReal, FindsClient, FitsParts, HasClient, HasNoBaseCalls, HasNoProxy}
 pub use Rattle.seam_law_rounds.proofs.Prelude.{HasPartsBetweenRounds, HasRoomFor, HasSettledPart, HasSmallNumbers, HasToldAtMost, Input}
@@ -90,6 +93,7 @@ pub use Rattle.seam_law_rounds.proofs.Prelude.{tells, unordered, unseen_told_non
 pub use Rattle.seam_law_rounds.proofs.Prelude.{◌^◌}
 pub use Rattle.seam_law_rounds.proofs.Starting.{idle_orders}
 pub use Rattle.seam_law_rounds.proofs.Ticking.{idle_looks, most_told}
+pub use Rattle.seam_law_rounds.proofs.Unknown.{nobody, unknown_in_round, unknown_look, unknown_reaps}
 pub use Rattle.seam_net_runs.proofs.Runs.{leads_by_one, leads_extend, leads_join, leads_nowhere}
 pub use Rattle.seam_node_steps.proofs.Knowing.{known_at, known_by, known_rises, known_to_is, passing_others, unless_self}
 pub use Rattle.seam_node_steps.proofs.Sorted.{each_found, find_append, find_entries, find_filter, find_mapped, first, none_below, or_else}

@@ -18,6 +18,7 @@ ghost use Rattle.seam_node_steps.specs.Prelude.{loaded, reaps_loaded, look_loade
 ghost use Rattle.seam_law_flow.specs.Prelude.{letters_of};
 ghost use Rattle.seam_law_calls.specs.Prelude.{Frame, here_at, IsInFrame, entity_flow, IsFrame, IsSpared, events_of, from_sender};
 ghost use Rattle.seam_law_calls.specs.Prelude.{home_of, FindsClient, HasNoPart, NoUpdateComes, RunsTo, real_at, real_in, NothingIsStray};
+ghost use Rattle.seam_law_calls.specs.Prelude.{NoneIsStrayAtBases};
 ghost use Rattle.seam_law_rounds.specs.Prelude.{IsBetweenRounds, framed, first_frame, AreReapable, base_calls_of, HasPartsBetweenRounds};
 ghost use Rattle.seam_law_rounds.specs.Prelude.{HasNoCallsToBase, HasSmallNumbers, MayBeLoaded, opening};
 ghost use Rattle.seam_law_ghosts.specs.Prelude.{AreCopiesBetweenRounds, ArePlaced, GoesThroughRound};
@@ -134,6 +135,18 @@ pub fn nothing_is_stray_at_a_base_node_in_the_last_phases()
         HasSmallNumbers f u → (vs : List Event) (v : World) →
         LeadsTo node_has_work node_steps (look_loaded u) vs v → (e : ℕ) → holders u e ≡ 1 →
         NothingIsStray f e v }
+{}
+
+/// No input of a base node is stray, whatever entity it is about: in a round, where entities are reaped, and where witnesses look.
+pub fn no_input_of_a_base_node_is_stray_in_any_phase()
+    ensures round { (f : Frame) (w : World) (b : Batch) → MayBeLoaded f w b →
+        (v : World) (es : List Event) → RunsTo (loaded w b) es v → NoneIsStrayAtBases v }
+    ensures reaps { (f : Frame) (u : World) → IsBetweenRounds f u → HasPartsBetweenRounds f u →
+        HasSmallNumbers f u → (es : List ℕ) → AreReapable u es → (vs : List Event) (v : World) →
+        RunsTo (reaps_loaded u es) vs v → NoneIsStrayAtBases v }
+    ensures looks { (f : Frame) (u : World) → IsBetweenRounds f u → HasPartsBetweenRounds f u →
+        HasSmallNumbers f u → (vs : List Event) (v : World) → RunsTo (look_loaded u) vs v →
+        NoneIsStrayAtBases v }
 {}
 
 /// An update without a client never comes. In a round, and where witnesses look, take a message that is an update and the first of its

@@ -28,6 +28,7 @@ mod shown;
 pub use clients::{
     a_reaped_client_is_shown_no_more, an_entity_crosses_between_two_witnesses,
     an_update_without_a_client_never_comes, clients_go_from_record_to_record,
+    no_input_of_a_base_node_is_stray_in_any_phase,
     nothing_is_stray_at_a_base_node_in_the_last_phases, the_base_part_is_shown_at_each_change,
 };
 pub use looks::{

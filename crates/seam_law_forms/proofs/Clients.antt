@@ -22,7 +22,7 @@ use Rattle.seam_defs.specs.declared.flags.Part.TheVariants as part
 use Rattle.seam_defs.specs.declared.flags.Group.TheVariants as group
 use Rattle.seam_law_texts.specs.Forms.{HasState, IsCopy, IsLong, IsShown, IsTo, IsClientText}
 use Rattle.seam_law_book.specs.Prelude.{IsOfLines}
-use Rattle.seam_law_forms.specs.Counting.{AreCounted, NamesWhole, TellsWhole, WereWhole}
+use Rattle.seam_law_forms.specs.Counting.{AreCounted, NamesWhole, HasWholeNumbers, WereWhole}
 use Rattle.seam_law_forms.proofs.Members.{IsIn, each_in, each_all, all_in, all_each, in_append, in_filter, filter_in, map_in, in_map}
 use Rattle.seam_law_forms.proofs.Members.{picked_in}
 use Rattle.seam_law_forms.proofs.Members.{in_range}
@@ -65,12 +65,12 @@ module _ (h : Header) (s : Standing) (r : RoundData) (t : Standing) (of_lines : 
     shown_in : (l : Line) (x : Shown) → l.text ≡ text.Shown x → IsIn (told_in r c.entity) l → IsIn (shown_by_lines (told_in r c.entity)) x
     shown_in l x at has = picked_in (λ (m : Line). shown_by m.text) (told_in r c.entity) l x (ap shown_by at) has
 
-    tells_by : (l : Line) → IsIn (told_in r c.entity) l → (x : ClientText) → l.text ≡ x → TellsWhole x
+    tells_by : (l : Line) → IsIn (told_in r c.entity) l → (x : ClientText) → l.text ≡ x → HasWholeNumbers x
     tells_by l has (text.Shown x) at = each_in NamesWhole (shown_by_lines (told_in r c.entity)) x names (shown_in l x at has)
     tells_by l has (text.Base v props) at = tt
 
-    pub told_whole : AllByRecursion (λ (l : Line). TellsWhole l.text) (told_in r c.entity)
-    told_whole = each_all (λ (l : Line). TellsWhole l.text) (told_in r c.entity) (λ l has. tells_by l has l.text refl)
+    pub told_whole : AllByRecursion (λ (l : Line). HasWholeNumbers l.text) (told_in r c.entity)
+    told_whole = each_all (λ (l : Line). HasWholeNumbers l.text) (told_in r c.entity) (λ l has. tells_by l has l.text refl)
 
   -- what made the entity of a line, and that it has a client
   record HasMade (l : ClientLine) : Type 0 where
@@ -98,21 +98,21 @@ module _ (h : Header) (s : Standing) (r : RoundData) (t : Standing) (of_lines : 
   line_in : (e : ℕ) (l : ClientLine) → IsIn (lines_to r e) l → IsIn (told_in r e) l.line
   line_in e l has = map_in (λ (m : ClientLine). m.line) (lines_to r e) l has
 
-  line_whole : (l : ClientLine) → IsIn r.shown l → TellsWhole l.line.text
+  line_whole : (l : ClientLine) → IsIn r.shown l → HasWholeNumbers l.line.text
   line_whole l has =
       let m = has_made l has in
-      each_in (λ (x : Line). TellsWhole x.text) (told_in r m.made.entity) l.line (told_whole m.made m.is m.shown)
+      each_in (λ (x : Line). HasWholeNumbers x.text) (told_in r m.made.entity) l.line (told_whole m.made m.is m.shown)
       (line_in m.made.entity l m.among)
 
   pub were_whole : WereWhole t
   were_whole e =
-      subst (AllByRecursion (λ (l : Line). TellsWhole l.text)) (sym (round.shown.told e))
-      (each_all (λ (l : Line). TellsWhole l.text) (s.told e ++ told_in r e) (λ l has. elim (in_append (s.told e) (told_in r e) l has) [
-        | inl before ↦ each_in (λ (x : Line). TellsWhole x.text) (s.told e) l (were e) before
+      subst (AllByRecursion (λ (l : Line). HasWholeNumbers l.text)) (sym (round.shown.told e))
+      (each_all (λ (l : Line). HasWholeNumbers l.text) (s.told e ++ told_in r e) (λ l has. elim (in_append (s.told e) (told_in r e) l has) [
+        | inl before ↦ each_in (λ (x : Line). HasWholeNumbers x.text) (s.told e) l (were e) before
         | inr now ↦
             let from = in_map (λ (m : ClientLine). m.line) (lines_to r e) l now in
             let line = in_filter (λ (m : ClientLine). m.entity == e) r.shown from.0 from.1 in
-            subst (λ (x : Line). TellsWhole x.text) from.2 (line_whole from.0 line.0)
+            subst (λ (x : Line). HasWholeNumbers x.text) from.2 (line_whole from.0 line.0)
       ]))
 
   module _ (legal : AreLegal h.settings) (defs : AreDefs h.defs) (homes : (e : ℕ) → (s.places e).home < cells_of (tree_of b))

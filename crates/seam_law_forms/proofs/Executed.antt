@@ -10,7 +10,7 @@ use Rattle.seam_rule_rounds.specs.Prelude.{Header, Book, entries, calls_of, crea
 use Rattle.seam_rule_rounds.specs.Prelude.{DoneLine}
 use Rattle.seam_call.specs.declared.sender.Sender.TheVariants as sender
 use Rattle.seam_defs.specs.declared.flags.Part.TheVariants as part
-use Rattle.seam_law_texts.specs.Forms.{IsDone, IsLong, GoesToPlace, type_in, no_number}
+use Rattle.seam_law_texts.specs.Forms.{IsDone, IsLong, GoesToPosition, type_in, no_number}
 use Rattle.seam_law_book.specs.Prelude.{IsOfLines, StaysInside}
 use Rattle.seam_law_forms.proofs.Members.{IsIn, each_in, all_in, in_right, in_filter, filter_in, all_flat}
 use Rattle.seam_law_forms.proofs.Made.{IsTaken, made_is, all_taken, few_calls}
@@ -40,7 +40,7 @@ listed_is entities list listed =
     All-weaker (Contains list) (λ (c : Create). entities c.entity ≡ Some c) (λ c has. (listed.exact c).0 has) list
     (All-contains_itself list)
 
-goes_to_place : (h : Header) → AreLegal h.settings → (d : Deed) → StaysInside h d → GoesToPlace d
+goes_to_place : (h : Header) → AreLegal h.settings → (d : Deed) → StaysInside h d → GoesToPosition d
 goes_to_place h legal (Move p) inside = is_place h p legal inside
 goes_to_place h legal (Method m args) inside = tt
 

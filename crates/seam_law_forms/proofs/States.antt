@@ -16,7 +16,7 @@ use Rattle.seam_defs.proofs.Keeping.{method-keeps}
 use Rattle.seam_defs.proofs.Starts.{start_of_group}
 use Rattle.seam_defs.proofs.GroupsOfGroups.{projected_of_group}
 use Rattle.seam_law_book.specs.Prelude.{IsInside, StaysInside}
-use Rattle.seam_law_texts.specs.Forms.{HasState, IsPlace}
+use Rattle.seam_law_texts.specs.Forms.{HasState, IsPosition}
 
 -- a call that a part of a type may execute
 pub record FitsOn (h : Header) (t : TypeDef) (p : Part) (x : Call) : Type 0 where
@@ -25,7 +25,7 @@ pub record FitsOn (h : Header) (t : TypeDef) (p : Part) (x : Call) : Type 0 wher
   pub inside : StaysInside h x.deed
 
 -- a position of the space has numbers of 32 bits
-pub is_place : (h : Header) (p : Pos) → AreLegal h.settings → IsInside h p → IsPlace p
+pub is_place : (h : Header) (p : Pos) → AreLegal h.settings → IsInside h p → IsPosition p
 is_place h p legal inside =
     let most = legal.in_range.size in
     let x = inside.x in

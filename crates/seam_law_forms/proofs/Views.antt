@@ -14,7 +14,7 @@ use Rattle.seam_call.specs.declared.shown.Shown.{Shown}
 use Rattle.seam_call.specs.declared.shown.Shown.TheVariants.{Own, Enter, Set, Leave}
 use Rattle.seam_call.specs.declared.shown.ClientText.{ClientText}
 use Rattle.seam_call.specs.declared.shown.ClientText.TheVariants as text
-use Rattle.seam_law_forms.specs.Counting.{NamesWhole, TellsWhole}
+use Rattle.seam_law_forms.specs.Counting.{NamesWhole, HasWholeNumbers}
 
 -- each entry of a view is of an entity with a number of 32 bits
 abbrev AreWhole : List (ℕ × ℕ) → Type 0
@@ -60,11 +60,12 @@ all_whole c [] all whole = whole
 all_whole c (x ∷ xs) all whole = all_whole (after_shown c x) xs all.1 (still_whole c x all.0 whole)
 
 -- what lines show, by what they tell
-pub shown_whole : (ls : List Line) → AllByRecursion (λ (l : Line). TellsWhole l.text) ls → AllByRecursion NamesWhole (shown_by_lines ls)
+pub shown_whole : (ls : List Line) → AllByRecursion (λ (l : Line). HasWholeNumbers l.text) ls →
+    AllByRecursion NamesWhole (shown_by_lines ls)
 shown_whole [] all = tt
 shown_whole (l ∷ ls) all = by (shown_whole ls all.1) l.text refl all.0
   where
-    by : AllByRecursion NamesWhole (shown_by_lines ls) → (x : ClientText) → l.text ≡ x → TellsWhole x →
+    by : AllByRecursion NamesWhole (shown_by_lines ls) → (x : ClientText) → l.text ≡ x → HasWholeNumbers x →
         AllByRecursion NamesWhole (shown_by_lines (l ∷ ls))
     by later (text.Shown x) at is = rw at (is, later)
     by later (text.Base v props) at is = rw at later

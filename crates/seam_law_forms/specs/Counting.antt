@@ -22,10 +22,10 @@ NamesWhole (Set e copy) = IsWhole e
 NamesWhole (Leave e) = IsWhole e
 
 -- of a line: the base part is one's own
-abbrev pub TellsWhole : ClientText → Type 0
-TellsWhole (text.Shown x) = NamesWhole x
-TellsWhole (text.Base version props) = ⊤
+abbrev pub HasWholeNumbers : ClientText → Type 0
+HasWholeNumbers (text.Shown x) = NamesWhole x
+HasWholeNumbers (text.Base version props) = ⊤
 
 -- so has each that clients were shown up to the standing
 abbrev pub WereWhole : Standing → Type 0
-WereWhole s = (e : ℕ) → AllByRecursion (λ (l : ClientLine). TellsWhole l.text) (s.told e)
+WereWhole s = (e : ℕ) → AllByRecursion (λ (l : ClientLine). HasWholeNumbers l.text) (s.told e)

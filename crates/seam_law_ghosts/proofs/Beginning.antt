@@ -1,16 +1,12 @@
--- What a loaded world has in its lists, and of entities that are not there.
-use Rattle.seam_law_ghosts.proofs.Prelude.{◌≡◌, ℕ, ◌≤◌, Bool, true, false, cond, eqb, is_some, ◌||◌, List, [], ◌∷◌, Option, None, Some}
-use Rattle.seam_law_ghosts.proofs.Prelude.{refl, sym, ap, ◌∙◌, subst, arith, inl, inr, option_map, slice_get, AllByRecursion, cases_lt}
-use Rattle.seam_law_ghosts.proofs.Prelude.{eqb-true, cells_of, leaf_at, items_to, Create, Order, Batch, RealView, has_any, cell_count}
-use Rattle.seam_law_ghosts.proofs.Prelude.{CellView, holders, NodeView, World, node_has_work, Cell, Base, real_if, created_at, attached}
-use Rattle.seam_law_ghosts.proofs.Prelude.{cell_round, base_round, ordered_at, loaded, slot_at, Frame, has_of, has_none, times, order_about}
-use Rattle.seam_law_ghosts.proofs.Prelude.{order_concerns, orders_of, real_in, framed, made, node_loaded, MayBegin, quiet_tasks}
-use Rattle.seam_law_ghosts.proofs.Prelude.{counted_none, each_keeps, Any, any, in_frame, slot_is, no_mail, node_orders, node_none}
-use Rattle.seam_call.specs.declared.order.Order.TheVariants as order
+-- What a loaded world has in its lists.
+use Rattle.seam_law_ghosts.proofs.Prelude.{◌≡◌, ℕ, ◌≤◌, Bool, true, false, eqb, is_some, ◌||◌, List, [], ◌∷◌, Option, None, Some, refl, sym}
+use Rattle.seam_law_ghosts.proofs.Prelude.{ap, subst, arith, option_map, slice_get, cells_of, leaf_at, Create, Order, Batch, RealView}
+use Rattle.seam_law_ghosts.proofs.Prelude.{has_any, CellView, NodeView, World, node_has_work, Cell, Base, real_if, created_at, attached}
+use Rattle.seam_law_ghosts.proofs.Prelude.{cell_round, base_round, ordered_at, loaded, slot_at, Frame, has_of, has_none, times, real_in}
+use Rattle.seam_law_ghosts.proofs.Prelude.{framed, made, node_loaded, MayBegin, quiet_tasks, each_keeps, Any, any, in_frame, slot_is}
 use Rattle.seam_law_rounds.proofs.Room.{one_if, loaded_surveys}
 use Rattle.seam_law_ghosts.proofs.Listing.{IsListed}
 use Rattle.seam_law_ghosts.proofs.Lasting.{AreListed}
-use Rattle.seam_law_ghosts.proofs.Unknown.{IsTickOrder, IsTick, IsUnknown}
 
 -- ---- look lists are empty
 
@@ -95,48 +91,3 @@ module _ (f : Frame) (w : World) (b : Batch) (begin : MayBegin f w b) (e : ℕ) 
     frame = in_frame f w b begin;
     slots = λ k. subst (λ h. IsListed h.cell) (sym (slot_is w b e k)) (listed_at k (slice_get w.nodes k) refl);
   }
-
-  -- ---- an entity that is not there
-
-  module _ (nowhere : holders (loaded w b) e ≡ 0) where
-    about : (x : ℕ) → x ≡ e → holders (loaded w b) x ≡ 1 → ⊥
-    about x is one = let z = sym (ap (holders (loaded w b)) is) ∙ one in omega (arith, nowhere, z)
-
-    tick_by : (o : Order) (os : List Order) (d : Bool) → order_concerns e o ≡ d →
-        ((x : ℕ) → order_about o ≡ Some x → holders (loaded w b) x ≡ 1) → AllByRecursion IsTickOrder os →
-        AllByRecursion IsTickOrder (cond d (o ∷ os) os)
-    tick_by (order.Cell c) os true is known all = absurd (about c.entity (eqb-true c.entity e is) (known c.entity refl))
-    tick_by (order.Base c) os true is known all = absurd (about c.entity (eqb-true c.entity e is) (known c.entity refl))
-    tick_by order.Tick os true is known all = (tt, all)
-    tick_by (order.Reap x) os true is known all = absurd (about x (eqb-true x e is) (known x refl))
-    tick_by o os false is known all = all
-
-    item_by : (o : ℕ × Order) (os : List Order) (d : Bool) → ((x : ℕ) → order_about o.1 ≡ Some x → holders (loaded w b) x ≡ 1) →
-        AllByRecursion IsTickOrder (orders_of e os) → AllByRecursion IsTickOrder (orders_of e (cond d (o.1 ∷ os) os))
-    item_by o os true known all = tick_by o.1 (orders_of e os) (order_concerns e o.1) refl known all
-    item_by o os false known all = all
-
-    ticks_only : (k : ℕ) (os : List (ℕ × Order)) → AllByRecursion (λ o. (x : ℕ) → order_about o.1 ≡ Some x → holders (loaded w b) x ≡ 1) os
-        → AllByRecursion IsTickOrder (orders_of e (items_to k os))
-    ticks_only k [] h = tt
-    ticks_only k (o ∷ os) h = item_by o (items_to k os) (eqb o.0 k) h.0 (ticks_only k os h.1)
-
-    orders_at : (k : ℕ) (o : Option NodeView) → slice_get w.nodes k ≡ o →
-        AllByRecursion IsTickOrder (slot_at (has_of e) has_none (option_map (node_loaded b) o)).base.orders
-    orders_at k None at = tt
-    orders_at k (Some s) at = elim (cases_lt k cell_count) [
-      | inl low ↦ subst (AllByRecursion IsTickOrder) (sym (node_none f w b begin.between begin.fits.tree e k s at low)) tt
-      | inr high ↦ subst (AllByRecursion IsTickOrder) (sym (node_orders f w b begin.between begin.fits.tree e k s at high))
-          (ticks_only k b.orders begin.fits.known)
-    ]
-
-    pub unknown_loaded : IsUnknown (framed f b) e (loaded w b)
-    unknown_loaded = record {
-      frame = in_frame f w b begin;
-      slots = λ k. record {
-        real = (counted_none (loaded w b) e nowhere).slots k;
-        orders =
-            subst (λ h. AllByRecursion IsTickOrder h.base.orders) (sym (slot_is w b e k)) (orders_at k (slice_get w.nodes k) refl);
-      };
-      letters = λ a k. subst (AllByRecursion IsTick) (sym (no_mail f w b begin e a k)) tt;
-    }

@@ -4,10 +4,10 @@ use Rattle.seam_law_ghosts.proofs.Prelude.{Settings, TypeDef, RealView, cell_cou
 use Rattle.seam_law_ghosts.proofs.Prelude.{reap_ordered_at, ordered_at, opened, reaps_loaded, look_loaded, In, Frame, entity_flow, real_in}
 use Rattle.seam_law_ghosts.proofs.Prelude.{IsFrame, RunsTo, real_at, IsBetweenRounds, each, first_frame, AreReapable, book_entry, copy_at}
 use Rattle.seam_law_ghosts.proofs.Prelude.{NewestAreWanted, IsForgotten, AreCopiesBetweenRounds, reaps_cell, look_cell, reals_stay}
-use Rattle.seam_law_ghosts.proofs.Prelude.{opened_is_new}
+use Rattle.seam_law_ghosts.proofs.Prelude.{opened_is_new, unknown_reaps, unknown_look}
 use Rattle.seam_law_rounds.proofs.Reaping as reaping
 use Rattle.seam_law_rounds.proofs.Looking as looking
-use Rattle.seam_law_ghosts.proofs.NoStrays.{frame_reaps, unknown_reaps, frame_look, unknown_look}
+use Rattle.seam_law_ghosts.proofs.NoStrays.{frame_reaps, frame_look}
 use Rattle.seam_law_ghosts.proofs.Still.{quiet_mail}
 use Rattle.seam_law_ghosts.proofs.Phasing.{phase_told, phase_forgotten, phase_ends_copied, phase_stays}
 use Rattle.seam_law_ghosts.proofs.Loading.{books_turned}

@@ -1,18 +1,16 @@
 -- In a round no message to a cell is stray.
 use Rattle.seam_law_ghosts.proofs.Prelude.{◌≡◌, ℕ, ◌<◌, ◌≤◌, ◌⊎◌, false, List, ◌∷◌, None, Some, refl, sym, ap, ◌∙◌, subst, inl, inr}
 use Rattle.seam_law_ghosts.proofs.Prelude.{slice_get, AllByRecursion, Division, link, Event, Batch, RealView, Msg, Hand, Tick, limit}
-use Rattle.seam_law_ghosts.proofs.Prelude.{cell_count, about, is_stray, CellView, slot_of, holders, NodeView, World, Cell, loaded}
-use Rattle.seam_law_ghosts.proofs.Prelude.{letters_of, slot_at, TokenPlace, In, On, Frame, IsTreeOf, here_at, mine, has_of, has_none}
-use Rattle.seam_law_ghosts.proofs.Prelude.{entity_flow, RealFits, IsFitHand, real_burden, real_in, real_of, IsOne, reaped_by, RunsTo}
-use Rattle.seam_law_ghosts.proofs.Prelude.{real_at, IsSettled, framed, calls_of, next_from, MayBegin, sole_here, none_counts, replays_none}
-use Rattle.seam_law_ghosts.proofs.Prelude.{no_mail, are_calls, frame_loaded, settled_loaded, one_loaded, spared_loaded, kept_after}
-use Rattle.seam_law_ghosts.proofs.Prelude.{Somewhere, Nowhere}
+use Rattle.seam_law_ghosts.proofs.Prelude.{cell_count, about, is_stray, CellView, slot_of, NodeView, World, Cell, loaded, letters_of}
+use Rattle.seam_law_ghosts.proofs.Prelude.{slot_at, TokenPlace, In, On, Frame, IsTreeOf, here_at, mine, has_of, has_none, entity_flow}
+use Rattle.seam_law_ghosts.proofs.Prelude.{RealFits, IsFitHand, real_burden, real_in, real_of, IsOne, reaped_by, RunsTo, real_at, IsSettled}
+use Rattle.seam_law_ghosts.proofs.Prelude.{framed, calls_of, next_from, MayBegin, sole_here, replays_none, no_mail, are_calls, frame_loaded}
+use Rattle.seam_law_ghosts.proofs.Prelude.{settled_loaded, one_loaded, spared_loaded, kept_after, Somewhere, Nowhere, IsTickTo, IsUnknown}
+use Rattle.seam_law_ghosts.proofs.Prelude.{unknown_leads, unknown_loaded, nobody}
 use Rattle.seam_law_calls.proofs.Easing.{came_small}
 use Rattle.seam_law_calls.proofs.CellRuns.{finds}
 use Rattle.seam_law_ghosts.proofs.Sending.{FitsNode}
 use Rattle.seam_law_ghosts.proofs.Lasting.{IsFair, fair_leads}
-use Rattle.seam_law_ghosts.proofs.Unknown.{IsTick, IsUnknown, unknown_leads}
-use Rattle.seam_law_ghosts.proofs.Beginning.{unknown_loaded}
 use Rattle.seam_law_ghosts.proofs.Strays.{mine_is, seen_first, feeds, kind_fits}
 
 -- the first letter carries the one real, so no node has it
@@ -24,14 +22,14 @@ free_by e w (In x) r q a k ms one at j =
     absurd (let z = some in cc)
 
 -- nothing but ticks comes
-no_tick : (e : ℕ) (m : Msg) → about m ≡ Some e → IsTick m → ⊥
-no_tick e Tick h t = cc
-no_tick e _ h t = t
+no_tick : (e k : ℕ) (m : Msg) → about m ≡ Some e → IsTickTo k m → ⊥
+no_tick e k Tick h t = cc
+no_tick e k _ h t = t
 
 pub unknown_gets_none : (f : Frame) (e : ℕ) (w : World) → IsUnknown f e w → (a k : ℕ) (m : Msg) (ms : List Msg) →
     link w.rows a k ≡ m ∷ ms → about m ≡ Some e → ⊥
 unknown_gets_none f e w h a k m ms at is =
-    no_tick e m is (subst (AllByRecursion IsTick) (seen_first e w a k m ms at is) (h.letters a k)).0
+    no_tick e k m is (subst (AllByRecursion (IsTickTo k)) (seen_first e w a k m ms at is) (h.letters a k)).0
 
 module _ (f : Frame) (w : World) (b : Batch) (begin : MayBegin f w b) (v : World) (es : List Event) (run : RunsTo (loaded w b) es v) where
   abbrev g : Frame
@@ -89,18 +87,13 @@ module _ (f : Frame) (w : World) (b : Batch) (begin : MayBegin f w b) (v : World
           (letters_of (mine e) ms) (seen ∙ ap (λ x. x ∷ letters_of (mine e) ms) same))
           hand_fits
 
-  pub nobody : (e : ℕ) → Nowhere e (loaded w b) → holders (loaded w b) e ≡ 0
-  nobody e n =
-      none_counts (loaded w b) e
-      (record { slots = n; mail = λ x y. ap (letters_of real_of) (no_mail f w b begin e x y) })
-
   pub free_by_place : (a k : ℕ) (c : CellView) (m : Msg) (ms : List Msg) (e : ℕ) → slice_get v.nodes k ≡ Some (Cell c) →
       link v.rows a k ≡ m ∷ ms → about m ≡ Some e → k < cell_count → IsTreeOf g c.tree →
       Somewhere e (loaded w b) ⊎ Nowhere e (loaded w b) → is_stray (here_at g k) c.tree ((entity_flow e v).slot k).cell.slot m ≡ false
   free_by_place a k c m ms e node at is low of (inl p) = present_free e p.0 p.1 p.2 a k (Cell c) node low c.tree of m ms at is
   free_by_place a k c m ms e node at is low of (inr n) =
       absurd (unknown_gets_none g e v (unknown_leads g e (loaded w b) v es (unknown_loaded f w b begin e
-      (nobody e n)) run) a k m ms at is)
+      (nobody f w b begin e n)) run) a k m ms at is)
 
 -- what is said of a cell by its entity's flow, said of the cell
 pub of_cell : (g : Frame) (v : World) (k : ℕ) (c : CellView) (e : ℕ) (m : Msg) → slice_get v.nodes k ≡ Some (Cell c) →

@@ -2,7 +2,6 @@ pub mod Prelude
 pub mod Sending
 pub mod Listing
 pub mod Lasting
-pub mod Unknown
 pub mod Beginning
 pub mod Strays
 pub mod InRound

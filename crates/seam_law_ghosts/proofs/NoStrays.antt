@@ -1,28 +1,24 @@
 -- No input of a cell is stray: in a round, where entities are reaped, and where witnesses look.
-use Rattle.seam_law_ghosts.proofs.Prelude.{◌≡◌, ℕ, ◌+◌, ◌<◌, ◌≤◌, ◌⊎◌, Bool, true, false, cond, eqb, not, nat_lt, is_some, List, [], ◌∷◌}
-use Rattle.seam_law_ghosts.proofs.Prelude.{Option, None, Some, refl, sym, ap, ◌∙◌, subst, arith, inl, inr, slice_get, AllByRecursion}
-use Rattle.seam_law_ghosts.proofs.Prelude.{eq-eqb, nat_tests, slice_get-map, Division, link, total, Event, OrderView, next_item}
-use Rattle.seam_law_ghosts.proofs.Prelude.{Call as CallData, Order, Batch, Orders, order_or, RealView, Msg, limit, may_rise, cell_count}
-use Rattle.seam_law_ghosts.proofs.Prelude.{base_of, order_is_ready, has_ready, ready_order, may_settle, may_execute, about, is_stray}
-use Rattle.seam_law_ghosts.proofs.Prelude.{stray_survey, CellView, slot_of, holders, NodeView, World, node_has_work, Cell, with_nodes}
-use Rattle.seam_law_ghosts.proofs.Prelude.{ordered_at, reap_ordered_at, loaded, reaps_loaded, look_loaded, letters_of, slot_at, Frame}
-use Rattle.seam_law_ghosts.proofs.Prelude.{here_at, IsInFrame, mine, times, has_of, has_none, entity_flow, has_witness, real_burden}
-use Rattle.seam_law_ghosts.proofs.Prelude.{real_in, real_of, RunsTo, real_at, IsBetweenRounds, framed, each, AreReapable, MayBegin}
-use Rattle.seam_law_ghosts.proofs.Prelude.{HasNoStrayTask, quiet_links, quiet_tasks, found, none_counts, all_two, node_there, in_frame}
-use Rattle.seam_law_ghosts.proofs.Prelude.{kept_after, Somewhere, Nowhere, search_real, frame_leads, IsCalmOrder, order_reaps, IsCalm}
-use Rattle.seam_law_ghosts.proofs.Prelude.{none_ready, reaps_framed, look_framed, reaps_given, look_given, reaps_cell, look_cell, low}
-use Rattle.seam_law_ghosts.proofs.Prelude.{leads, calm_leads}
+use Rattle.seam_law_ghosts.proofs.Prelude.{◌≡◌, ℕ, ◌+◌, ◌<◌, ◌≤◌, ◌⊎◌, Bool, true, false, cond, not, nat_lt, is_some, List, [], ◌∷◌, Option}
+use Rattle.seam_law_ghosts.proofs.Prelude.{None, Some, refl, sym, ap, ◌∙◌, subst, arith, inl, inr, slice_get, eq-eqb, nat_tests}
+use Rattle.seam_law_ghosts.proofs.Prelude.{slice_get-map, Division, link, Event, OrderView, next_item, Call as CallData, Batch, Orders}
+use Rattle.seam_law_ghosts.proofs.Prelude.{order_or, RealView, Msg, limit, may_rise, cell_count, order_is_ready, has_ready, ready_order}
+use Rattle.seam_law_ghosts.proofs.Prelude.{may_settle, may_execute, about, is_stray, stray_survey, CellView, slot_of, NodeView, World}
+use Rattle.seam_law_ghosts.proofs.Prelude.{node_has_work, Cell, with_nodes, ordered_at, reap_ordered_at, loaded, reaps_loaded, look_loaded}
+use Rattle.seam_law_ghosts.proofs.Prelude.{slot_at, Frame, here_at, IsInFrame, times, has_of, has_none, entity_flow, has_witness}
+use Rattle.seam_law_ghosts.proofs.Prelude.{real_burden, real_in, RunsTo, real_at, IsBetweenRounds, framed, each, AreReapable, MayBegin}
+use Rattle.seam_law_ghosts.proofs.Prelude.{HasNoStrayTask, quiet_tasks, found, all_two, node_there, in_frame, kept_after, Somewhere}
+use Rattle.seam_law_ghosts.proofs.Prelude.{Nowhere, search_real, frame_leads, IsCalm, none_ready, reaps_framed, look_framed, reaps_cell}
+use Rattle.seam_law_ghosts.proofs.Prelude.{look_cell, low, leads, calm_leads, IsUnknown, unknown_leads, unknown_loaded, unknown_reaps}
+use Rattle.seam_law_ghosts.proofs.Prelude.{unknown_look, nobody}
 use Rattle.std.specs.FinMap as table
-use Rattle.seam_call.specs.declared.order.Order.TheVariants as order
-use Rattle.seam_law_rounds.proofs.Starting.{Given}
 use Rattle.seam_law_rounds.proofs.Phases.{settled}
 use Rattle.seam_law_rounds.proofs.Reaping as reaping
 use Rattle.seam_law_rounds.proofs.Looking as looking
 use Rattle.seam_law_ghosts.proofs.Listing.{IsListed}
 use Rattle.seam_law_ghosts.proofs.Lasting.{AreListed, listed_leads, real_bound}
-use Rattle.seam_law_ghosts.proofs.Unknown.{IsTickOrder, IsTick, IsUnknown, unknown_leads}
-use Rattle.seam_law_ghosts.proofs.Beginning.{lists_loaded, unknown_loaded, empty_lists, none_listed}
-use Rattle.seam_law_ghosts.proofs.InRound.{unknown_gets_none, nobody, free_by_place, of_cell}
+use Rattle.seam_law_ghosts.proofs.Beginning.{lists_loaded, empty_lists, none_listed}
+use Rattle.seam_law_ghosts.proofs.InRound.{unknown_gets_none, free_by_place, of_cell}
 use Rattle.seam_law_ghosts.proofs.InPhases.{calm_free}
 
 -- ---- tasks
@@ -90,7 +86,7 @@ module _ (f : Frame) (w : World) (b : Batch) (begin : MayBegin f w b) (v : World
       omega (arith, few, part)
   room_by e k r at (inr n) =
       let u = unknown_leads (framed f b) e (loaded w b) v es
-      (unknown_loaded f w b begin e (nobody f w b begin v es run e n)) run in
+      (unknown_loaded f w b begin e (nobody f w b begin e n)) run in
       absurd (let z = sym (u.slots k).real ∙ at in cc)
 
   executes : (e k : ℕ) (r : RealView) → real_at e v k ≡ Some r → may_execute r ≡ true
@@ -112,13 +108,6 @@ module _ (f : Frame) (w : World) (b : Batch) (begin : MayBegin f w b) (v : World
 
 -- ---- the other phases
 
-no_reaps : (e : ℕ) (os : List Order) → AllByRecursion (IsCalmOrder e) os → total order_reaps os ≡ 0 → AllByRecursion IsTickOrder os
-no_reaps e [] h none = tt
-no_reaps e (order.Cell c ∷ os) h none = absurd h.0
-no_reaps e (order.Base c ∷ os) h none = absurd h.0
-no_reaps e (order.Tick ∷ os) h none = (tt, no_reaps e os h.1 (omega (arith, none)))
-no_reaps e (order.Reap x ∷ os) h none = absurd (omega (arith, none))
-
 module _ (f : Frame) (u : World) (between : IsBetweenRounds f u) (turn : NodeView → NodeView) (frame : IsInFrame f (with_nodes u turn))
     (e : ℕ) (cells : (s : NodeView) → (has_of e (turn s)).cell ≡ (has_of e s).cell) where
   there : (k : ℕ) (t : NodeView) → slice_get (with_nodes u turn).nodes k ≡ Some t →
@@ -134,29 +123,6 @@ module _ (f : Frame) (u : World) (between : IsBetweenRounds f u) (turn : NodeVie
 
   pub lists_turned : AreListed f e (with_nodes u turn)
   lists_turned = record { frame = frame; slots = λ k. listed_by k (slice_get (with_nodes u turn).nodes k) refl }
-
-  module _ (nowhere : Nowhere e u) (given : (k : ℕ) (s : NodeView) → slice_get u.nodes k ≡ Some s → Given e 0 s (turn s)) where
-    unknown_by : (k : ℕ) (o : Option NodeView) → slice_get (with_nodes u turn).nodes k ≡ o →
-        (real_in (slot_at (has_of e) has_none o) ≡ None) × AllByRecursion IsTickOrder (slot_at (has_of e) has_none o).base.orders
-    unknown_by k None at = (refl, tt)
-    unknown_by k (Some t) at =
-        let n = there k t at in
-        let g = given k n.0 n.1 in
-        subst (λ x. (real_in (has_of e x) ≡ None) × AllByRecursion IsTickOrder (has_of e x).base.orders) n.2 (
-          ap (λ c. c.slot.real) g.cell ∙ (sym (ap (λ o. real_in (slot_at (has_of e) has_none o)) n.1) ∙ nowhere k),
-          no_reaps e (has_of e (turn n.0)).base.orders g.orders g.reaps,
-        )
-
-    pub unknown_turned : IsUnknown f e (with_nodes u turn)
-    unknown_turned = record {
-      frame = frame;
-      slots = λ k.
-          let p = unknown_by k (slice_get (with_nodes u turn).nodes k) refl in
-          record { real = p.0; orders = p.1 };
-      letters = λ a k.
-          subst (AllByRecursion IsTick)
-          (sym (ap (letters_of (mine e)) (quiet_links node_has_work u between.nodes.sound.square between.quiet a k))) tt;
-    }
 
 -- a real of which no call is held has none that is ready
 no_ready_by : (os : Orders) → ((s : ℕ) → (order_or (table.get os s)).held ≡ []) → (o : Option (ℕ × OrderView CallData)) →
@@ -218,40 +184,9 @@ module _ (f : Frame) (u : World) (between : IsBetweenRounds f u) (w : World) (fr
       tasks_free v k c node (λ e. (listed_leads f e w v vs (lists e) run).slots k)
       (λ e r some at. settles_never e k r some at (search_real e u)) (λ e r at ready. executes_never e k r at ready (search_real e u))
 
-module _ (f : Frame) (u : World) (between : IsBetweenRounds f u) (e : ℕ) where
-  none_there : Nowhere e u → holders u e ≡ 0
-  none_there n =
-      none_counts u e (record {
-        slots = n;
-        mail = λ x y.
-            ap (λ l. letters_of real_of (letters_of (mine e) l)) (quiet_links node_has_work u between.nodes.sound.square between.quiet x y);
-      })
-
-  others_by : Nowhere e u → (es : List ℕ) → AllByRecursion (λ x. holders u x ≡ 1) es → AllByRecursion (λ x. x ≡ e → ⊥) es
-  others_by n [] h = tt
-  others_by n (x ∷ es) h = (
-    λ is.
-        let zero = none_there n in
-        let one = sym (ap (holders u) is) ∙ h.0 in
-        omega (arith, zero, one),
-    others_by n es h.1,
-  )
-
 module _ (f : Frame) (u : World) (between : IsBetweenRounds f u) (es : List ℕ) (may : AreReapable u es) where
   abbrev turn : NodeView → NodeView
   turn = each reap_ordered_at es
-
-  zero_by : (x : Bool) (n : ℕ) → n ≡ 0 → cond {A = ℕ} x n 0 ≡ 0
-  zero_by true n h = h
-  zero_by false n h = refl
-
-  pub unknown_reaps : (e : ℕ) → Nowhere e u → IsUnknown f e (reaps_loaded u es)
-  unknown_reaps e n =
-      let none = reaping.never_by e es (others_by f u between e n es may.there) in
-      subst (IsUnknown f e) (sym (reaping.loaded_is f u between es may))
-      (unknown_turned f u between turn (reaps_framed f u between.nodes es) e (reaps_cell e es) n (λ k s at.
-      subst (λ m. Given e m s (turn s)) (zero_by (eqb k (base_of (here_at f 0) e)) (times e es) none)
-      (reaps_given e f k es s (between.nodes.nodes k s at) (quiet_tasks node_has_work u between.quiet k s at))))
 
   lists_reaps : (e : ℕ) → AreListed f e (reaps_loaded u es)
   lists_reaps e =
@@ -266,21 +201,16 @@ module _ (f : Frame) (u : World) (between : IsBetweenRounds f u) (es : List ℕ)
         link v.rows a k ≡ m ∷ ms → about m ≡ Some e → is_stray c.here c.tree (slot_of c e) m ≡ false
     reaps_free =
         phase_free f u between (reaps_loaded u es) frame_reaps (λ e. reaping.is_told e es) (reaping.small f u between es may)
-        (reaping.calm f u between es may) unknown_reaps lists_reaps v vs run
+        (reaping.calm f u between es may) (unknown_reaps f u between es may) lists_reaps v vs run
 
     pub reaps_tasks : (k : ℕ) (c : CellView) → slice_get v.nodes k ≡ Some (Cell c) → HasNoStrayTask c
     reaps_tasks =
         phase_tasks f u between (reaps_loaded u es) frame_reaps (λ e. reaping.is_told e es) (reaping.small f u between es may)
-        (reaping.calm f u between es may) unknown_reaps lists_reaps v vs run
+        (reaping.calm f u between es may) (unknown_reaps f u between es may) lists_reaps v vs run
 
 module _ (f : Frame) (u : World) (between : IsBetweenRounds f u) where
   pub frame_look : IsInFrame f (look_loaded u)
   frame_look = look_framed f u between.nodes looking.tick
-
-  pub unknown_look : (e : ℕ) → Nowhere e u → IsUnknown f e (look_loaded u)
-  unknown_look e n =
-      unknown_turned f u between (ordered_at looking.tick) frame_look e (look_cell e looking.tick) n
-      (λ k s at. look_given e f k cell_count s (quiet_tasks node_has_work u between.quiet k s at))
 
   lists_look : (e : ℕ) → AreListed f e (look_loaded u)
   lists_look e = lists_turned f u between (ordered_at looking.tick) frame_look e (look_cell e looking.tick)
@@ -290,9 +220,9 @@ module _ (f : Frame) (u : World) (between : IsBetweenRounds f u) where
         link v.rows a k ≡ m ∷ ms → about m ≡ Some e → is_stray c.here c.tree (slot_of c e) m ≡ false
     look_free =
         phase_free f u between (look_loaded u) frame_look (λ e. false) (λ e home r here. looking.small f u between r)
-        (looking.calm f u between) unknown_look lists_look v vs run
+        (looking.calm f u between) (unknown_look f u between) lists_look v vs run
 
     pub look_tasks : (k : ℕ) (c : CellView) → slice_get v.nodes k ≡ Some (Cell c) → HasNoStrayTask c
     look_tasks =
         phase_tasks f u between (look_loaded u) frame_look (λ e. false) (λ e home r here. looking.small f u between r)
-        (looking.calm f u between) unknown_look lists_look v vs run
+        (looking.calm f u between) (unknown_look f u between) lists_look v vs run

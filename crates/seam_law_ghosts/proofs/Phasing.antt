@@ -7,10 +7,10 @@ use Rattle.seam_law_ghosts.proofs.Prelude.{Has, entity_flow, MovesTo, RealFits, 
 use Rattle.seam_law_ghosts.proofs.Prelude.{IsSettled, IsBetweenRounds, Entry, brings, book_entry, GhostMoves, wanted, copy_at}
 use Rattle.seam_law_ghosts.proofs.Prelude.{NewestAreWanted, IsForgotten, AreSettled, AreCopiesBetweenRounds, occurs, leads_keeps, came}
 use Rattle.seam_law_ghosts.proofs.Prelude.{sole_here, event_moves, one_counts, none_counts, not_both, gone_leads, quiet_home, Somewhere}
-use Rattle.seam_law_ghosts.proofs.Prelude.{Nowhere, search_real, frame_leads, IsSame, IsCalmTo, IsCalm, calm_leads}
+use Rattle.seam_law_ghosts.proofs.Prelude.{Nowhere, search_real, frame_leads, IsSame, IsCalmTo, IsCalm, calm_leads, IsUnknown}
+use Rattle.seam_law_ghosts.proofs.Prelude.{unknown_leads}
 use Rattle.seam_law_rounds.proofs.Ending.{calm_one, calm_none}
 use Rattle.seam_law_ghosts.proofs.InPhases.{small_to}
-use Rattle.seam_law_ghosts.proofs.Unknown.{IsUnknown, unknown_leads}
 use Rattle.seam_law_ghosts.proofs.Steps.{ghost_moves}
 use Rattle.seam_law_ghosts.proofs.Moving.{After, here, gone, after_move, still_forgotten}
 use Rattle.seam_law_ghosts.proofs.Still.{quiet_mail, nowhere_counts, forgotten_still, none_still, told_still, settled_still}

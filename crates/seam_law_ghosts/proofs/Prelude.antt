@@ -14,7 +14,8 @@ pub use Rattle.seam_law_calls.proofs.Prelude.{one_here, one_there, order_about, 
 pub use Rattle.seam_law_calls.proofs.Prelude.{stray_survey, token_after, token_turns, told_unless, type_at}
 pub use Rattle.seam_law_calls.proofs.Replaying.{acts_replays, replays_none, replays_on}
 pub use Rattle.seam_law_calls.proofs.Sparing.{items_all}
-pub use Rattle.seam_law_calls.specs.Prelude.{has_witness}
+pub use Rattle.seam_law_calls.proofs.Unknown.{unknown_leads}
+pub use Rattle.seam_law_calls.specs.Prelude.{IsTickTo, IsUnknown, has_witness}
 pub use Rattle.seam_law_flow.proofs.NewestLemmas.{newest_rests, newest_rises, newest_stays, not_above_rises, taken_comes}
 pub use Rattle.seam_law_flow.specs.Prelude.{IsHead, Turned, item_of}
 pub use Rattle.seam_law_ghosts.specs.Copies.{IsAway, NewestIsWanted, beat_at}
@@ -71,7 +72,8 @@ pub use Rattle.seam_law_rounds.proofs.Prelude.{◌-◌, ◌<◌, ◌||◌, ◌�
 pub use Rattle.seam_law_rounds.proofs.Publics.{public_low}
 pub use Rattle.seam_law_rounds.proofs.Ready.{one_at_home, one_holder, quiet_home}
 pub use Rattle.seam_law_rounds.proofs.Shape.{Nowhere, Somewhere, frame_leads, items_each, search_real}
-pub use Rattle.seam_law_rounds.proofs.Turns.{are_calls, node_none, node_orders}
+pub use Rattle.seam_law_rounds.proofs.Turns.{are_calls}
+pub use Rattle.seam_law_rounds.proofs.Unknown.{nobody, unknown_loaded, unknown_look, unknown_reaps}
 pub use Rattle.seam_node_steps.specs.Prelude.{Area, Distances, GhostsReach, IsInSpace, Number, Place, Text, Value, batch, copy_if, distance}
 pub use Rattle.seam_node_steps.specs.Prelude.{distance_to, distance_to_cell, fits_copy, ghost_of, home_at, last_of, may_execute, move_1}
 pub use Rattle.seam_node_steps.specs.Prelude.{move_2, part_of_deed, same_shown, same_state, same_value, same_values, shows, stray_hand}

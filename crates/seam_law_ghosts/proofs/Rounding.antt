@@ -6,10 +6,8 @@ use Rattle.seam_law_ghosts.proofs.Prelude.{entity_flow, real_in, real_of, IsOne,
 use Rattle.seam_law_ghosts.proofs.Prelude.{Entry, brings, IsTrue, IsHushed, present, copy_at, NewestAreWanted, IsForgotten, AreSettled}
 use Rattle.seam_law_ghosts.proofs.Prelude.{AreCopiesBetweenRounds, occurs, leads_keeps, came, sole_here, event_moves, gone_leads, in_frame}
 use Rattle.seam_law_ghosts.proofs.Prelude.{no_mail, holds_kept, one_holder, frame_loaded, settled_loaded, one_loaded, spared_loaded}
-use Rattle.seam_law_ghosts.proofs.Prelude.{one_after, Somewhere, Nowhere, search_real, frame_leads}
-use Rattle.seam_law_ghosts.proofs.Unknown.{IsTick, IsUnknown, unknown_leads}
-use Rattle.seam_law_ghosts.proofs.Beginning.{unknown_loaded}
-use Rattle.seam_law_ghosts.proofs.InRound.{nobody}
+use Rattle.seam_law_ghosts.proofs.Prelude.{one_after, Somewhere, Nowhere, search_real, frame_leads, IsTickTo, IsUnknown, unknown_leads}
+use Rattle.seam_law_ghosts.proofs.Prelude.{unknown_loaded, nobody}
 use Rattle.seam_law_ghosts.proofs.Steps.{ghost_moves}
 use Rattle.seam_law_ghosts.proofs.Moving.{still_forgotten}
 use Rattle.seam_law_ghosts.proofs.Still.{quiet_mail, nowhere_counts, forgotten_still, none_still, settled_still}
@@ -18,9 +16,9 @@ use Rattle.seam_law_ghosts.proofs.Loading.{books_loaded, copies_loaded, home_loa
 
 -- ---- an entity that is nowhere: nothing comes to its books
 
-tick_brings : (m : Msg) (x : Entry) → IsTick m → brings m ≡ Some x → ⊥
-tick_brings Tick x t is = cc
-tick_brings _ x t is = t
+tick_brings : (k : ℕ) (m : Msg) (x : Entry) → IsTickTo k m → brings m ≡ Some x → ⊥
+tick_brings k Tick x t is = cc
+tick_brings k _ x t is = t
 
 module _ (f : Frame) (e : ℕ) where
   record IsLost (w : World) : Type 0 where
@@ -32,13 +30,14 @@ module _ (f : Frame) (e : ℕ) where
       let o = occurs node_has_work w v on in
       let next = happens node_steps w v in
       let g = event_moves f w v o x.unknown.frame e in
-      let ticks : (m : Msg) → comes g.input ≡ Some m → IsTick m = λ m is. (came (λ a k m. IsTick m) g m is x.unknown.letters).1 in
+      let ticks : (m : Msg) → comes g.input ≡ Some m → IsTickTo g.k m =
+      λ m is. (came (λ a k m. IsTickTo k m) g m is x.unknown.letters).1 in
       let free = (x.unknown.slots g.k).real in
       record {
         unknown = unknown_leads f e w next (v ∷ []) x.unknown (record { each = (on, tt); is_run = refl });
         forgotten =
             still_forgotten f e w next g g.moves.sent g.moves.items free (λ r is. ticks (Hand r) is) x.forgotten
-            (λ m y is cell brought none tree stray. tick_brings m y (ticks m is) brought)
+            (λ m y is cell brought none tree stray. tick_brings g.k m y (ticks m is) brought)
             (ghost_moves f e 0 g.k ((entity_flow e w).slot g.k) (comes g.input) ((entity_flow e next).slot g.k) g.moves.sent
             (λ r is. absurd (ticks (Hand r) is)) (λ r at. absurd (let z = sym free ∙ at in cc)) g.moves.moves);
       }
@@ -159,7 +158,7 @@ module _ (f : Frame) (w : World) (b : Batch) (begin : MayBegin f w b)
     none_by e zero k low (inl p) =
         let one = one_after f w b begin e p.0 p.1 p.2 v es run in
         absurd (omega (arith, one, zero))
-    none_by e zero k low (inr n) = none_still g e v (still e) (lost_then e (nobody f w b begin v es run e n)) k low
+    none_by e zero k low (inr n) = none_still g e v (still e) (lost_then e (nobody f w b begin e n)) k low
 
     pub calls_end_copied : AreCopiesBetweenRounds g v
     calls_end_copied = record {

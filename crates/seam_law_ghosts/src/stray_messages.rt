@@ -7,8 +7,9 @@
 //! A copy that comes where the real is changes nothing; that its beat is not greater is left to the laws of ghosts, and that the updates of
 //! a look have numbers to those of what clients are shown.
 //!
-//! For callers, of `proofs/`: `Unknown` (an entity that is nowhere), `Beginning` (what a loaded world has of one), `Strays` (messages and
-//! tasks about one entity), `InRound` (a round) and `NoStrays` (each phase).
+//! For callers, of `proofs/`: `Beginning` (what a loaded world has in its lists), `Strays` (messages and tasks about one entity), `InRound`
+//! (a round) and `NoStrays` (each phase). Of an entity that is not there nothing comes but ticks
+//! (`seam_law_rounds::who_is_not_there_is_unknown`).
 
 ghost use Rattle.std.specs.Prelude.{◌≡◌, ℕ, false, List, ◌∷◌, Some, slice_get};
 ghost use Rattle.seam_node_steps.specs.Prelude.{link, Event, Batch, Msg, about, is_stray, CellView, slot_of, World};

@@ -38,7 +38,7 @@ same_numbers : (r q : RealView) → IsSame r q → numbers_of r ≡ numbers_of q
 same_numbers r q is = ap numbers_of is.1
 
 -- an entity without a real
-zero_of : (f : Frame) (u : World) → IsBetweenRounds f u → (e : ℕ) → Nowhere e u → holders u e ≡ 0
+pub zero_of : (f : Frame) (u : World) → IsBetweenRounds f u → (e : ℕ) → Nowhere e u → holders u e ≡ 0
 zero_of f u between e n =
     none_counts u e (record {
       slots = n;

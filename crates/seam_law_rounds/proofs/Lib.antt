@@ -36,6 +36,8 @@ pub mod BaseCallsEnd
 pub mod Still
 pub mod Idling
 pub mod Calms
+pub mod Unknown
+pub mod EachWay
 pub mod ExampleOpening
 pub mod ExampleRound
 pub mod ExampleCalls

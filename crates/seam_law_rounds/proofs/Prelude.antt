@@ -6,7 +6,7 @@ pub use Rattle.std.proofs.lemmas.List.Elements.{All-map, filter-append}
 pub use Rattle.std.proofs.lemmas.Option.{slice_get-get_or, slice_get-map, slice_get_cases, slice_get_within}
 pub use Rattle.seam_law_calls.proofs.Absent.{few_leads}
 pub use Rattle.seam_law_calls.proofs.AloneRuns.{alone_leads, bare_leads}
-pub use Rattle.seam_law_calls.proofs.BaseQuiet.{all_executed, all_shown}
+pub use Rattle.seam_law_calls.proofs.BaseQuiet.{all_executed, all_shown, none_is_ready}
 pub use Rattle.seam_law_calls.proofs.BaseRuns.{unordered, version_room}
 pub use Rattle.seam_law_calls.proofs.Classify.{event_moves, event_moves_with, frame_happens, node_laws, node_moves}
 pub use Rattle.seam_law_calls.proofs.ClientLeads.{both_leads, client_leads}
@@ -14,8 +14,10 @@ pub use Rattle.seam_law_calls.proofs.ClientRuns.{finds_client, part_may_show}
 pub use Rattle.seam_law_calls.proofs.Counting.{counted_none, counted_one, none_counts, one_counts}
 pub use Rattle.seam_law_calls.proofs.Easing.{burden_leads, input_is, sent_is}
 pub use Rattle.seam_law_calls.proofs.ExampleMet.{EachFrom, each_node, frame_is, no_link, none_there, row_leads, slots}
+pub use Rattle.seam_law_calls.proofs.Finding.{each_finds}
 pub use Rattle.seam_law_calls.proofs.Gone.{gone_leads}
 pub use Rattle.seam_law_calls.proofs.Handling.{FindsRoom, not_stray}
+pub use Rattle.seam_law_calls.proofs.Leading.{none_follow}
 pub use Rattle.seam_law_calls.proofs.NoLooks.{NoTicks}
 pub use Rattle.seam_law_calls.proofs.OneReal.{goes, one_keeps, one_leads, room, spared_happens}
 pub use Rattle.seam_law_calls.proofs.Plain.{SeesNoGhost, ghosts_silent, mapped_silent, numbered_silent}
@@ -62,8 +64,10 @@ pub use Rattle.seam_law_calls.proofs.Prelude.{◌*◌, ◌++◌, ◌+◌, ◌<�
 pub use Rattle.seam_law_calls.proofs.Silent.{tells_none, unseen_told_none}
 pub use Rattle.seam_law_calls.proofs.StrayRuns.{alone_without_stray, base_burden_leads, client_without_stray}
 pub use Rattle.seam_law_calls.proofs.Trees.{first_tree}
-pub use Rattle.seam_law_calls.proofs.WitnessKept.{IsSeen, each_weaker, seen_leads}
-pub use Rattle.seam_law_calls.specs.Prelude.{AreBaseCallsOf, IsBaseAt, is_from, no_base, no_cell}
+pub use Rattle.seam_law_calls.proofs.Unknown.{unknown_leads}
+pub use Rattle.seam_law_calls.proofs.WitnessKept.{IsSeen, all_weaker, each_weaker, seen_leads}
+pub use Rattle.seam_law_calls.specs.Prelude.{AreBaseCallsOf, CallsFindTheirWay, IsBaseAt, IsTickOrder, IsTickTo, IsUnknown, OnlyTicks}
+pub use Rattle.seam_law_calls.specs.Prelude.{follow, is_call, is_from, is_visited, no_base, no_cell, order_about}
 pub use Rattle.seam_law_flow.proofs.Ends.{loaded_in_turn}
 pub use Rattle.seam_law_flow.proofs.Numbers.{letters_of-number_from}
 pub use Rattle.seam_law_flow.specs.Prelude.{AllBring, Newest, NotAbove, OfEntry, SendsOne, bears, entry_in, greater_entry, of_number}
@@ -84,4 +88,4 @@ pub use Rattle.seam_node_steps.specs.Prelude.{first_look_5, first_looks, first_s
 pub use Rattle.seam_node_steps.specs.Prelude.{move_to, new_part, new_proxy, no, one_cell, opened, ordered_at, own, part_begins, part_if}
 pub use Rattle.seam_node_steps.specs.Prelude.{part_of, proxy_begins, public_after, real_begins, real_if, second_0, second_4, second_look_0}
 pub use Rattle.seam_node_steps.specs.Prelude.{second_look_4, second_looks, second_steps, set_at, space, standard, watcher, with_nodes}
-pub use Rattle.seam_node_steps.specs.Prelude.{with_proxy, with_route, with_value, with_witness}
+pub use Rattle.seam_node_steps.specs.Prelude.{has_ready, proxy_is_ready, with_proxy, with_route, with_value, with_witness}

@@ -3,9 +3,9 @@
 // Base parts and clients from round to round: what the laws of calls to base parts ask of a loaded world is true of each that a fitting
 // batch makes of one that keeps the record of base parts.
 //
-// `specs/Parts` has that record, a sentence for each of its fields, and what a batch brings to base parts. They stand beside the record
-// between rounds and the fitting batch of `seam_law_rounds` (*MayBegin*); *MayBeLoaded* is both. These laws speak of each entity of the
-// loaded world, whether it was there before or the batch creates it, and whether it has a client or not.
+// `specs/SettledParts` has that record, a sentence for each of its fields, and what a batch brings to base parts. They stand beside the
+// record between rounds and the fitting batch of `seam_law_rounds` (*MayBegin*); *MayBeLoaded* is both. These laws speak of each entity of
+// the loaded world, whether it was there before or the batch creates it, and whether it has a client or not.
 //
 // Of a client the record says that it is in step with its entity's witness: all that the witness told was shown, and nothing is on its way.
 // Its numbers have room by what `seam_law_calls` says of what a witness tells: the record says that entities have numbers below a bound.
@@ -16,7 +16,7 @@
 // For callers, of `proofs/`: `PartLoads` (what a load makes of a base part at a node), `Joining` and `Attaching` (of a witness and of a
 // client), `PartsLoaded` (and in the world), `PartTurns` (its calls), `Serving` (a client over a list of events), `Ticking` (how much it is
 // told), `PartsGoing` (every list of events), `BaseCallsEnd` (a quiet world after them), `Still` (a part that no one calls), `Idling` and
-// `Calms` (reaps and looks), `FirstBatchFits` (a batch that fits an opened world) and `ExampleRound` (a worked round of a client).
+// `Calms` (reaps and looks) and `ExampleRound` (a worked round of a client).
 
 ghost use Rattle.std.specs.Prelude.{◌≡◌, ℕ, ◌≤◌, List, [], ◌∷◌, ◌++◌, Some};
 ghost use Rattle.seam_node_steps.specs.Prelude.{IsQuiet, Event, Settings, TypeDef, Batch, RealView, Msg, Update, PartView};

@@ -6,9 +6,9 @@
 //! phase, and `base_parts` both for base parts and their clients. Each law is a clause of a function that does nothing; the head of each
 //! module says which modules of `proofs/` are for callers.
 //!
-//! Of `specs/`, `Between`, `Loaded` and `NextBatchExample` are for `between`, `LastPhases` and `Routes` for `rounds`, and `Parts` and
-//! `FirstBatchExample` for `base_parts`. `specs/Prelude` re-exports what crates above cite of this one and of those below it, so that one
-//! import names it.
+//! Of `specs/`, `Between` and `Loaded` are for `between`, `LastPhases` and `Routes` for `rounds`, and `SettledParts` for `base_parts`,
+//! whose examples begin in `OpeningExample`. `specs/Prelude` re-exports what crates above cite of this one and of those below it, so that
+//! one import names it.
 //!
 //! A fitting batch's tree is of the settings' space (*IsFitting*): a real is in that space, and its leaf holds it only where the tree
 //! divides it.
@@ -31,6 +31,6 @@ pub use between::{
     calls_of_a_batch_are_executed_once, calls_of_a_batch_are_in_turn,
 };
 pub use rounds::{
-    a_round_goes_from_record_to_record, looks_keep_reals, no_call_waits_for_the_reaped,
-    reaps_end_reals,
+    a_round_goes_from_record_to_record, each_call_finds_its_way, looks_keep_reals,
+    no_call_waits_for_the_reaped, reaps_end_reals, who_is_not_there_is_unknown,
 };

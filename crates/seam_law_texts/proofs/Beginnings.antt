@@ -7,7 +7,7 @@ use Rattle.seam_rule_rounds.specs.Lines.{RoundData}
 use Rattle.seam_rule_rounds.specs.RoundTexts.{round_text}
 use Rattle.seam_law_texts.specs.declared.kinds.Kind.{Kind}
 use Rattle.seam_law_texts.specs.declared.kinds.Kind.TheVariants.{Begin, Did, Dob, Home, Base, Ghost, To, Bound, End}
-use Rattle.seam_law_texts.specs.TextLines.{Said, TextLine, line, lines_text, bounds_of, lines_of, said_by}
+use Rattle.seam_law_texts.specs.TextLines.{LineData, TextLine, line, lines_text, bounds_of, lines_of, data_by}
 use Rattle.seam_law_texts.specs.Forms.{AreForms, IsFormed}
 use Rattle.seam_law_texts.proofs.Writing.{text_is}
 use Rattle.seam_law_texts.proofs.Gathering.{round_is_said}
@@ -18,7 +18,7 @@ abbrev pub EndOnce : List TextLine → Type 0
 EndOnce [] = ⊥
 EndOnce (l ∷ ls) = ((l.kind ≡ End) × (ls ≡ [])) ⊎ ((l.kind ≢ End) × EndOnce ls)
 
-section_ends : (k : Kind) → k ≢ End → (xs : List (Said k)) (rest : List TextLine) → EndOnce rest → EndOnce (map (line k) xs ++ rest)
+section_ends : (k : Kind) → k ≢ End → (xs : List (LineData k)) (rest : List TextLine) → EndOnce rest → EndOnce (map (line k) xs ++ rest)
 section_ends k other [] rest ends = ends
 section_ends k other (x ∷ xs) rest ends = inr (other, section_ends k other xs rest ends)
 
@@ -92,4 +92,4 @@ first_round defs are b r s xs ys fr fs e =
     one_beginning defs are b (lines_of r) (lines_of s) xs ys (lines_end r) (lines_end s) (lines_forms defs b r fr) (lines_forms defs b s fs)
     (sym (text_is defs r xs) ∙ e ∙ text_is defs s ys) in
     let starts = same_start defs b (has_balance b) r.bounds s.bounds fr.bounds fs.bounds in
-    (sym (round_is_said r) ∙ (λ i. said_by (starts i) (both.0 i)) ∙ round_is_said s, both.1)
+    (sym (round_is_said r) ∙ (λ i. data_by (starts i) (both.0 i)) ∙ round_is_said s, both.1)

@@ -14,8 +14,8 @@ use Rattle.seam_rule_rounds.specs.RoundTexts.{round_text}
 use Rattle.seam_law_texts.specs.Words.{rest_of_line}
 use Rattle.seam_law_texts.specs.declared.kinds.Kind.{Kind}
 use Rattle.seam_law_texts.specs.declared.kinds.Kind.TheVariants.{Did, Dob, Home, Base, Ghost, To, Bound, End}
-use Rattle.seam_law_texts.specs.TextLines.{Said, TextLine, line, word_of}
-use Rattle.seam_law_texts.specs.TextLines.{said_words, line_text, lines_text, bounds_of, lines_of, no_lines, said_by}
+use Rattle.seam_law_texts.specs.TextLines.{LineData, TextLine, line, word_of}
+use Rattle.seam_law_texts.specs.TextLines.{data_words, line_text, lines_text, bounds_of, lines_of, no_lines, data_by}
 use Rattle.seam_law_texts.specs.Forms.{IsForm, AreForms, IsBound, IsNext, IsFormed}
 use Rattle.seam_law_texts.proofs.OneLine.{same_words}
 use Rattle.seam_law_texts.proofs.Writing.{text_is}
@@ -33,22 +33,22 @@ some_text [] (v ∷ ws) after e = cc
 some_text (c ∷ w) ws after e = cc
 
 -- a line, and the text after it, are those of one line and of one text
-pub same_first : (defs : List TypeDef) → AreDefs defs → (b : Book) (l m : TextLine) (xs ys : List ℕ) → IsForm defs b l.kind l.said →
-    IsForm defs b m.kind m.said → line_text defs l xs ≡ line_text defs m ys → (l ≡ m) × (xs ≡ ys)
+pub same_first : (defs : List TypeDef) → AreDefs defs → (b : Book) (l m : TextLine) (xs ys : List ℕ) → IsForm defs b l.kind l.body →
+    IsForm defs b m.kind m.body → line_text defs l xs ≡ line_text defs m ys → (l ≡ m) × (xs ≡ ys)
 same_first defs are b l m xs ys fl fm e =
     let words =
-    same_words (word_of l.kind) (word_of m.kind) (said_words defs l.kind l.said) (said_words defs m.kind m.said) xs ys (kind_is_word l.kind)
-    (kind_is_word m.kind) (said_words_are defs are l.kind l.said) (said_words_are defs are m.kind m.said) e in
-    (same_line defs are b l.kind m.kind l.said m.said fl fm words.0 words.1, words.2)
+    same_words (word_of l.kind) (word_of m.kind) (data_words defs l.kind l.body) (data_words defs m.kind m.body) xs ys (kind_is_word l.kind)
+    (kind_is_word m.kind) (said_words_are defs are l.kind l.body) (said_words_are defs are m.kind m.body) e in
+    (same_line defs are b l.kind m.kind l.body m.body fl fm words.0 words.1, words.2)
 
 -- a text is that of one sequence of lines
 pub same_lines : (defs : List TypeDef) → AreDefs defs → (b : Book) (ls ms : List TextLine) → AreForms defs b ls → AreForms defs b ms →
     lines_text defs ls [] ≡ lines_text defs ms [] → ls ≡ ms
 same_lines defs are b [] [] fl fm e = refl
 same_lines defs are b [] (m ∷ ms) fl fm e =
-    absurd (some_text (word_of m.kind) (said_words defs m.kind m.said) (lines_text defs ms []) e)
+    absurd (some_text (word_of m.kind) (data_words defs m.kind m.body) (lines_text defs ms []) e)
 same_lines defs are b (l ∷ ls) [] fl fm e =
-    absurd (some_text (word_of l.kind) (said_words defs l.kind l.said) (lines_text defs ls []) (sym e))
+    absurd (some_text (word_of l.kind) (data_words defs l.kind l.body) (lines_text defs ls []) (sym e))
 same_lines defs are b (l ∷ ls) (m ∷ ms) fl fm e =
     let first = same_first defs are b l m (lines_text defs ls []) (lines_text defs ms []) fl.0 fm.0 e in
     let others = same_lines defs are b ls ms fl.1 fm.1 first.1 in
@@ -57,7 +57,7 @@ same_lines defs are b (l ∷ ls) (m ∷ ms) fl fm e =
 -- ---- the lines of a round in form
 
 module _ (defs : List TypeDef) (b : Book) where
-  section : (k : Kind) (xs : List (Said k)) (rest : List TextLine) → All (IsForm defs b k) xs → AreForms defs b rest →
+  section : (k : Kind) (xs : List (LineData k)) (rest : List TextLine) → All (IsForm defs b k) xs → AreForms defs b rest →
       AreForms defs b (map (line k) xs ++ rest)
   section k [] rest all forms = forms
   section k (x ∷ xs) rest all forms =
@@ -146,4 +146,4 @@ same_rounds defs are b r s fr fs e =
     same_lines defs are b (lines_of r) (lines_of s) (lines_forms defs b r fr) (lines_forms defs b s fs)
     (sym (text_is defs r []) ∙ ap (λ (t : List ℕ). t ++ []) e ∙ text_is defs s []) in
     let starts = same_start defs b (has_balance b) r.bounds s.bounds fr.bounds fs.bounds in
-    sym (round_is_said r) ∙ (λ i. said_by (starts i) (lines i)) ∙ round_is_said s
+    sym (round_is_said r) ∙ (λ i. data_by (starts i) (lines i)) ∙ round_is_said s

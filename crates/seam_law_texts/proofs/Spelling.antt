@@ -38,8 +38,8 @@ use Rattle.seam_rule_lines.specs.Round.{DoneLine}
 use Rattle.seam_law_texts.specs.Words.{is_plain, ArePlain, IsWord, AreWords}
 use Rattle.seam_law_texts.specs.declared.kinds.Kind.{Kind}
 use Rattle.seam_law_texts.specs.declared.kinds.Kind.TheVariants.{Begin, Did, Dob, Home, Base, Ghost, To, Bound, End}
-use Rattle.seam_law_texts.specs.TextLines.{Said, word_of, property_word}
-use Rattle.seam_law_texts.specs.TextLines.{value_words, state_words, deed_words, done_words, shown_words, told_words, said_words}
+use Rattle.seam_law_texts.specs.TextLines.{LineData, word_of, property_word}
+use Rattle.seam_law_texts.specs.TextLines.{value_words, state_words, deed_words, done_words, shown_words, told_words, data_words}
 
 -- ---- plain bytes
 
@@ -193,7 +193,7 @@ done_words_are defs are l =
     (number_word l.call.entity, (sender_word l.call.sender, (number_word l.call.number, deed)))
 
 -- what comes after the first word of a line are words
-pub said_words_are : (defs : List TypeDef) → AreDefs defs → (k : Kind) (x : Said k) → AreWords (said_words defs k x)
+pub said_words_are : (defs : List TypeDef) → AreDefs defs → (k : Kind) (x : LineData k) → AreWords (data_words defs k x)
 said_words_are defs are Begin n = (number_word n, tt)
 said_words_are defs are Did l = done_words_are defs are l
 said_words_are defs are Dob l = done_words_are defs are l

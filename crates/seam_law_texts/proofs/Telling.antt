@@ -39,9 +39,9 @@ use Rattle.seam_rule_lines.specs.Round.{DoneLine, HomeLine, BaseLine}
 use Rattle.seam_rule_rounds.specs.Lines.{GhostLine, ClientLine}
 use Rattle.seam_law_texts.specs.declared.kinds.Kind.{Kind}
 use Rattle.seam_law_texts.specs.declared.kinds.Kind.TheVariants.{Begin, Did, Dob, Home, Base, Ghost, To, Bound, End}
-use Rattle.seam_law_texts.specs.TextLines.{Said, word_of, line}
+use Rattle.seam_law_texts.specs.TextLines.{LineData, word_of, line}
 use Rattle.seam_law_texts.specs.TextLines.{property_word, value_words, state_words, deed_words, done_words, home_words, base_words}
-use Rattle.seam_law_texts.specs.TextLines.{ghost_words, shown_words, told_words, client_words, bound_words, said_words}
+use Rattle.seam_law_texts.specs.TextLines.{ghost_words, shown_words, told_words, client_words, bound_words, data_words}
 use Rattle.seam_law_texts.specs.Forms.{type_in, HasState, IsDone, IsHome, IsBase, IsCopy, IsShown, IsClientText, IsTo, IsBound, IsForm}
 
 -- ---- lists of words
@@ -308,7 +308,7 @@ module _ (defs : List TypeDef) (are : AreDefs defs) (b : Book) where
       λ i. (number i, record { cell = cell i; boundary = record { axis = along i; at = at i } })
 
   -- two lines of one kind with the same words are one
-  same_said : (k : Kind) (x y : Said k) → IsForm defs b k x → IsForm defs b k y → said_words defs k x ≡ said_words defs k y → x ≡ y
+  same_said : (k : Kind) (x y : LineData k) → IsForm defs b k x → IsForm defs b k y → data_words defs k x ≡ data_words defs k y → x ≡ y
   same_said Begin m n fx fy e = first_number m n [] [] e
   same_said Did x y fx fy e = done_told part.Cell x y fx fy e
   same_said Dob x y fx fy e = done_told part.Base x y fx fy e
@@ -346,8 +346,8 @@ pub same_kind : (j k : Kind) → word_of j ≡ word_of k → j ≡ k
 same_kind j k e = sym (kind_is j) ∙ ap kind_named e ∙ kind_is k
 
 -- two lines with the same words are one
-pub same_line : (defs : List TypeDef) → AreDefs defs → (b : Book) (j k : Kind) (x : Said j) (y : Said k) →
-    IsForm defs b j x → IsForm defs b k y → word_of j ≡ word_of k → said_words defs j x ≡ said_words defs k y → line j x ≡ line k y
+pub same_line : (defs : List TypeDef) → AreDefs defs → (b : Book) (j k : Kind) (x : LineData j) (y : LineData k) →
+    IsForm defs b j x → IsForm defs b k y → word_of j ≡ word_of k → data_words defs j x ≡ data_words defs k y → line j x ≡ line k y
 same_line defs are b j k x y fx fy first others =
-    subst (λ (l : Kind). (z : Said l) → IsForm defs b l z → said_words defs j x ≡ said_words defs l z → line j x ≡ line l z)
+    subst (λ (l : Kind). (z : LineData l) → IsForm defs b l z → data_words defs j x ≡ data_words defs l z → line j x ≡ line l z)
     (same_kind j k first) (λ z fz e. ap (line j) (same_said defs are b j x z fx fz e)) y fy others

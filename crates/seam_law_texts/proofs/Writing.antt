@@ -28,7 +28,7 @@ use Rattle.seam_rule_rounds.specs.RoundTexts.{bounds_text, round_text}
 use Rattle.seam_law_texts.specs.Words.{rest_of_line}
 use Rattle.seam_law_texts.specs.declared.kinds.Kind.{Kind}
 use Rattle.seam_law_texts.specs.declared.kinds.Kind.TheVariants.{Begin, Did, Dob, Home, Base, Ghost, To, Bound, End}
-use Rattle.seam_law_texts.specs.TextLines.{Said, TextLine, line}
+use Rattle.seam_law_texts.specs.TextLines.{LineData, TextLine, line}
 use Rattle.seam_law_texts.specs.TextLines.{property_word, value_words, state_words, deed_words}
 use Rattle.seam_law_texts.specs.TextLines.{shown_words, told_words, line_text, lines_text}
 use Rattle.seam_law_texts.specs.TextLines.{bounds_of, lines_of}
@@ -105,7 +105,7 @@ told_is defs ty (text.Base v props) after =
 -- ---- lines
 
 -- a line of a kind has this text
-abbrev IsText : List TypeDef → (k : Kind) → Said k → List ℕ → Type 0
+abbrev IsText : List TypeDef → (k : Kind) → LineData k → List ℕ → Type 0
 IsText defs k x text = (after : List ℕ) → text ++ after ≡ line_text defs (line k x) after
 
 begin_is : (defs : List TypeDef) (n : ℕ) → IsText defs Begin n (number_text (codes "round ") n)
@@ -171,7 +171,7 @@ bound_is defs b after =
 -- ---- rounds
 
 -- lines of one kind, and then others
-section : (defs : List TypeDef) (k : Kind) (f : Said k → List ℕ) → ((x : Said k) → IsText defs k x (f x)) → (xs : List (Said k))
+section : (defs : List TypeDef) (k : Kind) (f : LineData k → List ℕ) → ((x : LineData k) → IsText defs k x (f x)) → (xs : List (LineData k))
     (rest : List TextLine) (after : List ℕ) →
     flat_map f xs ++ lines_text defs rest after ≡ lines_text defs (map (line k) xs ++ rest) after
 section defs k f is [] rest after = refl

@@ -31,7 +31,7 @@ use Rattle.seam_rule_lines.specs.Round.{DoneLine, HomeLine, BaseLine}
 use Rattle.seam_rule_rounds.specs.Lines.{GhostLine, ClientLine, RoundData}
 use Rattle.seam_law_texts.specs.declared.kinds.Kind.{Kind}
 use Rattle.seam_law_texts.specs.declared.kinds.Kind.TheVariants.{Begin, Did, Dob, Home, Base, Ghost, To, Bound, End}
-use Rattle.seam_law_texts.specs.TextLines.{Said, TextLine}
+use Rattle.seam_law_texts.specs.TextLines.{LineData, TextLine}
 
 -- numbers of eight and of 64 bits
 abbrev pub IsSmall : ℕ → Type 0
@@ -48,12 +48,12 @@ no_number = 65535
 abbrev pub type_in : Book → ℕ → ℕ
 type_in b e = unwrap_or (option_map (λ c. c.ty) (created_as b e)) no_number
 
-abbrev pub IsPlace : Pos → Type 0
-IsPlace p = IsWhole p.x × IsWhole p.z
+abbrev pub IsPosition : Pos → Type 0
+IsPosition p = IsWhole p.x × IsWhole p.z
 
 -- a state: its values are those of a group of the type
 pub record HasState (t : TypeDef) (g : Group) (s : State) : Type 0 where
-  pub place : IsPlace s.pos
+  pub place : IsPosition s.pos
   pub values : IsOfGroup t.properties g s.props
 
 -- a base node that there can be, or the client of an entity
@@ -61,9 +61,9 @@ abbrev pub MaySend : Sender → Type 0
 MaySend (sender.Base n) = IsBaseNode n
 MaySend (sender.Client e) = IsWhole e
 
-abbrev pub GoesToPlace : Deed → Type 0
-GoesToPlace (Move p) = IsPlace p
-GoesToPlace (Method m args) = ⊤
+abbrev pub GoesToPosition : Deed → Type 0
+GoesToPosition (Move p) = IsPosition p
+GoesToPosition (Method m args) = ⊤
 
 -- an executed call of a part
 pub record IsDone (defs : List TypeDef) (b : Book) (p : Part) (l : DoneLine) : Type 0 where
@@ -73,7 +73,7 @@ pub record IsDone (defs : List TypeDef) (b : Book) (p : Part) (l : DoneLine) : T
   pub sender : MaySend l.call.sender
   pub number : IsLong l.call.number
   pub deed : FitsDeed (type_of defs l.ty) l.call.deed
-  pub place : GoesToPlace l.call.deed
+  pub place : GoesToPosition l.call.deed
 
 pub record IsHome (defs : List TypeDef) (b : Book) (l : HomeLine) : Type 0 where
   pub entity : IsWhole l.entity
@@ -124,7 +124,7 @@ pub record IsBound (b : Book) (x : ℕ × Cut) : Type 0 where
   pub place : IsWhole x.1.boundary.at
 
 -- what a line of a kind says is in form
-abbrev pub IsForm : List TypeDef → Book → (k : Kind) → Said k → Type 0
+abbrev pub IsForm : List TypeDef → Book → (k : Kind) → LineData k → Type 0
 IsForm defs b Begin n = IsLong n
 IsForm defs b Did l = IsDone defs b part.Cell l
 IsForm defs b Dob l = IsDone defs b part.Base l
@@ -138,7 +138,7 @@ IsForm defs b End n = IsLong n
 -- lines are in form
 abbrev pub AreForms : List TypeDef → Book → List TextLine → Type 0
 AreForms defs b [] = ⊤
-AreForms defs b (l ∷ ls) = IsForm defs b l.kind l.said × AreForms defs b ls
+AreForms defs b (l ∷ ls) = IsForm defs b l.kind l.body × AreForms defs b ls
 
 -- a tree of the next round: it has the round's cuts, at places of their own
 pub record IsNext (b : Book) (t : Division) : Type 0 where

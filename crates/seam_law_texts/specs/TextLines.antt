@@ -29,24 +29,24 @@ use Rattle.seam_law_texts.specs.declared.kinds.Kind.TheVariants.{Begin, Did, Dob
 -- ---- lines
 
 -- what a line of a kind says
-abbrev pub Said : Kind → Type 0
-Said Begin = ℕ
-Said Did = DoneLine
-Said Dob = DoneLine
-Said Home = HomeLine
-Said Base = BaseLine
-Said Ghost = GhostLine
-Said To = ClientLine
-Said Bound = ℕ × Cut
-Said End = ℕ
+abbrev pub LineData : Kind → Type 0
+LineData Begin = ℕ
+LineData Did = DoneLine
+LineData Dob = DoneLine
+LineData Home = HomeLine
+LineData Base = BaseLine
+LineData Ghost = GhostLine
+LineData To = ClientLine
+LineData Bound = ℕ × Cut
+LineData End = ℕ
 
 -- a line
 pub record TextLine : Type 0 where
   pub kind : Kind
-  pub said : Said kind
+  pub body : LineData kind
 
-abbrev pub line : (k : Kind) → Said k → TextLine
-line k x = record { kind = k; said = x }
+abbrev pub line : (k : Kind) → LineData k → TextLine
+line k x = record { kind = k; body = x }
 
 -- ---- words
 
@@ -115,22 +115,22 @@ abbrev pub bound_words : ℕ × Cut → List (List ℕ)
 bound_words b = decimal_of b.0 ∷ axis_text b.1.boundary.axis ∷ decimal_of b.1.boundary.at ∷ []
 
 -- the words of a line after its first one
-abbrev pub said_words : List TypeDef → (k : Kind) → Said k → List (List ℕ)
-said_words defs Begin n = decimal_of n ∷ []
-said_words defs Did l = done_words defs l
-said_words defs Dob l = done_words defs l
-said_words defs Home l = home_words defs l
-said_words defs Base l = base_words defs l
-said_words defs Ghost l = ghost_words l
-said_words defs To l = client_words defs l
-said_words defs Bound b = bound_words b
-said_words defs End n = decimal_of n ∷ []
+abbrev pub data_words : List TypeDef → (k : Kind) → LineData k → List (List ℕ)
+data_words defs Begin n = decimal_of n ∷ []
+data_words defs Did l = done_words defs l
+data_words defs Dob l = done_words defs l
+data_words defs Home l = home_words defs l
+data_words defs Base l = base_words defs l
+data_words defs Ghost l = ghost_words l
+data_words defs To l = client_words defs l
+data_words defs Bound b = bound_words b
+data_words defs End n = decimal_of n ∷ []
 
 -- ---- texts
 
 -- the text of a line, and then that which comes after it
 abbrev pub line_text : List TypeDef → TextLine → (after : List ℕ) → List ℕ
-line_text defs l after = word_of l.kind ++ rest_of_line (said_words defs l.kind l.said) after
+line_text defs l after = word_of l.kind ++ rest_of_line (data_words defs l.kind l.body) after
 
 -- the text of lines, and then that which comes after them
 abbrev pub lines_text : List TypeDef → List TextLine → (after : List ℕ) → List ℕ
@@ -158,19 +158,19 @@ lines_of r =
     ++ line End r.number ∷ [])))))))
 
 -- a round with what one more line says
-abbrev pub with_said : RoundData → (k : Kind) → Said k → RoundData
-with_said r Begin n = record r { number = n }
-with_said r Did l = record r { did = r.did ++ l ∷ [] }
-with_said r Dob l = record r { dob = r.dob ++ l ∷ [] }
-with_said r Home l = record r { homes = r.homes ++ l ∷ [] }
-with_said r Base l = record r { bases = r.bases ++ l ∷ [] }
-with_said r Ghost l = record r { ghosts = r.ghosts ++ l ∷ [] }
-with_said r To l = record r { shown = r.shown ++ l ∷ [] }
-with_said r Bound b = record r { bounds = option_map (λ t. record { size = t.size; cuts = t.cuts ++ b.1 ∷ [] }) r.bounds }
-with_said r End n = r
+abbrev pub with_data : RoundData → (k : Kind) → LineData k → RoundData
+with_data r Begin n = record r { number = n }
+with_data r Did l = record r { did = r.did ++ l ∷ [] }
+with_data r Dob l = record r { dob = r.dob ++ l ∷ [] }
+with_data r Home l = record r { homes = r.homes ++ l ∷ [] }
+with_data r Base l = record r { bases = r.bases ++ l ∷ [] }
+with_data r Ghost l = record r { ghosts = r.ghosts ++ l ∷ [] }
+with_data r To l = record r { shown = r.shown ++ l ∷ [] }
+with_data r Bound b = record r { bounds = option_map (λ t. record { size = t.size; cuts = t.cuts ++ b.1 ∷ [] }) r.bounds }
+with_data r End n = r
 
 abbrev pub with_line : RoundData → TextLine → RoundData
-with_line r l = with_said r l.kind l.said
+with_line r l = with_data r l.kind l.body
 
 -- a round without lines, with a tree of one cell where there is a tree
 abbrev pub no_lines : Option Division → RoundData
@@ -186,5 +186,5 @@ no_lines tree = record {
 }
 
 -- what lines say, one after the other
-abbrev pub said_by : RoundData → List TextLine → RoundData
-said_by r ls = fold with_line r ls
+abbrev pub data_by : RoundData → List TextLine → RoundData
+data_by r ls = fold with_line r ls

@@ -5,7 +5,7 @@ ghost use Rattle.seam_defs.specs.declared.types.TypeDef.{TypeDef};
 ghost use Rattle.seam_rule_lines.specs.Book.{Book};
 ghost use Rattle.seam_rule_rounds.specs.Lines.{RoundData};
 ghost use Rattle.seam_rule_rounds.specs.RoundTexts.{round_text};
-ghost use Rattle.seam_law_texts.specs.TextLines.{TextLine, line_text, lines_text, lines_of, no_lines, said_by};
+ghost use Rattle.seam_law_texts.specs.TextLines.{TextLine, line_text, lines_text, lines_of, no_lines, data_by};
 ghost use Rattle.seam_law_texts.specs.Forms.{AreForms, IsForm, IsFormed};
 ghost use Rattle.seam_law_texts.specs.Example.{one_type, one_stone, round_of};
 
@@ -17,13 +17,13 @@ pub fn a_rounds_text_is_that_of_its_lines()
 
 /// A round is what its lines say, one after the other.
 pub fn a_round_is_what_its_lines_say()
-    ensures { (r : RoundData) → said_by (no_lines r.bounds) (lines_of r) ≡ r }
+    ensures { (r : RoundData) → data_by (no_lines r.bounds) (lines_of r) ≡ r }
 {}
 
 /// A text that begins with a line in form begins with no other one, and what comes after the line is one text.
 pub fn a_line_has_a_text_of_its_own()
     ensures { (defs : List TypeDef) → AreDefs defs → (b : Book) (l m : TextLine)
-        (after others : List ℕ) → IsForm defs b l.kind l.said → IsForm defs b m.kind m.said →
+        (after others : List ℕ) → IsForm defs b l.kind l.body → IsForm defs b m.kind m.body →
         line_text defs l after ≡ line_text defs m others → (l ≡ m) × (after ≡ others) }
 {}
 

@@ -60,8 +60,9 @@ pub use Rattle.seam_law_clients.proofs.Prelude.{MayShowAll, Own, PartFrom, Shows
 pub use Rattle.seam_law_clients.proofs.Prelude.{are_for_loaded, base_in, base_lines, few_lines, first_lines, idle_looks, is_newer, its_part}
 pub use Rattle.seam_law_clients.proofs.Prelude.{line_where, lines_after, new_client, number_of_line, one_leads, other_of_copy, own_shown}
 pub use Rattle.seam_law_clients.proofs.Prelude.{part_there, row_of, shown_at, slice_index_or, true_between, with_copy_shown}
-pub use Rattle.seam_law_ghosts.proofs.Prelude.{node_none, node_orders, unsigned_tied}
+pub use Rattle.seam_law_ghosts.proofs.Prelude.{unsigned_tied}
 pub use Rattle.seam_law_rounds.proofs.Prelude.{All, AreInTurn}
+pub use Rattle.seam_law_rounds.proofs.Turns.{node_none, node_orders}
 pub use Rattle.seam_law_transcript.specs.Prelude.{EndCalls, GoesOn, HasNextLine, IsPlayed, KeepsFirstCalls, as_it_is, base_if, bases_read}
 pub use Rattle.seam_law_transcript.specs.Prelude.{client_lines, clients_ended_in, data_of, dying, home_if, homes_read, lines_shown}
 pub use Rattle.seam_law_transcript.specs.Prelude.{lines_told, may_play, most_lines_of_look, one_accepted, one_read, place_read, standing_of}

@@ -61,7 +61,7 @@ made_has P e d (x ∷ cs) all is = made_by P e x d cs (x.entity == e) refl all.0
 module _ (h : Header) (b : Book) (R : HasFitRound h b)
     (untouched : (e : ℕ) → created_as (as_begun b) e ≡ None → IsUntouched (as_begun b) e) where
   alone_by : (e : ℕ) (g : GetsClient b e) → IsPresent b e g.made → list_any (joins e) b.past ≡ false
-  alone_by e g (inl lives) = (unjoined (as_begun b) e g.made lives g.alone).0
+  alone_by e g (inl lives) = (unjoined (as_begun b) e g.made lives g.clientless).0
   alone_by e g (inr now) =
       let d = made_has (IsNewEntity h b) e g.made (creates_of b.current) R.creates now in
       sym (any_begun b e (joins e)) ∙ (untouched e (subst (λ n. created_as (as_begun b) n ≡ None) d.1 d.0.new)).client

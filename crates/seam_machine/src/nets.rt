@@ -219,9 +219,29 @@ impl<M: Machine> Net<M> {
         }
     }
 
-    // `next_event` where not all nodes were asked for their tasks, or messages wait for room.
+    // The first task that is there, where no link holds a message: each node is asked.
     #[cold]
-    fn next_unasked(&self) -> Option<Event>
+    fn ask_first(&self) -> Option<Event>
+        requires { (k a : ℕ) → k < length self.now.nodes → link self.now.rows a k ≡ [] }
+        ensures enabled { IfSome result (λ e. enabled M.has_work self.now e ≡ true) }
+        ensures first { IfSome result (λ e. (d : Event) → IsBefore d e →
+            enabled M.has_work self.now d ≡ false) }
+        ensures none { IfNone result (IsQuiet M.has_work self.now) }
+    {
+        for k in 0..self.nodes.len() {
+            if self.nodes[k].has_task() {
+                return Some(Event {
+                    node: k as u8,
+                    from: None,
+                });
+            }
+        }
+        None
+    }
+
+    // `next_event` where messages wait for room, so that the marks of links do not tell who has messages.
+    #[cold]
+    fn next_unsettled(&self) -> Option<Event>
         ensures enabled { IfSome result (λ e. enabled M.has_work self.now e ≡ true) }
         ensures first { IfSome result (λ e. (d : Event) → IsBefore d e →
             enabled M.has_work self.now d ≡ false) }
@@ -234,15 +254,7 @@ impl<M: Machine> Net<M> {
                 return Some(Event { node, from });
             }
         }
-        for k in 0..self.nodes.len() {
-            if self.nodes[k].has_task() {
-                return Some(Event {
-                    node: k as u8,
-                    from: None,
-                });
-            }
-        }
-        None
+        self.ask_first()
     }
 
     /// The first enabled event: messages before tasks, so that few wait at a time; of either those of the lowest node, and of messages
@@ -255,19 +267,19 @@ impl<M: Machine> Net<M> {
             enabled M.has_work self.now d ≡ false) }
         ensures none { IfNone result (IsQuiet M.has_work self.now) }
     {
-        if !self.asked {
-            return self.next_unasked();
-        }
         if let Some((node, from)) = self.links.first_ahead() {
             let from = Some(from);
             return Some(Event { node, from });
         }
         if !self.links.is_clear() {
-            return self.next_unasked();
+            return self.next_unsettled();
         }
         if let Some(node) = self.links.first_busy() {
             let from = self.links.first_sender(node);
             return Some(Event { node, from });
+        }
+        if !self.asked {
+            return self.ask_first();
         }
         match self.tasks.first() {
             Some(node) => Some(Event { node, from: None }),

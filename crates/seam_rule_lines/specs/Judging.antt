@@ -18,7 +18,7 @@ use Rattle.seam_tree.specs.declared.tree.CutError.TheVariants.{NoCell, OutsideCe
 use Rattle.seam_tree.specs.declared.tree.ShiftError.{ShiftError}
 use Rattle.seam_tree.specs.declared.tree.ShiftError.TheVariants.{NoBoundary, WouldEmpty}
 use Rattle.seam_defs.specs.Types.{type_of, method_of}
-use Rattle.seam_defs.specs.Deeds.{TakesArgs, part_of_deed}
+use Rattle.seam_defs.specs.Deeds.{AreArgsOf, part_of_deed}
 use Rattle.seam_defs.specs.declared.flags.Part.TheVariants as part
 use Rattle.seam_defs.specs.declared.types.TypeDef.{TypeDef}
 use Rattle.seam_defs.specs.declared.types.Method.{Method}
@@ -59,7 +59,7 @@ pub record NamesMethod (t : TypeDef) (method_name : language.Word) (m : ℕ) : T
 
 -- the words spell arguments that a method takes
 pub record SpellsArgs (m : Method) (arguments : List language.Word) (args : List Value) : Type 0 where
-  pub takes : TakesArgs m.args args
+  pub takes : AreArgsOf m.args args
   pub spelled : map text_of args ≡ arguments
 
 -- the words spell a position of the space

@@ -12,7 +12,7 @@ abbrev pub places_of : Passing → List ℕ
 places_of p = p.passed.items ++ to_come p
 
 -- so many more enter without memory: beside `len` slots in a vector of this capacity, and beside the places
-pub record HasPlaces (more len capacity : ℕ) (p : Passing) : Type 0 where
+pub record HasSlots (more len capacity : ℕ) (p : Passing) : Type 0 where
   pub few : more + len ≤ 0xffff_ffff
   pub slots : more + len ≤ capacity
   pub places : more + (vec_len p.passed + length (to_come p)) ≤ vec_capacity p.passed

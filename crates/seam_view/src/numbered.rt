@@ -16,7 +16,7 @@ ghost use Rattle.seam_view.specs.Replica.{placed, enters_in, leaves_in, seen_of}
 ghost use Rattle.seam_view.specs.Together.{leaves_next, looks_past_all, left_past_all, kept_past_all, AreApart};
 ghost use Rattle.seam_view.specs.Run.{IsShown, AreKept};
 ghost use Rattle.seam_view.specs.ByNumber.{IsByNumber, GoInOrder, entries_of, number_at, stays, nowhere};
-ghost use Rattle.seam_view.specs.Passing.{places_of, to_come, HasPlaces};
+ghost use Rattle.seam_view.specs.Passing.{places_of, to_come, HasSlots};
 
 use super::{Look, Seen, find_seen};
 use indexmap::IndexMap;
@@ -394,13 +394,13 @@ fn show_first<'a>(
     requires by_number { IsByNumber (keys_of (entries_of slots.old.items)) (places_of passing.old) }
     requires within { passing.old.next ≤ length passing.old.all.items }
     requires apart { AreApart (entries_of slots.old.items) left.old.entries }
-    requires room { HasPlaces (enters_in looks.now) (vec_len slots.old) (vec_capacity slots.old)
+    requires room { HasSlots (enters_in looks.now) (vec_len slots.old) (vec_capacity slots.old)
         passing.old }
     ensures by_number { IsByNumber (keys_of (entries_of slots.new.items)) (places_of passing.new) }
     ensures within { passing.new.next ≤ length passing.new.all.items }
     ensures kept { AreKept known.now (entries_of slots.old.items) left.old.entries looks.now
         (entries_of slots.new.items) left.new.entries result.now }
-    ensures room { HasPlaces (enters_in result.now) (vec_len slots.new) (vec_capacity slots.new)
+    ensures room { HasSlots (enters_in result.now) (vec_len slots.new) (vec_capacity slots.new)
         passing.new }
     ensures room_left { spare left.old ≤ spare left.new }
 {

@@ -40,6 +40,8 @@ returns-clause-laws c f clients w k b g es v to =
         messages = c.no_message_to_a_cell_is_stray.ensures.round f w b m.begin v es to;
         tasks = c.no_task_of_a_cell_is_stray.ensures.round f w b m.begin v es to;
       };
+      ways = c.each_call_finds_its_way.ensures.round f w b m.begin v es to;
+      base_nodes = c.no_input_of_a_base_node_is_stray_in_any_phase.ensures.round f w b m v es to;
       updates = c.an_update_without_a_client_never_comes.ensures.round f w b m v es to;
     }
 

@@ -20,6 +20,8 @@ returns-clause-laws c f clients u k vs v to =
         tasks = c.no_task_of_a_cell_is_stray.ensures.looks f u r.reals vs v to;
       };
       bases = c.nothing_is_stray_at_a_base_node_in_the_last_phases.ensures.looks f u r.reals r.parts k.small vs v to;
+      ways = c.each_call_finds_its_way.ensures.looks f u r.reals vs v to;
+      base_nodes = c.no_input_of_a_base_node_is_stray_in_any_phase.ensures.looks f u r.reals r.parts k.small vs v to;
       updates = c.an_update_without_a_client_never_comes.ensures.looks f u r.reals r.parts k.small vs v to;
     }
 

@@ -17,8 +17,8 @@ returns-then-len-ge-MOST_CLIENTS-clause-refused c = λ h b was clients.
 pub returns-clause-judged : goal.returns-clause-judged
 returns-clause-judged c = λ h b was clients.
     let at = c.in-Some-live_entity.ensures.live b was in
-    let alone = sym (clients.each c.in-Some.entity) ∙ sym c.contains.ensures ∙ c.if-contains.false in (
-      client_accepted h b c.args.word.now c.in-Some.entity c.in-Some.ensures at.refines.made at.lives alone
+    let clientless = sym (clients.each c.in-Some.entity) ∙ sym c.contains.ensures ∙ c.if-contains.false in (
+      client_accepted h b c.args.word.now c.in-Some.entity c.in-Some.ensures at.refines.made at.lives clientless
           (let count = clients.count in omega (arith, count, c.len.ensures.len, c.if-len-ge-MOST_CLIENTS.false)),
-      record { lives = is_some_of b c.in-Some.entity at.refines.made at.lives; alone = alone },
+      record { lives = is_some_of b c.in-Some.entity at.refines.made at.lives; clientless = clientless },
     )

@@ -3,7 +3,7 @@ use Rattle.std.specs.Map.{keys_of}
 use Rattle.std.specs.Vec.{vec_len, vec_capacity}
 use Rattle.indexmap.specs.IndexMap.{spare}
 use Rattle.seam_view.specs.ByNumber.{IsByNumber, entries_of}
-use Rattle.seam_view.specs.Passing.{places_of, HasPlaces}
+use Rattle.seam_view.specs.Passing.{places_of, HasSlots}
 use Rattle.seam_view.specs.Replica.{enters_in}
 use Rattle.seam_view.specs.Run.{AreKept}
 use Rattle.seam_view.proofs.numbered.show_first.Given as goal
@@ -14,6 +14,6 @@ invariant-loop-i l = record {
   within : l.passing.next ≤ length l.passing.all.items;
   kept : AreKept l.known (entries_of l.fn.slots.items) l.fn.left.entries l.looks (entries_of l.slots.items) l.left.entries
       (drop l.i l.looks);
-  room : HasPlaces (enters_in (drop l.i l.looks)) (vec_len l.slots) (vec_capacity l.slots) l.passing;
+  room : HasSlots (enters_in (drop l.i l.looks)) (vec_len l.slots) (vec_capacity l.slots) l.passing;
   room_left : spare l.fn.left ≤ spare l.left;
 }

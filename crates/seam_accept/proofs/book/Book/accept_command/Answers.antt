@@ -4,7 +4,7 @@ use Rattle.seam_toml.specs.declared.header.Header.{Header}
 use Rattle.seam_rule_lines.specs.Book.{Book, with_entry}
 use Rattle.seam_rule_lines.specs.Language.{Command}
 use Rattle.seam_accept.specs.Judging.{Refuses}
-use Rattle.seam_accept.specs.Refines.{Refines, CommandAccepted, CommandTaken}
+use Rattle.seam_accept.specs.Refines.{Refines, CommandAccepted, CommandUncounted}
 use Rattle.seam_accept.specs.BookView.{BookView, counted}
 use Rattle.seam_accept.specs.declared.answers.Refusal.{Refusal}
 use Rattle.seam_accept.specs.declared.answers.Accepted.{Accepted}
@@ -13,10 +13,10 @@ use Rattle.seam_accept.proofs.Keeping.{line_counted}
 use Rattle.seam_accept.proofs.book.Book.accept_command.Goals as goal
 
 -- by what the command is, and the answer
-taken_as : (h : Header) (b : Book) (c d : Command) (a x : Accepted) (v : BookView) → c ≡ d → a ≡ x → CommandTaken h b c a v →
-    CommandTaken h b d x v
+taken_as : (h : Header) (b : Book) (c d : Command) (a x : Accepted) (v : BookView) → c ≡ d → a ≡ x → CommandUncounted h b c a v →
+    CommandUncounted h b d x v
 taken_as h b c d a x v same is taken =
-    subst (λ (k : Command). CommandTaken h b k x v) same (subst (λ (y : Accepted). CommandTaken h b c y v) is taken)
+    subst (λ (k : Command). CommandUncounted h b k x v) same (subst (λ (y : Accepted). CommandUncounted h b c y v) is taken)
 
 accepted_as : (h : Header) (b : Book) (c : Command) (a x : Accepted) (v : BookView) → a ≡ x → CommandAccepted h b c x v →
     CommandAccepted h b c a v

@@ -3,17 +3,14 @@ use Rattle.std.specs.Prelude.{slice_get, option_map}
 use Rattle.std.proofs.lemmas.Bool.{cases_lt}
 use Rattle.std.proofs.lemmas.Option.{slice_get-map, slice_get_read}
 use Rattle.seam_machine.proofs.Quiet.{task_first, quiet_without}
-use Rattle.seam_machine.proofs.nets.Net.next_unasked.Goals as goal
+use Rattle.seam_machine.proofs.nets.Net.ask_first.Goals as goal
 
 pub returns-then-has_task-clause-first : goal.returns-then-has_task-clause-first
-returns-then-has_task-clause-first g c =
-    let inv = c.loop-k-2.invariant in
-    task_first g.M.Machine.has_work c.args.self.now c.loop-k-2.k inv.empty inv.off
+returns-then-has_task-clause-first g c = task_first g.M.Machine.has_work c.args.self.now c.loop-k.k c.requires c.loop-k.invariant
 
-pub loop-k-2-preserved : goal.loop-k-2-preserved
-loop-k-2-preserved g c =
-    let inv = c.loop-k-2.invariant in
-    let here = c.loop-k-2.k in
+pub loop-k-preserved : goal.loop-k-preserved
+loop-k-preserved g c =
+    let here = c.loop-k.k in
     let nodes = c.self.inside.nodes.items in
     let same = ap (λ w. w.nodes) c.self.view_is in
     let at : slice_get c.args.self.now.nodes here ≡ Some c.index.result.now =
@@ -22,16 +19,12 @@ loop-k-2-preserved g c =
     let off =
     slice_get-map g.M.Machine.has_work c.args.self.now.nodes here
     ∙ (ap (option_map g.M.Machine.has_work) at ∙ ap Some (sym c.has_task.ensures ∙ c.if-has_task.false)) in
-    record {
-      empty = inv.empty;
-      off = λ k lt. elim (cases_lt k here) [
-        | inl before ↦ inv.off k before
-        | inr past ↦ let last : k ≡ here = omega (arith, lt, past) in rw last off
-      ];
-    }
+    λ k lt. elim (cases_lt k here) [
+      | inl before ↦ c.loop-k.invariant k before
+      | inr past ↦ let last : k ≡ here = omega (arith, lt, past) in rw last off
+    ]
 
 pub returns-clause-none : goal.returns-clause-none
 returns-clause-none g c =
-    let inv = c.loop-k-2.invariant in
-    quiet_without g.M.Machine.has_work c.args.self.now inv.empty
-    (λ k lt. inv.off k (omega (arith, lt, c.loop-k-2-test.false, ap (λ w. length w.nodes) c.self.view_is)))
+    quiet_without g.M.Machine.has_work c.args.self.now c.requires
+    (λ k lt. c.loop-k.invariant k (omega (arith, lt, c.loop-k-test.false, ap (λ w. length w.nodes) c.self.view_is)))
