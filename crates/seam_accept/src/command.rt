@@ -167,7 +167,10 @@ fn is_create_call_move_or_sync(word: &[u8]) -> bool
     ensures { IsTrue result ↔ Contains (codes "create" ∷ codes "call" ∷ codes "move" ∷
         codes "sync" ∷ []) word.now }
 {
-    matches!(word, b"create" | b"call" | b"move" | b"sync")
+    word == b"create".as_slice()
+        || word == b"call".as_slice()
+        || word == b"move".as_slice()
+        || word == b"sync".as_slice()
 }
 
 fn is_other_name(word: &[u8]) -> bool
@@ -180,14 +183,14 @@ fn is_other_name(word: &[u8]) -> bool
 fn is_client_tick_or_cut(word: &[u8]) -> bool
     ensures { IsTrue result ↔ Contains (codes "client" ∷ codes "tick" ∷ codes "cut" ∷ []) word.now }
 {
-    matches!(word, b"client" | b"tick" | b"cut")
+    word == b"client".as_slice() || word == b"tick".as_slice() || word == b"cut".as_slice()
 }
 
 fn is_shift_balance_or_destroy(word: &[u8]) -> bool
     ensures { IsTrue result ↔ Contains (codes "shift" ∷ codes "balance" ∷ codes "destroy" ∷ [])
         word.now }
 {
-    matches!(word, b"shift" | b"balance" | b"destroy")
+    word == b"shift".as_slice() || word == b"balance".as_slice() || word == b"destroy".as_slice()
 }
 
 // Whether the line has no other bytes than spaces and tabs, or begins with `#` after them.

@@ -235,11 +235,12 @@ impl Base {
             }
             Msg::Update(update) => return self.hear_update(update),
             Msg::Call(_) => return Ok(()),
-            Msg::Hand(_) => return Ok(()),
+            Msg::Hand(_, _) => return Ok(()),
             Msg::GhostSet(_, _, _) => return Ok(()),
             Msg::GhostDrop(_, _) => return Ok(()),
             Msg::Tick => return Ok(()),
             Msg::Reap(_) => return Ok(()),
+            Msg::Bounds(_) => return Ok(()),
         }
     }
 

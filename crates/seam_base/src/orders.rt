@@ -1,9 +1,10 @@
 //! The orders of a base node.
 
 ghost use Rattle.std.specs.Prelude.{◌≡◌, ◌≤◌, ◌++◌, ◌∷◌, [], ◌&&◌, ℕ, List, true, false, OnOk, OnErr, IfErr, is_none, map, if◌then◌else◌};
+ghost use Rattle.std.specs.Prelude.{length, take};
 ghost use Rattle.std.specs.List.{range_with_len};
 ghost use Rattle.std.specs.FinMap as table;
-ghost use Rattle.seam_node_steps.specs.Prelude.{Order as AnyOrder, base_of, on_route, tick_to, is_base_node_of, stray_base_call};
+ghost use Rattle.seam_node_steps.specs.Prelude.{Order as AnyOrder, base_of, on_route, tick_to, bounds_to, is_base_node_of, stray_base_call};
 ghost use Rattle.seam_node_steps.specs.Prelude.{stray_order, order_of_node};
 ghost use Rattle.seam_call.specs.declared.order.Order.TheVariants as order;
 ghost use Rattle.seam_entity.specs.declared.message.Msg.TheVariants as message;
@@ -13,7 +14,7 @@ ghost use Rattle.seam_base.specs.Parts.{changed_at, with_call};
 use crate::context::BaseContext;
 use crate::parts::Parts;
 use crate::routes::Route;
-use seam_call::{Call, Order};
+use seam_call::{Boundaries, Call, Order};
 use seam_defs::MOST_BASE_NODES;
 use seam_entity::Msg;
 use seam_machine::Out;
@@ -72,6 +73,41 @@ fn tick_order(cells: u8, out: &mut Out<Msg>) -> Result<(), Stays>
         out.send(k, Msg::Tick);
     }
     Ok(())
+}
+
+// Tells the cells of the tree these boundaries, in rising number. If allocation fails, some may have been told.
+fn tell_bounds(cells: u8, bounds: &Boundaries, out: &mut Out<Msg>) -> Result<(), AllocError>
+    ensures sent { OnOk result (out.new.items ≡ out.old.items
+        ++ map (bounds_to bounds.now) (range_with_len 0 cells)) }
+    ensures kept { take (length out.old.items) out.new.items ≡ out.old.items }
+{
+    out.reserve(cells as usize)?;
+    for k in 0..cells {
+        let more = bounds.share()?;
+        out.send(k, Msg::Bounds(more));
+    }
+    Ok(())
+}
+
+// Bounds order: every cell of the tree is told, in rising number.
+fn bounds_order(cells: u8, bounds: Boundaries, out: &mut Out<Msg>) -> Result<(), Stays>
+    ensures sent { OnOk result (out.new.items ≡ out.old.items
+        ++ map (bounds_to bounds) (range_with_len 0 cells)) }
+    ensures err { OnErr result (out.new.items ≡ out.old.items) }
+    ensures stays { IfErr result (λ s. s.order ≡ order.Bounds bounds) }
+    ensures stray { IfErr result (λ s. OnOk s.result ⊥) }
+{
+    let start = out.len();
+    match tell_bounds(cells, &bounds, out) {
+        Ok(()) => Ok(()),
+        Err(error) => {
+            out.cut(start);
+            Err(Stays {
+                order: Order::Bounds(bounds),
+                result: Err(error),
+            })
+        }
+    }
 }
 
 // Reap order: the route's cell is told, and the base part goes where it is here; the route stays.
@@ -206,5 +242,6 @@ pub fn execute(
         Order::Base(call) => return base_order(known, parts, call, out),
         Order::Tick => return tick_order(known.cells, out),
         Order::Reap(e) => return reap_order(routes, parts, e, out),
+        Order::Bounds(bounds) => return bounds_order(known.cells, bounds, out),
     }
 }

@@ -1,3 +1,4 @@
 pub mod BaseNodes
 pub mod Senders
 pub mod Calls
+pub mod Boundaries

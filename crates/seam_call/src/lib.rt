@@ -18,6 +18,6 @@ pub use base_node::{BaseNode, base_node_of};
 pub use call::Call;
 pub use create::Create;
 pub use laws::{base_nodes_come_first, ranks_tell_senders, same_senders_are_equal};
-pub use order::{Batch, Order};
+pub use order::{Batch, Boundaries, Order};
 pub use sender::Sender;
 pub use shown::{ClientText, GhostCopy, Line, Shown, Update};

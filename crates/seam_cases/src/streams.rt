@@ -70,7 +70,54 @@ const IN_TWO_CELLS: &[Part] = &[
     ),
 ];
 
-static ROWS: [Row; 18] = [
+// So many avatars that several workers write their text. The first one and the last have clients and a ghost.
+const MANY_AVATARS: &[Part] = &[
+    Part(
+        b"%%\ncut 0 x 5000\ncreate 1 Avatar 5010 9000\ncreate 20000 Avatar 4990 2000\nclient 1\nclient 20000\n",
+        1,
+        0,
+    ),
+    Part(b"create 1@ Avatar 100 100\n", 8_200, 0),
+    Part(b"call b1 1@ heal 1\n", 8_200, 0),
+];
+
+const OF_MANY_AVATARS: &[Part] = &[
+    Part(b"round 1\n", 1, 0),
+    Part(b"did 1@ b1 1 heal 1\n", 8_200, 0),
+    Part(
+        b"home 1 1 0 5010 9000 hp=100 mana=50 mood=0 note=\"\" scent=0 xp=0\n",
+        1,
+        0,
+    ),
+    Part(
+        b"home 1@ 0 1 100 100 hp=101 mana=50 mood=0 note=\"\" scent=0 xp=0\n",
+        8_200,
+        0,
+    ),
+    Part(
+        b"home 20000 0 0 4990 2000 hp=100 mana=50 mood=0 note=\"\" scent=0 xp=0\nbase 1 0 gold=0 rank=1\n",
+        1,
+        0,
+    ),
+    Part(b"base 1@ 0 gold=0 rank=1\n", 8_200, 0),
+    Part(
+        b"base 20000 0 gold=0 rank=1\nghost 1 0 0\nghost 20000 1 0\n",
+        1,
+        0,
+    ),
+    Part(
+        b"to 1 1 base 0 rank=1\nto 1 2 own 0 5010 9000 hp=100 mana=50 xp=0\n",
+        1,
+        0,
+    ),
+    Part(
+        b"to 20000 1 base 0 rank=1\nto 20000 2 own 0 4990 2000 hp=100 mana=50 xp=0\nend 1\n",
+        1,
+        0,
+    ),
+];
+
+static ROWS: [Row; 20] = [
     Row {
         name: "a first read that fails ends the run",
         words: &[],
@@ -300,6 +347,22 @@ static ROWS: [Row; 18] = [
         streams: GOOD,
         status: Status::Done,
         output: IN_TWO_CELLS,
+    },
+    Row {
+        name: "the text of 8,202 avatars, with one worker",
+        words: &["--workers", "1"],
+        script: MANY_AVATARS,
+        streams: GOOD,
+        status: Status::Done,
+        output: OF_MANY_AVATARS,
+    },
+    Row {
+        name: "the text of 8,202 avatars, in threads of four workers",
+        words: &["--workers", "4"],
+        script: MANY_AVATARS,
+        streams: GOOD,
+        status: Status::Done,
+        output: OF_MANY_AVATARS,
     },
 ];
 

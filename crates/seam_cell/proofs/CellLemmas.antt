@@ -8,7 +8,7 @@ use Rattle.std.specs.FinMap as table
 use Rattle.seam_node_steps.specs.Prelude.{IsTree, Ghost, ghost_after, From, Call as CallData, GhostCopy, RealView, GhostSet, GhostDrop}
 use Rattle.seam_node_steps.specs.Prelude.{is_small, cell_count, Map, set_at, number_of, NextPlace, SlotStep, unless_stray, ghost_set}
 use Rattle.seam_node_steps.specs.Prelude.{ghost_drop, stray_ghost_set, stray_call, call_next_place, slot_steps, CellView, slot_of, stepped}
-use Rattle.seam_node_steps.specs.Prelude.{cell_steps, real_is_ready, has_witness, AreLegal}
+use Rattle.seam_node_steps.specs.Prelude.{cell_steps, real_is_ready, has_witness, AreLegal, boundaries_of}
 use Rattle.seam_entity.specs.declared.message.Msg.TheVariants.{Call as CallTo}
 use Rattle.seam_node_steps.specs.CellCases.{call}
 use Rattle.seam_node_steps.proofs.Slots.{set_at-same}
@@ -64,14 +64,14 @@ module _ (c : CellView) (from : ℕ) (k : CallData) (gone : is_some (table.get c
   without_real (Some r) e = cc
 
   Slotted : Option RealView → Option NextPlace → SlotStep
-  Slotted o n = unless_stray (stray_call c.here k o n) (call c.here c.tree (record (slot_of c k.entity) { next = n }) k o)
+  Slotted o n = unless_stray (stray_call c.here k o n) (call c.here (boundaries_of c) (record (slot_of c k.entity) { next = n }) k o)
 
   passed_step : (n : Option NextPlace) → Slotted None n ≡ call_next_place k n
   unfolding Slotted
   passed_step None = refl
   passed_step (Some n) = refl
 
-  passed_slot : slot_steps c.here c.tree (slot_of c k.entity) (CallTo k) ≡ call_next_place k (table.get c.nexts k.entity)
+  passed_slot : slot_steps c.here (boundaries_of c) (slot_of c k.entity) (CallTo k) ≡ call_next_place k (table.get c.nexts k.entity)
   unfolding Slotted
   passed_slot =
       ap (λ o. Slotted o (table.get c.nexts k.entity)) (without_real (table.get c.reals k.entity) gone)
@@ -103,15 +103,15 @@ nothing_there : {X : Type 0} (m : Map X) (e : ℕ) (x : X) → m ≡ table.empty
 nothing_there m e x is there = let f : None ≡ Some x = sym (table.get-empty nat_cmp e) ∙ sym (ap (λ n. table.get n e) is) ∙ there in cc
 
 -- a cell without entities is one
-pub empty_whole : (k : CellContext) (r : Reals) (p : Remotes) (l : Lists) → k.me < cell_count → AreLegal k.settings → IsTree k.tree →
-    k.tree.size ≡ k.settings.size → r.items.items ≡ table.empty → p.nexts.items ≡ table.empty → r.ready ≡ [] → r.witnesses ≡ [] →
+pub empty_whole : (k : CellContext) (r : Reals) (p : Remotes) (l : Lists) → k.me < cell_count → AreLegal k.settings → IsTree k.bounds.tree →
+    k.bounds.tree.size ≡ k.settings.size → r.items.items ≡ table.empty → p.nexts.items ≡ table.empty → r.ready ≡ [] → r.witnesses ≡ [] →
     AreWhole k r p l
 empty_whole k r p l me legal tree size reals nexts ready witnesses = record {
   cell = record {
     cell = record {
       me_in = me;
       bases = legal.in_range.some_bases;
-      tree = tree;
+      cells = tree.cells_to;
       nexts = λ e n there. absurd (nothing_there p.nexts.items e n nexts there);
       keys = λ e q there. absurd (nothing_there r.items.items e q reals there);
     };

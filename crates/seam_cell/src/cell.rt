@@ -1,25 +1,28 @@
 //! A cell, and what it hears of ghosts.
 
-ghost use Rattle.std.specs.Prelude.{◌≡◌, ℕ, ◌<◌, ◌≤◌, OnOk, OnErr, IfErr, [], ◌++◌, Some, None, true, false, is_some, option_copied};
+ghost use Rattle.std.specs.Prelude.{◌≡◌, ℕ, ◌<◌, ◌≤◌, OnOk, OnErr, IfErr, IfOk, IfSome, [], ◌++◌, Some, None, true};
+ghost use Rattle.std.specs.Prelude.{false, not, Option, is_some, option_copied};
 ghost use Rattle.std.specs.FinMap as table;
 ghost use Rattle.std.specs.FinSet as set;
 ghost use Rattle.seam_node_steps.specs.Prelude.{ghost_after, Task, From, AreLegal, cell_count, stray_ghost_set, cell_steps, ready_entity};
 ghost use Rattle.seam_node_steps.specs.Prelude.{cell_has_work, IsCell, IsInSpace, empty_cell, real_if, attached, cell_begins, set_at};
+ghost use Rattle.seam_node_steps.specs.Prelude.{are_newer, boundaries_of, renewed, number_in, stray_hand, Boundaries as AnyBoundaries};
+ghost use Rattle.seam_cell_cases.specs.Arriving.{arrives};
 ghost use Rattle.seam_node_steps.specs.Prelude.{has_any, Cell as CellNode, node_with, Call as AnyCall, GhostCopy as AnyCopy, RealView};
 ghost use Rattle.seam_entity.specs.declared.message.Msg.TheVariants as msg;
 ghost use Rattle.seam_cell.specs.Machines.{cell_peers, cell_targets, cell_keeps_peers, cell_stays_valid};
 ghost use Rattle.seam_cell_cases.specs.Calling.{is_called, IsTurn, may_run};
 
-use seam_call::{Call, Create, GhostCopy};
+use seam_call::{Boundaries, Call, Create, GhostCopy};
 use seam_cell_calls::{execute_here, pass_on};
 use seam_cell_cases::{
-    Turn, arrive, begin_round, execute_ready, give_witness, hold, make_real, may_call, may_execute,
-    reap, survey_task,
+    Turn, all_queued, arrive, begin_round, execute_ready, give_witness, hold, make_real, may_call,
+    may_execute, reap, survey_task,
 };
 use seam_cell_look::look_task;
 use seam_cell_parts::{
-    CellContext, CopyBook, EntityQueue, EntitySet, Lists, RealTable, Reals, Remotes, first_ready,
-    put_after, put_in, take_out,
+    CellContext, CopyBook, EntityQueue, EntitySet, Lists, RealTable, Reals, Remotes, at_start,
+    first_ready, put_after, put_in, take_out,
 };
 use seam_cell_told::ToldCopies;
 use seam_defs::{Defs, Settings};
@@ -75,21 +78,31 @@ fn is_stray_set(defs: &Defs, settings: &Settings, beat: u64, copy: &GhostCopy) -
     !fits_copy(defs, settings, copy)
 }
 
+// The number of the boundaries that are brought.
+fn number_in(brought: &Option<Boundaries>) -> u64
+    ensures { result ≡ number_in brought.now }
+{
+    match brought {
+        Some(bounds) => bounds.number,
+        None => 0,
+    }
+}
+
 impl Cell {
     /// A cell without entities, in a space that it has alone.
-    pub fn new(alloc: Global, me: u8, defs: Defs, settings: Settings) -> Cell
+    pub fn new(alloc: Global, me: u8, defs: Defs, settings: Settings) -> Result<Cell, AllocError>
         requires me { me < cell_count }
         requires legal { AreLegal settings }
-        ensures { CellNode result ≡ empty_cell defs settings me }
+        ensures { IfOk result (λ c. CellNode c ≡ empty_cell defs settings me) }
     {
-        let tree = Tree::one(settings.size);
+        let bounds = at_start(alloc, Tree::one(settings.size))?;
         let key = defs.hash_key();
-        Cell {
+        Ok(Cell {
             known: CellContext {
                 me,
                 defs,
                 settings,
-                tree,
+                bounds,
             },
             reals: Reals {
                 items: RealTable::new(alloc, key),
@@ -105,7 +118,7 @@ impl Cell {
                 looks: EntityQueue::new(alloc),
             },
             told: ToldCopies::new(alloc, key),
-        }
+        })
     }
 
     /// Load, point 1: makes the real of a new entity, if this cell is the leaf of its position.
@@ -138,10 +151,11 @@ impl Cell {
         ensures err { OnErr result (self.new ≡ self.old) }
     {
         self.told.clear();
-        begin_round(alloc, &mut self.reals, &mut self.lists.survey)?;
         // `size` is called for its clause that it is a tree.
         let _ = tree.size();
-        self.known.tree = tree;
+        let bounds = at_start(alloc, tree)?;
+        begin_round(alloc, &mut self.reals, &mut self.lists.survey)?;
+        self.known.bounds = bounds;
         self.remotes.nexts = Table::new(alloc, self.known.defs.hash_key());
         Ok(())
     }
@@ -314,18 +328,227 @@ impl Cell {
         tasked.result
     }
 
-    // Hand-over comes.
-    fn hear_hand(&mut self, parcel: Parcel, out: &mut Out<Msg>) -> Result<(), NoMemoryFor<Parcel>>
+    // Whether these boundaries are of the cell's space, and newer than its own.
+    fn are_newer(&self, bounds: &Boundaries) -> bool
+        ensures { result ≡ are_newer self.now bounds.now }
+    {
+        let size = bounds.tree.get().size();
+        self.known.bounds.number < bounds.number && size == self.known.settings.size
+    }
+
+    // The cell goes by these boundaries, and the entities of the queue are to settle. It gives back its own and who was to settle.
+    fn exchange(&mut self, bounds: Boundaries, survey: EntityQueue) -> (Boundaries, EntityQueue)
+        requires { bounds.tree.size ≡ self.old.here.settings.size }
+        ensures after { self.new ≡ record self.old {
+          tree = bounds.tree;
+          number = bounds.number;
+          survey = survey;
+        } }
+        ensures bounds { result.0 ≡ boundaries_of self.old }
+        ensures survey { result.1 ≡ self.old.survey }
+        ensures size { result.0.tree.size ≡ self.old.here.settings.size }
+    {
+        self.told.clear();
+        // `size` is called for its clause that it is a tree.
+        let _ = bounds.tree.get().size();
+        let old = std::mem::replace(&mut self.known.bounds, bounds);
+        let was = std::mem::replace(&mut self.lists.survey, survey);
+        (old, was)
+    }
+
+    // The entities of the queue are to settle.
+    fn list_all(&mut self, survey: EntityQueue)
+        ensures { self.new ≡ record self.old { survey = survey } }
+    {
+        self.told.clear();
+        self.lists.survey = survey;
+    }
+
+    // Newer bounds: the cell goes by them, and all its reals are to settle. Older ones change nothing.
+    fn hear_bounds(
+        &mut self,
+        alloc: Global,
+        bounds: Boundaries,
+    ) -> Result<(), NoMemoryFor<Boundaries>>
         ensures state { (from : ℕ) → OnOk result (self.new
-            ≡ (cell_steps self.old (From from (msg.Hand parcel))).state) }
-        ensures sent { (from : ℕ) → OnOk result (out.new.items ≡ out.old.items
-            ++ (cell_steps self.old (From from (msg.Hand parcel))).sent) }
+            ≡ (cell_steps self.old (From from (msg.Bounds bounds))).state) }
+        ensures sent { (from : ℕ) → (cell_steps self.old (From from (msg.Bounds bounds))).sent
+            ≡ [] }
+        ensures err { OnErr result (self.new ≡ self.old) }
+        ensures err_item { IfErr result (λ r. r.item ≡ bounds) }
+    {
+        if !self.are_newer(&bounds) {
+            return Ok(());
+        }
+        let Ok(all) = all_queued(alloc, &self.reals) else {
+            return Err(NoMemoryFor { item: bounds });
+        };
+        let _ = self.exchange(bounds, all);
+        Ok(())
+    }
+
+    // A real comes: the step of its slot. It says whether the real was put in.
+    fn take_in(&mut self, parcel: Parcel, out: &mut Out<Msg>) -> Result<bool, NoMemoryFor<Parcel>>
+        ensures state { OnOk result (self.new ≡ (arrives self.old parcel).state) }
+        ensures sent { OnOk result (out.new.items ≡ out.old.items ++ (arrives self.old
+            parcel).sent) }
+        ensures came { IfOk result (λ b. b ≡ not (stray_hand self.old.here self.old.tree parcel
+            (table.get self.old.reals parcel.entity))) }
         ensures err { OnErr result (self.new ≡ self.old) }
         ensures err_out { OnErr result (out.new.items ≡ out.old.items) }
         ensures err_item { IfErr result (λ r. r.item ≡ parcel) }
     {
         self.told.clear();
         arrive(&self.known, parcel, &mut self.reals, &mut self.remotes, out)
+    }
+
+    // Hand-over comes, with newer boundaries: the cell goes by them first.
+    fn hear_newer(
+        &mut self,
+        alloc: Global,
+        parcel: Parcel,
+        bounds: &Boundaries,
+        out: &mut Out<Msg>,
+    ) -> Result<(), NoMemoryFor<Parcel>>
+        requires { are_newer self.old bounds.now ≡ true }
+        ensures state { (from : ℕ) → OnOk result (self.new
+            ≡ (cell_steps self.old (From from (msg.Hand parcel (Some bounds.now)))).state) }
+        ensures sent { (from : ℕ) → OnOk result (out.new.items ≡ out.old.items
+            ++ (cell_steps self.old (From from (msg.Hand parcel (Some bounds.now)))).sent) }
+        ensures err { OnErr result (self.new ≡ self.old) }
+        ensures err_out { OnErr result (out.new.items ≡ out.old.items) }
+        ensures err_item { IfErr result (λ r. r.item ≡ parcel) }
+    {
+        let Ok(more) = bounds.share() else {
+            return Err(NoMemoryFor { item: parcel });
+        };
+        let Ok(all) = all_queued(alloc, &self.reals) else {
+            return Err(NoMemoryFor { item: parcel });
+        };
+        let (old, was) = self.exchange(more, all);
+        match self.take_in(parcel, out) {
+            Ok(_) => return Ok(()),
+            Err(refused) => {
+                let _ = self.exchange(old, was);
+                return Err(refused);
+            }
+        }
+    }
+
+    // Hand-over comes that was settled by older boundaries: the real is to settle, too.
+    fn hear_late(
+        &mut self,
+        parcel: Parcel,
+        brought: &Option<Boundaries>,
+        out: &mut Out<Msg>,
+    ) -> Result<(), NoMemoryFor<Parcel>>
+        requires same { renewed self.old brought.now ≡ self.old }
+        requires late { number_in brought.now < self.old.number }
+        ensures state { (from : ℕ) → OnOk result (self.new
+            ≡ (cell_steps self.old (From from (msg.Hand parcel brought.now))).state) }
+        ensures sent { (from : ℕ) → OnOk result (out.new.items ≡ out.old.items
+            ++ (cell_steps self.old (From from (msg.Hand parcel brought.now))).sent) }
+        ensures err { OnErr result (self.new ≡ self.old) }
+        ensures err_out { OnErr result (out.new.items ≡ out.old.items) }
+        ensures err_item { IfErr result (λ r. r.item ≡ parcel) }
+    {
+        let Ok(listed) = self.lists.survey.with(parcel.real.entity()) else {
+            return Err(NoMemoryFor { item: parcel });
+        };
+        match self.take_in(parcel, out) {
+            Ok(came) => {
+                if came {
+                    self.list_all(listed);
+                    return Ok(());
+                }
+                return Ok(());
+            }
+            Err(refused) => return Err(refused),
+        }
+    }
+
+    // Hand-over comes that was settled by the cell's boundaries.
+    fn hear_in_time(
+        &mut self,
+        parcel: Parcel,
+        brought: &Option<Boundaries>,
+        out: &mut Out<Msg>,
+    ) -> Result<(), NoMemoryFor<Parcel>>
+        requires same { renewed self.old brought.now ≡ self.old }
+        requires in_time { self.old.number ≤ number_in brought.now }
+        ensures state { (from : ℕ) → OnOk result (self.new
+            ≡ (cell_steps self.old (From from (msg.Hand parcel brought.now))).state) }
+        ensures sent { (from : ℕ) → OnOk result (out.new.items ≡ out.old.items
+            ++ (cell_steps self.old (From from (msg.Hand parcel brought.now))).sent) }
+        ensures err { OnErr result (self.new ≡ self.old) }
+        ensures err_out { OnErr result (out.new.items ≡ out.old.items) }
+        ensures err_item { IfErr result (λ r. r.item ≡ parcel) }
+    {
+        match self.take_in(parcel, out) {
+            Ok(_) => return Ok(()),
+            Err(refused) => return Err(refused),
+        }
+    }
+
+    // The boundaries that are brought, where they are newer than the cell's.
+    fn newer_in<'a>(&self, brought: &'a Option<Boundaries>) -> Option<&'a Boundaries>
+        ensures some { IfSome result (λ b. (brought.now ≡ Some b.now) × (are_newer self.now b.now
+            ≡ true)) }
+        ensures none { result ≡ None → renewed self.now brought.now ≡ self.now }
+    {
+        match brought {
+            Some(bounds) => if self.are_newer(bounds) {
+                Some(bounds)
+            } else {
+                None
+            },
+            None => None,
+        }
+    }
+
+    // Hand-over comes with boundaries that are no newer than the cell's.
+    fn hear_known(
+        &mut self,
+        parcel: Parcel,
+        brought: &Option<Boundaries>,
+        out: &mut Out<Msg>,
+    ) -> Result<(), NoMemoryFor<Parcel>>
+        requires { renewed self.old brought.now ≡ self.old }
+        ensures state { (from : ℕ) → OnOk result (self.new
+            ≡ (cell_steps self.old (From from (msg.Hand parcel brought.now))).state) }
+        ensures sent { (from : ℕ) → OnOk result (out.new.items ≡ out.old.items
+            ++ (cell_steps self.old (From from (msg.Hand parcel brought.now))).sent) }
+        ensures err { OnErr result (self.new ≡ self.old) }
+        ensures err_out { OnErr result (out.new.items ≡ out.old.items) }
+        ensures err_item { IfErr result (λ r. r.item ≡ parcel) }
+    {
+        let number = number_in(brought);
+        if number < self.bounds_number() {
+            return self.hear_late(parcel, brought, out);
+        }
+        self.hear_in_time(parcel, brought, out)
+    }
+
+    // Hand-over comes.
+    fn hear_hand(
+        &mut self,
+        alloc: Global,
+        parcel: Parcel,
+        brought: &Option<Boundaries>,
+        out: &mut Out<Msg>,
+    ) -> Result<(), NoMemoryFor<Parcel>>
+        ensures state { (from : ℕ) → OnOk result (self.new
+            ≡ (cell_steps self.old (From from (msg.Hand parcel brought.now))).state) }
+        ensures sent { (from : ℕ) → OnOk result (out.new.items ≡ out.old.items
+            ++ (cell_steps self.old (From from (msg.Hand parcel brought.now))).sent) }
+        ensures err { OnErr result (self.new ≡ self.old) }
+        ensures err_out { OnErr result (out.new.items ≡ out.old.items) }
+        ensures err_item { IfErr result (λ r. r.item ≡ parcel) }
+    {
+        match self.newer_in(brought) {
+            Some(bounds) => return self.hear_newer(alloc, parcel, bounds, out),
+            None => return self.hear_known(parcel, brought, out),
+        }
     }
 
     // Reap.
@@ -438,8 +661,14 @@ impl Cell {
 
     // So is a hand-over.
     #[inline(never)]
-    fn take_hand(&mut self, message: &mut Msg, out: &mut Out<Msg>) -> Result<(), AllocError>
-        requires { (real : RealView) × (message.old ≡ msg.Hand real) }
+    fn take_hand(
+        &mut self,
+        alloc: Global,
+        message: &mut Msg,
+        out: &mut Out<Msg>,
+    ) -> Result<(), AllocError>
+        requires { (real : RealView) × (b : Option AnyBoundaries) × (message.old ≡ msg.Hand real
+            b) }
         ensures state { (from : ℕ) → OnOk result (self.new
             ≡ (cell_steps self.old (From from message.old)).state) }
         ensures sent { (from : ℕ) → OnOk result (out.new.items ≡ out.old.items
@@ -448,13 +677,35 @@ impl Cell {
         ensures err_out { OnErr result (out.new.items ≡ out.old.items) }
         ensures err_message { OnErr result (message.new ≡ message.old) }
     {
-        let Msg::Hand(parcel) = std::mem::replace(message, Msg::Tick) else {
+        let Msg::Hand(parcel, brought) = std::mem::replace(message, Msg::Tick) else {
             unreachable!()
         };
-        match self.hear_hand(parcel, out) {
+        match self.hear_hand(alloc, parcel, &brought, out) {
             Ok(()) => return Ok(()),
             Err(refused) => {
-                *message = Msg::Hand(refused.item);
+                *message = Msg::Hand(refused.item, brought);
+                return Err(AllocError);
+            }
+        }
+    }
+
+    // So are boundaries.
+    #[inline(never)]
+    fn take_bounds(&mut self, alloc: Global, message: &mut Msg) -> Result<(), AllocError>
+        requires { (b : AnyBoundaries) × (message.old ≡ msg.Bounds b) }
+        ensures state { (from : ℕ) → OnOk result (self.new
+            ≡ (cell_steps self.old (From from message.old)).state) }
+        ensures sent { (from : ℕ) → (cell_steps self.old (From from message.old)).sent ≡ [] }
+        ensures err { OnErr result (self.new ≡ self.old) }
+        ensures err_message { OnErr result (message.new ≡ message.old) }
+    {
+        let Msg::Bounds(bounds) = std::mem::replace(message, Msg::Tick) else {
+            unreachable!()
+        };
+        match self.hear_bounds(alloc, bounds) {
+            Ok(()) => return Ok(()),
+            Err(refused) => {
+                *message = Msg::Bounds(refused.item);
                 return Err(AllocError);
             }
         }
@@ -483,7 +734,12 @@ impl Cell {
     }
 
     // A message from another node, which is used up; no case is for what goes to base nodes alone.
-    fn hear(&mut self, message: &mut Msg, out: &mut Out<Msg>) -> Result<(), AllocError>
+    fn hear(
+        &mut self,
+        alloc: Global,
+        message: &mut Msg,
+        out: &mut Out<Msg>,
+    ) -> Result<(), AllocError>
         ensures state { (from : ℕ) → OnOk result (self.new
             ≡ (cell_steps self.old (From from message.old)).state) }
         ensures sent { (from : ℕ) → OnOk result (out.new.items ≡ out.old.items
@@ -494,7 +750,8 @@ impl Cell {
     {
         match message {
             Msg::Call(_) => return self.take_call(message, out),
-            Msg::Hand(_) => return self.take_hand(message, out),
+            Msg::Hand(_, _) => return self.take_hand(alloc, message, out),
+            Msg::Bounds(_) => return self.take_bounds(alloc, message),
             Msg::GhostSet(_, _, _) => return self.take_ghost_set(message),
             Msg::GhostDrop(e, beat) => return self.hear_ghost_drop(*e, *beat),
             Msg::Tick => return self.hear_tick(),
@@ -516,6 +773,13 @@ impl Cell {
         ensures err_item { IfErr result (λ r. r.item ≡ call) }
     {
         pass_on(&self.remotes.nexts, call, out)
+    }
+
+    /// The number of the boundaries that the cell goes by.
+    pub fn bounds_number(&self) -> u64
+        ensures { result ≡ self.now.number }
+    {
+        self.known.bounds.number
     }
 
     /// The copies of entities of other cells.
@@ -577,7 +841,7 @@ impl Machine for Cell {
     {
         match input {
             Input::Task => return self.task(alloc, out),
-            Input::From(_, message) => return self.hear(message, out),
+            Input::From(_, message) => return self.hear(alloc, message, out),
         }
     }
 }

@@ -10,12 +10,12 @@ use Rattle.std.specs.FinSet as set
 use Rattle.std.proofs.lemmas.Bool.Decides.{nat_tests}
 use Rattle.std.proofs.lemmas.List.Folds.{list_all-append, list_all_at}
 use Rattle.std.proofs.lemmas.List.FromFn.{length-range_with_len, get_or-range_with_len}
-use Rattle.seam_node_steps.specs.Prelude.{Cells, Division, cells_of, Ghost, ghost_after, From, GhostCopy, may_rise, RealView, Hand, Reap}
+use Rattle.seam_node_steps.specs.Prelude.{Cells, Division, cells_of, Ghost, ghost_after, From, GhostCopy, may_rise, RealView, Reap}
 use Rattle.seam_node_steps.specs.Prelude.{Map, set_at, NextPlace, unless_stray, is_cell_if, stray_reap, reap, may_come, stray_hand}
 use Rattle.seam_node_steps.specs.Prelude.{hand_over_comes, currents, drops, CellView, slot_of, stepped, cell_steps, without}
 use Rattle.seam_node_steps.proofs.Slots.{set_at-same}
 use Rattle.seam_cell_parts.proofs.NewsLemmas.{range_more}
-use Rattle.seam_cell_cases.specs.Arriving.{is_cell_in}
+use Rattle.seam_cell_cases.specs.Arriving.{is_cell_in, arrives}
 
 -- ---- tests of all cells
 
@@ -113,37 +113,46 @@ not_reaped c from e stays =
 
 -- ---- a hand-over that comes
 
-module _ (c : CellView) (from : ℕ) (r : RealView) where
+module _ (c : CellView) (r : RealView) where
   comes_by : (o : Option RealView) → None ≡ o → true ≡ may_come c.here c.tree r → stray_hand c.here c.tree r o ≡ false
   comes_by None none may = ap not (sym may)
   comes_by (Some q) none may = cc
 
   module _ (none : None ≡ table.get c.reals r.entity) (may : true ≡ may_come c.here c.tree r) where
-    comes : cell_steps c (From from (Hand r)) ≡ stepped c r.entity (hand_over_comes c.here (slot_of c r.entity) r)
+    comes : arrives c r ≡ stepped c r.entity (hand_over_comes c.here (slot_of c r.entity) r)
     comes = ap (λ b. stepped c r.entity (unless_stray b (hand_over_comes c.here (slot_of c r.entity) r)))
         (comes_by (table.get c.reals r.entity) none may)
+
+    pub does_come : true ≡ not (stray_hand c.here c.tree r (table.get c.reals r.entity))
+    does_come = sym (ap not (comes_by (table.get c.reals r.entity) none may))
 
     pub arrived : (reals : Map RealView) (nexts : Map NextPlace) (ghosts : Map (Ghost GhostCopy)) →
         reals ≡ table.insert c.reals r.entity r → nexts ≡ table.remove c.nexts r.entity →
         ghosts ≡ set_at c.ghosts r.entity (ghost_after (table.get c.ghosts r.entity) (record { beat = r.beat; copy = None })) →
-        record c { reals = reals; nexts = nexts; ghosts = ghosts } ≡ (cell_steps c (From from (Hand r))).state
+        record c { reals = reals; nexts = nexts; ghosts = ghosts } ≡ (arrives c r).state
     arrived reals nexts ghosts m n g = (λ i. record c { reals = m i; nexts = n i; ghosts = g i }) ∙ sym (ap (λ t. t.state) comes)
 
-    pub arrival_told : currents c.here r ≡ (cell_steps c (From from (Hand r))).sent
+    pub arrival_told : currents c.here r ≡ (arrives c r).sent
     arrival_told = sym (ap (λ t. t.sent) comes)
 
   here_by : (o : Option RealView) → is_some o ≡ true → stray_hand c.here c.tree r o ≡ true
   here_by None h = cc
   here_by (Some q) h = refl
 
-  pub real_is_here : is_some (table.get c.reals r.entity) ≡ true → cell_steps c (From from (Hand r)) ≡ record { state = c; sent = [] }
+  pub real_is_here : is_some (table.get c.reals r.entity) ≡ true → arrives c r ≡ record { state = c; sent = [] }
   real_is_here h = ap (λ b. stepped c r.entity (unless_stray b (hand_over_comes c.here (slot_of c r.entity) r)))
       (here_by (table.get c.reals r.entity) h)
+
+  pub here_stays : is_some (table.get c.reals r.entity) ≡ true → false ≡ not (stray_hand c.here c.tree r (table.get c.reals r.entity))
+  here_stays h = sym (ap not (here_by (table.get c.reals r.entity) h))
 
   unfit_by : (o : Option RealView) → false ≡ may_come c.here c.tree r → stray_hand c.here c.tree r o ≡ true
   unfit_by None may = ap not (sym may)
   unfit_by (Some q) may = refl
 
-  pub may_not_come : false ≡ may_come c.here c.tree r → cell_steps c (From from (Hand r)) ≡ record { state = c; sent = [] }
+  pub may_not_come : false ≡ may_come c.here c.tree r → arrives c r ≡ record { state = c; sent = [] }
   may_not_come may = ap (λ b. stepped c r.entity (unless_stray b (hand_over_comes c.here (slot_of c r.entity) r)))
       (unfit_by (table.get c.reals r.entity) may)
+
+  pub unfit_stays : false ≡ may_come c.here c.tree r → false ≡ not (stray_hand c.here c.tree r (table.get c.reals r.entity))
+  unfit_stays may = sym (ap not (unfit_by (table.get c.reals r.entity) may))

@@ -1,7 +1,7 @@
 -- A real that has a ready call, and what the call makes of it.
 use Rattle.std.proofs.Common.{◌≡◌, ℕ, true, false, is_some, Option, None, Some, refl, ap, sym, subst, ◌∙◌}
 use Rattle.seam_table.proofs.Found.{found}
-use Rattle.seam_node_steps.specs.Prelude.{Division, OrderView, next_item, Call as CallData, Here, RealView, order_is_ready, ready_order}
+use Rattle.seam_node_steps.specs.Prelude.{Boundaries, OrderView, next_item, Call as CallData, Here, RealView, order_is_ready, ready_order}
 use Rattle.seam_node_steps.specs.Prelude.{has_ready, may_execute, executed_ready, shows, HasReady, Slot, settled, ready_call_task, ready_in}
 use Rattle.seam_node_steps.specs.Prelude.{executes_ready}
 use Rattle.seam_cell_parts.specs.Stepping.{IsLater}
@@ -45,6 +45,6 @@ pub same_settle : (r q : RealView) → may_execute r ≡ true → q ≡ r → Ca
 same_settle r q may same = subst CanSettle (sym same) (can_settle r may)
 
 -- the task is the settling of the real after that call
-pub task_is : (h : Here) (t : Division) (s : Slot) (r : RealView) (o : ℕ × OrderView CallData) (k : CallData) → HasReady r o k →
+pub task_is : (h : Here) (t : Boundaries) (s : Slot) (r : RealView) (o : ℕ × OrderView CallData) (k : CallData) → HasReady r o k →
     ready_call_task h t s (Some r) ≡ settled h t s (executed_ready h r o k) (shows h r k)
 task_is h t s r o k is = ap (ready_in h t s r) is.order ∙ ap (executes_ready h t s r o) is.call

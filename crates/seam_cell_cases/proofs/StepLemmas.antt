@@ -11,6 +11,7 @@ use Rattle.std.specs.Cmp.{nat_cmp_total, tied_itself}
 use Rattle.seam_node_steps.specs.Prelude.{OutView, Input, Task, From, Call as CallData, Here, order_of, RealView, Msg, has_ready, may_call}
 use Rattle.seam_node_steps.specs.Prelude.{may_execute, executed, shows, with_offer, set_at, number_of, Slot, SlotStep, slot_after}
 use Rattle.seam_node_steps.specs.Prelude.{unless_stray, settled, CellView, slot_of, with_slot, after_slot, unlisted_by, stepped, cell_steps}
+use Rattle.seam_node_steps.specs.Prelude.{boundaries_of}
 use Rattle.seam_node_steps.specs.Prelude.{cell_task, real_is_ready, ready_entity, ready_next, look_next}
 use Rattle.seam_entity.specs.declared.message.Msg.TheVariants.{Call}
 use Rattle.seam_node_steps.specs.CellCases
@@ -59,7 +60,8 @@ module _ (k : CellContext) (r s : Reals) (p q : Remotes) (l m : Lists) (o n : Ou
       let away = looks ∙ ap (λ b. list_after b e l.looks) (sym done.unlisted) in
       (λ i. record {
         here = here_in k;
-        tree = k.tree;
+        tree = k.bounds.tree;
+        number = k.bounds.number;
         reals = reals i;
         nexts = nexts i;
         ghosts = ghosts i;
@@ -76,11 +78,15 @@ module _ (c : CellView) (from : ℕ) (k : CallData) (x : RealView) (at : table.g
   slot_here = record { real = Some x; next = table.get c.nexts k.entity; ghost = table.get c.ghosts k.entity }
 
   abbrev by_order : SlotStep
-  by_order = CellCases.offered c.here c.tree slot_here x k (nat_cmp k.number (order_of x.orders k.sender).next)
+  by_order = CellCases.offered c.here (boundaries_of c) slot_here x k (nat_cmp k.number (order_of x.orders k.sender).next)
 
   by_real : Option RealView → SlotStep
   by_real o = unless_stray (CellCases.stray_call c.here k o (table.get c.nexts k.entity))
-      (CellCases.call c.here c.tree (record { real = o; next = table.get c.nexts k.entity; ghost = table.get c.ghosts k.entity }) k o)
+      (CellCases.call c.here (boundaries_of c) (record {
+        real = o;
+        next = table.get c.nexts k.entity;
+        ghost = table.get c.ghosts k.entity;
+      }) k o)
 
   called_step : cell_steps c (From from (Call k)) ≡ stepped c k.entity (unless_stray (not (may_call c.here x k)) by_order)
   unfolding by_real
@@ -93,10 +99,10 @@ module _ (c : CellView) (from : ℕ) (k : CallData) (x : RealView) (at : table.g
   called may = called_step ∙ ap (λ b. stepped c k.entity (unless_stray (not b) by_order)) may
 
   pub called_in_turn : may_call c.here x k ≡ true → k.number ≡ (order_of x.orders k.sender).next → cell_steps c (From from (Call k))
-      ≡ stepped c k.entity (settled c.here c.tree slot_here (executed c.here x k) (shows c.here x k))
+      ≡ stepped c k.entity (settled c.here (boundaries_of c) slot_here (executed c.here x k) (shows c.here x k))
   called_in_turn may turn =
       called may
-      ∙ ap (λ o. stepped c k.entity (CellCases.offered c.here c.tree slot_here x k o))
+      ∙ ap (λ o. stepped c k.entity (CellCases.offered c.here (boundaries_of c) slot_here x k o))
       (ap (λ a. nat_cmp a (order_of x.orders k.sender).next) turn ∙ tied_itself nat_cmp_total (order_of x.orders k.sender).next)
 
 -- ---- the cell after a call
@@ -142,7 +148,8 @@ undone k r s p q l m o n e x left at items survey looks same parts =
     let away = looks ∙ ap (λ b. list_after b e l.looks) (ap is_none same) in
     λ i. record {
       here = here_in k;
-      tree = k.tree;
+      tree = k.bounds.tree;
+      number = k.bounds.number;
       reals = reals i;
       nexts = (parts i).nexts;
       ghosts = (parts i).ghosts;
@@ -159,13 +166,13 @@ module _ (k : CellContext) (r s : Reals) (p q : Remotes) (l m : Lists) (o n : Ou
     h = here_in k
 
     pub turn_left : AreWhole k r p l → is_called (cell_of k r p l) call ≡ true → IsTurn (cell_of k r p l) call →
-        IsDone (settled h k.tree (slot_in (parts_of p o) x.entity x) (executed h x call) (shows h x call)) x.entity x left (parts_of p o)
+        IsDone (settled h k.bounds (slot_in (parts_of p o) x.entity x) (executed h x call) (shows h x call)) x.entity x left (parts_of p o)
         (parts_of q n) → CallLeaves (cell_of k r p l) (cell_of k s q m) call o.items n.items
     turn_left is may turn done =
         let entity : x.entity ≡ call.entity = is.cell.cell.keys call.entity x at in
-        let t = settled h k.tree (slot_in (parts_of p o) call.entity x) (executed h x call) (shows h x call) in
+        let t = settled h k.bounds (slot_in (parts_of p o) call.entity x) (executed h x call) (shows h x call) in
         let here : IsDone t call.entity x left (parts_of p o) (parts_of q n) =
-        subst (λ e. IsDone (settled h k.tree (slot_in (parts_of p o) e x) (executed h x call) (shows h x call)) e x left (parts_of p o)
+        subst (λ e. IsDone (settled h k.bounds (slot_in (parts_of p o) e x) (executed h x call) (shows h x call)) e x left (parts_of p o)
         (parts_of q n)) entity done in
         let step = λ (from : ℕ).
         called_in_turn (cell_of k r p l) from call x at (one_is_called (cell_of k r p l) call x at may) (turn x at) in
@@ -183,7 +190,7 @@ some_same e = cc
 module _ (c : CellView) (call : CallData) (x : RealView) (at : table.get c.reals call.entity ≡ Some x) (may : is_called c call ≡ true)
     (not_turn : IsTurn c call → ⊥) where
   abbrev offers : Ordering → SlotStep
-  offers o = CellCases.offered c.here c.tree (slot_here c 0 call x at) x call o
+  offers o = CellCases.offered c.here (boundaries_of c) (slot_here c 0 call x at) x call o
 
   abbrev leaves : Ordering → RealView
   leaves o = match_ordering o x (executed c.here x call) (with_offer x call)
@@ -280,23 +287,23 @@ module _ (c : CellView) (e : ℕ) (x : RealView) (at : table.get c.reals e ≡ S
   slot_with o = record { real = o; next = table.get c.nexts e; ghost = table.get c.ghosts e }
 
   readies_real : Option RealView → SlotStep
-  readies_real o = unless_stray (CellCases.stray_ready_call o) (CellCases.ready_call_task c.here c.tree (slot_with o) o)
+  readies_real o = unless_stray (CellCases.stray_ready_call o) (CellCases.ready_call_task c.here (boundaries_of c) (slot_with o) o)
 
   readies : ready_next c (Some e)
-      ≡ stepped c e (unless_stray (not (may_execute x)) (CellCases.ready_call_task c.here c.tree (slot_with (Some x)) (Some x)))
+      ≡ stepped c e (unless_stray (not (may_execute x)) (CellCases.ready_call_task c.here (boundaries_of c) (slot_with (Some x)) (Some x)))
   unfolding readies_real
   readies = ap (λ o. stepped c e (readies_real o)) at
 
   pub stray_readies : may_execute x ≡ false → ready_next c (Some e) ≡ record { state = c; sent = [] }
   stray_readies may =
       readies
-      ∙ ap (λ b. stepped c e (unless_stray (not b) (CellCases.ready_call_task c.here c.tree (slot_with (Some x)) (Some x)))) may
+      ∙ ap (λ b. stepped c e (unless_stray (not b) (CellCases.ready_call_task c.here (boundaries_of c) (slot_with (Some x)) (Some x)))) may
 
   pub readies_may : may_execute x ≡ true →
-      ready_next c (Some e) ≡ stepped c e (CellCases.ready_call_task c.here c.tree (slot_with (Some x)) (Some x))
+      ready_next c (Some e) ≡ stepped c e (CellCases.ready_call_task c.here (boundaries_of c) (slot_with (Some x)) (Some x))
   readies_may may =
       readies
-      ∙ ap (λ b. stepped c e (unless_stray (not b) (CellCases.ready_call_task c.here c.tree (slot_with (Some x)) (Some x)))) may
+      ∙ ap (λ b. stepped c e (unless_stray (not b) (CellCases.ready_call_task c.here (boundaries_of c) (slot_with (Some x)) (Some x)))) may
 
 -- the cell that a task leaves, and what it sends
 pub record TaskLeaves (c d : CellView) (before after : List (ℕ × Msg)) : Type 0 where
@@ -307,13 +314,13 @@ pub ready_left : (k : CellContext) (r s : Reals) (p q : Remotes) (l m : Lists) (
     (left : Option RealView) → table.get r.items.items e ≡ Some x → s.items.items ≡ set_at (table.remove r.items.items e) e left →
     m.survey ≡ list_after (is_none left) e l.survey → m.looks ≡ list_after (is_none left) e l.looks → AreWhole k r p l →
     (cell_of k r p l).survey ≡ [] → ready_entity (cell_of k r p l) ≡ Some e → may_execute x ≡ true →
-    IsDone (CellCases.ready_call_task (here_in k) k.tree (slot_in (parts_of p o) x.entity x) (Some x)) x.entity x left (parts_of p o)
+    IsDone (CellCases.ready_call_task (here_in k) k.bounds (slot_in (parts_of p o) x.entity x) (Some x)) x.entity x left (parts_of p o)
     (parts_of q n) → TaskLeaves (cell_of k r p l) (cell_of k s q m) o.items n.items
 ready_left k r s p q l m o n e x left at items survey looks is surveyed ready may done =
     let entity : x.entity ≡ e = is.cell.cell.keys e x at in
-    let t = CellCases.ready_call_task (here_in k) k.tree (slot_in (parts_of p o) e x) (Some x) in
+    let t = CellCases.ready_call_task (here_in k) k.bounds (slot_in (parts_of p o) e x) (Some x) in
     let here : IsDone t e x left (parts_of p o) (parts_of q n) =
-    subst (λ y. IsDone (CellCases.ready_call_task (here_in k) k.tree (slot_in (parts_of p o) y x) (Some x)) y x left (parts_of p o)
+    subst (λ y. IsDone (CellCases.ready_call_task (here_in k) k.bounds (slot_in (parts_of p o) y x) (Some x)) y x left (parts_of p o)
     (parts_of q n)) entity done in
     let step = task_ready (cell_of k r p l) e surveyed ready ∙ readies_may (cell_of k r p l) e x at may in
     record {

@@ -3,7 +3,7 @@ use Rattle.std.proofs.Common.{◌≡◌, ◌<◌, ◌^◌, ◌++◌, ℕ, Bool, 
 use Rattle.std.proofs.Common.{Result, Ok, Err, OnOk, OnErr, refl, sym, ap, subst, ◌∙◌, append-nil}
 use Rattle.std.specs.FinMap as table
 use Rattle.seam_node_steps.specs.Prelude.{OutView, may_rise, RealView, may_settle, Msg, set_at, SlotStep, unless_stray, settled}
-use Rattle.seam_node_steps.specs.Prelude.{stray_survey, survey_task as survey_step, CellView, slot_of, stepped, cell_task}
+use Rattle.seam_node_steps.specs.Prelude.{stray_survey, survey_task as survey_step, CellView, slot_of, stepped, cell_task, boundaries_of}
 use Rattle.seam_cell_parts.specs.declared.context.CellContext.{CellContext}
 use Rattle.seam_cell_parts.specs.declared.reals.Reals.{Reals}
 use Rattle.seam_cell_parts.specs.declared.remotes.Remotes.{Remotes}
@@ -48,7 +48,8 @@ pub not_due : (c : CellView) (e : ℕ) (es : List ℕ) → c.survey ≡ e ∷ es
     cell_task c c.survey ≡ record { state = record c { survey = es }; sent = [] }
 not_due c e es is stays =
     ap (cell_task c) is
-    ∙ ap (λ b. stepped (record c { survey = es }) e (unless_stray b (survey_step c.here c.tree (slot_of c e) (table.get c.reals e))))
+    ∙ ap (λ b. stepped (record c { survey = es }) e (unless_stray b
+    (survey_step c.here (boundaries_of c) (slot_of c e) (table.get c.reals e))))
     (by (stray_survey (table.get c.reals e)) stays)
   where
     by : (b : Bool) → false ≡ not b → b ≡ true
@@ -62,24 +63,25 @@ module _ (k : CellContext) (r s : Reals) (p q : Remotes) (l m : Lists) (o n : Ou
   before = record (cell_of k r p l) { survey = es }
 
   abbrev step : SlotStep
-  step = settled (here_in k) k.tree (slot_in (parts_of p o) e x) x false
+  step = settled (here_in k) k.bounds (slot_in (parts_of p o) e x) x false
 
   survey_is : cell_task (cell_of k r p l) l.survey ≡ stepped before e step
   survey_is =
       ap (cell_task (cell_of k r p l)) is
-      ∙ ((λ i. stepped before e (unless_stray (stray_survey (at i)) (survey_step (here_in k) k.tree (record {
+      ∙ ((λ i. stepped before e (unless_stray (stray_survey (at i)) (survey_step (here_in k) k.bounds (record {
         real = at i;
         next = table.get p.nexts.items e;
         ghost = table.get p.copies.ghosts e;
       }) (at i))))
       ∙ ap (λ b. stepped before e (unless_stray (not b) step)) (due_may (table.get r.items.items e) x at due))
 
-  module _ (done : IsDone (settled (here_in k) k.tree (slot_in (parts_of p o) x.entity x) x false) x.entity x left (parts_of p o)
+  module _ (done : IsDone (settled (here_in k) k.bounds (slot_in (parts_of p o) x.entity x) x false) x.entity x left (parts_of p o)
       (parts_of q n))
     where
       here : IsDone step e x left (parts_of p o) (parts_of q n)
       here = subst
-          (λ y. IsDone (settled (here_in k) k.tree (slot_in (parts_of p o) y x) x false) y x left (parts_of p o) (parts_of q n)) entity done
+          (λ y. IsDone (settled (here_in k) k.bounds (slot_in (parts_of p o) y x) x false) y x left (parts_of p o)
+          (parts_of q n)) entity done
 
       pub surveyed : s.items.items ≡ set_at (table.remove r.items.items e) e left → m.survey ≡ list_after (is_none left) e es →
           m.looks ≡ list_after (is_none left) e l.looks → cell_of k s q m ≡ (cell_task (cell_of k r p l) l.survey).state
@@ -92,7 +94,7 @@ module _ (k : CellContext) (r s : Reals) (p q : Remotes) (l m : Lists) (o n : Ou
 
 -- where there is nothing to do, the entry alone goes
 module _ (k : CellContext) (r : Reals) (p : Remotes) (l m : Lists) (o : OutView Msg) (e : ℕ) (es : List ℕ)
-    (moot : IsMoot (here_in k) k.tree (table.get r.items.items e))
+    (moot : IsMoot (here_in k) k.bounds.tree (table.get r.items.items e))
     (keys : (x : RealView) → table.get r.items.items e ≡ Some x → x.entity ≡ e) (is : l.survey ≡ e ∷ es) (survey : m.survey ≡ es)
     (looks : m.looks ≡ l.looks) where
   abbrev Leaves : Type 0
@@ -104,7 +106,8 @@ module _ (k : CellContext) (r : Reals) (p : Remotes) (l m : Lists) (o : OutView 
       let goes = not_due (cell_of k r p l) e es is stray in
       let left : cell_of k r p m ≡ record (cell_of k r p l) { survey = es } = λ i. record {
         here = here_in k;
-        tree = k.tree;
+        tree = k.bounds.tree;
+        number = k.bounds.number;
         reals = r.items.items;
         nexts = p.nexts.items;
         ghosts = p.copies.ghosts;
@@ -117,7 +120,7 @@ module _ (k : CellContext) (r : Reals) (p : Remotes) (l m : Lists) (o : OutView 
       let due : true ≡ not (stray_survey (table.get r.items.items e)) =
       sym (ap (λ v. not (stray_survey v)) at ∙ ap (λ b. not (not b)) may) in
       let entity = keys x at in
-      let done = rest_done (here_in k) x k.tree (parts_of p o) (moot x at may) in (
+      let done = rest_done (here_in k) x k.bounds (parts_of p o) (moot x at may) in (
         surveyed k r r p p l m o o e es x (Some x) at due entity is done (sym (put_back r.items.items e x at)) survey looks,
         survey_told k r r p p l m o o e es x (Some x) at due entity is done,
       )
@@ -144,7 +147,8 @@ module _ (k : CellContext) (r s : Reals) (p q : Remotes) (l m : Lists) (o n : Ou
       let away = looks ∙ ap (λ v. list_after (is_none v) e l.looks) back in
       λ i. record {
         here = here_in k;
-        tree = k.tree;
+        tree = k.bounds.tree;
+        number = k.bounds.number;
         reals = reals i;
         nexts = (same i).nexts;
         ghosts = (same i).ghosts;

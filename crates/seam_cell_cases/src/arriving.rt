@@ -1,15 +1,14 @@
 //! A real comes to a cell.
 
-ghost use Rattle.std.specs.Prelude.{◌≡◌, ℕ, ◌<◌, ◌≤◌, ◌++◌, is_some, None, IfErr, OnOk, OnErr, map};
+ghost use Rattle.std.specs.Prelude.{◌≡◌, ◌<◌, ◌≤◌, ◌++◌, is_some, not, None, IfOk, IfErr, OnOk, OnErr, map};
 ghost use Rattle.std.specs.List.{list_all, range_with_len};
 ghost use Rattle.std.specs.FinMap as table;
-ghost use Rattle.seam_node_steps.specs.Prelude.{ghost_after, From, MOST_BASE_NODES, cell_numbers, set_at, may_come as real_may_come};
-ghost use Rattle.seam_node_steps.specs.Prelude.{currents, cell_steps};
-ghost use Rattle.seam_entity.specs.declared.message.Msg.TheVariants as msg;
+ghost use Rattle.seam_node_steps.specs.Prelude.{ghost_after, MOST_BASE_NODES, cell_numbers, set_at, may_come as real_may_come, currents};
+ghost use Rattle.seam_node_steps.specs.Prelude.{stray_hand};
 ghost use Rattle.seam_node_steps.specs.CellCases.{is_in_tree as real_is_in_tree};
 ghost use Rattle.seam_node_steps.specs.CellCases.{has_small_numbers as numbers_are_small};
 ghost use Rattle.seam_cell_parts.specs.Kept.{here_in, cell_of, AreKept, IsOpen};
-ghost use Rattle.seam_cell_cases.specs.Arriving.{current_of, is_cell_in};
+ghost use Rattle.seam_cell_cases.specs.Arriving.{current_of, is_cell_in, arrives};
 ghost use Rattle.seam_cell_parts.specs.declared.lists.Lists.{Lists as AnyLists};
 
 use seam_cell_parts::{CellContext, CopyBook, Next, Reals, Remotes, close, make_room, put_in};
@@ -28,9 +27,10 @@ fn are_cells(tree: &Tree, haunts: CellSet) -> bool
 
 // Whether this cell and the real's haunts are cells of the tree.
 fn is_in_tree(known: &CellContext, real: &Real) -> bool
-    ensures { result ≡ real_is_in_tree (here_in known.now) known.now.tree real.now.core }
+    ensures { result ≡ real_is_in_tree (here_in known.now) known.now.bounds.tree real.now.core }
 {
-    known.me < known.tree.cells() && are_cells(&known.tree, real.haunts())
+    let tree = known.bounds.tree.get();
+    known.me < tree.cells() && are_cells(tree, real.haunts())
 }
 
 // Whether beat, generation and version are small.
@@ -42,7 +42,7 @@ fn has_small_numbers(real: &Real) -> bool
 
 // Whether the real fits, its haunts and this cell are in the tree, and its numbers are small.
 fn may_come(known: &CellContext, real: &Real) -> bool
-    ensures { result ≡ real_may_come (here_in known.now) known.now.tree real.now.core }
+    ensures { result ≡ real_may_come (here_in known.now) known.now.bounds.tree real.now.core }
 {
     real.fits(&known.defs, &known.settings) && (is_in_tree(known, real) && has_small_numbers(real))
 }
@@ -114,22 +114,22 @@ fn settle_in(
 }
 
 /// Hand-over comes: the real is put in its place, with the calls that it holds, its witness and its haunts. The entity's next place goes,
-/// the cell's book drops the copy at the real's beat, and every base node is told.
+/// the cell's book drops the copy at the real's beat, and every base node is told. It says whether the real was put in.
 pub fn arrive(
     known: &CellContext,
     parcel: Parcel,
     reals: &mut Reals,
     remotes: &mut Remotes,
     out: &mut Out<Msg>,
-) -> Result<(), NoMemoryFor<Parcel>>
+) -> Result<bool, NoMemoryFor<Parcel>>
     requires marks { AreKept reals.old }
     requires most { known.now.settings.bases ≤ MOST_BASE_NODES }
-    ensures state { (l : AnyLists) (from : ℕ) → OnOk result
-        (cell_of known.now reals.new remotes.new l ≡ (cell_steps
-        (cell_of known.now reals.old remotes.old l) (From from (msg.Hand parcel))).state) }
-    ensures sent { (l : AnyLists) (from : ℕ) → OnOk result (out.new.items ≡ out.old.items
-        ++ (cell_steps (cell_of known.now reals.old remotes.old l)
-        (From from (msg.Hand parcel))).sent) }
+    ensures state { (l : AnyLists) → OnOk result (cell_of known.now reals.new remotes.new l
+        ≡ (arrives (cell_of known.now reals.old remotes.old l) parcel).state) }
+    ensures sent { (l : AnyLists) → OnOk result (out.new.items ≡ out.old.items
+        ++ (arrives (cell_of known.now reals.old remotes.old l) parcel).sent) }
+    ensures came { IfOk result (λ b. b ≡ not (stray_hand (here_in known.now) known.now.bounds.tree
+        parcel (table.get reals.old.items.items parcel.entity))) }
     ensures err { (l : AnyLists) → OnErr result (cell_of known.now reals.new remotes.new l
         ≡ cell_of known.now reals.old remotes.old l) }
     ensures err_out { OnErr result (out.new.items ≡ out.old.items) }
@@ -137,15 +137,15 @@ pub fn arrive(
     ensures marks { AreKept reals.new }
 {
     if reals.items.get(parcel.real.entity()).is_some() {
-        return Ok(());
+        return Ok(false);
     }
     if !may_come(known, &parcel.real) {
-        return Ok(());
+        return Ok(false);
     }
     if make_way(known, &parcel.real, reals, &mut remotes.copies, out).is_err() {
         return Err(NoMemoryFor { item: parcel });
     }
     let Parcel { real } = parcel;
     settle_in(known, real, reals, &mut remotes.nexts, out);
-    Ok(())
+    Ok(true)
 }

@@ -79,8 +79,8 @@ fn begin_call(
 ) -> Result<Made, AllocError>
     requires me { known.now.me < cell_count }
     requires legal { AreLegal known.now.settings }
-    requires size { known.now.tree.size ≡ known.now.settings.size }
-    requires there { IsRealInSpace (here_in known.now) known.now.tree real.old.core }
+    requires size { known.now.bounds.tree.size ≡ known.now.settings.size }
+    requires there { IsRealInSpace (here_in known.now) known.now.bounds.tree real.old.core }
     requires may { real_may_call (here_in known.now) real.old.core call.now ≡ true }
     ensures same { real.new.core ≡ real.old.core }
     ensures room { OnOk result (HasRoom real.new call.now) }
@@ -89,7 +89,7 @@ fn begin_call(
     ensures changed { IfOk result (λ m. m.after.changed ≡ shows (here_in known.now) real.old.core
         call.now) }
     ensures begun { let h = here_in known.now in let r = real.old.core in
-        IfOk result (λ m. HasBegun h known.now.tree
+        IfOk result (λ m. HasBegun h known.now.bounds
         (executed h r call.now) (shows h r call.now) (parts_of remotes.old out.old)
         (parts_of remotes.new out.new) m.begun) }
     ensures remotes { IfOk result (λ m. HasRoomFor remotes.new.nexts.room out.new.spare
@@ -128,14 +128,14 @@ pub fn execute_turn(
 ) -> Called
     requires me { known.now.me < cell_count }
     requires legal { AreLegal known.now.settings }
-    requires size { known.now.tree.size ≡ known.now.settings.size }
-    requires there { IsRealInSpace (here_in known.now) known.now.tree turn.real.core }
+    requires size { known.now.bounds.tree.size ≡ known.now.settings.size }
+    requires there { IsRealInSpace (here_in known.now) known.now.bounds.tree turn.real.core }
     requires may { real_may_call (here_in known.now) turn.real.core turn.call ≡ true }
     requires in_turn { turn.call.number ≡ (order_of turn.real.core.orders turn.call.sender).next }
     ensures done { let h = here_in known.now in let r = turn.real.core in let before =
         parts_of remotes.old out.old in
         OnOk result.result (IsDone
-        (settled h known.now.tree (slot_in before r.entity r) (executed h r turn.call)
+        (settled h known.now.bounds (slot_in before r.entity r) (executed h r turn.call)
         (shows h r turn.call)) r.entity r
         (option_map core_of result.left) before (parts_of remotes.new out.new)) }
     ensures witness { IfSome result.left (λ q. q.core.witness ≡ turn.real.core.witness) }

@@ -18,7 +18,7 @@ mod tasks;
 
 pub use arriving::arrive;
 pub use calls::{Called, Held, Turn, execute_turn, hold, may_call, may_execute, may_settle};
-pub use loads::{begin_round, give_witness, make_real};
+pub use loads::{all_queued, begin_round, give_witness, make_real};
 pub use reaping::reap;
 pub use surveying::survey_task;
 pub use tasks::{Tasked, execute_ready};

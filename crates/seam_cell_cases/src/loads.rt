@@ -78,6 +78,15 @@ fn all_entities(
     Ok(all)
 }
 
+/// The queue in which the entities of all reals wait.
+pub fn all_queued(alloc: Global, reals: &Reals) -> Result<EntityQueue, AllocError>
+    ensures { IfOk result (λ q. q ≡ table.keys reals.now.items.items) }
+{
+    let mut none = EntityQueue::new(alloc);
+    let all = all_entities(alloc, none.spare(), &reals.items)?;
+    Ok(EntityQueue::of(all))
+}
+
 /// Begins a round, in which no real has done anything yet and all are to settle.
 pub fn begin_round(
     alloc: Global,

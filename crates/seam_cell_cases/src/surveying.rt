@@ -23,8 +23,8 @@ fn is_moot(known: &CellContext, reals: &Reals, e: u32) -> bool
     requires me { known.now.me < cell_count }
     requires legal { AreLegal known.now.settings }
     requires there { (r : RealView) → table.get reals.now.items.items e ≡ Some r →
-        IsRealInSpace (here_in known.now) known.now.tree r }
-    ensures moot { IsTrue result → IsMoot (here_in known.now) known.now.tree
+        IsRealInSpace (here_in known.now) known.now.bounds.tree r }
+    ensures moot { IsTrue result → IsMoot (here_in known.now) known.now.bounds.tree
         (table.get reals.now.items.items e) }
     ensures due { result ≡ false → true ≡ not (stray_survey (table.get reals.now.items.items e)) }
 {
@@ -43,11 +43,11 @@ pub fn settle_again(
 ) -> Tasked
     requires me { known.now.me < cell_count }
     requires legal { AreLegal known.now.settings }
-    requires there { IsRealInSpace (here_in known.now) known.now.tree real.core }
+    requires there { IsRealInSpace (here_in known.now) known.now.bounds.tree real.core }
     requires may { real_may_settle real.core ≡ true }
     ensures done { let h = here_in known.now in let r = real.core in let before =
         parts_of remotes.old out.old in
-        OnOk result.result (IsDone (settled h known.now.tree (slot_in before r.entity r) r false)
+        OnOk result.result (IsDone (settled h known.now.bounds (slot_in before r.entity r) r false)
         r.entity r
         (option_map core_of result.left) before (parts_of remotes.new out.new)) }
     ensures witness { IfSome result.left (λ q. q.core.witness ≡ real.core.witness) }

@@ -31,8 +31,8 @@ fn begin_ready(
 ) -> Result<Made, AllocError>
     requires me { known.now.me < cell_count }
     requires legal { AreLegal known.now.settings }
-    requires size { known.now.tree.size ≡ known.now.settings.size }
-    requires there { IsRealInSpace (here_in known.now) known.now.tree real.old.core }
+    requires size { known.now.bounds.tree.size ≡ known.now.settings.size }
+    requires there { IsRealInSpace (here_in known.now) known.now.bounds.tree real.old.core }
     requires ready { has_ready real.old.core.orders ≡ true }
     requires may { may_execute real.old.core ≡ true }
     ensures same { real.new.core ≡ real.old.core }
@@ -44,7 +44,7 @@ fn begin_ready(
         IfOk result (λ m. m.after.changed ≡ shows (here_in known.now) real.old.core k) }
     ensures begun { (o : ℕ × OrderView AnyCall) (k : AnyCall) → HasReady real.old.core o k →
         let h = here_in known.now in let r = real.old.core in
-        IfOk result (λ m. HasBegun h known.now.tree
+        IfOk result (λ m. HasBegun h known.now.bounds
         (executed_ready h r o k) (shows h r k) (parts_of remotes.old out.old)
         (parts_of remotes.new out.new) m.begun) }
     ensures entity { IfOk result (λ m. m.begun.telling.entity ≡ real.old.core.entity) }
@@ -73,13 +73,13 @@ pub fn execute_ready(
 ) -> Tasked
     requires me { known.now.me < cell_count }
     requires legal { AreLegal known.now.settings }
-    requires size { known.now.tree.size ≡ known.now.settings.size }
-    requires there { IsRealInSpace (here_in known.now) known.now.tree real.core }
+    requires size { known.now.bounds.tree.size ≡ known.now.settings.size }
+    requires there { IsRealInSpace (here_in known.now) known.now.bounds.tree real.core }
     requires ready { has_ready real.core.orders ≡ true }
     requires may { may_execute real.core ≡ true }
     ensures done { let r = real.core in let before = parts_of remotes.old out.old in
         OnOk result.result (IsDone
-        (ready_call_task (here_in known.now) known.now.tree (slot_in before r.entity r) (Some r))
+        (ready_call_task (here_in known.now) known.now.bounds (slot_in before r.entity r) (Some r))
         r.entity r
         (option_map core_of result.left) before (parts_of remotes.new out.new)) }
     ensures witness { IfSome result.left (λ q. q.core.witness ≡ real.core.witness) }

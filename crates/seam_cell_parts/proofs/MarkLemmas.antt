@@ -12,7 +12,8 @@ use Rattle.std.specs.FinMap.Entries.{put, is_sorted, below_all, find as key_find
 use Rattle.std.proofs.lemmas.Bool.Decides.{nat_tests}
 use Rattle.seam_node_steps.specs.Prelude.{Map, number_of, set_at, without}
 use Rattle.seam_node_steps.proofs.Slots.{set_at-same}
-use Rattle.seam_cell_parts.specs.Sets.{with_entity, first_of}
+use Rattle.seam_node_steps.specs.Prelude.{with_entity}
+use Rattle.seam_cell_parts.specs.Sets.{first_of}
 use Rattle.seam_cell_parts.specs.Kept.{marked, with_mark}
 
 -- ---- a number put in and taken out

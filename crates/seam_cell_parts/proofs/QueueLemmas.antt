@@ -1,15 +1,16 @@
 -- Queues of entities: where the first that waits is, and what waits after one was taken out.
 use Rattle.std.proofs.Common.{◌≡◌, ◌≢◌, ◌<◌, ◌≤◌, ◌+◌, ℕ, zero, suc, Bool, true, false, cond, not, List, [], ◌∷◌, length, filter}
-use Rattle.std.proofs.Common.{Some, is_some, get_or, refl, sym, ap, subst, ◌∙◌, arith}
+use Rattle.std.proofs.Common.{eqb, Some, is_some, get_or, refl, sym, ap, subst, ◌∙◌, arith}
 use Rattle.std.proofs.Math.ListN.{set}
 use Rattle.std.proofs.Math.Seq.{map-set_same}
-use Rattle.std.specs.List.{AllByRecursion, AllWithin}
+use Rattle.std.specs.List.{AllByRecursion, AllWithin, insert}
 use Rattle.std.specs.List.Sorted.{IsNonDecreasingBy, IsStrictlySortedBy}
-use Rattle.std.specs.Ordering.{nat_cmp}
-use Rattle.std.specs.declared.cmp.Ordering.TheVariants.{Less}
+use Rattle.std.specs.Ordering.{nat_cmp, match_ordering}
+use Rattle.std.specs.Cmp.{nat_cmp_total, tied_itself}
+use Rattle.std.specs.declared.cmp.Ordering.TheVariants.{Less, Greater}
 use Rattle.std.proofs.lemmas.Bool.Decides.{nat_tests}
 use Rattle.std.proofs.lemmas.Map.Keys.{sorted_head, sorted_tail}
-use Rattle.seam_node_steps.specs.Prelude.{without, has_any}
+use Rattle.seam_node_steps.specs.Prelude.{with_entity, without, has_any}
 use Rattle.seam_cell_parts.specs.declared.entity_queue.Entry.{Entry}
 use Rattle.seam_cell_parts.specs.Sets.{first_of}
 use Rattle.seam_cell_parts.specs.Queues.{entities, waiting, passed, IsQueue}
@@ -216,3 +217,119 @@ queue_still ws i place d x o same at = record {
 pub no_queue : IsQueue 0 []
 unfolding IsStrictlySortedBy
 no_queue = record { rising = tt; first = refl }
+
+-- ---- an entity put in
+
+pub same_entity : (a b : ℕ) → eqb a b ≡ true → a ≡ b
+same_entity a b t = grind (arith, nat_tests, t)
+
+greater : (e x : ℕ) → x < e → nat_cmp e x ≡ Greater
+greater e x lt = grind (arith, nat_tests, lt)
+
+-- in front of all that are greater
+first_put : (e : ℕ) (xs : List ℕ) → AllByRecursion (λ y. nat_cmp e y ≡ Less) xs → with_entity e xs ≡ e ∷ xs
+first_put e [] h = refl
+first_put e (x ∷ xs) h = ap (λ r. match_ordering r (e ∷ x ∷ xs) (x ∷ xs) (x ∷ with_entity e xs)) h.0
+
+-- behind a lesser one
+later_put : (e x : ℕ) (xs : List ℕ) → x < e → with_entity e (x ∷ xs) ≡ x ∷ with_entity e xs
+later_put e x xs lt = ap (λ r. match_ordering r (e ∷ x ∷ xs) (x ∷ xs) (x ∷ with_entity e xs)) (greater e x lt)
+
+-- where it is already
+same_put : (e : ℕ) (xs : List ℕ) → with_entity e (e ∷ xs) ≡ e ∷ xs
+same_put e xs = ap (λ r. match_ordering r (e ∷ e ∷ xs) (e ∷ xs) (e ∷ with_entity e xs)) (tied_itself nat_cmp_total e)
+
+puts_later : (e : ℕ) (w : Entry) (vs ws : List Entry) → w.entity < e → waiting vs ≡ with_entity e (waiting ws) →
+    waiting (w ∷ vs) ≡ with_entity e (waiting (w ∷ ws))
+puts_later e w vs ws lt same = by w.waits
+  where
+    by : (b : Bool) → entities (cond b (w ∷ filter (λ v. v.waits) vs) (filter (λ v. v.waits) vs))
+        ≡ with_entity e (entities (cond b (w ∷ filter (λ v. v.waits) ws) (filter (λ v. v.waits) ws)))
+    by true = ap (λ l. w.entity ∷ l) same ∙ sym (later_put e w.entity (waiting ws) lt)
+    by false = same
+
+-- an entry that waits comes first
+waits_first : (e : ℕ) (x : Entry) (ws : List Entry) → x.entity ≡ e → x.waits ≡ true → waiting (x ∷ ws) ≡ e ∷ waiting ws
+waits_first e x ws is waits =
+    ap (λ b. entities (cond b (x ∷ filter (λ v. v.waits) ws) (filter (λ v. v.waits) ws))) waits ∙ ap (λ q. q ∷ waiting ws) is
+
+-- all entries from w on are of greater entities
+all_above : (e : ℕ) (w : Entry) (ws : List Entry) → e < w.entity → IsStrictlySortedBy nat_cmp (entities (w ∷ ws)) →
+    AllByRecursion (λ y. nat_cmp e y ≡ Less) (entities (w ∷ ws))
+all_above e w ws lt o =
+    (grind (arith, nat_tests, lt), all_greater e w.entity (entities ws) lt (sorted_head nat_cmp w.entity (entities ws) o))
+
+-- what comes at its place is of a greater entity
+next_above : (e : ℕ) (w : Entry) (ws : List Entry) → AllWithin (λ w. e ≤ w.entity) (w ∷ ws) 0 (length (w ∷ ws)) →
+    ((d : Entry) → 0 < length (w ∷ ws) → (get_or (w ∷ ws) 0 d).entity ≢ e) → e < w.entity
+next_above e w ws a other =
+    let least = a 0 w (omega arith) (omega arith) in
+    let not = other w (omega arith) in
+    grind (arith, nat_tests, least, not)
+
+pub put_in : (e : ℕ) (ws : List Entry) (at : ℕ) (x : Entry) → x.entity ≡ e → x.waits ≡ true → IsStrictlySortedBy nat_cmp (entities ws) →
+    at ≤ length ws → AllWithin (λ w. w.entity < e) ws 0 at → AllWithin (λ w. e ≤ w.entity) ws at (length ws) →
+    ((d : Entry) → at < length ws → (get_or ws at d).entity ≢ e) → waiting (insert ws at x) ≡ with_entity e (waiting ws)
+put_in e [] zero x is waits o le b a other = waits_first e x [] is waits
+put_in e [] (suc at) x is waits o le b a other = absurd (omega (arith, le))
+put_in e (w ∷ ws) zero x is waits o le b a other =
+    waits_first e x (w ∷ ws) is waits
+    ∙ sym (first_put e (waiting (w ∷ ws)) (all_waiting _ (w ∷ ws) (all_above e w ws (next_above e w ws a other) o)))
+put_in e (w ∷ ws) (suc at) x is waits o le b a other =
+    puts_later e w (insert ws at x) ws (b 0 w (omega arith) (omega arith))
+    (put_in e ws at x is waits (sorted_tail nat_cmp w.entity (entities ws) o) (omega (arith, le))
+    (λ k d l h. b (suc k) d (omega arith) (omega (arith, h))) (λ k d l h. a (suc k) d (omega (arith, l)) (omega (arith, h)))
+    (λ d lt. other d (omega (arith, lt))))
+
+-- where the entity has an entry
+pub marked_in : (e : ℕ) (ws : List Entry) (at : ℕ) (x : Entry) → x.entity ≡ e → x.waits ≡ true →
+    IsStrictlySortedBy nat_cmp (entities ws) → at < length ws → ((d : Entry) → (get_or ws at d).entity ≡ e) →
+    waiting (set ws at x) ≡ with_entity e (waiting ws)
+marked_in e [] at x is waits o lt same = absurd (omega (arith, lt))
+marked_in e (w ∷ ws) zero x is waits o lt same = waits_first e x ws is waits ∙ by w.waits
+  where
+    above : AllByRecursion (λ y. nat_cmp e y ≡ Less) (waiting ws)
+    above = all_waiting _ ws (subst (λ q. AllByRecursion (λ y. nat_cmp q y ≡ Less) (entities ws)) (same w)
+        (sorted_head nat_cmp w.entity (entities ws) o))
+
+    by : (b : Bool) → e ∷ waiting ws ≡ with_entity e (entities (cond b (w ∷ filter (λ v. v.waits) ws) (filter (λ v. v.waits) ws)))
+    by true = sym (ap (λ q. with_entity e (q ∷ waiting ws)) (same w) ∙ same_put e (waiting ws))
+    by false = sym (first_put e (waiting ws) above)
+marked_in e (w ∷ ws) (suc at) x is waits o lt same =
+    let high = at_above w.entity ws at w (sorted_head nat_cmp w.entity (entities ws) o) (omega (arith, lt)) in
+    puts_later e w (set ws at x) ws (subst (λ q. w.entity < q) (same w) high)
+    (marked_in e ws at x is waits (sorted_tail nat_cmp w.entity (entities ws) o) (omega (arith, lt)) same)
+
+all_in : (P : ℕ → Type 0) (ws : List Entry) (at : ℕ) (x : Entry) → P x.entity → AllByRecursion P (entities ws) →
+    AllByRecursion P (entities (insert ws at x))
+all_in P [] zero x p all = (p, tt)
+all_in P [] (suc at) x p all = (p, tt)
+all_in P (w ∷ ws) zero x p all = (p, all)
+all_in P (w ∷ ws) (suc at) x p all = (all.0, all_in P ws at x p all.1)
+
+-- the entries stay in rising order
+pub rising_in : (e : ℕ) (ws : List Entry) (at : ℕ) (x : Entry) → x.entity ≡ e → IsStrictlySortedBy nat_cmp (entities ws) →
+    at ≤ length ws → AllWithin (λ w. w.entity < e) ws 0 at → AllWithin (λ w. e ≤ w.entity) ws at (length ws) →
+    ((d : Entry) → at < length ws → (get_or ws at d).entity ≢ e) → IsStrictlySortedBy nat_cmp (entities (insert ws at x))
+unfolding IsStrictlySortedBy
+rising_in e [] zero x is o le b a other = (tt, tt)
+rising_in e [] (suc at) x is o le b a other = absurd (omega (arith, le))
+rising_in e (w ∷ ws) zero x is o le b a other = (
+  subst (λ q. AllByRecursion (λ y. nat_cmp q y ≡ Less) (entities (w ∷ ws))) (sym is)
+      (all_above e w ws (next_above e w ws a other) o),
+  o,
+)
+rising_in e (w ∷ ws) (suc at) x is o le b a other =
+    let low = b 0 w (omega arith) (omega arith) in
+    let less : nat_cmp w.entity x.entity ≡ Less = grind (arith, nat_tests, low, is) in (
+      all_in (λ y. nat_cmp w.entity y ≡ Less) ws at x less (sorted_head nat_cmp w.entity (entities ws) o),
+      rising_in e ws at x is (sorted_tail nat_cmp w.entity (entities ws) o) (omega (arith, le))
+          (λ k d l h. b (suc k) d (omega arith) (omega (arith, h))) (λ k d l h. a (suc k) d (omega (arith, l)) (omega (arith, h)))
+          (λ d lt. other d (omega (arith, lt))),
+    )
+
+-- so they do where the entity has an entry
+pub rising_marked : (e : ℕ) (ws : List Entry) (at : ℕ) (x : Entry) → x.entity ≡ e → ((d : Entry) → (get_or ws at d).entity ≡ e) →
+    IsStrictlySortedBy nat_cmp (entities ws) → IsStrictlySortedBy nat_cmp (entities (set ws at x))
+rising_marked e ws at x is same o =
+    subst (IsStrictlySortedBy nat_cmp) (sym (map-set_same (λ w. w.entity) ws at x x (is ∙ sym (same x)))) o

@@ -3,7 +3,7 @@ use Rattle.std.proofs.Common.{◌≡◌, ℕ, Bool, true, false, List, Option, N
 use Rattle.std.specs.FinMap as table
 use Rattle.std.specs.FinSet as set
 use Rattle.seam_node_steps.specs.Prelude.{RealView, has_ready, Map, set_at, without, real_is_ready, has_witness}
-use Rattle.seam_cell_parts.specs.Sets.{with_entity}
+use Rattle.seam_node_steps.specs.Prelude.{with_entity}
 use Rattle.seam_cell_parts.specs.declared.reals.Reals.{Reals}
 use Rattle.seam_cell_parts.specs.Kept.{marked, with_mark, AreKept, IsOpen, IsOpenFor}
 use Rattle.seam_cell_parts.proofs.MarkLemmas.{out_again, mark_twice, unmarked, marked_in}

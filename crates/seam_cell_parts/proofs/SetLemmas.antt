@@ -10,8 +10,8 @@ use Rattle.std.specs.BTreeSet.{insert_key}
 use Rattle.std.specs.BTreeMap.{is_at}
 use Rattle.std.proofs.lemmas.Map.Keys.{sorted_head, sorted_tail}
 use Rattle.std.proofs.lemmas.Bool.Decides.{nat_tests}
-use Rattle.seam_node_steps.specs.Prelude.{without, has_any}
-use Rattle.seam_cell_parts.specs.Sets.{with_entity, first_of, members, IsAlone, IsSet}
+use Rattle.seam_node_steps.specs.Prelude.{with_entity, without, has_any}
+use Rattle.seam_cell_parts.specs.Sets.{first_of, members, IsAlone, IsSet}
 
 pub inserted : (e : ℕ) (xs : List ℕ) → insert_key nat_cmp xs e ≡ with_entity e xs
 inserted e [] = refl

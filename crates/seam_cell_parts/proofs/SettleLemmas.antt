@@ -9,6 +9,7 @@ use Rattle.std.specs.FinSet as set
 use Rattle.std.proofs.lemmas.Bool.Decides.{nat_tests}
 use Rattle.seam_node_steps.specs.Prelude.{Pos, Division, Cells, Ghost, BookView, beat_of, with_ghost, after_message, ghost_after, GhostCopy}
 use Rattle.seam_node_steps.specs.Prelude.{Here, cell_numbers, RealView, TypeDef, State, copy_of_real, copy_with, settled_to, node_with}
+use Rattle.seam_node_steps.specs.Prelude.{Boundaries, Msg, brought}
 use Rattle.seam_node_steps.specs.Prelude.{Hand, Map, set_at, has_any, Slot, beat_after, home_after, haunts_at, told, told_unless}
 use Rattle.seam_node_steps.specs.Prelude.{ghost_message, ghost_messages, copy_if, gone_to, settled_by, settled, Telling}
 use Rattle.seam_node_steps.specs.Settle.{stayed}
@@ -72,21 +73,21 @@ pub any_sent : {A : Type 0} (before more : List A) → nat_lt (length before) (l
 any_sent before [] = let same = length-append before [] in grind (arith, nat_tests, same)
 any_sent before (x ∷ more) = let longer = length-append before (x ∷ more) in grind (arith, nat_tests, longer)
 
-module _ (h : Here) (t : Division) (r later : RealView) (changed : Bool) (is : IsLater r later) where
-  same_telling : (p : Pos) → telling_at h t r p changed ≡ telling_at h t later p changed
+module _ (h : Here) (t : Boundaries) (r later : RealView) (changed : Bool) (is : IsLater r later) where
+  same_telling : (p : Pos) → telling_at h t.tree r p changed ≡ telling_at h t.tree later p changed
   same_telling p = λ i. record {
     me = h.me;
-    home = home_after h t p;
+    home = home_after h t.tree p;
     old = sym is.haunts i;
-    haunts = haunts_at h t p (home_after h t p) (former h.me (home_after h t p) (sym is.haunts i));
+    haunts = haunts_at h t.tree p (home_after h t.tree p) (former h.me (home_after h t.tree p) (sym is.haunts i));
     changed = changed;
     entity = sym is.entity i;
     beat = sym is.beat i + 1;
   }
 
-  module _ (told : Telling) (g : GhostCopy) (is_told : told ≡ telling_at h t r later.state.pos changed)
+  module _ (told : Telling) (g : GhostCopy) (is_told : told ≡ telling_at h t.tree r later.state.pos changed)
       (copy : g ≡ copy_of_real h later) (before after : PartsView) (b : Begun) where
-    told_later : told ≡ telling_at h t later later.state.pos changed
+    told_later : told ≡ telling_at h t.tree later later.state.pos changed
     told_later = is_told ∙ same_telling later.state.pos
 
     tells : IsTellingOf h later told g
@@ -99,9 +100,9 @@ module _ (h : Here) (t : Division) (r later : RealView) (changed : Bool) (is : I
     }
 
     pub begun_is : b.telling ≡ told → b.has_told ≡ nat_lt (length before.sent) (length after.sent) →
-        after.nexts ≡ before.nexts → after.ghosts ≡ heard told g before.ghosts → after.sent ≡ before.sent ++ news told g 16 →
-        HasBegun h t later changed before after b
-    begun_is kept some nexts ghosts sent =
+        ((told.home == told.me) ≡ false → b.brought ≡ brought t) → after.nexts ≡ before.nexts →
+        after.ghosts ≡ heard told g before.ghosts → after.sent ≡ before.sent ++ news told g 16 → HasBegun h t later changed before after b
+    begun_is kept some brings nexts ghosts sent =
         let all : after.sent ≡ before.sent ++ told_of h later b.telling =
         sent ∙ (ap (λ l. before.sent ++ l) (all_told h later told g tells) ∙ ap (λ x. before.sent ++ told_of h later x) (sym kept)) in
         record {
@@ -109,6 +110,7 @@ module _ (h : Here) (t : Division) (r later : RealView) (changed : Bool) (is : I
           has_told =
               some
               ∙ (ap (λ l. nat_lt (length before.sent) (length l)) all ∙ any_sent before.sent (told_of h later b.telling));
+          brought = subst (λ (x : Telling). (x.home == x.me) ≡ false → b.brought ≡ brought t) (sym kept) brings;
           nexts = nexts;
           ghosts = ghosts ∙ (λ i. heard (sym kept i) (copy i) before.ghosts);
           sent = all;
@@ -116,49 +118,50 @@ module _ (h : Here) (t : Division) (r later : RealView) (changed : Bool) (is : I
 
 -- ---- what settling leaves
 
-module _ (h : Here) (t : Division) (s : Slot) (r : RealView) (changed : Bool) (told : Telling)
-    (is : told ≡ telling_at h t r r.state.pos changed) where
-  home_is : told.home ≡ home_after h t r.state.pos
+module _ (h : Here) (t : Boundaries) (s : Slot) (r : RealView) (changed : Bool) (told : Telling)
+    (is : told ≡ telling_at h t.tree r r.state.pos changed) where
+  home_is : told.home ≡ home_after h t.tree r.state.pos
   home_is = ap (λ x. x.home) is
 
   me_is : told.me ≡ h.me
   me_is = ap (λ x. x.me) is
 
-  test_is : (b : Bool) → eqb told.home told.me ≡ b → eqb (home_after h t r.state.pos) h.me ≡ b
+  test_is : (b : Bool) → eqb told.home told.me ≡ b → eqb (home_after h t.tree r.state.pos) h.me ≡ b
   test_is b test = (λ i. eqb (sym home_is i) (sym me_is i)) ∙ test
 
   haunts_by : (b : Bool) → eqb told.home told.me ≡ b → told.haunts
-      ≡ haunts_at h t r.state.pos (home_after h t r.state.pos) (cond b r.haunts (set.insert r.haunts h.me))
+      ≡ haunts_at h t.tree r.state.pos (home_after h t.tree r.state.pos) (cond b r.haunts (set.insert r.haunts h.me))
   haunts_by b test =
       ap (λ x. x.haunts) is
-      ∙ ap (λ x. haunts_at h t r.state.pos (home_after h t r.state.pos) (cond x r.haunts (set.insert r.haunts h.me))) (test_is b test)
+      ∙ ap (λ x. haunts_at h t.tree r.state.pos (home_after h t.tree r.state.pos) (cond x r.haunts (set.insert r.haunts h.me)))
+      (test_is b test)
 
   changed_is : ghost_messages h r told.home told.haunts changed ≡ told_of h r told
   changed_is = ap (ghost_messages h r told.home told.haunts) (sym (ap (λ x. x.changed) is))
 
   pub stays_is : eqb told.home told.me ≡ true → settled h t s r changed ≡ stayed s r told.haunts (told_of h r told)
   stays_is test =
-      let same : home_after h t r.state.pos ≡ h.me = same_number _ _ (test_is true test) in
-      let haunts : haunts_at h t r.state.pos h.me r.haunts ≡ told.haunts =
-      sym (haunts_by true test ∙ ap (λ j. haunts_at h t r.state.pos j r.haunts) same) in
+      let same : home_after h t.tree r.state.pos ≡ h.me = same_number _ _ (test_is true test) in
+      let haunts : haunts_at h t.tree r.state.pos h.me r.haunts ≡ told.haunts =
+      sym (haunts_by true test ∙ ap (λ j. haunts_at h t.tree r.state.pos j r.haunts) same) in
       let home : h.me ≡ told.home = sym same ∙ sym home_is in
-      ap (λ b. settled_by b h t s r changed (home_after h t r.state.pos)) (test_is true test)
+      ap (λ b. settled_by b h t s r changed (home_after h t.tree r.state.pos)) (test_is true test)
       ∙ ((λ i. stayed s r (haunts i) (ghost_messages h r (home i) (haunts i) changed)) ∙ ap (stayed s r told.haunts) changed_is)
 
-  pub goes_is : eqb told.home told.me ≡ false → settled h t s r changed ≡ gone_to h s r told.home told.haunts (told_of h r told)
+  pub goes_is : eqb told.home told.me ≡ false → settled h t s r changed ≡ gone_to h t s r told.home told.haunts (told_of h r told)
   goes_is test =
-      let haunts : haunts_at h t r.state.pos (home_after h t r.state.pos) (set.insert r.haunts h.me) ≡ told.haunts =
+      let haunts : haunts_at h t.tree r.state.pos (home_after h t.tree r.state.pos) (set.insert r.haunts h.me) ≡ told.haunts =
       sym (haunts_by false test) in
-      ap (λ b. settled_by b h t s r changed (home_after h t r.state.pos)) (test_is false test)
-      ∙ ((λ i. gone_to h s r (sym home_is i) (haunts i) (ghost_messages h r (sym home_is i) (haunts i) changed))
-      ∙ ap (gone_to h s r told.home told.haunts) changed_is)
+      ap (λ b. settled_by b h t s r changed (home_after h t.tree r.state.pos)) (test_is false test)
+      ∙ ((λ i. gone_to h t s r (sym home_is i) (haunts i) (ghost_messages h r (sym home_is i) (haunts i) changed))
+      ∙ ap (gone_to h t s r told.home told.haunts) changed_is)
 
 -- the beat rises where anything is told
 pub beat_by : {A : Type 0} (b : Bool) (sent : List A) (beat : ℕ) → b ≡ has_any sent → cond b (beat + 1) beat ≡ beat_after sent beat
 beat_by b [] beat is = ap (λ x. cond x (beat + 1) beat) is
 beat_by b (m ∷ ms) beat is = ap (λ x. cond x (beat + 1) beat) is
 
-module _ (h : Here) (t : Division) (r was : RealView) (changed : Bool) (left : Option RealView) (before begun after : PartsView)
+module _ (h : Here) (t : Boundaries) (r was : RealView) (changed : Bool) (left : Option RealView) (before begun after : PartsView)
     (b : Begun) (is : HasBegun h t r changed before begun b) where
   abbrev Settles : Type 0
   Settles = IsDone (settled h t (slot_in before r.entity was) r changed) r.entity was left before after
@@ -188,7 +191,7 @@ module _ (h : Here) (t : Division) (r was : RealView) (changed : Bool) (left : O
       let entity : b.telling.entity ≡ r.entity = ap (λ x. x.entity) is.telling in
       let beat : b.telling.beat ≡ r.beat + 1 = ap (λ x. x.beat) is.telling in
       let own = ap (λ k. copy_if (set.contains b.telling.haunts k) (copy_of_real h r)) (ap (λ x. x.me) is.telling) in
-      let hand = (b.telling.home, Hand (going r b)) ∷ [] in
+      let hand : Option Boundaries → List (ℕ × Msg) = λ o. (b.telling.home, Hand (going r b) o) ∷ [] in
       subst (λ x. IsDone x r.entity was left before after)
       (sym (goes_is h t (slot_in before r.entity was) r changed b.telling is.telling test))
       (record {
@@ -202,7 +205,9 @@ module _ (h : Here) (t : Division) (r was : RealView) (changed : Bool) (left : O
             ∙ (heard_away b.telling (copy_of_real h r) before.ghosts test
             ∙ (λ i. set_at before.ghosts (entity i)
             (ghost_after (table.get before.ghosts (entity i)) (record { beat = beat i; copy = own i })))));
-        sent = gone.sent ∙ (ap (λ l. l ++ hand) is.sent ∙ append_assoc before.sent (told_of h r b.telling) hand);
+        sent =
+            gone.sent
+            ∙ ((λ i. is.sent i ++ hand (is.brought test i)) ∙ append_assoc before.sent (told_of h r b.telling) (hand (brought t)));
         unlisted = ap is_none (sym none);
       })
 
@@ -246,12 +251,12 @@ module _ (h : Here) (r : RealView) where
       (not_told k ((k == h.me) || (k == h.me)) (set.contains r.haunts k))
       ∙ none_told ks
 
-  pub rest_done : (t : Division) (w : PartsView) → IsAtRest h t r →
+  pub rest_done : (t : Boundaries) (w : PartsView) → IsAtRest h t.tree r →
       IsDone (settled h t (slot_in w r.entity r) r false) r.entity r (Some r) w w
   rest_done t w rest =
       let s = slot_in w r.entity r in
       let stays : settled h t s r false ≡ stayed s r r.haunts [] =
-      ap (λ b. settled_by b h t s r false (home_after h t r.state.pos)) (equal_test _ _ rest.home)
+      ap (λ b. settled_by b h t s r false (home_after h t.tree r.state.pos)) (equal_test _ _ rest.home)
       ∙ (ap (λ x. stayed s r x (ghost_messages h r h.me x false)) rest.haunts ∙ ap (stayed s r r.haunts) (none_told cell_numbers)) in
       subst (λ x. IsDone x r.entity r (Some r) w w) (sym stays) (record {
         real = refl;

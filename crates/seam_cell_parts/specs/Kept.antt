@@ -3,8 +3,7 @@ use Rattle.std.specs.Prelude.{◌≡◌, ℕ, Bool, true, false, is_some, List, 
 use Rattle.std.specs.FinMap as table
 use Rattle.std.specs.FinSet as set
 use Rattle.seam_node_steps.specs.Prelude.{Division, IsInSpace, AreLegal, Here, RealView, all_held, fits_cell_part, node_with, Map}
-use Rattle.seam_node_steps.specs.Prelude.{number_of, CellView, real_is_ready, has_witness, IsCell}
-use Rattle.seam_cell_parts.specs.Sets.{with_entity}
+use Rattle.seam_node_steps.specs.Prelude.{with_entity, number_of, CellView, real_is_ready, has_witness, IsCell}
 use Rattle.seam_cell_parts.specs.declared.context.CellContext.{CellContext}
 use Rattle.seam_cell_parts.specs.declared.reals.Reals.{Reals}
 use Rattle.seam_cell_parts.specs.declared.remotes.Remotes.{Remotes}
@@ -47,7 +46,8 @@ here_in k = node_with k.defs k.me k.settings
 abbrev pub cell_of : CellContext → Reals → Remotes → Lists → CellView
 cell_of k r p l = record {
   here = here_in k;
-  tree = k.tree;
+  tree = k.bounds.tree;
+  number = k.bounds.number;
   reals = r.items.items;
   nexts = p.nexts.items;
   ghosts = p.copies.ghosts;

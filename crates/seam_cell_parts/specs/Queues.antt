@@ -1,5 +1,5 @@
 -- Queues of entities in rising number, out of which entities are taken.
-use Rattle.std.specs.Prelude.{◌≡◌, ℕ, ◌+◌, cond, List, [], ◌∷◌, map, filter}
+use Rattle.std.specs.Prelude.{◌≡◌, ℕ, ◌+◌, ◌<◌, cond, List, [], ◌∷◌, length, get_or, map, filter}
 use Rattle.std.specs.List.Sorted.{IsStrictlySortedBy}
 use Rattle.std.specs.Ordering.{nat_cmp}
 use Rattle.seam_cell_parts.specs.declared.entity_queue.Entry.{Entry}
@@ -10,6 +10,11 @@ entities = map (λ w. w.entity)
 -- the entities that still wait
 abbrev pub waiting : List Entry → List ℕ
 waiting ws = entities (filter (λ w. w.waits) ws)
+
+-- the entry at that place is the entity's
+pub record IsAt (ws : List Entry) (i e : ℕ) : Type 0 where
+  pub within : i < length ws
+  pub entity : (d : Entry) → (get_or ws i d).entity ≡ e
 
 -- how many come before the first that waits
 abbrev pub passed : List Entry → ℕ

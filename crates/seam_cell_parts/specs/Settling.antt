@@ -31,4 +31,4 @@ going r b = settled_to r b.telling.haunts (r.beat + 1) (r.generation + 1)
 -- where a real went, its next place is there, and the Hand is sent last
 pub record IsGone (r : RealView) (b : Begun) (nexts after_nexts : Map NextPlace) (out after_out : List (ℕ × Msg)) : Type 0 where
   pub next : after_nexts ≡ table.insert nexts r.entity (record { cell = b.telling.home; generation = r.generation + 1 })
-  pub sent : after_out ≡ out ++ (b.telling.home, Hand (going r b)) ∷ []
+  pub sent : after_out ≡ out ++ (b.telling.home, Hand (going r b) b.brought) ∷ []

@@ -2,7 +2,8 @@
 use Rattle.std.specs.Prelude.{◌≡◌, ℕ, ◌+◌, ◌++◌, ◌==◌, Bool, true, false, is_none, List, Option, Some, if◌then◌else◌}
 use Rattle.std.specs.FinMap as table
 use Rattle.std.specs.FinSet as set
-use Rattle.seam_node_steps.specs.Prelude.{Division, Pos, Ghost, ghost_after, GhostCopy, OutView, Here, RealView, copy_of_real, Msg, Map}
+use Rattle.seam_node_steps.specs.Prelude.{Boundaries, brought, Division, Pos, Ghost, ghost_after, GhostCopy, OutView, Here, RealView}
+use Rattle.seam_node_steps.specs.Prelude.{copy_of_real, Msg, Map}
 use Rattle.seam_node_steps.specs.Prelude.{set_at, has_any, Slot, NextPlace, SlotStep, slot_after, home_after, haunts_at, ghost_messages}
 use Rattle.seam_node_steps.specs.Prelude.{copy_if, without, Telling}
 use Rattle.seam_entity.specs.Reals.{RoomyReal}
@@ -62,10 +63,12 @@ heard t g ghosts =
 abbrev pub told_of : Here → RealView → Telling → List (ℕ × Msg)
 told_of h r t = ghost_messages h r t.home t.haunts t.changed
 
--- the settling of the real, changed or not, has begun: its haunts were told, where it goes the own book heard, and nothing else changed
-pub record HasBegun (h : Here) (t : Division) (r : RealView) (changed : Bool) (before after : PartsView) (b : Begun) : Type 0 where
-  pub telling : b.telling ≡ telling_at h t r r.state.pos changed
+-- the settling of the real, changed or not, has begun: its haunts were told, where it goes the own book heard and the boundaries are there
+-- that it brings, and nothing else changed
+pub record HasBegun (h : Here) (t : Boundaries) (r : RealView) (changed : Bool) (before after : PartsView) (b : Begun) : Type 0 where
+  pub telling : b.telling ≡ telling_at h t.tree r r.state.pos changed
   pub has_told : b.has_told ≡ has_any (told_of h r b.telling)
+  pub brought : (b.telling.home == b.telling.me) ≡ false → b.brought ≡ brought t
   pub nexts : after.nexts ≡ before.nexts
   pub ghosts : after.ghosts ≡ heard b.telling (copy_of_real h r) before.ghosts
   pub sent : after.sent ≡ before.sent ++ told_of h r b.telling

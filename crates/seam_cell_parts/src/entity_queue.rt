@@ -1,14 +1,17 @@
 //! A queue of entities in rising number.
 //!
-//! It is made once of all that are to wait, and from then on they are only taken out: nearly always the first.
+//! It is made once of all that are to wait, and from then on they are taken out: nearly always the first. Of one more a new queue is made,
+//! which seldom happens.
 
-ghost use Rattle.std.specs.Prelude.{◌≡◌, ◌<◌, ◌≤◌, ◌++◌, [], ◌∷◌, length, not, OnOk, OnErr, IfSome, IfNone};
+ghost use Rattle.std.specs.Prelude.{◌≡◌, ◌<◌, ◌≤◌, ◌++◌, [], ◌∷◌, length, not, false, get_or, ◌≢◌, IsTrue, OnOk, OnErr, IfOk, IfSome};
+ghost use Rattle.std.specs.Prelude.{IfNone};
 ghost use Rattle.std.specs.List.{AllWithin};
 ghost use Rattle.std.specs.List.Sorted.{IsStrictlySortedBy};
 ghost use Rattle.std.specs.Ordering.{nat_cmp};
-ghost use Rattle.seam_node_steps.specs.Prelude.{without, has_any};
+ghost use Rattle.seam_node_steps.specs.Prelude.{with_entity, without, has_any};
 ghost use Rattle.seam_cell_parts.specs.Sets.{first_of};
-ghost use Rattle.seam_cell_parts.specs.Queues.{entities, waiting, passed};
+ghost use Rattle.seam_cell_parts.specs.declared.entity_queue.Entry.{Entry as AnyEntry};
+ghost use Rattle.seam_cell_parts.specs.Queues.{entities, waiting, passed, IsAt};
 
 use crate::entity_set::EntitySet;
 use std::alloc::{AllocError, Global};
@@ -92,8 +95,43 @@ fn count_below(entries: &[Entry], e: u32) -> usize
     requires { IsStrictlySortedBy nat_cmp (entities entries.now) }
     ensures below { AllWithin (λ w. w.entity < e) entries.now 0 result }
     ensures above { AllWithin (λ w. e ≤ w.entity) entries.now result (length entries.now) }
+    ensures within { result ≤ length entries.now }
 {
     entries.partition_point(|entry| entry.entity < e)
+}
+
+// Whether the entry at that place is the entity's.
+fn is_at(entries: &[Entry], at: usize, e: u32) -> bool
+    ensures yes { IsTrue result → IsAt entries.now at e }
+    ensures no { result ≡ false → (d : AnyEntry) → at < length entries.now →
+        (get_or entries.now at d).entity ≢ e }
+{
+    let Some(entry) = entries.get(at) else {
+        return false;
+    };
+    entry.entity == e
+}
+
+// The entity is to wait.
+fn put_entry(entries: &mut Vec<Entry>, e: u32) -> Result<(), AllocError>
+    requires { IsStrictlySortedBy nat_cmp (entities entries.old.items) }
+    ensures waits { OnOk result (waiting entries.new.items ≡ with_entity e (waiting
+        entries.old.items)) }
+    ensures rising { OnOk result (IsStrictlySortedBy nat_cmp (entities entries.new.items)) }
+{
+    let at = count_below(entries, e);
+    let entry = Entry {
+        entity: e,
+        waits: true,
+    };
+    if is_at(entries, at, e) {
+        entries[at] = entry;
+        return Ok(());
+    }
+    match entries.insert(at, entry) {
+        Ok(()) => Ok(()),
+        Err(_) => Err(AllocError),
+    }
 }
 
 impl EntityQueue {
@@ -144,6 +182,17 @@ impl EntityQueue {
         set.add_to(&mut row)?;
         *self = EntityQueue::of(row);
         Ok(())
+    }
+
+    /// The queue in which the entity waits, too.
+    pub fn with(&self, e: u32) -> Result<Self, AllocError>
+        ensures { IfOk result (λ q. q ≡ with_entity e self.now) }
+    {
+        let mut entries = Vec::new(*self.entries.allocator());
+        entries.extend_from_slice(&self.entries)?;
+        put_entry(&mut entries, e)?;
+        let place = first_from(&entries, 0);
+        Ok(EntityQueue { entries, place })
     }
 
     /// The first of them.

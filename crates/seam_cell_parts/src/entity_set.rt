@@ -3,8 +3,8 @@
 ghost use Rattle.std.specs.Prelude.{◌≡◌, ℕ, List, [], ◌++◌, OnOk, OnErr, not};
 ghost use Rattle.std.specs.List.Sorted.{IsStrictlySortedBy};
 ghost use Rattle.std.specs.Ordering.{nat_cmp};
-ghost use Rattle.seam_node_steps.specs.Prelude.{without, has_any};
-ghost use Rattle.seam_cell_parts.specs.Sets.{with_entity, first_of};
+ghost use Rattle.seam_node_steps.specs.Prelude.{with_entity, without, has_any};
+ghost use Rattle.seam_cell_parts.specs.Sets.{first_of};
 
 use crate::entity_queue::EntityRow;
 use std::alloc::{AllocError, Global};

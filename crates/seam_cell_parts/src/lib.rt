@@ -30,7 +30,7 @@ mod remotes;
 mod settle;
 mod spots;
 
-pub use context::CellContext;
+pub use context::{CellContext, at_start};
 pub use copy_book::CopyBook;
 pub use entity_queue::{EntityQueue, EntityRow};
 pub use entity_set::EntitySet;

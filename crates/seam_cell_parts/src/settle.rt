@@ -6,7 +6,8 @@ ghost use Rattle.std.specs.Prelude.{◌≡◌, ℕ, ◌<◌, ◌^◌, ◌+◌, �
 ghost use Rattle.std.specs.Prelude.{false, length, take, IsTrue, IfOk, OnOk, OnErr, IfSome, List, Bool, option_map};
 ghost use Rattle.std.specs.FinMap as table;
 ghost use Rattle.std.specs.FinSet as set;
-ghost use Rattle.seam_node_steps.specs.Prelude.{ghost_after, set_at, Settings as AllSettings, TypeDef, Division, IsInSpace, AreLegal};
+ghost use Rattle.seam_node_steps.specs.Prelude.{ghost_after, set_at, Settings as AllSettings, TypeDef, IsInSpace, AreLegal};
+ghost use Rattle.seam_node_steps.specs.Prelude.{Boundaries as AnyBoundaries, brought};
 ghost use Rattle.seam_node_steps.specs.Prelude.{copy_with, node_with, home_after, haunts_at, copy_if, settled, Here, cell_count, RealView};
 ghost use Rattle.seam_cell_parts.specs.News.{state_of, news};
 ghost use Rattle.seam_cell_parts.specs.Settling.{former, staying, HasRoomFor, IsGone, IsAtRest};
@@ -18,7 +19,7 @@ use crate::copy_book::CopyBook;
 use crate::news::{Subject, tell};
 use crate::next::Next;
 use crate::remotes::Remotes;
-use seam_call::GhostCopy;
+use seam_call::{Boundaries, GhostCopy};
 use seam_defs::Settings;
 use seam_entity::{Msg, Parcel, Real};
 use seam_geo::Pos;
@@ -35,11 +36,12 @@ pub struct Plan {
     pub haunts: CellSet,
 }
 
-/// A settling that has begun: what was told of the real, and whether a cell was told anything.
-#[derive(Clone, Copy, Debug)]
+/// A settling that has begun: what was told of the real, whether a cell was told anything, and which boundaries a hand-over brings.
+#[derive(Debug, Drop)]
 pub struct Begun {
     pub telling: Telling,
     pub has_told: bool,
+    pub brought: Option<Boundaries>,
 }
 
 // The home of a real of cell `me` that stands there.
@@ -137,33 +139,46 @@ pub fn stay(real: &mut Real, begun: &Begun)
 }
 
 /// The real, which goes, settles as was begun: its next place is where it goes, and it is sent last. It takes no memory.
-pub fn leave(mut real: Real, begun: &Begun, nexts: &mut Table<Next>, out: &mut Out<Msg>)
+pub fn leave(mut real: Real, begun: Begun, nexts: &mut Table<Next>, out: &mut Out<Msg>)
     requires beat { real.core.beat < 2 ^ 62 }
     requires generation { real.core.generation < 2 ^ 62 }
-    requires entity { begun.now.telling.entity ≡ real.core.entity }
-    requires goes { (begun.now.telling.home == begun.now.telling.me) ≡ false }
-    requires room { HasRoomFor nexts.old.room out.old.spare begun.now.telling }
-    ensures { IsGone real.core begun.now nexts.old.items nexts.new.items out.old.items
-        out.new.items }
+    requires entity { begun.telling.entity ≡ real.core.entity }
+    requires goes { (begun.telling.home == begun.telling.me) ≡ false }
+    requires room { HasRoomFor nexts.old.room out.old.spare begun.telling }
+    ensures { IsGone real.core begun nexts.old.items nexts.new.items out.old.items out.new.items }
 {
     let cell = begun.telling.home;
     let beat = real.beat() + 1;
     let generation = real.generation() + 1;
     let _ = nexts.put_reserved(real.entity(), Next { cell, generation });
     real.settle_to(begun.telling.haunts, beat, generation);
-    out.send(cell, Msg::Hand(Parcel { real }));
+    out.send(cell, Msg::Hand(Parcel { real }, begun.brought));
+}
+
+// Where a real of the cell with these haunts goes that stands there, by the boundaries that the cell goes by.
+fn plan_here(known: &CellContext, old: CellSet, pos: Pos) -> Plan
+    requires me { known.now.me < cell_count }
+    requires inside { IsInSpace known.now.bounds.tree pos }
+    requires legal { AreLegal known.now.settings }
+    ensures home { result.home ≡ home_after (here_in known.now) known.now.bounds.tree pos }
+    ensures haunts { let h = here_in known.now in let t = known.now.bounds.tree in
+        let home = home_after h t pos in
+        result.haunts ≡ haunts_at h t pos home (former h.me home old) }
+{
+    make_plan(known.me, &known.settings, known.bounds.tree.get(), old, pos)
 }
 
 // What is told of a real that settles at that position.
 fn tell_from(known: &CellContext, real: &Real, pos: Pos, changed: bool) -> Telling
     requires me { known.now.me < cell_count }
-    requires inside { IsInSpace known.now.tree pos }
+    requires inside { IsInSpace known.now.bounds.tree pos }
     requires legal { AreLegal known.now.settings }
     requires beat { real.now.core.beat < 2 ^ 62 }
-    ensures { result ≡ telling_at (here_in known.now) known.now.tree real.now.core pos changed }
+    ensures { let h = here_in known.now in let t = known.now.bounds.tree in
+        result ≡ telling_at h t real.now.core pos changed }
 {
     let old = real.haunts();
-    let plan = make_plan(known.me, &known.settings, &known.tree, old, pos);
+    let plan = plan_here(known, old, pos);
     Telling {
         me: known.me,
         home: plan.home,
@@ -206,6 +221,27 @@ fn tell_all(
     tell_own(&mut remotes.copies, t.entity, t.beat, own)
 }
 
+// The boundaries that a cell that goes by these brings to others.
+fn brought(bounds: &Boundaries) -> Result<Option<Boundaries>, AllocError>
+    ensures { IfOk result (λ o. o ≡ brought bounds.now) }
+{
+    if bounds.number == 0 {
+        return Ok(None);
+    }
+    let more = bounds.share()?;
+    Ok(Some(more))
+}
+
+// Those that the real brings, where it goes.
+fn brought_by(known: &CellContext, t: &Telling) -> Result<Option<Boundaries>, AllocError>
+    ensures { IfOk result (λ o. (t.now.home == t.now.me) ≡ false → o ≡ brought known.now.bounds) }
+{
+    if t.home == t.me {
+        return Ok(None);
+    }
+    brought(&known.bounds)
+}
+
 /// Begins to settle: the haunts are told what the real is after a call, or what it is, and where it goes the own book; room is made for
 /// what comes then. If allocation fails, nothing has changed.
 pub fn begin(
@@ -217,24 +253,26 @@ pub fn begin(
     out: &mut Out<Msg>,
 ) -> Result<Begun, AllocError>
     requires me { known.now.me < cell_count }
-    requires inside { IsInSpace known.now.tree of.now.pos }
+    requires inside { IsInSpace known.now.bounds.tree of.now.pos }
     requires legal { AreLegal known.now.settings }
     requires beat { real.now.core.beat < 2 ^ 62 }
     requires defs { of.now.defs.now ≡ known.now.defs }
     ensures begun { (later : RealView) → IsLater real.now.core later → later.ty ≡ of.now.ty →
         later.public ≡ of.now.version → later.state ≡ state_of of.now →
-        IfOk result (HasBegun (here_in known.now) known.now.tree later changed
+        IfOk result (HasBegun (here_in known.now) known.now.bounds later changed
         (parts_of remotes.old out.old) (parts_of remotes.new out.new)) }
     ensures entity { IfOk result (λ b. b.telling.entity ≡ real.now.core.entity) }
     ensures room { IfOk result (λ b. HasRoomFor remotes.new.nexts.room out.new.spare b.telling) }
     ensures err { OnErr result (parts_of remotes.new out.new ≡ parts_of remotes.old out.old) }
 {
     let telling = tell_from(known, real, of.pos, changed);
+    let brought = brought_by(known, &telling)?;
     let start = out.len();
     match tell_all(&telling, of, remotes, out) {
         Ok(()) => Ok(Begun {
             telling,
             has_told: out.len() > start,
+            brought,
         }),
         Err(error) => {
             out.cut(start);
@@ -246,18 +284,12 @@ pub fn begin(
 /// Whether the real would stay and keep its haunts if it settled as it is: nothing would change then, and no cell would be told anything.
 pub fn is_at_rest(known: &CellContext, real: &Real) -> bool
     requires me { known.now.me < cell_count }
-    requires inside { IsInSpace known.now.tree real.now.core.state.pos }
+    requires inside { IsInSpace known.now.bounds.tree real.now.core.state.pos }
     requires legal { AreLegal known.now.settings }
-    ensures { IsTrue result ↔ IsAtRest (here_in known.now) known.now.tree real.now.core }
+    ensures { IsTrue result ↔ IsAtRest (here_in known.now) known.now.bounds.tree real.now.core }
 {
     let old = real.haunts();
-    let plan = make_plan(
-        known.me,
-        &known.settings,
-        &known.tree,
-        old,
-        real.state().pos,
-    );
+    let plan = plan_here(known, old, real.state().pos);
     plan.home == known.me && plan.haunts.is(&old)
 }
 
@@ -272,7 +304,8 @@ pub fn settle_real(
     requires generation { real.core.generation < 2 ^ 62 }
     requires entity { begun.telling.entity ≡ real.core.entity }
     requires room { HasRoomFor remotes.old.nexts.room out.old.spare begun.telling }
-    ensures done { (h : Here) (t : Division) (changed : Bool) (was : RealView) (before : PartsView)
+    ensures done { (h : Here) (t : AnyBoundaries) (changed : Bool) (was : RealView)
+        (before : PartsView)
         → HasBegun h t real.core changed before (parts_of remotes.old out.old) begun →
         IsDone (settled h t (slot_in before real.core.entity was) real.core changed)
         real.core.entity was (option_map core_of result) before (parts_of remotes.new out.new) }
@@ -282,6 +315,6 @@ pub fn settle_real(
         stay(&mut real, &begun);
         return Some(real);
     }
-    leave(real, &begun, &mut remotes.nexts, out);
+    leave(real, begun, &mut remotes.nexts, out);
     None
 }

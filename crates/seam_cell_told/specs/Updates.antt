@@ -14,14 +14,7 @@ pub record UpdatesView : Type 0 where
 abbrev pub shown_in : List (ℕ × Msg) → List Shown
 shown_in [] = []
 shown_in ((k, msg.Update u) ∷ ms) = u.shown ∷ shown_in ms
-shown_in ((k, msg.Call c) ∷ ms) = shown_in ms
-shown_in ((k, msg.Hand p) ∷ ms) = shown_in ms
-shown_in ((k, msg.GhostSet e b c) ∷ ms) = shown_in ms
-shown_in ((k, msg.GhostDrop e b) ∷ ms) = shown_in ms
-shown_in ((k, msg.Tick) ∷ ms) = shown_in ms
-shown_in ((k, msg.Reap e) ∷ ms) = shown_in ms
-shown_in ((k, msg.BaseCall c) ∷ ms) = shown_in ms
-shown_in ((k, msg.Current e k2 g) ∷ ms) = shown_in ms
+shown_in (_ ∷ ms) = shown_in ms
 
 -- with these shown after the others
 abbrev pub with_shown : UpdatesView → List Shown → UpdatesView

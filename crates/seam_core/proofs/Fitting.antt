@@ -13,6 +13,7 @@ use Rattle.seam_law_rounds.specs.Prelude.{IsBetweenRounds, IsFitting, MayBeMade,
 use Rattle.seam_base.specs.Nodes.{has_client}
 use Rattle.seam_base.specs.Marks.{passes}
 use Rattle.seam_law_calls.proofs.Counting.{none_counts}
+use Rattle.seam_law_rounds.proofs.Framing.{known_at}
 use Rattle.seam_law_rounds.proofs.Loaded.{no_mail, real_was}
 use Rattle.seam_law_rounds.proofs.Making.{Creation, nowhere, once, creation_of, middle}
 use Rattle.seam_law_rounds.proofs.Shape.{Somewhere, search_real}
@@ -98,7 +99,7 @@ module _ (f : Frame) (w : World) (b : Batch) (between : IsBetweenRounds f w) (pa
 
       can_begin : CanBegin b s
       can_begin = record {
-        space = ap (λ h. h.settings.size) (here_is f k s (between.nodes.nodes k s at)) ∙ sym fits.space;
+        space = ap (λ h. h.settings.size) (here_is f.defs f.settings k s (known_at f k s (between.nodes.nodes k s at))) ∙ sym fits.space;
         inside = inside b.creates fits.creates;
         new = new b.creates fits.creates;
         once = fits.once;

@@ -11,18 +11,18 @@ use Rattle.std.proofs.lemmas.Simd.{map-map}
 use Rattle.seam_node_steps.specs.Prelude.{IsTree, with_node, EachNode, Order, Batch, Here, cell_count, base_of, BaseView, NodeView, World}
 use Rattle.seam_node_steps.specs.Prelude.{Cell, Base, IsNode, with_nodes, order_if, ordered_at, reap_ordered_at, with_orders, with_reap}
 use Rattle.seam_node_steps.specs.Prelude.{reaps_loaded, loaded, look_loaded}
-use Rattle.seam_law_calls.specs.Prelude.{Frame, here_at, IsAt, IsInFrame}
-use Rattle.seam_law_calls.proofs.Trees.{of_only}
-use Rattle.seam_law_rounds.specs.Prelude.{framed, each, node_loaded}
+use Rattle.seam_node_steps.specs.Prelude.{TypeDef, Settings, here_of, node_peers}
+use Rattle.seam_law_calls.specs.Prelude.{Frame, Knows}
+use Rattle.seam_law_rounds.specs.Prelude.{framed, each, node_loaded, first_frame}
 use Rattle.seam_call.specs.declared.order.Order.TheVariants as order
 use Rattle.seam_node_steps.specs.Loads.{with_order}
-use Rattle.seam_law_rounds.proofs.Loading.{nodes_after, loaded_is, node_there}
-use Rattle.seam_law_rounds.proofs.Framing.{node_begun, node_goes, frame_turns}
-use Rattle.seam_law_rounds.proofs.Giving.{reaps_framed, look_framed}
+use Rattle.seam_law_rounds.proofs.Loading.{nodes_after, loaded_is, node_there, each_keeps, Any, any}
+use Rattle.seam_law_rounds.proofs.Framing.{Ordered, Goes, peers_known, begun_known, goes_known, sound_turns, each_turns}
 use Rattle.seam_core.specs.Nodes.{here_in}
 use Rattle.seam_core.specs.Loads.{MayLoad, IsNumbered, HasBases, HasSize}
 use Rattle.seam_core.specs.Begun.{begun, HasSpace, NodeMayBegin}
-use Rattle.seam_core.specs.Worlds.{IsWorld}
+use Rattle.seam_core.specs.Worlds.{GoesBy, IsWorld}
+use Rattle.seam_core.proofs.Worlds.{goes_by}
 
 -- ---- lists
 
@@ -164,22 +164,84 @@ pub loaded_by : (w net v : World) (b : Batch) (os : List (ℕ × Order)) → net
 loaded_by w net v b os begun_is all is =
     is ∙ (ap (with_orders net) all ∙ (ap (λ u. with_orders u b.orders) begun_is ∙ loaded_as w b))
 
--- what a node of a frame knows
-pub here_is : (f : Frame) (k : ℕ) (s : NodeView) → IsAt f k s → here_in s ≡ here_at f k
-here_is f k (Cell c) at = at.here
-here_is f k (Base n) at = at.here
+-- what a node knows
+pub here_is : (defs : List TypeDef) (settings : Settings) (k : ℕ) (s : NodeView) → Knows defs settings k s →
+    here_in s ≡ here_of defs settings k
+here_is defs settings k (Cell c) knows = knows.1
+here_is defs settings k (Base n) knows = knows.1
+
+-- base nodes have any orders
+any_orders : (s : NodeView) → Ordered Any s
+any_orders (Cell c) = tt
+any_orders (Base n) = any n.orders
+
+module _ (defs : List TypeDef) (settings : Settings) where
+  abbrev By : ℕ → NodeView → Type 0
+  By = GoesBy defs settings
+
+  abbrev first : Frame
+  first = first_frame defs settings
+
+  peers_by : (k : ℕ) (s : NodeView) → By k s → node_peers s ≡ cell_count + settings.bases
+  peers_by k s is = peers_known first k s is.0
+
+  -- an order and a reap leave what a node goes by
+  module _ (k : ℕ) where
+    given_by : (d : Bool) (n : BaseView) (o : Order) → IsNode (Base n) × By k (Base n) →
+        IsNode (Base (order_if d n o)) × By k (Base (order_if d n o))
+    given_by true n o is =
+        (record { bases = is.0.bases; cells = is.0.cells; routes = is.0.routes }, ((is.1.0.0, is.1.0.1), tt))
+    given_by false n o is = is
+
+    pub ordered_by : (o : ℕ × Order) (s : NodeView) → IsNode s × By k s → IsNode (ordered_at o s) × By k (ordered_at o s)
+    ordered_by o (Cell c) is = is
+    ordered_by o (Base n) is = given_by (eqb o.0 n.here.me) n o.1 is
+
+    reaped_by : (e : ℕ) (s : NodeView) → Any e → IsNode s × By k s → IsNode (reap_ordered_at e s) × By k (reap_ordered_at e s)
+    reaped_by e (Cell c) any is = is
+    reaped_by e (Base n) any is = given_by (eqb (base_of n.here e) n.here.me) n (order.Reap e) is
+
+    pub all_reaped_by : (es : List ℕ) (s : NodeView) → IsNode s × By k s →
+        IsNode (each reap_ordered_at es s) × By k (each reap_ordered_at es s)
+    all_reaped_by es s is = each_keeps reap_ordered_at (λ t. IsNode t × By k t) Any reaped_by es (any es) s is
+
+  -- a batch in the settings' space, which may tell boundaries
+  module _ (b : Batch) (tree : IsTree b.tree) (size : b.tree.size ≡ settings.size) (k : ℕ) where
+    goes_by_it : (s : NodeView) → Goes Any first b tree k s → IsNode s × By k s
+    goes_by_it (Cell c) goes = (goes.0, goes_by (framed first b) refl size k (Cell c) goes.1)
+    goes_by_it (Base n) goes = (goes.is, ((goes.high, goes.here), tt))
+
+    pub begun_by : (s : NodeView) → IsNode s → By k s → IsNode (begun b s) × By k (begun b s)
+    begun_by s node is = goes_by_it (begun b s) (begun_known Any first b tree k s node is.0 (any_orders s))
+
+    pub loaded_known : (s : NodeView) → IsNode s → By k s → IsNode (node_loaded b s) × By k (node_loaded b s)
+    loaded_known s node is =
+        goes_by_it (node_loaded b s) (goes_known Any first b tree k s node is.0 (any_orders s) (any b.orders))
+
+-- a world whose nodes all change by themselves, and go by the same
+module _ (w : World) (is : IsWorld w) (turn : NodeView → NodeView)
+    (turns : (k : ℕ) (s : NodeView) → IsNode s → GoesBy is.defs is.settings k s →
+    IsNode (turn s) × GoesBy is.defs is.settings k (turn s)) where
+  pub world_turns : IsWorld (with_nodes w turn)
+  world_turns =
+      let By = GoesBy is.defs is.settings in
+      let peers = peers_by is.defs is.settings in
+      record {
+        defs = is.defs;
+        settings = is.settings;
+        sound = sound_turns By By (cell_count + is.settings.bases) peers peers turn turns w is.sound is.nodes;
+        nodes = each_turns By By (cell_count + is.settings.bases) peers peers turn turns w is.sound is.nodes;
+        many = length-map w.nodes turn ∙ is.many;
+      }
 
 module _ (w : World) (is : IsWorld w) where
-  abbrev f : Frame
-  f = is.frame
-
-  pub knows : (k : ℕ) (s : NodeView) → slice_get w.nodes k ≡ Some s → here_in s ≡ here_at f k
-  knows k s at = here_is f k s (is.nodes.nodes k s at)
+  pub knows : (k : ℕ) (s : NodeView) → slice_get w.nodes k ≡ Some s → here_in s ≡ here_of is.defs is.settings k
+  knows k s at = here_is is.defs is.settings k s (is.nodes k s at).0
 
   pub are_numbered : EachNode IsNumbered w.nodes
   are_numbered k s at = ap (λ h. h.me) (knows k s at)
 
-  pub have_bases : (n : ℕ) → n ≡ f.settings.bases → EachNode (λ k s. HasBases n s) w.nodes
+  pub have_bases : (n : ℕ) → n ≡ is.settings.bases → EachNode (λ k s. HasBases n s) w.nodes
   have_bases n same k s at = ap (λ h. h.settings.bases) (knows k s at) ∙ sym same
 
   -- there is a node, and so a base node
@@ -191,58 +253,46 @@ module _ (w : World) (is : IsWorld w) where
         | inr p ↦ let past = p.0 in absurd (omega (arith, past, many))
       ]
 
-  size_by : (size k : ℕ) (s : NodeView) → IsAt f k s → HasSize size s → HasSpace size s
-  size_by size k (Cell c) at same =
-      (is.space c.tree at.tree ∙ (sym (ap (λ h. h.settings.size) at.here) ∙ same), same)
-  size_by size k (Base n) at same = tt
+  size_by : (size k : ℕ) (s : NodeView) → GoesBy is.defs is.settings k s → HasSize size s → HasSpace size s
+  size_by size k (Cell c) by same = (by.1.0 ∙ (sym by.1.1 ∙ same), same)
+  size_by size k (Base n) by same = tt
 
   -- so there is a base node
-  bases_by : (k : ℕ) (s : NodeView) → IsNode s → IsAt f k s → 1 ≤ f.settings.bases
-  bases_by k (Cell c) node at = let same = ap (λ h. h.settings.bases) at.here in let one = node.bases in omega (arith, same, one)
-  bases_by k (Base n) node at = let same = ap (λ h. h.settings.bases) at.here in let one = node.bases in omega (arith, same, one)
+  bases_by : (k : ℕ) (s : NodeView) → IsNode s → Knows is.defs is.settings k s → 1 ≤ is.settings.bases
+  bases_by k (Cell c) node at = let same = ap (λ h. h.settings.bases) at.1 in let one = node.bases in omega (arith, same, one)
+  bases_by k (Base n) node at = let same = ap (λ h. h.settings.bases) at.1 in let one = node.bases in omega (arith, same, one)
 
-  pub some_bases : 1 ≤ f.settings.bases
-  some_bases = let n = first_node in bases_by 0 n.0 (is.nodes.sound.states 0 n.0 n.1) (is.nodes.nodes 0 n.0 n.1)
+  pub some_bases : 1 ≤ is.settings.bases
+  some_bases = let n = first_node in bases_by 0 n.0 (is.sound.states 0 n.0 n.1) (is.nodes 0 n.0 n.1).0
 
   module _ (b : Batch) (may : MayLoad w b) where
+    pub size_is : b.tree.size ≡ is.settings.size
+    size_is = let n = first_node in sym (may 0 n.0 n.1).space ∙ ap (λ h. h.settings.size) (knows 0 n.0 n.1)
+
     -- nodes that began the round know their numbers
     pub numbered_begun : IsTree b.tree → EachNode IsNumbered (with_nodes w (begun b)).nodes
     numbered_begun tree k t at =
         let n = node_there (slice_get w.nodes k) (begun b) t (sym (slice_get-map (begun b) w.nodes k) ∙ at) in
-        let goes = node_begun f b tree k n.0 (is.nodes.sound.states k n.0 n.1) (is.nodes.nodes k n.0 n.1) in
-        subst (IsNumbered k) n.2 (ap (λ h. h.me) (here_is (framed f b) k (begun b n.0) goes.1))
+        let by = begun_by is.defs is.settings b tree size_is k n.0 (is.sound.states k n.0 n.1) (is.nodes k n.0 n.1) in
+        subst (IsNumbered k) n.2 (ap (λ h. h.me) (here_is is.defs is.settings k (begun b n.0) by.1.0))
 
     pub may_begin : EachNode (NodeMayBegin b) w.nodes
     may_begin k s at = record {
       numbered = are_numbered k s at;
-      space = size_by b.tree.size k s (is.nodes.nodes k s at) (may k s at).space;
+      space = size_by b.tree.size k s (is.nodes k s at) (may k s at).space;
       can = may k s at;
     }
 
     abbrev pub world_loaded : IsTree b.tree → IsWorld (loaded w b)
-    world_loaded tree = record {
-      frame = framed f b;
-      nodes = subst (λ v. IsInFrame (framed f b) v) (sym (loaded_is w b))
-          (frame_turns f (framed f b) refl (node_loaded b) (node_goes f b tree) w is.nodes);
-      many = ap (λ v. length v.nodes) (loaded_is w b) ∙ (length-map w.nodes (node_loaded b) ∙ is.many);
-      space = of_only (framed f b) (λ t. t.size ≡ f.settings.size) refl
-          (let n = first_node in sym (may 0 n.0 n.1).space ∙ ap (λ h. h.settings.size) (knows 0 n.0 n.1));
-    }
+    world_loaded tree =
+        subst IsWorld (sym (loaded_is w b)) (world_turns w is (node_loaded b) (loaded_known is.defs is.settings b tree size_is))
 
   pub world_reaps : (es : List ℕ) → IsWorld (reaps_loaded w es)
   world_reaps es =
-      let same = nodes_after reap_ordered_at w es in
-      record {
-        frame = f;
-        nodes = subst (λ v. IsInFrame f v) (sym same) (reaps_framed f w is.nodes es);
-        many = ap (λ v. length v.nodes) same ∙ (length-map w.nodes (each reap_ordered_at es) ∙ is.many);
-        space = is.space;
-      }
+      subst IsWorld (sym (nodes_after reap_ordered_at w es))
+      (world_turns w is (each reap_ordered_at es) (λ k s node by. all_reaped_by is.defs is.settings k es s (node, by)))
 
   abbrev pub world_looks : IsWorld (look_loaded w)
-  world_looks = record {
-    frame = f;
-    nodes = look_framed f w is.nodes (cell_count, order.Tick);
-    many = length-map w.nodes (ordered_at (cell_count, order.Tick)) ∙ is.many;
-    space = is.space;
-  }
+  world_looks =
+      world_turns w is (ordered_at (cell_count, order.Tick))
+      (λ k s node by. ordered_by is.defs is.settings k (cell_count, order.Tick) s (node, by))

@@ -1,15 +1,16 @@
 -- What the load of a batch makes of a node, one create and one client after the other.
-use Rattle.std.proofs.Common.{◌≡◌, ℕ, zero, suc, ◌<◌, Bool, true, false, cond, eqb, is_some, List, [], ◌∷◌, length, map, take, get_or}
+use Rattle.std.proofs.Common.{◌≡◌, ℕ, zero, suc, ◌<◌, ◌≤◌, Bool, true, false, cond, eqb, is_some, List, [], ◌∷◌, length, map, take, get_or}
 use Rattle.std.proofs.Common.{Option, None, Some, refl, sym, ap, ◌∙◌, subst, arith}
 use Rattle.std.specs.Prelude.{option_map}
 use Rattle.std.specs.List.{AllByRecursion, IsDistinct}
 use Rattle.std.specs.Ordering.{nat_cmp, eq_by_cmp}
 use Rattle.std.specs.Cmp.{nat_cmp_total}
 use Rattle.std.specs.FinMap as table
-use Rattle.std.proofs.lemmas.Bool.{eq-eqb}
+use Rattle.std.proofs.lemmas.Bool.{eq-eqb, eqb-true}
 use Rattle.std.proofs.lemmas.List.{map-id}
-use Rattle.seam_node_steps.specs.Prelude.{Division, leaf_at, Create, base_of, RealView, CellView, BaseView, PartView, ProxyView}
+use Rattle.seam_node_steps.specs.Prelude.{Division, leaf_at, cells_of, Create, base_of, RealView, CellView, BaseView, PartView, ProxyView}
 use Rattle.seam_node_steps.specs.Prelude.{is_base_node_of, NodeView, Cell, Base, real_if, part_if, with_route, new_part, created_at}
+use Rattle.seam_tree.proofs.Leaves.{leaf_is_cell}
 use Rattle.seam_node_steps.specs.Prelude.{attached, base_round, part_begins, proxy_begins}
 use Rattle.seam_law_calls.specs.Prelude.{has_of, real_in}
 use Rattle.seam_law_rounds.specs.Prelude.{created_entity, each}
@@ -20,7 +21,7 @@ use Rattle.seam_law_rounds.proofs.Staying.{Kept, same, stays_as, creates_stay, o
 use Rattle.seam_law_rounds.proofs.PartLoads.{part_at, part_begun}
 use Rattle.seam_core.specs.Nodes.{here_in}
 use Rattle.seam_core.specs.Loads.{IsNumbered}
-use Rattle.seam_core.specs.Begun.{HasSpace}
+use Rattle.seam_core.specs.Begun.{HasSpace, IsSpare}
 
 -- ---- lists
 
@@ -116,6 +117,23 @@ made_cell t x leaf me c new s is at same number =
     ∙ (ap (λ (a : ℕ). Cell (real_if (eqb a me) c x)) at
     ∙ (ap (λ (m : ℕ). Cell (real_if (eqb (leaf_at t x.pos) m) c x)) (sym (ap (λ n. (here_in n).me) same ∙ number))
     ∙ ap (created_at t x) same))
+
+-- a cell that the tree does not have makes none
+spare_if : (t : Division) (x : Create) (me : ℕ) (c : CellView) → IsNumbered me (Cell c) → cells_of t ≤ me → (d : Bool) →
+    eqb (leaf_at t x.pos) c.here.me ≡ d → Cell (real_if d c x) ≡ Cell c
+spare_if t x me c number spare false is = refl
+spare_if t x me c number spare true is =
+    let low = leaf_is_cell t x.pos in
+    let same : leaf_at t x.pos ≡ c.here.me = eqb-true (leaf_at t x.pos) c.here.me is in
+    absurd (omega (arith, low, same, number, spare))
+
+pub spare_stays : (t : Division) (me : ℕ) (s : NodeView) (xs : List Create) → IsNumbered me s → IsSpare (cells_of t) me s →
+    each (created_at t) xs s ≡ s
+spare_stays t me s [] number spare = refl
+spare_stays t me (Cell c) (x ∷ xs) number spare =
+    ap (each (created_at t) xs) (spare_if t x me c number spare (eqb (leaf_at t x.pos) c.here.me) refl)
+    ∙ spare_stays t me (Cell c) xs number spare
+spare_stays t me (Base n) (x ∷ xs) number spare = absurd spare
 
 -- a base node gets a route, and makes the part where it is the entity's
 pub made_base : (t : Division) (x : Create) (leaf : ℕ) (n new : BaseView) (s : NodeView) →

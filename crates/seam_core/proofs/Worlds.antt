@@ -3,23 +3,42 @@ use Rattle.std.proofs.Common.{◌≡◌, ℕ, zero, suc, ◌+◌, ◌<◌, ◌�
 use Rattle.std.proofs.Common.{arith}
 use Rattle.seam_node_steps.specs.Prelude.{IsProper, IsTree, area, Settings, TypeDef, AreDefs, AreLegal, enabled, happens, Event, cell_count}
 use Rattle.seam_node_steps.specs.Prelude.{holders, NodeView, World, node_steps, node_has_work, one_cell, opened}
-use Rattle.seam_law_calls.specs.Prelude.{IsFrame}
+use Rattle.seam_node_steps.specs.Prelude.{Input, Msg, Cell, Base}
+use Rattle.seam_law_calls.specs.Prelude.{Frame, HasOneTree, IsAt, IsFrame}
 use Rattle.seam_law_rounds.specs.Prelude.{IsBetweenRounds, first_frame}
 use Rattle.seam_machine.proofs.Occurring.{occurs, length-happens}
+use Rattle.seam_net_runs.proofs.Keeping.{each_node}
+use Rattle.seam_net_runs.proofs.Soundness.{sound_happens}
 use Rattle.seam_net_runs.proofs.Runs.{leads_extend}
 use Rattle.seam_law_calls.proofs.Trees.{of_only}
-use Rattle.seam_law_calls.proofs.Classify.{frame_happens}
+use Rattle.seam_law_calls.proofs.Classify.{node_laws}
 use Rattle.seam_law_rounds.proofs.Opened.{opened_between}
-use Rattle.seam_core.specs.Worlds.{IsWorld, Leads, KeepsLaws, Lives, in_calls, in_reaps, in_looks}
+use Rattle.seam_node_steps.proofs.Peers.{cell_here, cell_space}
+use Rattle.seam_node_steps.proofs.ValidBases.{base_frame}
+use Rattle.seam_core.specs.Worlds.{GoesBy, IsWorld, Leads, KeepsLaws, Lives, in_calls, in_reaps, in_looks}
+
+-- a step keeps what a node goes by
+pub goes_on : (defs : List TypeDef) (settings : Settings) (k : ℕ) (s : NodeView) (i : Input Msg) → GoesBy defs settings k s →
+    GoesBy defs settings k (node_steps s i).state
+goes_on defs settings k (Cell c) i is =
+    let here = cell_here c i in
+    let was = is.1.1 in (
+      (is.0.0, here ∙ is.0.1),
+      (cell_space c i (is.1.0 ∙ sym was) ∙ was, ap (λ h. h.settings.size) here ∙ was),
+    )
+goes_on defs settings k (Base b) i is = ((is.0.0, (base_frame b i).here ∙ is.0.1), tt)
 
 abbrev pub still_world : (w : World) (e : Event) → IsWorld w → enabled node_has_work w e ≡ true → IsWorld (happens node_steps w e)
 still_world w e is can =
     let o = occurs node_has_work w e can in
     record {
-      frame = is.frame;
-      nodes = frame_happens is.frame w e o is.nodes;
+      defs = is.defs;
+      settings = is.settings;
+      sound = sound_happens node_laws w e o is.sound;
+      nodes =
+          each_node (GoesBy is.defs is.settings) node_steps w e o is.nodes
+          (goes_on is.defs is.settings e.node o.node o.input (is.nodes e.node o.node o.is_node));
       many = length-happens node_steps w e o ∙ is.many;
-      space = is.space;
     }
 
 pub leads_on : (start w v : World) (es : List Event) (e : Event) → enabled node_has_work w e ≡ true → v ≡ happens node_steps w e →
@@ -53,6 +72,13 @@ one_is_tree size from to = record {
     proper zero h = record { wide = omega (arith, from); deep = omega (arith, from) }
     proper (suc c) h = absurd (omega (arith, h))
 
+-- a node of a frame with one tree, which is of the settings' space
+pub goes_by : (f : Frame) → HasOneTree f → f.tree.size ≡ f.settings.size → (k : ℕ) (s : NodeView) → IsAt f k s →
+    GoesBy f.defs f.settings k s
+goes_by f one size k (Cell c) at =
+    ((at.low, at.here), (of_only f (λ t. t.size ≡ f.settings.size) one size c.tree at.tree, ap (λ h. h.settings.size) at.here))
+goes_by f one size k (Base b) at = ((at.high, at.here), tt)
+
 module _ (defs : List TypeDef) (settings : Settings) (are : AreDefs defs) (legal : AreLegal settings) where
   pub frame_opened : IsFrame (first_frame defs settings)
   frame_opened = record { defs = are; tree = one_is_tree settings.size legal.in_range.some_size legal.in_range.size; later = tt }
@@ -65,10 +91,11 @@ module _ (defs : List TypeDef) (settings : Settings) (are : AreDefs defs) (legal
 
   pub world_opened : IsWorld (opened defs settings)
   world_opened = record {
-    frame = first_frame defs settings;
-    nodes = between.nodes;
+    defs = defs;
+    settings = settings;
+    sound = between.nodes.sound;
+    nodes = λ k s at. goes_by (first_frame defs settings) refl refl k s (between.nodes.nodes k s at);
     many = between.many;
-    space = of_only (first_frame defs settings) (λ t. t.size ≡ settings.size) refl refl;
   }
 
   -- a net of its nodes with empty links is such a world

@@ -1,5 +1,5 @@
 -- What the load of a batch makes of each node before the orders are given.
-use Rattle.std.specs.Prelude.{◌≡◌, ℕ}
+use Rattle.std.specs.Prelude.{◌≡◌, ℕ, ◌≤◌}
 use Rattle.seam_node_steps.specs.Prelude.{Batch, NodeView, Cell, Base, cell_round}
 use Rattle.seam_law_rounds.specs.Prelude.{made}
 use Rattle.seam_core.specs.Loads.{CanBegin, IsNumbered}
@@ -12,6 +12,11 @@ begun b s = cell_round b.tree (made b s)
 abbrev pub HasSpace : ℕ → NodeView → Type 0
 HasSpace size (Cell c) = (c.tree.size ≡ size) × (c.here.settings.size ≡ size)
 HasSpace size (Base b) = Unit {0}
+
+-- node k is a cell, which so many cells are without
+abbrev pub IsSpare : ℕ → ℕ → NodeView → Type 0
+IsSpare cells k (Cell c) = cells ≤ k
+IsSpare cells k (Base b) = ⊥
 
 -- what is asked of node k
 pub record NodeMayBegin (b : Batch) (k : ℕ) (s : NodeView) : Type 0 where

@@ -1,24 +1,31 @@
 -- Worlds that a run reaches, and the laws that hold of each.
 use Rattle.std.specs.Prelude.{◌≡◌, ℕ, ◌+◌, ◌≤◌, List, length, Some, if◌then◌else◌}
 use Rattle.std.specs.List.{AllByRecursion}
-use Rattle.seam_node_steps.specs.Prelude.{Division, LeadsTo, IsQuiet, Event, Batch, GhostCopy, cell_count, RealView, holders, World}
-use Rattle.seam_node_steps.specs.Prelude.{node_steps}
+use Rattle.seam_node_steps.specs.Prelude.{TypeDef, Settings, LeadsTo, IsQuiet, Event, Batch, GhostCopy, cell_count, RealView, holders}
+use Rattle.seam_node_steps.specs.Prelude.{EachNode, NodeView, World, node_steps, node_peers, IsNode}
 use Rattle.seam_node_steps.specs.Prelude.{node_has_work, loaded, reaps_loaded, look_loaded}
 use Rattle.seam_law_flow.specs.Prelude.{In}
-use Rattle.seam_law_calls.specs.Prelude.{Frame, IsTreeOf, IsInFrame, entity_flow, real_in}
+use Rattle.seam_net_runs.specs.Sound.{IsSound}
+use Rattle.seam_law_calls.specs.Prelude.{Frame, Knows, entity_flow, real_in}
 use Rattle.seam_law_rounds.specs.Prelude.{framed, AreReapable, reap_comes}
 use Rattle.seam_law_ghosts.specs.Prelude.{IsHushed, copy_at}
 use Rattle.seam_law_clients.specs.Prelude.{clients_loaded, clients_shown}
 use Rattle.seam_law_all.specs.Prelude.{KeepsRecords, KeepsRecordsWithin, MayBeGiven, ObeysLaws, EndsRightly, ObeysLawsOfReaps, AreGone}
 use Rattle.seam_law_all.specs.Prelude.{ObeysLawsOfLooks, AreShownOneLook, clients_looked}
 use Rattle.seam_rule_clients.specs.Clients.{ClientReplica}
+use Rattle.seam_core.specs.Begun.{HasSpace}
 
--- a world has all its nodes, and they go by the same definitions, settings and trees, in the settings' space
+-- node k goes by these definitions and settings, in the settings' space
+abbrev pub GoesBy : List TypeDef → Settings → ℕ → NodeView → Type 0
+GoesBy defs settings k s = Knows defs settings k s × HasSpace settings.size s
+
+-- a world has all its nodes, they send to its nodes alone, and go by the same definitions and settings
 pub record IsWorld (w : World) : Type 0 where
-  pub frame : Frame
-  pub nodes : IsInFrame frame w
-  pub many : length w.nodes ≡ cell_count + frame.settings.bases
-  pub space : (t : Division) → IsTreeOf frame t → t.size ≡ frame.settings.size
+  pub defs : List TypeDef
+  pub settings : Settings
+  pub sound : IsSound node_peers IsNode w
+  pub nodes : EachNode (GoesBy defs settings) w.nodes
+  pub many : length w.nodes ≡ cell_count + settings.bases
 
 -- events lead from one world to another
 abbrev pub Leads : World → List Event → World → Type 0

@@ -3,8 +3,8 @@
 //! A world: cells and base nodes, with a link for each ordered pair of them.
 //!
 //! A world is opened, and loaded for each phase of a round: a batch, reaps, a look (`specs/Loads` has what a load asks). `step` makes one
-//! event. `specs/Worlds` has what holds of it: it is always a world of its header and tree (*IsWorld*), and wherever it comes from it obeys
-//! the laws of its phase (*KeepsLaws*, over `seam_law_all`).
+//! event. `specs/Worlds` has what holds of it: it is always a world of its header (*IsWorld*), and wherever it comes from by plain loads it
+//! obeys the laws of its phase (*KeepsLaws*, over `seam_law_all`).
 //!
 //! A load of a batch asks what the code needs (*MayLoad*): that the tree is of the header's space, that entities are new and inside it, and
 //! that clients are new. So a caller who knows the world alone may load, too. The loads of reaps and of a look ask nothing: the laws say

@@ -1,6 +1,6 @@
 //! What a round brings, given to the nodes.
 
-ghost use Rattle.std.specs.Prelude.{◌≡◌, ℕ, ◌<◌, ◌≤◌, false, true, eqb, map, length, None, Some, slice_get, OnOk};
+ghost use Rattle.std.specs.Prelude.{◌≡◌, ℕ, ◌<◌, ◌≤◌, true, false, eqb, map, length, None, Some, slice_get, OnOk};
 ghost use Rattle.std.specs.FinMap as table;
 ghost use Rattle.std.specs.List.{AllByRecursion, IsDistinct};
 ghost use Rattle.seam_node_steps.specs.Prelude.{IsInSpace, IsTree, with_node, EachNode, with_nodes, created_at, attached, base_round};
@@ -11,7 +11,7 @@ ghost use Rattle.seam_base.specs.Nodes.{has_client};
 ghost use Rattle.seam_base.specs.Marks.{passes};
 ghost use Rattle.seam_node_steps.specs.Loads.{with_order};
 ghost use Rattle.seam_core.specs.Loads.{IsNumbered, HasBases};
-ghost use Rattle.seam_core.specs.Begun.{begun, HasSpace, NodeMayBegin};
+ghost use Rattle.seam_core.specs.Begun.{begun, HasSpace, IsSpare, NodeMayBegin};
 
 use crate::node::{Kind, Node};
 use seam_base::Base;
@@ -54,7 +54,17 @@ impl Node {
         }
     }
 
-    // Makes the entities.
+    // Whether it is a cell that a tree of so many cells does not have.
+    fn is_spare(&self, me: u8, cells: u8) -> bool
+        ensures { result ≡ true → IsSpare cells me self.now }
+    {
+        match &self.kind {
+            Kind::Cell(_) => cells <= me,
+            Kind::Base(_) => false,
+        }
+    }
+
+    // Makes the entities. None of them is in a cell that the tree does not have.
     fn make_all(
         &mut self,
         alloc: Global,
@@ -70,6 +80,9 @@ impl Node {
         requires once { IsDistinct eqb (map created_entity creates.now) }
         ensures { OnOk result (self.new ≡ each (created_at tree.now) creates.now self.old) }
     {
+        if self.is_spare(me, tree.cells()) {
+            return Ok(());
+        }
         for x in creates {
             self.make(alloc, me, tree, *x)?;
         }

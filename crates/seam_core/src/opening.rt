@@ -17,7 +17,7 @@ fn open_cells(alloc: Global, defs: &Defs, settings: Settings) -> Result<Vec<Node
 {
     let mut nodes = Vec::new(alloc);
     for k in 0..MOST_CELLS {
-        let cell = Cell::new(alloc, k as u8, defs.copy()?, settings);
+        let cell = Cell::new(alloc, k as u8, defs.copy()?, settings)?;
         nodes.push(Node::of_cell(cell))?;
     }
     Ok(nodes)

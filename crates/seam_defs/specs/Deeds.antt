@@ -1,5 +1,5 @@
 -- Groups of values, and what a deed does to a state.
-use Rattle.std.specs.Prelude.{◌≡◌, ⊤, ℕ, ℤ, pos, ◌-◌, ◌<◌, ◌+ℤ◌, ◌-ℤ◌, List, ◌∷◌, ◌++◌, length, map, filter, fold, slice_index_or}
+use Rattle.std.specs.Prelude.{◌≡◌, ⊤, ℕ, ℤ, pos, ◌-◌, ◌<◌, ◌+ℤ◌, ◌-ℤ◌, List, ◌∷◌, ◌++◌, length, map, fold, slice_index_or}
 use Rattle.std.specs.Prelude.{slice_set, take}
 use Rattle.std.specs.List.{AllZip, zip, flat_map}
 use Rattle.std.specs.Option.{unwrap_or}
@@ -21,29 +21,14 @@ use Rattle.seam_defs.specs.declared.states.Deed.{Deed}
 use Rattle.seam_defs.specs.declared.states.Deed.TheVariants.{Move, Method}
 use Rattle.seam_defs.specs.declared.states.State.{State}
 use Rattle.seam_defs.specs.declared.states.Later.{Later}
-use Rattle.seam_defs.specs.Groups.{in_group, held_by}
+use Rattle.seam_defs.specs.Groups.{held_by}
+pub use Rattle.seam_defs.specs.GroupValues.{properties_of, IsOfGroup, start_values, projected}
 use Rattle.seam_defs.specs.declared.flags.Part.{Part}
 use Rattle.seam_defs.specs.declared.flags.Part.TheVariants as part
 use Rattle.seam_value.specs.declared.types.ValueType.TheVariants as type
 use Rattle.seam_defs.specs.Types.{method_of}
 
 -- ---- groups
-
--- the properties of a group, in name order
-abbrev pub properties_of : List Property → Group → List Property
-properties_of ps g = filter (λ p. in_group p.flag g) ps
-
--- the values are those of a group: one for each of its properties, in name order, that fits its type
-abbrev pub IsOfGroup : List Property → Group → List Value → Type 0
-IsOfGroup ps g values = AllZip (λ p v. Fits v p.ty) (properties_of ps g) values
-
--- the values that a new entity has
-abbrev pub start_values : List Property → Group → List Value
-start_values ps g = map (λ p. p.default) (properties_of ps g)
-
--- a group's values projected to another group: those whose properties are in it too
-abbrev pub projected : List Property → Group → Group → List Value → List Value
-projected ps held g values = map (λ e. e.1) (filter (λ e. in_group e.0.flag g) (zip (properties_of ps held) values))
 
 -- the text of a property: a space, the name, `=` and the value's spelling
 abbrev pub property_text : Property × Value → List ℕ

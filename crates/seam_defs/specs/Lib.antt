@@ -2,8 +2,10 @@ pub mod Groups
 pub mod Names
 pub mod Settings
 pub mod Types
+pub mod GroupValues
 pub mod Deeds
 pub mod Marks
+pub mod Hidden
 pub mod Remaining
 pub mod Builtin
 pub mod Fitting

@@ -1,7 +1,7 @@
 // Copies of definitions.
 ghost use Rattle.std.specs.Prelude.{◌≡◌, IfOk};
 
-use crate::{Defs, Listed, Method, Operand, Operation, Property, TypeDef};
+use crate::{Defs, Listed, Method, Operand, Operation, Properties, Property, TypeDef};
 use std::alloc::{AllocError, Global};
 
 impl Defs {
@@ -31,7 +31,7 @@ fn copy_type(alloc: Global, t: &TypeDef) -> Result<TypeDef, AllocError>
 {
     Ok(TypeDef {
         name: t.name.copy(alloc)?,
-        properties: Listed::of(copy_properties(alloc, t.properties.as_slice())?),
+        properties: Properties::of(copy_properties(alloc, t.properties.as_slice())?)?,
         methods: Listed::of(copy_methods(alloc, t.methods.as_slice())?),
     })
 }

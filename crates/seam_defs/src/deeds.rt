@@ -9,7 +9,8 @@ ghost use Rattle.seam_defs.specs.Deeds.{FitsDeed, with_later};
 
 use crate::groups::OfGroup;
 use crate::{
-    Deed, Group, Later, Method, Operand, Operation, Part, Property, Props, State, TypeDef,
+    Deed, Group, Later, Method, Operand, Operation, Part, Properties, Property, Props, State,
+    TypeDef,
 };
 use seam_value::{Value, ValueType};
 use std::alloc::{AllocError, Global};
@@ -123,8 +124,12 @@ impl TypeDef {
             }),
             Deed::Method(number, args) => match self.method(*number) {
                 Some(method) => {
-                    let properties = self.properties.as_slice();
-                    let (props, changed) = run(properties, method, args.values(), &state.props)?;
+                    let (props, changed) = run(
+                        &self.properties,
+                        method,
+                        args.values(),
+                        &state.props,
+                    )?;
                     Ok(Later {
                         pos: state.pos,
                         props: Some(props),
@@ -143,7 +148,7 @@ impl TypeDef {
 
 // Runs a method's body, on values of its own: those that it is given may be shared.
 fn run(
-    properties: &[Property],
+    properties: &Properties,
     method: &Method,
     args: &[Value],
     props: &Props,
@@ -159,7 +164,7 @@ fn run(
         ≡ projected properties.now (held_by method.now.part) (shown_by method.now.part) r.0)) }
 {
     let mut later = props.values().copy(*method.body.allocator())?;
-    operate_all(properties, method, args, &mut later)?;
+    operate_all(properties.as_slice(), method, args, &mut later)?;
     let same = are_same(properties, method.part, props, &later);
     Ok((Props::of(later)?, !same))
 }
@@ -200,7 +205,21 @@ fn operate(
 }
 
 // Whether what others may see of a part's values is the same.
-fn are_same(properties: &[Property], part: Part, old: &Props, new: &[Value]) -> bool
+fn are_same(properties: &Properties, part: Part, old: &Props, new: &[Value]) -> bool
+    requires { length old.now ≡ length new.now }
+    ensures { IsTrue result ↔ projected properties.now (held_by part) (shown_by part) old.now
+        ≡ projected properties.now (held_by part) (shown_by part) new.now }
+{
+    if let Some(hidden) = properties.hidden(part.held(), part.shown()) {
+        if let Some(same) = old.shows_same(new, &hidden) {
+            return same;
+        }
+    }
+    are_same_by_flags(properties.as_slice(), part, old, new)
+}
+
+// The same, by the flags of the properties.
+fn are_same_by_flags(properties: &[Property], part: Part, old: &Props, new: &[Value]) -> bool
     requires { length old.now ≡ length new.now }
     ensures { IsTrue result ↔ projected properties.now (held_by part) (shown_by part) old.now
         ≡ projected properties.now (held_by part) (shown_by part) new.now }

@@ -3,7 +3,7 @@ ghost use Rattle.std.specs.Ordering.{nat_cmp};
 ghost use Rattle.std.specs.Cmp.Lexicographic.{slice_cmp};
 ghost use Rattle.seam_defs.specs.Types.{AreDefs, IsType, type_of, names_of_types};
 
-use crate::{Listed, TypeDef};
+use crate::{Listed, Properties, TypeDef};
 use seam_hash::HashKey;
 use seam_value::ShortText;
 use std::alloc::Global;
@@ -43,7 +43,7 @@ impl Defs {
     {
         let none = TypeDef {
             name: ShortText::empty(alloc),
-            properties: Listed::of(Vec::new(alloc)),
+            properties: Properties::none(alloc),
             methods: Listed::of(Vec::new(alloc)),
         };
         Defs {

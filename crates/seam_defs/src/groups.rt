@@ -7,6 +7,7 @@ ghost use Rattle.seam_defs.specs.Fitting.{FitsAt};
 ghost use Rattle.seam_defs.specs.Remaining.{properties_left};
 ghost use Rattle.seam_defs.specs.Deeds.{properties_of, start_values, projected, property_text, values_text, IsOfGroup};
 
+use crate::property_list::count_of;
 use crate::{Group, Property, Props, TypeDef};
 use seam_value::{Value, ValueType};
 use std::alloc::{AllocError, Global};
@@ -18,9 +19,13 @@ impl TypeDef {
         ensures of_group { IsType self.now → IfOk result
             (λ props. IsOfGroup self.now.properties group props) }
     {
-        let mut values = Vec::with_capacity(*self.properties.allocator(), self.count_of(group))?;
-        push_defaults(self.properties.as_slice(), group, &mut values)?;
-        Props::of(values)
+        match self.properties.first(group) {
+            Some(props) => props.copy(),
+            None => {
+                let alloc = *self.properties.allocator();
+                first_values(alloc, self.properties.as_slice(), group)
+            }
+        }
     }
 
     /// Whether the values are those of the group: one for each of its properties, in name order, that fits its type.
@@ -41,7 +46,7 @@ impl TypeDef {
         ensures { IfOk result (λ projection. projection ≡ projected self.now.properties held group
             props.now) }
     {
-        props.project(self.properties.as_slice(), held, group)
+        props.project(&self.properties, held, group)
     }
 
     /// Whether `projection` has the values that `project_group` gives, which takes no memory to find out.
@@ -86,17 +91,6 @@ impl TypeDef {
             }
         }
     }
-
-    // How many properties the group has.
-    fn count_of(&self, group: Group) -> usize {
-        let mut count = 0;
-        for property in self.properties.as_slice() {
-            if property.flag.in_group(group) {
-                count += 1;
-            }
-        }
-        count
-    }
 }
 
 /// The properties of a group, one after the other.
@@ -130,6 +124,19 @@ impl<'a> Iterator for OfGroup<'a> {
         }
         None
     }
+}
+
+/// The values of the group that a new entity has.
+pub(crate) fn first_values(
+    alloc: Global,
+    properties: &[Property],
+    group: Group,
+) -> Result<Props, AllocError>
+    ensures { IfOk result (λ props. props ≡ start_values properties.now group) }
+{
+    let mut values = Vec::with_capacity(alloc, count_of(properties, group))?;
+    push_defaults(properties, group, &mut values)?;
+    Props::of(values)
 }
 
 // Appends the values of the group that a new entity has.

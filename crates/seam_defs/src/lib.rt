@@ -27,6 +27,7 @@ mod listed;
 mod methods;
 mod names;
 mod properties;
+mod property_list;
 mod property_name;
 mod props;
 mod settings;
@@ -41,6 +42,7 @@ pub use limits::{
 };
 pub use listed::Listed;
 pub use names::is_name;
+pub use property_list::Properties;
 pub use property_name::PropertyName;
 pub use props::Props;
 pub use settings::{LARGEST_SIZE, LONGEST_DISTANCE, Settings};

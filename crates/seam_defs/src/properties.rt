@@ -1,4 +1,4 @@
-// The properties of a type.
+// The properties of a type, by their names.
 ghost use Rattle.std.specs.Prelude.{◌≡◌, ℕ, IfSome, Some, slice_get};
 ghost use Rattle.seam_defs.specs.Types.{IsType, names_of_properties};
 

@@ -1,14 +1,17 @@
 // The values of a group of properties.
-ghost use Rattle.std.specs.Prelude.{◌≡◌, ◌↔◌, ◌<◌, ◌≤◌, ◌^◌, if◌then◌else◌, IsTrue, IfOk, List, ◌∷◌, length, option_copied, slice_get};
+ghost use Rattle.std.specs.Prelude.{◌≡◌, ◌↔◌, ◌<◌, ◌≤◌, ◌^◌, if◌then◌else◌, IsTrue, IfOk, IfSome, List, ◌∷◌, length};
+ghost use Rattle.std.specs.Prelude.{option_copied, slice_get};
 ghost use Rattle.std.specs.Iterator.{YieldsFirstRef, item_count};
 ghost use Rattle.seam_value.specs.declared.values.Value.{Value as AnyValue};
 ghost use Rattle.seam_defs.specs.declared.limits.TheConstants.{MOST_PROPERTIES};
 ghost use Rattle.seam_defs.specs.Deeds.{projected};
+ghost use Rattle.seam_defs.specs.Hidden.{Hides};
 ghost use Rattle.seam_defs.specs.Marks.{kept};
 ghost use Rattle.seam_defs.specs.Remaining.{properties_left, values_left, shown_of};
 
 use crate::groups::OfGroup;
-use crate::{Group, MOST_PROPERTIES, Property};
+use crate::property_list::Hidden;
+use crate::{Group, MOST_PROPERTIES, Properties, Property};
 use seam_value::Value;
 use std::alloc::{AllocError, Global};
 use std::marker::Model;
@@ -76,6 +79,29 @@ impl Props {
         }
     }
 
+    /// The values, where none is left out.
+    fn whole(&self) -> Option<&[Value]>
+        ensures { IfSome result (λ values. values.now ≡ self.now) }
+    {
+        if self.left_out == 0 {
+            Some(&self.values)
+        } else {
+            None
+        }
+    }
+
+    /// Whether those values are the same as the others that are not among the hidden ones; `None` where that cannot be told by the digits.
+    pub(crate) fn shows_same(&self, others: &[Value], hidden: &Hidden) -> Option<bool>
+        ensures { IfSome result (λ same. (length others.now ≡ hidden.now.count) × (IsTrue same
+            ↔ (kept hidden.now.left_out self.now ≡ kept hidden.now.left_out others.now))) }
+    {
+        let values = self.whole()?;
+        if values.len() != others.len() || others.len() != hidden.count {
+            return None;
+        }
+        Some(are_same_kept(values, others, hidden.left_out))
+    }
+
     /// Whether both have the same values.
     pub fn equals(&self, other: &Props) -> bool
         ensures { IsTrue result ↔ (self.now ≡ other.now) }
@@ -104,7 +130,7 @@ impl Props {
     /// than any type's they are copied.
     pub(crate) fn project(
         &self,
-        properties: &[Property],
+        properties: &Properties,
         held: Group,
         group: Group,
     ) -> Result<Props, AllocError>
@@ -112,13 +138,13 @@ impl Props {
             self.now) }
     {
         if self.values.len() > MOST_PROPERTIES {
-            return Props::of(copy_shown(properties, held, group, self)?);
+            return Props::of(copy_shown(properties.as_slice(), held, group, self)?);
         }
         let values = Arc::try_clone(&self.values)?;
         let left_out = if self.left_out == 0 {
-            left_out_of_all(properties, held, group, &values)
+            left_out_of_whole(properties, held, group, values.len())
         } else {
-            left_out_of_kept(properties, held, group, &values, self.left_out)
+            left_out_of_kept(properties.as_slice(), held, group, &values, self.left_out)
         };
         Ok(Props { values, left_out })
     }
@@ -203,16 +229,32 @@ fn are_same_kept(values: &[Value], others: &[Value], left_out: u64) -> bool
     true
 }
 
-// The digits of those that are left out where only values are kept whose properties are in another group too.
-fn left_out_of_all(properties: &[Property], held: Group, group: Group, values: &[Value]) -> u64
-    requires { length values.now ≤ MOST_PROPERTIES }
-    ensures { kept result values.now ≡ projected properties.now held group values.now }
+// The digits of those that are left out of so many values, as they are kept beside the properties or by the flags.
+fn left_out_of_whole(properties: &Properties, held: Group, group: Group, count: usize) -> u64
+    requires { count ≤ MOST_PROPERTIES }
+    ensures { Hides properties.now held group (record { count = count; left_out = result }) }
+{
+    match properties.hidden(held, group) {
+        Some(hidden) if hidden.count == count => hidden.left_out,
+        _ => left_out_of_all(properties.as_slice(), held, group, count),
+    }
+}
+
+/// The digits of those of so many values that are left out where only values are kept whose properties are in another group too.
+pub(crate) fn left_out_of_all(
+    properties: &[Property],
+    held: Group,
+    group: Group,
+    count: usize,
+) -> u64
+    requires { count ≤ MOST_PROPERTIES }
+    ensures { Hides properties.now held group (record { count = count; left_out = result }) }
 {
     let mut left_out = 0;
     let mut mark = 1;
     let mut passed = 0;
     for property in properties {
-        if passed < values.len() && property.flag.in_group(held) {
+        if passed < count && property.flag.in_group(held) {
             if !property.flag.in_group(group) {
                 left_out += mark;
             }
@@ -220,7 +262,7 @@ fn left_out_of_all(properties: &[Property], held: Group, group: Group, values: &
             passed += 1;
         }
     }
-    for _ in passed..values.len() {
+    for _ in passed..count {
         left_out += mark;
         mark *= 2;
     }

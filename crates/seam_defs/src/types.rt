@@ -1,4 +1,4 @@
-use crate::{Flag, Listed, Part, PropertyName};
+use crate::{Flag, Listed, Part, Properties, PropertyName};
 use seam_value::{ShortText, Value, ValueType};
 
 /// A property of a type of entities.
@@ -42,6 +42,6 @@ pub struct Method {
 #[derive(Debug, Drop)]
 pub struct TypeDef {
     pub name: ShortText,
-    pub properties: Listed<Property>,
+    pub properties: Properties,
     pub methods: Listed<Method>,
 }

@@ -1,7 +1,7 @@
 //! What nodes send each other.
 
 use crate::real::Real;
-use seam_call::{Call, GhostCopy, Update};
+use seam_call::{Boundaries, Call, GhostCopy, Update};
 use std::marker::Model;
 
 /// A real on its way to another cell. The room that was made in the real is not seen.
@@ -30,8 +30,8 @@ pub enum Msg {
     Call(Call),
     /// A call for an entity's base part.
     BaseCall(Call),
-    /// The real itself.
-    Hand(Parcel),
+    /// The real itself, with the boundaries by which it was settled, unless they are those of the round's start.
+    Hand(Parcel, Option<Boundaries>),
     /// The entity's real is in that cell, at that generation.
     Current(u32, u8, u64),
     /// The entity's copy, with its beat.
@@ -44,4 +44,6 @@ pub enum Msg {
     Reap(u32),
     /// What a witness tells its proxy.
     Update(Update),
+    /// The boundaries that replace older ones.
+    Bounds(Boundaries),
 }

@@ -5,15 +5,15 @@
 //! and what was printed for it begins.
 #![tactic(auto)]
 
+mod bounds;
 mod context;
 mod frame;
 mod lines;
 mod pieces;
 mod rounds;
 mod script;
-mod words;
 
 pub use frame::{Parts, framed, parts_of};
 pub use pieces::{first_piece, split_steps};
 pub use rounds::{read_lines, read_round};
-pub use script::{BadScript, Read, ScriptReader};
+pub use script::{BadScript, Read, Script, ScriptReader};

@@ -1,6 +1,14 @@
 // Scripts, line by line.
-ghost use Rattle.std.specs.Prelude.{◌≤◌, IfSome, length};
+ghost use Rattle.std.specs.Prelude.{◌≡◌, ◌≤◌, ◌+◌, ◌↔◌, ℕ, [], Some, IfOk, IfSome, IsTrue, length, true, false};
+ghost use Rattle.seam_io.specs.Lines.{Content, Long};
 ghost use Rattle.seam_defs.specs.Settings.{AreInRange};
+ghost use Rattle.seam_accept.specs.Batches.{batch_of, ordered as ordered_by};
+ghost use Rattle.seam_accept.specs.Refines.{Refines};
+ghost use Rattle.seam_judge_data.specs.Standings.{standing_of};
+ghost use Rattle.seam_judge_rounds.specs.After.{after_round};
+ghost use Rattle.seam_rule_rounds.specs.Prelude.{Book as Books, Entry as Entries, Header as Headers, Standing as Standings};
+ghost use Rattle.seam_rule_rounds.specs.Prelude.{after_header, with_bounds, with_entry, with_round_ended};
+ghost use Rattle.seam_judge_reader.specs.Scripts.{HasAccepted, IsAt, IsKept, LineRead};
 
 use seam_accept::{Accepted, Book, HeaderLines, Refusal, next_count};
 use seam_call::{Batch, Order};
@@ -12,6 +20,7 @@ use seam_rule_lines::{Cause, Entry, Header, MOST_LINES};
 use seam_toml::HeaderError;
 use seam_tree::Tree;
 use std::alloc::{AllocError, Global};
+use std::marker::Model;
 
 /// What became of a line of a script.
 #[derive(Clone, Copy, Debug, PartialEq, Eq)]
@@ -72,7 +81,7 @@ impl ScriptReader {
             return self.read_long();
         }
         match &mut self.script {
-            Some(script) => script.read_line(line),
+            Some(script) => Ok(script.read_line(line)?),
             None => self.read_header_line(line),
         }
     }
@@ -80,7 +89,7 @@ impl ScriptReader {
     // Reads a line that is too long.
     fn read_long(&mut self) -> Result<Read, BadScript> {
         match &mut self.script {
-            Some(script) => script.read_long(),
+            Some(script) => Ok(script.read_long()?),
             None => Err(BadScript::Header(HeaderError::TooLong)),
         }
     }
@@ -111,7 +120,7 @@ impl ScriptReader {
         ensures { IfSome result (λ h. AreInRange h.now.settings) }
     {
         match &self.script {
-            Some(script) => Some(&script.header),
+            Some(script) => Some(script.header()),
             None => None,
         }
     }
@@ -119,7 +128,7 @@ impl ScriptReader {
     /// What was read and what the rounds so far left, once the header has ended.
     pub fn standing(&self) -> Option<&Standing> {
         match &self.script {
-            Some(script) => Some(&script.standing),
+            Some(script) => Some(script.standing()),
             None => None,
         }
     }
@@ -127,7 +136,7 @@ impl ScriptReader {
     /// Whether a line of the open round was kept. At the end of a script such a round ends too.
     pub fn has_open_round(&self) -> bool {
         match &self.script {
-            Some(script) => !script.standing.current.is_empty(),
+            Some(script) => !script.standing().current.is_empty(),
             None => false,
         }
     }
@@ -150,18 +159,36 @@ impl ScriptReader {
     }
 }
 
-// A script after its header. The book gives away each line at once, so that it never has lines of a round; the standing keeps them.
+/// A script after its header: what was accepted, and what the rounds so far left, by what was printed of them.
+///
+/// The book gives away each line at once, so that it never has lines of a round; the standing keeps them.
 #[derive(Drop)]
-struct Script {
+pub struct Script {
     header: Header,
     book: Book,
     standing: Standing,
-    ghost in_range: { AreInRange header.settings },
+}
+
+impl Model for Script {
+    ghost use Rattle.std.specs.Coded.{codes};
+    ghost use Rattle.std.specs.FinSet as set;
+    ghost use Rattle.seam_defs.specs.Settings.{AreInRange};
+    ghost use Rattle.seam_judge_reader.specs.Scripts.{ScriptView};
+
+    ghost Value = { ScriptView };
+
+    ghost coded = { Prim.hlevel (codes, set.code) };
+
+    ghost invariant = { λ s. AreInRange s.header.settings };
+
+    ghost view = { λ s. record { header = s.header; book = s.book; standing = s.standing } };
 }
 
 impl Script {
-    fn new(alloc: Global, header: Header, lines: u64) -> Result<Script, AllocError>
+    /// A script of which the header alone was read, which had `lines` lines.
+    pub fn new(alloc: Global, header: Header, lines: u64) -> Result<Script, AllocError>
         requires { AreInRange header.settings }
+        ensures { IfOk result (IsAt header (after_header header lines)) }
     {
         let standing = Standing {
             lines,
@@ -180,26 +207,52 @@ impl Script {
         })
     }
 
-    fn read_line(&mut self, line: &[u8]) -> Result<Read, BadScript>
-        requires { length line.now ≤ LONGEST_LINE }
+    /// The header.
+    pub fn header(&self) -> &Header
+        ensures header { result.now ≡ self.now.header }
+        ensures range { AreInRange result.now.settings }
     {
+        &self.header
+    }
+
+    /// What was read and what the rounds so far left.
+    pub fn standing(&self) -> &Standing
+        ensures { result.now ≡ self.now.standing }
+    {
+        &self.standing
+    }
+
+    /// Reads the content of the next line. Where a round ends with it, `end_round` comes before the next line.
+    pub fn read_line(&mut self, line: &[u8]) -> Result<Read, AllocError>
+        requires { length line.now ≤ LONGEST_LINE }
+        ensures { IfOk result (λ r. (h : Headers) (t : Standings) → IsAt h t self.old →
+            LineRead h t (Content line.now) r self.new) }
+    {
+        seam_law_lines::a_line_is_judged_by_entries_and_tree();
         self.standing.lines = next_count(self.standing.lines)?;
         match self.book.accept(line) {
-            Ok(Accepted::Kept) => Ok(self.keep()?),
+            Ok(Accepted::Kept) => self.keep(),
             Ok(Accepted::Synced) => Ok(Read::RoundEnds),
             Ok(Accepted::Skipped) => Ok(Read::Skipped),
             Err(Refusal::Cause(cause)) => Ok(Read::Refused(cause)),
-            Err(Refusal::NoMemory) => Err(BadScript::NoMemory),
+            Err(Refusal::NoMemory) => Err(AllocError),
         }
     }
 
-    fn read_long(&mut self) -> Result<Read, BadScript> {
+    /// Reads a line that is too long.
+    pub fn read_long(&mut self) -> Result<Read, AllocError>
+        ensures { IfOk result (λ r. (h : Headers) (t : Standings) → IsAt h t self.old →
+            LineRead h t Long r self.new) }
+    {
         self.standing.lines = next_count(self.standing.lines)?;
         Ok(Read::Refused(Cause::TooLong))
     }
 
-    // Keeps what the line added that the book has just accepted.
-    fn keep(&mut self) -> Result<Read, AllocError> {
+    // Keeps the entry that the book has just accepted.
+    fn keep(&mut self) -> Result<Read, AllocError>
+        ensures { IfOk result (λ r. (h : Headers) (t : Standings) (x : Entries) →
+            HasAccepted h t x self.old → IsKept h t x r self.new) }
+    {
         let entry = entry_of(self.book.take_batch());
         self.standing.current.push(entry)?;
         if self.standing.current.len() == MOST_LINES {
@@ -208,16 +261,25 @@ impl Script {
         Ok(Read::Kept)
     }
 
-    fn end_round(&mut self, alloc: Global, round: &Round) -> Result<bool, AllocError> {
+    /// Ends the open round, of which this was printed, and answers whether the round has the next number. If not, nothing has changed.
+    pub fn end_round(&mut self, alloc: Global, round: &Round) -> Result<bool, AllocError>
+        ensures ended { IfOk result (λ is. is ≡ true → (h : Headers) (t : Standings) →
+            IsAt h t self.old → IsAt h (after_round t round.now) self.new) }
+        ensures not { IfOk result (λ is. is ≡ false → self.new ≡ self.old) }
+        ensures numbered { IfOk result (λ is. IsTrue is
+            ↔ (round.now.number ≡ self.old.standing.rounds + 1)) }
+    {
         if !is_numbered(&self.standing, round) {
             return Ok(false);
         }
         self.standing = standing_after(alloc, &self.standing, round)?;
-        self.begin_round(round);
+        begin_round(&mut self.book, round);
         Ok(true)
     }
 
-    fn pass_round(&mut self, round: &Round) -> Result<bool, AllocError> {
+    /// Ends the open round as `end_round` does, for whoever reads on and judges nothing: of the standing that the round leaves, only the
+    /// counts, the boundaries and the entities that were created are kept. Its time and room do not grow with the rounds before.
+    pub fn pass_round(&mut self, round: &Round) -> Result<bool, AllocError> {
         if !is_numbered(&self.standing, round) {
             return Ok(false);
         }
@@ -228,16 +290,19 @@ impl Script {
         add_creates(&mut self.standing.past, &self.standing.current)?;
         self.standing.current.clear();
         self.standing.rounds = round.number;
-        self.begin_round(round);
+        begin_round(&mut self.book, round);
         Ok(true)
     }
+}
 
-    // The book goes on after a round.
-    fn begin_round(&mut self, round: &Round) {
-        let _ = self.book.take_batch();
-        if let Some(tree) = &round.bounds {
-            self.book.set_tree(*tree);
-        }
+// The book goes on after a round.
+fn begin_round(book: &mut Book, round: &Round)
+    ensures { (h : Headers) (b : Books) → Refines h b book.old →
+        Refines h (with_bounds (with_round_ended b) round.now.bounds) book.new }
+{
+    let _ = book.take_batch();
+    if let Some(tree) = &round.bounds {
+        book.set_tree(*tree);
     }
 }
 
@@ -252,7 +317,10 @@ fn add_creates(entries: &mut Vec<Entry>, further: &[Entry]) -> Result<(), AllocE
 }
 
 // What a batch of one line adds.
-fn entry_of(batch: Batch) -> Entry {
+fn entry_of(batch: Batch) -> Entry
+    ensures { (h : Headers) (b : Books) (x : Entries) → b.current ≡ [] →
+        batch ≡ batch_of h (with_entry b x) → result ≡ x }
+{
     let Batch {
         tree,
         creates,
@@ -280,10 +348,14 @@ fn entry_of(batch: Batch) -> Entry {
 }
 
 // What an order comes from.
-fn ordered(order: Order) -> Entry {
+fn ordered(order: Order) -> Entry
+    ensures { (h : Headers) (x : Entries) (node : ℕ) → ordered_by h x ≡ Some (node, order) →
+        result ≡ x }
+{
     match order {
         Order::Cell(call) | Order::Base(call) => Entry::Called(call),
         Order::Tick => Entry::Ticked,
         Order::Reap(entity) => Entry::Destroyed(entity),
+        Order::Bounds(bounds) => Entry::Divided(*bounds.tree.get()),
     }
 }

@@ -124,7 +124,7 @@ module _ (h : Header) (some : 1 ≤ h.settings.bases) (b : Book) (t : Division) 
     new_ended =
         let r = laws.reaped.records.reals in
         new_after_looks (frame_of h B.tree) e round.reaped r.quiet r.nodes.sound.square new_reaped v round.look_events ends
-        (look_framed (frame_of h B.tree) round.reaped r.nodes tick) round.looks
+        (look_framed (frame_of h B.tree) round.reaped r.nodes tick refl) round.looks
 
   -- ---- live entities
 
@@ -265,7 +265,8 @@ module _ (h : Header) (some : 1 ≤ h.settings.bases) (b : Book) (t : Division) 
   none_after_looks : (e : ℕ) → HasNone e round.reaped → HasNone e v
   none_after_looks e none =
       part_stays_gone (frame_of h B.tree) e (look_loaded round.reaped) v round.look_events
-      (look_framed (frame_of h B.tree) round.reaped laws.reaped.records.reals.nodes tick) (looked_parts e round.reaped none) round.looks
+      (look_framed (frame_of h B.tree) round.reaped laws.reaped.records.reals.nodes tick refl)
+      (looked_parts e round.reaped none) round.looks
 
   none_after_reaps : (e : ℕ) → HasNone e round.called → HasNone e round.reaped
   none_after_reaps e none =

@@ -18,6 +18,7 @@ use Rattle.seam_law_book.proofs.Holding.{same_holders}
 use Rattle.seam_law_book.proofs.Origins.{RealFrom, real_from, part_from}
 use Rattle.seam_law_book.proofs.Numbering.{cell_numbered, base_numbered}
 use Rattle.seam_law_book.proofs.Fitting.{both_true, same_self, can_test, may_be_made, type_by, next_by, part_type_by, next_to_by, unseen_by}
+use Rattle.seam_node_steps.specs.Prelude.{TellsNone}
 
 -- ---- orders of entries
 
@@ -42,6 +43,10 @@ no_reap : (p : Part) (c : CallData) → reaped_by_order (passes_to p c) ≡ None
 no_reap part.Cell c = refl
 no_reap part.Base c = refl
 
+tells_none : (p : Part) (c : CallData) → TellsNone (passes_to p c)
+tells_none part.Cell c = refl
+tells_none part.Base c = refl
+
 about : (p : Part) (c : CallData) → order_about (passes_to p c) ≡ Some c.entity
 about part.Cell c = refl
 about part.Base c = refl
@@ -62,6 +67,9 @@ module _ (h : Header) (some : 1 ≤ h.settings.bases) (b : Book) (t : Division) 
 
   spares : AllByRecursion (λ o. reaped_by_order o.1 ≡ None) B.orders
   spares = each_order h (λ o. reaped_by_order o ≡ None) (IsFitCall h b) (λ p c is fit. no_reap p c) refl b.current R.calls
+
+  unmoved : AllByRecursion (λ o. TellsNone o.1) B.orders
+  unmoved = each_order h TellsNone (IsFitCall h b) (λ p c is fit. tells_none p c) refl b.current R.calls
 
   -- a last number is below its limit
   next_low : (e k : ℕ) (r : RealView) → RealFrom w B.creates e k r → (s : ℕ) → next_from s r < limit
@@ -89,6 +97,7 @@ module _ (h : Header) (some : 1 ≤ h.settings.bases) (b : Book) (t : Division) 
     destroys = tt;
     ends_once = none_twice;
     spares = tt;
+    unmoved = tt;
     known = tt;
     calls = λ e k r here.
         let from = real_from (frame_of h t) w (creating B) between R.tree creates tt R.once e k r here in
@@ -205,6 +214,7 @@ module _ (h : Header) (some : 1 ≤ h.settings.bases) (b : Book) (t : Division) 
     destroys = all_turn (HasEntity b) (λ e. holders (loaded w B) e ≡ 1) (λ e g. present_one e g.0 g.1) B.destroys R.destroys;
     ends_once = R.ends_once;
     spares = spares;
+    unmoved = unmoved;
     known = each_order h IsAboutReal (IsFitCall h b) known_call no_known b.current R.calls;
     calls = for_real;
     few = let a = few_orders h b.current in let c = few.lines in omega (arith, a, c);

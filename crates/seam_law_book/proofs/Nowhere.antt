@@ -27,16 +27,18 @@ abbrev IsTick : Msg → Type 0
 IsTick Tick = Unit {0}
 IsTick _ = ⊥
 
-abbrev IsTickOrder : Order → Type 0
-IsTickOrder order.Tick = Unit {0}
-IsTickOrder _ = ⊥
+-- an order that is about no entity
+abbrev IsForAll : Order → Type 0
+IsForAll order.Tick = Unit {0}
+IsForAll (order.Bounds b) = Unit {0}
+IsForAll _ = ⊥
 
 -- a node has nothing of the entity, and no order that is about it
 record IsBare (h : Has) : Type 0 where
   slot : h.cell.slot ≡ no_slot
   route : h.base.route ≡ None
   part : h.base.part ≡ None
-  orders : AllByRecursion IsTickOrder h.base.orders
+  orders : AllByRecursion IsForAll h.base.orders
 
 record IsNowhere (e : ℕ) (w : World) : Type 0 where
   nodes : (k : ℕ) → IsBare ((entity_flow e w).slot k)
@@ -61,7 +63,7 @@ module _ (f : Frame) (e k : ℕ) (s : Has) (i : Option Msg) (t : Has) (sent : Li
     slot = ap (λ (x : AtCell). x.slot) is ∙ slot ∙ here.slot;
     route = ap (λ b. b.route) base ∙ here.route;
     part = ap (λ b. b.part) base ∙ here.part;
-    orders = subst (λ b. AllByRecursion IsTickOrder b.orders) (sym base) here.orders;
+    orders = subst (λ b. AllByRecursion IsForAll b.orders) (sym base) here.orders;
   }
 
   never : (r : RealView) → s.cell.slot.real ≡ Some r → ⊥
@@ -75,7 +77,7 @@ module _ (f : Frame) (e k : ℕ) (s : Has) (i : Option Msg) (t : Has) (sent : Li
   cell_bare base (move.late c r n has may lt d) = absurd (never r has)
   cell_bare base (move.holds c r n own has mine may lt d) = absurd (never r has)
   cell_bare base (move.passes c p n own has at d) = absurd (come (Call c) n)
-  cell_bare base (move.lands r n own has may d) = absurd (come (Hand r) n)
+  cell_bare base (move.lands r bs n own has may d) = absurd (come (Hand r bs) n)
   cell_bare base (move.hears_set n c is has d) = absurd (come (GhostSet e n c) is)
   cell_bare base (move.ignores_set n c r is has d) = absurd (never r has)
   cell_bare base (move.hears_drop n is d) = absurd (come (GhostDrop e n) is)
@@ -96,8 +98,8 @@ module _ (f : Frame) (e k : ℕ) (s : Has) (i : Option Msg) (t : Has) (sent : Li
   no_part : (p : PartView) → s.base.part ≡ Some p → ⊥
   no_part p has = let z = sym here.part ∙ has in cc
 
-  first_tick : (o : Order) (os : List Order) → s.base.orders ≡ o ∷ os → IsTickOrder o × AllByRecursion IsTickOrder os
-  first_tick o os at = subst (AllByRecursion IsTickOrder) at here.orders
+  first_tick : (o : Order) (os : List Order) → s.base.orders ≡ o ∷ os → IsForAll o × AllByRecursion IsForAll os
+  first_tick o os at = subst (AllByRecursion IsForAll) at here.orders
 
   base_bare : (cells : ℕ) → t.cell ≡ s.cell → BaseMoves (here_at f k) cells e s.base i t.base sent → Stays
   base_bare cells cell (base_move.rests n a z) = with_sent (same_base cell a) _ z tt
@@ -113,7 +115,7 @@ module _ (f : Frame) (e k : ℕ) (s : Has) (i : Option Msg) (t : Has) (sent : Li
         slot = ap (λ (x : AtCell). x.slot) cell ∙ here.slot;
         route = ap (λ b. b.route) a ∙ here.route;
         part = ap (λ b. b.part) a ∙ here.part;
-        orders = subst (λ b. AllByRecursion IsTickOrder b.orders) (sym a) (first_tick order.Tick os at).1;
+        orders = subst (λ b. AllByRecursion IsForAll b.orders) (sym a) (first_tick order.Tick os at).1;
       }) _ z (all_ticks (range_with_len 0 cells))
   base_bare cells cell (base_move.orders_reap os r n at has a z) = absurd (first_tick (order.Reap e) os at).0
   base_bare cells cell (base_move.stuck_order o os n at b a z) = with_sent (same_base cell a) _ z tt
@@ -247,8 +249,9 @@ module _ (e : ℕ) where
   abbrev IsNotAbout : Order → Type 0
   IsNotAbout o = order_about o ≡ Some e → ⊥
 
-  tick_if : (o : Order) (c : Bool) → order_concerns e o ≡ c → IsNotAbout o → AllByRecursion IsTickOrder (cond c (o ∷ []) [])
+  tick_if : (o : Order) (c : Bool) → order_concerns e o ≡ c → IsNotAbout o → AllByRecursion IsForAll (cond c (o ∷ []) [])
   tick_if order.Tick true is not = (tt, tt)
+  tick_if (order.Bounds b) true is not = (tt, tt)
   tick_if (order.Cell c) true is not = absurd (not (ap Some (eqb-true c.entity e is)))
   tick_if (order.Base c) true is not = absurd (not (ap Some (eqb-true c.entity e is)))
   tick_if (order.Reap x) true is not = absurd (not (ap Some (eqb-true x e is)))
@@ -259,8 +262,8 @@ module _ (e : ℕ) where
     slot = refl;
     route = b.route;
     part = b.part;
-    orders = subst (AllByRecursion IsTickOrder) (sym (filter-append (order_concerns e) n.orders (o ∷ [])))
-        (all_append IsTickOrder (orders_of e n.orders) (orders_of e (o ∷ [])) b.orders (tick_if o (order_concerns e o) refl not));
+    orders = subst (AllByRecursion IsForAll) (sym (filter-append (order_concerns e) n.orders (o ∷ [])))
+        (all_append IsForAll (orders_of e n.orders) (orders_of e (o ∷ [])) b.orders (tick_if o (order_concerns e o) refl not));
   }
   given_by n o false not b = b
 

@@ -91,7 +91,7 @@ module _ (f : Frame) (u : World) (between : IsBetweenRounds f u) (v : World) (es
   had j = ((entity_flow e u).slot j).base.part
 
   abbrev then_frame : IsInFrame f (look_loaded u)
-  then_frame = look_framed f u between.nodes tick
+  then_frame = look_framed f u between.nodes tick refl
 
   same_parts : (j : ℕ) → ((entity_flow e (look_loaded u)).slot j).base.part ≡ had j
   same_parts = turned_parts e u (ordered_at tick) (λ s. parts_ordered e (tick ∷ []) s)

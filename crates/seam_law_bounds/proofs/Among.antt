@@ -4,7 +4,7 @@ use Rattle.seam_law_bounds.proofs.Prelude.{arith, not, slice_get, AllByRecursion
 use Rattle.seam_law_bounds.proofs.Prelude.{link, letter, input_from, happens, enabled, Occurs, EachNode, Input, Task, From, Event}
 use Rattle.seam_law_bounds.proofs.Prelude.{Call as CallData, Order, Msg, Reap, Slot, SlotStep, slot_after, about, slot_steps, stray_survey}
 use Rattle.seam_law_bounds.proofs.Prelude.{stray_ready_call, stray_look, CellView, slot_of, stepped, known_to, surveys, calls_ready}
-use Rattle.seam_law_bounds.proofs.Prelude.{looks_around, ready_entity, look_next, ready_next, cell_task, cell_hears, cell_steps, BaseView}
+use Rattle.seam_law_bounds.proofs.Prelude.{looks_around, ready_entity, look_next, ready_next, cell_task, cell_steps, BaseView}
 use Rattle.seam_law_bounds.proofs.Prelude.{PartView, RouteView, on_route, base_order, is_base_node_of, tick_to, order_of_node, stray_order}
 use Rattle.seam_law_bounds.proofs.Prelude.{ready_part, ready_proxy, proxy_task, task_without_orders, base_task, base_steps, may_show}
 use Rattle.seam_law_bounds.proofs.Prelude.{NodeView, World, node_steps, node_has_work, Cell, Base, IsCell, IsNode, Frame, IsInFrame}
@@ -16,6 +16,9 @@ use Rattle.seam_net_runs.specs.Kept.{StaysTrue}
 use Rattle.seam_call.specs.declared.order.Order.TheVariants as order
 use Rattle.seam_entity.specs.declared.message.Msg.TheVariants.{Call}
 use Rattle.seam_node_steps.specs.BaseCases.{is_stray, may_execute}
+use Rattle.seam_node_steps.specs.Prelude.{IsPlain, IsPlainInput, Tick, at_start, boundaries_of, bounds_to, ticked}
+use Rattle.seam_node_steps.proofs.Plain.{plainly, steps_plainly}
+use Rattle.seam_law_calls.proofs.Classify.{fed_plain, plain_at}
 use Rattle.seam_law_bounds.proofs.AmongSlots.{SlotOk, LetterOk, SentOk, StepOk, unless_ok, message_ok, survey_ok, ready_ok, look_ok}
 use Rattle.seam_law_bounds.proofs.AmongSlots.{all_mapped}
 use Rattle.seam_law_bounds.proofs.LookCounts.{known_named, seen_are_named}
@@ -58,28 +61,32 @@ module _ (us ws : List ℕ) where
     ready_next_ok (Some e) =
         stepped_ok c e (calls_ready c e (table.get c.reals e)) ok
         (unless_ok us ws e (stray_ready_call (table.get c.reals e)) (slot_of c e) _ (ok e)
-        (ready_ok us ws e c.here c.tree (slot_of c e) (ok e) (table.get c.reals e) refl (is.keys e)))
+        (ready_ok us ws e c.here (boundaries_of c) (slot_of c e) (ok e) (table.get c.reals e) refl (is.keys e)))
 
     task_ok : (es : List ℕ) → CellStepOk (cell_task c es)
     task_ok [] = ready_next_ok (ready_entity c)
     task_ok (e ∷ es) =
         stepped_ok (record c { survey = es }) e (surveys c e (table.get c.reals e)) ok
         (unless_ok us ws e (stray_survey (table.get c.reals e)) (slot_of c e) _ (ok e)
-        (survey_ok us ws e c.here c.tree (slot_of c e) (ok e) (table.get c.reals e) refl (is.keys e)))
+        (survey_ok us ws e c.here (boundaries_of c) (slot_of c e) (ok e) (table.get c.reals e) refl (is.keys e)))
 
-    hears_ok : (m : Msg) (o : Option ℕ) → about m ≡ o → LetterOk us ws m → CellStepOk (cell_hears c m o)
-    hears_ok m None at letter = record { state = ok; sent = tt }
+    ticked_ok : (m : Msg) → CellOk (ticked c m)
+    ticked_ok Tick = ok
+    ticked_ok _ = ok
+
+    hears_ok : (m : Msg) (o : Option ℕ) → about m ≡ o → LetterOk us ws m → CellStepOk (plainly c m o)
+    hears_ok m None at letter = record { state = ticked_ok m; sent = tt }
     hears_ok m (Some e) at letter =
-        stepped_ok c e (slot_steps c.here c.tree (slot_of c e) m) ok
-        (message_ok us ws e c.here c.tree (slot_of c e) (ok e) m at letter (is.keys e))
+        stepped_ok c e (slot_steps c.here (at_start c.tree) (slot_of c e) m) ok
+        (message_ok us ws e c.here (at_start c.tree) (slot_of c e) (ok e) m at letter (is.keys e))
 
     abbrev InputOk : Input Msg → Type 0
     InputOk Task = Unit {0}
     InputOk (From a m) = LetterOk us ws m
 
-    cell_ok : (i : Input Msg) → InputOk i → CellStepOk (cell_steps c i)
-    cell_ok Task letter = task_ok c.survey
-    cell_ok (From a m) letter = hears_ok m (about m) refl letter
+    cell_ok : c.number ≡ 0 → (i : Input Msg) → IsPlainInput i → InputOk i → CellStepOk (cell_steps c i)
+    cell_ok first Task fed letter = task_ok c.survey
+    cell_ok first (From a m) fed letter = subst CellStepOk (sym (steps_plainly c first a m fed)) (hears_ok m (about m) refl letter)
 
   -- ---- a base node
 
@@ -99,6 +106,7 @@ module _ (us ws : List ℕ) where
   order_sent b (order.Cell k) = route_sent (table.get b.routes k.entity) (Call k) tt
   order_sent b (order.Base k) = base_order_sent (is_base_node_of b.here k.entity) b k
   order_sent b order.Tick = all_mapped (λ p. LetterOk us ws p.1) tick_to (range_with_len 0 b.cells) (λ k. tt)
+  order_sent b (order.Bounds x) = all_mapped (λ p. LetterOk us ws p.1) (bounds_to x) (range_with_len 0 b.cells) (λ k. tt)
   order_sent b (order.Reap e) = route_sent (table.get b.routes e) (Reap e) tt
 
   proxy_sent : (b : BaseView) (o : Option (ℕ × PartView)) → SentOk us ws (proxy_task b o).sent
@@ -131,13 +139,14 @@ module _ (us ws : List ℕ) where
   fed_of Task c is ok h = tt
   fed_of (From a m) c is ok h = h
 
-  node_state : (s : NodeView) (i : Input Msg) → IsNode s → NodeOk s → FedOk i → NodeOk (node_steps s i).state
-  node_state (Cell c) i is ok fed = (cell_ok c is ok i (fed_of i c is ok fed)).state
-  node_state (Base b) i is ok fed = tt
+  node_state : (s : NodeView) (i : Input Msg) → IsNode s → IsPlain s → IsPlainInput i → NodeOk s → FedOk i → NodeOk (node_steps s i).state
+  node_state (Cell c) i is first plain ok fed = (cell_ok c is ok first i plain (fed_of i c is ok fed)).state
+  node_state (Base b) i is first plain ok fed = tt
 
-  node_sent : (s : NodeView) (i : Input Msg) → IsNode s → NodeOk s → FedOk i → SentOk us ws (node_steps s i).sent
-  node_sent (Cell c) i is ok fed = (cell_ok c is ok i (fed_of i c is ok fed)).sent
-  node_sent (Base b) i is ok fed = base_sent b i
+  node_sent : (s : NodeView) (i : Input Msg) → IsNode s → IsPlain s → IsPlainInput i → NodeOk s → FedOk i →
+      SentOk us ws (node_steps s i).sent
+  node_sent (Cell c) i is first plain ok fed = (cell_ok c is ok first i plain (fed_of i c is ok fed)).sent
+  node_sent (Base b) i is first plain ok fed = base_sent b i
 
   abbrev LinkOk : ℕ → ℕ → List Msg → Type 0
   LinkOk a b l = AllByRecursion (λ m. LetterOk us ws m) l
@@ -171,13 +180,15 @@ module _ (us ws : List ℕ) where
         let o : Occurs w x = occurs node_has_work w x on in
         let valid = h.frame.sound.states x.node o.node o.is_node in
         let node = h.nodes x.node o.node o.is_node in
+        let first = plain_at f x.node o.node (h.frame.nodes x.node o.node o.is_node) in
+        let plain = fed_plain f w x o h.frame in
         let fed = fed_ok w x.node x.from o.input h.links o.is_fed in
         record {
           frame = frame_happens f w x o h.frame;
-          nodes = each_node (λ k s. NodeOk s) node_steps w x o h.nodes (node_state o.node o.input valid node fed);
+          nodes = each_node (λ k s. NodeOk s) node_steps w x o h.nodes (node_state o.node o.input valid first plain node fed);
           links =
               each_link LinkOk node_steps w x o h.links (λ a is. dropped (link w.rows a x.node) (h.links a x.node))
-              (stays_true x.node (node_steps o.node o.input).sent (node_sent o.node o.input valid node fed));
+              (stays_true x.node (node_steps o.node o.input).sent (node_sent o.node o.input valid first plain node fed));
         }
 
     start_node : (w : World) → LooksAmong us (λ k. ws) w → (k : ℕ) (s : NodeView) → slice_get w.nodes k ≡ Some s → NodeOk s

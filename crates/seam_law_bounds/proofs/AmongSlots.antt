@@ -1,7 +1,7 @@
 -- A step of one entity's slot names no other entities than those that there are.
 use Rattle.seam_law_bounds.proofs.Prelude.{◌≡◌, ℕ, ◌+◌, Bool, true, false, cond, ◌||◌, ◌==◌, eqb, List, [], ◌∷◌, map, Option, None, Some}
 use Rattle.seam_law_bounds.proofs.Prelude.{refl, sym, ap, ◌∙◌, subst, filter_map, nat_lt, AllByRecursion, cons_option, keys_of, nat_cmp}
-use Rattle.seam_law_bounds.proofs.Prelude.{Ordering, Less, Equal, Greater, eqb-true, Division, Cells, Ghost, copy_in, beat_in, OrderView}
+use Rattle.seam_law_bounds.proofs.Prelude.{Ordering, Less, Equal, Greater, eqb-true, Cells, Ghost, copy_in, beat_in, OrderView}
 use Rattle.seam_law_bounds.proofs.Prelude.{next_item, Call as CallData, GhostCopy, Shown, order_of, RealView, WitnessView, Msg, Hand}
 use Rattle.seam_law_bounds.proofs.Prelude.{GhostSet, GhostDrop, Reap, Here, cell_numbers, base_numbers, base_of, ready_order, copy_of_real}
 use Rattle.seam_law_bounds.proofs.Prelude.{executed, executed_ready, shows, settled_to, Slot, NextPlace, SlotStep, rests, slot_after, heard}
@@ -16,6 +16,7 @@ use Rattle.seam_node_steps.specs.Prelude.{unless_stray}
 use Rattle.seam_node_steps.specs.Prelude.{goes}
 use Rattle.seam_entity.specs.declared.message.Msg.TheVariants.{Call}
 use Rattle.seam_node_steps.specs.CellCases.{case_of}
+use Rattle.seam_node_steps.specs.Prelude.{Boundaries}
 
 -- ---- lists
 
@@ -51,7 +52,7 @@ module _ (us ws : List ℕ) where
     pub copy : (c : GhostCopy) → copy_in s.ghost ≡ Some c → IsNamed e
 
   abbrev pub LetterOk : Msg → Type 0
-  LetterOk (Hand r) = RealOk r.entity r
+  LetterOk (Hand r bs) = RealOk r.entity r
   LetterOk (GhostSet e n c) = IsNamed e
   LetterOk _ = Unit {0}
 
@@ -87,7 +88,7 @@ module _ (us ws : List ℕ) where
 
     -- ---- a settle, of a real that is kept under its entity's number
 
-    module _ (h : Here) (t : Division) (s : Slot) (r : RealView) (own : r.entity ≡ e) (ok : RealOk e r) where
+    module _ (h : Here) (t : Boundaries) (s : Slot) (r : RealView) (own : r.entity ≡ e) (ok : RealOk e r) where
       own_named : IsNamed r.entity
       own_named = subst IsNamed (sym own) ok.named
 
@@ -115,15 +116,15 @@ module _ (us ws : List ℕ) where
           unless_told ((k == h.me) || (k == j)) k _ p
           (λ m at. told_ok k (set.contains haunts k) (set.contains r.haunts k) changed m at) is)
 
-      stays_ok : (changed : Bool) → StepOk e s (stays h t s r changed)
+      stays_ok : (changed : Bool) → StepOk e s (stays h t.tree s r changed)
       stays_ok changed = record {
         slot = named_ok ok.named _ (λ q is. this_real _ (alike r _ refl ok) q is);
-        sent = ghosts_ok h.me (haunts_at h t r.state.pos h.me r.haunts) changed;
+        sent = ghosts_ok h.me (haunts_at h t.tree r.state.pos h.me r.haunts) changed;
       }
 
       goes_ok : (changed : Bool) (j : ℕ) → StepOk e s (goes h t s r changed j)
       goes_ok changed j =
-          let haunts = haunts_at h t r.state.pos j (set.insert r.haunts h.me) in
+          let haunts = haunts_at h t.tree r.state.pos j (set.insert r.haunts h.me) in
           record {
             slot = named_ok ok.named _ (λ q is. no_real q is);
             sent =
@@ -136,14 +137,14 @@ module _ (us ws : List ℕ) where
       settled_ok_by false changed j = goes_ok changed j
 
       pub settled_ok : (changed : Bool) → StepOk e s (settled h t s r changed)
-      settled_ok changed = settled_ok_by (home_after h t r.state.pos == h.me) changed (home_after h t r.state.pos)
+      settled_ok changed = settled_ok_by (home_after h t.tree r.state.pos == h.me) changed (home_after h t.tree r.state.pos)
 
     -- ---- messages
 
     abbrev pub IsOwn : Option RealView → Type 0
     IsOwn o = (r : RealView) → o ≡ Some r → r.entity ≡ e
 
-    module _ (h : Here) (t : Division) (s : Slot) (ok : SlotOk e s) where
+    module _ (h : Here) (t : Boundaries) (s : Slot) (ok : SlotOk e s) where
       offered_ok : (r : RealView) (k : CallData) (o : Ordering) → s.real ≡ Some r → r.entity ≡ e → StepOk e s (offered h t s r k o)
       offered_ok r k Less is own = rests_ok s ok
       offered_ok r k Equal is own = settled_ok h t s (executed h r k) own (alike r _ refl (ok.real r is)) (shows h r k)
@@ -202,14 +203,14 @@ module _ (us ws : List ℕ) where
 
       case_ok : (m : Msg) → about m ≡ Some e → LetterOk m → IsOwn s.real → StepOk e s (case_of h t s m)
       case_ok (Call k) is letter own = call_ok k s.real refl own
-      case_ok (Hand r) is letter own = let same : r.entity ≡ e = cc in hand_ok r (subst (λ x. RealOk x r) same letter)
+      case_ok (Hand r bs) is letter own = let same : r.entity ≡ e = cc in hand_ok r (subst (λ x. RealOk x r) same letter)
       case_ok (GhostSet x n c) is letter own = let same : x ≡ e = cc in set_ok n c s.real (subst IsNamed same letter)
       case_ok (GhostDrop x n) is letter own = drop_ok n
       case_ok (Reap x) is letter own = reap_ok s.real
       case_ok _ is letter own = rests_ok s ok
 
       pub message_ok : (m : Msg) → about m ≡ Some e → LetterOk m → IsOwn s.real → StepOk e s (slot_steps h t s m)
-      message_ok m is letter own = unless_ok (is_stray h t s m) s (case_of h t s m) ok (case_ok m is letter own)
+      message_ok m is letter own = unless_ok (is_stray h t.tree s m) s (case_of h t s m) ok (case_ok m is letter own)
 
       -- ---- tasks
 

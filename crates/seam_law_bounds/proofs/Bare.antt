@@ -49,7 +49,7 @@ module _ (h : Here) (e : ℕ) (s : AtBase) (i : Option Msg) (t : AtBase) (sent :
 module _ (f : Frame) (e k : ℕ) (s : Has) (i : Option Msg) (t : Has) (sent : List (ℕ × Msg)) (none : s.cell.looks ≡ 0) where
   witness_silent : WitnessMoves (here_at f k) e s.cell i (real_in t) sent → IsSilent update_in sent
   witness_silent (witness.rests keeps a b) = a
-  witness_silent (witness.lands r n now a b) = a
+  witness_silent (witness.lands r bs n now a b) = a
   witness_silent (witness.leaves r q to sent_before has gone same z a b) =
       subst (IsSilent update_in) (sym z) (all_append (λ p. update_in p.1 ≡ None) sent_before _ a (refl, tt))
   witness_silent (witness.looks n r q w v shown at has wit now wit2 sum small z) = absurd (omega (arith, at, none))

@@ -1,4 +1,5 @@
 -- A step of a base node lowers the weight.
+use Rattle.seam_law_bounds.proofs.Prelude.{sent_of_range_bounds}
 use Rattle.seam_law_bounds.proofs.Prelude.{◌≡◌, ℕ, ◌+◌, ◌≤◌, Bool, true, false, List, [], ◌∷◌, Option, None, Some, refl, sym, ap, ◌∙◌}
 use Rattle.seam_law_bounds.proofs.Prelude.{arith, not, ◌||◌, is_some, option_map, nat_cmp, Ordering, Less, Equal, Greater, Stepped, total}
 use Rattle.seam_law_bounds.proofs.Prelude.{Input, Task, From, OrderView, next_item, Call as CallData, Order, Shown, ClientText, rank_of}
@@ -19,6 +20,7 @@ use Rattle.seam_call.specs.declared.shown.Update.{Update as UpdateData}
 use Rattle.seam_entity.specs.declared.message.Msg.TheVariants.{Call}
 use Rattle.seam_node_steps.specs.BaseCases.{may_execute, executed, executes_ready, is_stray}
 use Rattle.seam_law_bounds.proofs.Counts.{offer_adds, taking_removes}
+use Rattle.seam_node_steps.specs.Prelude.{Bounds}
 
 -- ---- parts
 
@@ -160,6 +162,9 @@ module _ (z : Sizes) where
       let one = sent_of_range g (λ k. Tick) 0 b.cells in
       let two = range_bounds (tick_weight z) 0 b.cells cell_count few in
       omega (arith, one, two)
+  order_weighs b (order.Bounds x) few =
+      let one = sent_of_range_bounds g (λ k. Bounds x) 1 0 b.cells (λ k. omega arith) in
+      omega (arith, one, few)
   order_weighs b (order.Reap e) few =
       let one = route_sends (table.get b.routes e) (Reap e) 17 (λ j. omega arith) in
       let two = total_of_remove part_weight b.parts e in

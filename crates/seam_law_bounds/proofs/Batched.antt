@@ -36,7 +36,7 @@ module _ (P : CallData → Type 0) where
           drops = λ j x beat low. tt;
           hands = λ u r q changed j has acts at. tt;
           calls = λ c n is at. brought (Call c) is;
-          routes = λ r j is le lt. tt;
+          routes = λ r bs j is le lt. tt;
           updates = λ x u. tt;
         }) (cell_deeds m)
 

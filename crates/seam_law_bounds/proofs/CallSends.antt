@@ -69,10 +69,10 @@ module _ (f : Frame) (e k : ℕ) (s : Has) (i : Option Msg) (t : Has) (sent : Li
         let haunts = haunts_at (here_at f k) tree q.state.pos j (set.insert q.haunts k) in
         let gone = settled_to q haunts (q.beat + 1) (q.generation + 1) in
         let told = ghost_messages (here_at f k) q j haunts changed in
-        plain (silent_of _ d.sends (all_append (λ p. call_in p.1 ≡ None) told ((j, Hand gone) ∷ [])
+        plain (silent_of _ d.sends (all_append (λ p. call_in p.1 ≡ None) told ((j, Hand gone None) ∷ [])
         (ghosts_silent call_in no_calls (here_at f k) q j haunts changed) (refl, tt))) (held r has) same
     cell_sends (deed.holds c r n own has mine may lt d) = plain (silent_of [] d.sends tt) (held r has) same
-    cell_sends (deed.lands r n own has may d) =
+    cell_sends (deed.lands r bs n own has may d) =
         plain (silent_of _ d.sends (mapped_silent call_in (current_to (here_at f k) r) (λ b. refl) (base_numbers (here_at f k))))
         (other _ n (λ c z. cc)) same
     cell_sends (deed.reaped r n has own may d) = plain (silent_of _ d.sends (drops_silent call_in no_calls r)) (held r has) same

@@ -1,9 +1,10 @@
 -- A step of a cell lowers the weight, but where a call is passed on.
+use Rattle.seam_law_bounds.proofs.Prelude.{subst}
 use Rattle.seam_law_bounds.proofs.Prelude.{◌≡◌, ℕ, suc, ◌+◌, ◌*◌, ◌≤◌, Bool, true, false, List, [], ◌∷◌, length, Option, None, Some, refl}
 use Rattle.seam_law_bounds.proofs.Prelude.{sym, ap, ◌∙◌, find, arith, ◌||◌, is_some, if◌then◌else◌, option_map, Input, Task, From, RealView}
 use Rattle.seam_law_bounds.proofs.Prelude.{has_ready, Msg, Tick, number_of, has_any, Slot, SlotStep, slot_after, about, slot_steps}
 use Rattle.seam_law_bounds.proofs.Prelude.{CellView, slot_of, after_slot, is_another, unlisted_by, stepped, known_to, surveys, calls_ready}
-use Rattle.seam_law_bounds.proofs.Prelude.{looks_around, real_is_ready, ready_entity, look_next, ready_next, cell_task, cell_hears}
+use Rattle.seam_law_bounds.proofs.Prelude.{looks_around, real_is_ready, ready_entity, look_next, ready_next, cell_task}
 use Rattle.seam_law_bounds.proofs.Prelude.{cell_steps, cell_has_work, Cell, Sizes, settling, look_weight, tick_weight, real_weight}
 use Rattle.seam_law_bounds.proofs.Prelude.{letter_weight, cell_passes, node_passes, sent_weight, input_weight, found, cell_weight}
 use Rattle.seam_law_bounds.proofs.Prelude.{entity_of}
@@ -12,6 +13,8 @@ use Rattle.seam_node_steps.specs.Prelude.{tick}
 use Rattle.seam_law_bounds.specs.Events.{CellCan}
 use Rattle.seam_law_bounds.proofs.Counts.{times_grows, one_more, filter_shortens, total_of_set_at}
 use Rattle.seam_law_bounds.proofs.SlotWeights.{slot_weight, step_weight, passed, message_weighs, survey_weighs, ready_weighs, look_weighs}
+use Rattle.seam_node_steps.specs.Prelude.{Bounds, BringsNone, IsPlainInput, Stepped, at_start, boundaries_of}
+use Rattle.seam_node_steps.proofs.Plain.{plainly, steps_plainly}
 
 -- a list with one more weighs that much more
 first_weighs : (xs ys : List ℕ) (e c : ℕ) → xs ≡ e ∷ ys → length xs * c ≡ length ys * c + c
@@ -79,14 +82,14 @@ module _ (z : Sizes) where
       let k = ready_exists c e f in
       let one = stepped_weighs c e (calls_ready c e (table.get c.reals e)) in
       let two = ap (λ x. step_weight z (slot_of c e) (calls_ready c e x)) k.1 in
-      let three = ready_weighs z c.here c.tree (slot_of c e) k.0 k.1 (can.ready e k.0 k.1 k.2) k.2 in
+      let three = ready_weighs z c.here (boundaries_of c) (slot_of c e) k.0 k.1 (can.ready e k.0 k.1 k.2) k.2 in
       omega (arith, one, two, three)
 
   survey_task_weighs : (c : CellView) (e : ℕ) (es : List ℕ) → c.survey ≡ e ∷ es →
       cell_weight z (cell_task c (e ∷ es)).state + sent_weight g (cell_task c (e ∷ es)).sent + 1 ≤ cell_weight z c
   survey_task_weighs c e es l =
       let one = stepped_weighs (record c { survey = es }) e (surveys c e (table.get c.reals e)) in
-      let two = survey_weighs z c.here c.tree (slot_of c e) (table.get c.reals e) refl in
+      let two = survey_weighs z c.here (boundaries_of c) (slot_of c e) (table.get c.reals e) refl in
       let three = first_weighs c.survey es e (settling z) l in
       omega (arith, one, two, three)
 
@@ -101,22 +104,23 @@ module _ (z : Sizes) where
   one_if b = if b then 1 else 0
 
   about_weighs : (c : CellView) (i : Input Msg) (m : Msg) (e : ℕ) → CellCan z c i →
-      cell_weight z (cell_hears c m (Some e)).state + sent_weight g (cell_hears c m (Some e)).sent + 1
+      cell_weight z (plainly c m (Some e)).state + sent_weight g (plainly c m (Some e)).sent + 1
       ≤ cell_weight z c + g c.here.me m + one_if (passed z (slot_of c e) m)
   about_weighs c i m e can =
-      let one = stepped_weighs c e (slot_steps c.here c.tree (slot_of c e) m) in
-      let two = message_weighs z c.here.me c.here c.tree (slot_of c e) m can.bases in
+      let one = stepped_weighs c e (slot_steps c.here (at_start c.tree) (slot_of c e) m) in
+      let two = message_weighs z c.here.me c.here (at_start c.tree) (slot_of c e) m can.bases in
       omega (arith, one, two)
 
   -- a tick: at most all witnesses are to look
   tick_weighs : (c : CellView) (a : ℕ) → CellCan z c (From a Tick) → cell_weight z (tick c) + 1 ≤ cell_weight z c + tick_weight z c.here.me
   tick_weighs c a can = let one = times_grows _ _ (look_weight z) (can.ticks a refl) in omega (arith, one)
 
-  hears_weighs : (c : CellView) (a : ℕ) (m : Msg) → CellCan z c (From a m) →
-      cell_weight z (cell_hears c m (about m)).state + sent_weight g (cell_hears c m (about m)).sent + 1
+  hears_weighs : (c : CellView) (a : ℕ) (m : Msg) → BringsNone m → CellCan z c (From a m) →
+      cell_weight z (plainly c m (about m)).state + sent_weight g (plainly c m (about m)).sent + 1
       ≤ cell_weight z c + g c.here.me m + one_if (cell_passes c m)
-  hears_weighs c a Tick can = let one = tick_weighs c a can in omega (arith, one)
-  hears_weighs c a m can = about_weighs c (From a m) m (entity_of m) can
+  hears_weighs c a Tick none can = let one = tick_weighs c a can in omega (arith, one)
+  hears_weighs c a (Bounds b) none can = cc
+  hears_weighs c a m none can = about_weighs c (From a m) m (entity_of m) can
 
   -- ---- a step of a cell
 
@@ -128,8 +132,10 @@ module _ (z : Sizes) where
       never : false ≡ true → ⊥
       never e = cc
 
-  pub cell_lowers : (c : CellView) (i : Input Msg) → CellCan z c i → (i ≡ Task → cell_has_work c ≡ true) →
+  pub cell_lowers : (c : CellView) (i : Input Msg) → c.number ≡ 0 → IsPlainInput i → CellCan z c i → (i ≡ Task → cell_has_work c ≡ true) →
       cell_weight z (cell_steps c i).state + sent_weight g (cell_steps c i).sent + 1
       ≤ cell_weight z c + input_weight g c.here.me i + one_if (node_passes (Cell c) i)
-  cell_lowers c Task can w = let one = task_weighs c c.survey can refl (works c (w refl)) in omega (arith, one)
-  cell_lowers c (From a m) can w = hears_weighs c a m can
+  cell_lowers c Task first fed can w = let one = task_weighs c c.survey can refl (works c (w refl)) in omega (arith, one)
+  cell_lowers c (From a m) first fed can w =
+      subst (λ (t : Stepped CellView Msg). cell_weight z t.state + sent_weight g t.sent + 1
+      ≤ cell_weight z c + g c.here.me m + one_if (cell_passes c m)) (sym (steps_plainly c first a m fed)) (hears_weighs c a m fed can)

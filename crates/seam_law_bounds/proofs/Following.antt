@@ -7,7 +7,7 @@ use Rattle.seam_law_bounds.proofs.Ranking.{either}
 
 -- a hand-over of at least so great a generation is one of at least a smaller one
 hand_less : (n m : ℕ) (l : Msg) → n ≤ m → is_hand_from m l ≡ true → is_hand_from n l ≡ true
-hand_less n m (Hand r) low h = grind (arith, nat_tests, low, h)
+hand_less n m (Hand r bs) low h = grind (arith, nat_tests, low, h)
 hand_less n m _ low h = cc
 
 or_left : (a b : Bool) → a ≡ true → (a || b) ≡ true

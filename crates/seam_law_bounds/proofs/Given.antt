@@ -3,7 +3,8 @@ use Rattle.seam_law_bounds.proofs.Prelude.{◌≡◌, ℕ, suc, ◌+◌, ◌*◌
 use Rattle.seam_law_bounds.proofs.Prelude.{Some, refl, sym, ap, ◌∙◌, subst, arith, inl, inr, slice_get, cases_eq, eq-eqb, ne_eqb, nat_tests}
 use Rattle.seam_law_bounds.proofs.Prelude.{slice_get-map, EachNode, total, Order, base_of, BaseView, NodeView, World, Cell, Base, order_if}
 use Rattle.seam_law_bounds.proofs.Prelude.{ordered_at, with_orders, with_nodes, reap_ordered_at, with_reap, reaps_loaded, Frame, here_at}
-use Rattle.seam_law_bounds.proofs.Prelude.{IsAt, IsBaseAt, Sizes, order_weight, node_weight, world_weight, total-push, with_order}
+use Rattle.seam_law_calls.specs.Frames.{Knows}
+use Rattle.seam_law_bounds.proofs.Prelude.{Sizes, order_weight, node_weight, world_weight, total-push, with_order}
 use Rattle.seam_law_bounds.proofs.Prelude.{node_there}
 use Rattle.seam_call.specs.declared.order.Order.TheVariants as order
 
@@ -67,25 +68,27 @@ turned x y = elim (cases_eq x y) [
 
 module _ (f : Frame) where
   abbrev pub AreAt : World → Type 0
-  AreAt w = EachNode (IsAt f) w.nodes
+  AreAt w = EachNode (Knows f.defs f.settings) w.nodes
 
-  base_stays : (k : ℕ) (d : Bool) (b : BaseView) (o : Order) → IsBaseAt f k b → IsBaseAt f k (order_if d b o)
-  base_stays k true b o at = record { high = at.high; here = at.here; cells = at.cells }
+  base_stays : (k : ℕ) (d : Bool) (b : BaseView) (o : Order) → Knows f.defs f.settings k (Base b) → Knows f.defs f.settings k
+      (Base (order_if d b o))
+  base_stays k true b o at = at
   base_stays k false b o at = at
 
-  pub order_stays : (k : ℕ) (o : ℕ × Order) (s : NodeView) → IsAt f k s → IsAt f k (ordered_at o s)
+  pub order_stays : (k : ℕ) (o : ℕ × Order) (s : NodeView) → Knows f.defs f.settings k s → Knows f.defs f.settings k (ordered_at o s)
   order_stays k o (Cell c) at = at
   order_stays k o (Base b) at = base_stays k (eqb o.0 b.here.me) b o.1 at
 
-  reap_stays : (k e : ℕ) (s : NodeView) → IsAt f k s → IsAt f k (reap_ordered_at e s)
+  reap_stays : (k e : ℕ) (s : NodeView) → Knows f.defs f.settings k s → Knows f.defs f.settings k (reap_ordered_at e s)
   reap_stays k e (Cell c) at = at
   reap_stays k e (Base b) at = base_stays k (eqb (base_of b.here e) b.here.me) b (order.Reap e) at
 
-  pub nodes_stay : (turn : NodeView → NodeView) → ((k : ℕ) (s : NodeView) → IsAt f k s → IsAt f k (turn s)) → (w : World) → AreAt w →
+  pub nodes_stay : (turn : NodeView → NodeView) → ((k : ℕ) (s : NodeView) → Knows f.defs f.settings k s → Knows f.defs f.settings k
+      (turn s)) → (w : World) → AreAt w →
       AreAt (with_nodes w turn)
   nodes_stay turn stays w at k t is =
       let was = node_there (slice_get w.nodes k) turn t (sym (slice_get-map turn w.nodes k) ∙ is) in
-      subst (IsAt f k) was.2 (stays k was.0 (at k was.0 was.1))
+      subst (Knows f.defs f.settings k) was.2 (stays k was.0 (at k was.0 was.1))
 
 module _ (z : Sizes) (f : Frame) where
   -- ---- one order at one node
@@ -95,21 +98,21 @@ module _ (z : Sizes) (f : Frame) where
   base_adds true b o = let more = total-push (order_weight z) b.orders o in omega (arith, more)
   base_adds false b o = omega arith
 
-  order_adds : (k : ℕ) (o : ℕ × Order) (s : NodeView) → IsAt f k s →
+  order_adds : (k : ℕ) (o : ℕ × Order) (s : NodeView) → Knows f.defs f.settings k s →
       node_weight z (ordered_at o s) ≤ node_weight z s + cond {A = ℕ} (eqb k o.0) (order_weight z o.1) 0
   order_adds k o (Cell c) at = omega arith
   order_adds k o (Base b) at =
       let one = base_adds (eqb o.0 b.here.me) b o.1 in
-      let same = ap (λ d. cond {A = ℕ} d (order_weight z o.1) 0) (ap (λ h. eqb o.0 h.me) at.here ∙ turned o.0 k) in
+      let same = ap (λ d. cond {A = ℕ} d (order_weight z o.1) 0) (ap (λ h. eqb o.0 h.me) at.1 ∙ turned o.0 k) in
       omega (arith, one, same)
 
-  reap_adds : (k e : ℕ) (s : NodeView) → IsAt f k s →
+  reap_adds : (k e : ℕ) (s : NodeView) → Knows f.defs f.settings k s →
       node_weight z (reap_ordered_at e s) ≤ node_weight z s + cond {A = ℕ} (eqb k (base_of (here_at f 0) e)) 18 0
   reap_adds k e (Cell c) at = omega arith
   reap_adds k e (Base b) at =
       let one = base_adds (eqb (base_of b.here e) b.here.me) b (order.Reap e) in
       let same =
-      ap (λ d. cond {A = ℕ} d 18 0) (ap (λ h. eqb (base_of h e) h.me) at.here ∙ turned (base_of (here_at f 0) e) k) in
+      ap (λ d. cond {A = ℕ} d 18 0) (ap (λ h. eqb (base_of h e) h.me) at.1 ∙ turned (base_of (here_at f 0) e) k) in
       omega (arith, one, same)
 
   -- ---- lists of orders

@@ -17,21 +17,23 @@ use Rattle.seam_node_steps.specs.Settle as settle
 use Rattle.seam_law_calls.proofs.CellDeeds as deed
 use Rattle.seam_law_calls.proofs.CellDeeds.{CellDeeds, cell_deeds}
 use Rattle.seam_law_calls.proofs.Paying.{OrdersPay, base_paid}
+use Rattle.seam_law_calls.proofs.Classify.{fed_plain}
+use Rattle.seam_node_steps.specs.Prelude.{at_start}
 
 -- eyes that see what may bring a settling
 abbrev heavy : Msg → Option ℕ
 heavy (Call c) = Some 0
-heavy (Hand r) = Some 0
+heavy (Hand r bs) = Some 0
 heavy _ = None
 
 abbrev pub letter_left : Msg → ℕ
 letter_left (Call c) = 1
-letter_left (Hand r) = held_in r.orders
+letter_left (Hand r bs) = held_in r.orders
 letter_left _ = 0
 
 light : (m : Msg) → heavy m ≡ None → letter_left m ≡ 0
 light (Call c) h = cc
-light (Hand r) h = cc
+light (Hand r bs) h = cc
 light _ h = refl
 
 -- the calls that a real holds
@@ -131,17 +133,17 @@ module _ (f : Frame) (e k : ℕ) (s : Has) (i : Option Msg) (t : Has) (sent : Li
       omega (arith, a, b, c, z, g, p, was)
 
   goes_lowers : (tree : Division) (u : AtCell) (r q : RealView) (changed : Bool) (j : ℕ) → s.cell.slot.real ≡ Some r →
-      Acts (here_at f k) e s.cell i r u q changed → Does u (settle.goes (here_at f k) tree s.cell.slot q changed j) t.cell sent →
+      Acts (here_at f k) e s.cell i r u q changed → Does u (settle.goes (here_at f k) (at_start tree) s.cell.slot q changed j) t.cell sent →
       t.base ≡ s.base → Lowers
   goes_lowers tree u r q changed j has acts d base =
-      let x = settle.goes (here_at f k) tree s.cell.slot q changed j in
+      let x = settle.goes (here_at f k) (at_start tree) s.cell.slot q changed j in
       let haunts = haunts_at (here_at f k) tree q.state.pos j (set.insert q.haunts k) in
       let told = ghost_messages (here_at f k) q j haunts changed in
       let left = settled_to q haunts (q.beat + 1) (q.generation + 1) in
       let a = real_is x u d in
       let b = survey_is x u d in
       let c : sent_left sent ≡ sent_left told + real_left left =
-      ap sent_left d.sends ∙ total-push (λ p. letter_left p.1) told (j, Hand left) in
+      ap sent_left d.sends ∙ total-push (λ p. letter_left p.1) told (j, Hand left None) in
       let none = light_sent told (ghosts_silent heavy no_ghosts (here_at f k) q j haunts changed) in
       let z = base_is base in
       let g = gone_most (is_some (real_in s) && is_none (real_in t)) in
@@ -177,7 +179,7 @@ module _ (f : Frame) (e k : ℕ) (s : Has) (i : Option Msg) (t : Has) (sent : Li
       let g = ap (gone_by (real_in s)) (now _ s.cell d) ∙ gone_same (real_in s) in
       let pay = ap came n in
       omega (arith, a, b, x, z, g, pay)
-  cell_lowers (deed.lands r n is has may d) base =
+  cell_lowers (deed.lands r bs n is has may d) base =
       let a = real_is _ s.cell d in
       let b = survey_is _ s.cell d in
       let x = sent_is _ s.cell d (mapped_silent heavy (current_to (here_at f k) r) (λ b. refl) (base_numbers (here_at f k))) in
@@ -242,7 +244,8 @@ module _ (e : ℕ) where
       let low =
       move_lowers f e v.node (has_of e o.node) (letter_in (mine e) o.input) (has_of e (node_steps o.node o.input).state)
       (concerning e (node_steps o.node o.input).sent) (calm_of f e w v o q spared)
-      (node_moves f e v.node o.node o.input (q.sound.states v.node o.node o.is_node) (q.nodes v.node o.node o.is_node)) in
+      (node_moves f e v.node o.node o.input (q.sound.states v.node o.node o.is_node) (q.nodes v.node o.node o.is_node)
+      (fed_plain f w v o q)) in
       let was = ap (λ x. real_in (slot_at (has_of e) has_none x)) o.is_node in
       let now = ap (λ x. real_in (slot_at (has_of e) has_none x)) (node_here node_steps w v o) in
       let g = ap (λ x. gone_by x (real_at e (happens node_steps w v) v.node)) was

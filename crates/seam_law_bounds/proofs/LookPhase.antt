@@ -15,6 +15,7 @@ use Rattle.seam_entity.specs.declared.message.Msg.TheVariants.{Call}
 use Rattle.seam_law_bounds.proofs.Bare.{part_calls, IsUncalled, uncalled_leads}
 use Rattle.seam_law_bounds.proofs.Batched.{OrderIs, calls_are}
 use Rattle.seam_law_bounds.proofs.Cans.{none_is_ready, can_look}
+use Rattle.seam_law_rounds.proofs.Framing.{known_at}
 use Rattle.seam_law_bounds.proofs.Given.{orders_add}
 use Rattle.seam_law_bounds.proofs.LoadedNodes.{IsBlank, idle_blank, plain_by, blank_is_plain}
 use Rattle.seam_law_bounds.proofs.NetWeights.{run_ends}
@@ -70,7 +71,7 @@ module _ (f : Frame) (u : World) (between : IsBetweenRounds f u) (none : HoldsNo
   start = look_loaded u
 
   pub frame_start : IsInFrame f start
-  frame_start = look_framed f u between.nodes tick
+  frame_start = look_framed f u between.nodes tick refl
 
   pub plain_start : EachNode (λ k s. IsPlain IsTickOrder s) start.nodes
   plain_start k t at =
@@ -164,7 +165,7 @@ module _ (f : Frame) (u : World) (between : IsBetweenRounds f u) (none : HoldsNo
 
     start_weighs : world_weight z start ≤ most
     start_weighs =
-        let at_start = orders_add z f (tick ∷ []) u between.nodes.nodes in
+        let at_start = orders_add z f (tick ∷ []) u (λ k s at. known_at f k s (between.nodes.nodes k s at)) in
         let quiet = quiet_weighs z f u between none in
         let sum = ticks_sum z 0 cell_count in
         omega (arith, at_start, quiet, sum)

@@ -9,6 +9,8 @@ use Rattle.seam_net_runs.specs.Weights.{Lowers}
 use Rattle.seam_net_runs.proofs.Runs.{leads_end}
 use Rattle.seam_law_bounds.proofs.CellWeights.{cell_lowers}
 use Rattle.seam_law_bounds.proofs.BaseWeights.{base_lowers}
+use Rattle.seam_node_steps.specs.Prelude.{IsPlainInput}
+use Rattle.seam_law_calls.proofs.Classify.{fed_plain}
 
 abbrev one_if : Bool → ℕ
 one_if b = if b then 1 else 0
@@ -20,13 +22,13 @@ module _ (z : Sizes) where
       ≤ node_weight z s + input_weight (letter_weight z) k i + one_if (node_passes s i)
 
   -- a step lowers the weight, or passes a call on and keeps it
-  pub node_lowers : (f : Frame) (k : ℕ) (s : NodeView) (i : Input Msg) → IsNode s → IsAt f k s → NodeCan z s i →
+  pub node_lowers : (f : Frame) (k : ℕ) (s : NodeView) (i : Input Msg) → IsNode s → IsAt f k s → IsPlainInput i → NodeCan z s i →
       (i ≡ Task → node_has_work s ≡ true) → NodeLowers k s i
-  node_lowers f k (Cell c) i is at can w =
-      let one = cell_lowers z c i can w in
+  node_lowers f k (Cell c) i is at fed can w =
+      let one = cell_lowers z c i at.number fed can w in
       let me = ap (λ h. input_weight (letter_weight z) h.me i) at.here in
       omega (arith, one, me)
-  node_lowers f k (Base b) i is at can w =
+  node_lowers f k (Base b) i is at fed can w =
       let one = base_lowers z b i can is.cells w in
       let me = ap (λ h. input_weight (letter_weight z) h.me i) at.here in
       omega (arith, one, me)
@@ -36,7 +38,8 @@ module _ (z : Sizes) where
   event_lowers f w v o q can on =
       let moves = weight_moves (node_weight z) (letter_weight z) node_steps w v o q.sound.square (sound_sends node_laws w v o q.sound) in
       let low =
-      node_lowers f v.node o.node o.input (q.sound.states v.node o.node o.is_node) (q.nodes v.node o.node o.is_node) can
+      node_lowers f v.node o.node o.input (q.sound.states v.node o.node o.is_node) (q.nodes v.node o.node o.is_node)
+      (fed_plain f w v o q) can
       (occurs_works node_has_work w v on o) in
       let pass =
       ap (λ x. one_if (passes_by x (input_from w.rows v.node v.from))) o.is_node ∙ ap (λ x. one_if (passes_by (Some o.node) x)) o.is_fed in

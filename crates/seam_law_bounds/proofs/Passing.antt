@@ -20,6 +20,7 @@ use Rattle.seam_law_bounds.proofs.Ranking.{rank_real, rank_next, hand_from, land
 use Rattle.seam_law_bounds.proofs.CallSends.{FewerOrders, Sends, plain, ordered, passed, sends}
 use Rattle.seam_law_bounds.proofs.Following.{comes_less, has_before, Follows, follow_more, follow_append, none_follow}
 use Rattle.seam_law_bounds.proofs.Alone.{stored, AreOthers, stored_first, IsAlone, alone_by}
+use Rattle.seam_node_steps.specs.Prelude.{Boundaries}
 
 -- ---- letters that are no call
 
@@ -214,10 +215,10 @@ module _ (f : Frame) (frame : IsFrame f) (e ty : ℕ) (known : ty < length f.def
     abbrev g : Goes (λ k a i b out. MovesTo f e k a i b out × Came f e i) before after
     g = goes f frame e ty known w x o its.ranked.has calm
 
-    lands_high : (r : RealView) → comes g.input ≡ Some (Hand r) → rank_of (after.slot g.k) ≡ r.generation
-    lands_high r is =
+    lands_high : (r : RealView) (bs : Option Boundaries) → comes g.input ≡ Some (Hand r bs) → rank_of (after.slot g.k) ≡ r.generation
+    lands_high r bs is =
         let space = room f frame e ty known w x o its.ranked.has calm in
-        landed_by f e w next g space its.ranked.routed its.ranked.ranks (road f e w next g space its.ranked.routed) r is
+        landed_by f e w next g space its.ranked.routed its.ranked.ranks (road f e w next g space its.ranked.routed) r bs is
 
     rest_follows : (k j m : ℕ) (l : List Msg) → Rest before g.k g.input k j l →
         Follows (is_numbered s n) m (m ≤ rank_of (before.slot j)) (before.mail k j) →
@@ -234,9 +235,9 @@ module _ (f : Frame) (frame : IsFrame f) (e ty : ℕ) (known : ty < length f.def
         by (inl a) = let up = rise.stays j in omega (arith, a, up)
         by (inr a) =
             let r = hand_from m y.1 a in
-            let rank = lands_high r.0 (ap comes at ∙ ap Some r.1) in
+            let rank = lands_high r.0 r.1 (ap comes at ∙ ap Some r.2) in
             let there = ap (λ i. rank_of (after.slot i)) to in
-            let big = r.2 in
+            let big = r.3 in
             omega (arith, rank, there, big)
 
     fewer_stored : FewerOrders f e g.k (before.slot g.k) (comes g.input) (after.slot g.k) g.moves.0.sent →

@@ -11,6 +11,7 @@ use Rattle.seam_law_bounds.specs.Prelude.{rank_of}
 use Rattle.seam_machine.proofs.SendLemmas.{items_to-append}
 use Rattle.seam_law_rounds.proofs.RoadMoves.{generation_of, generation_in, Roads, plain, arrives, departs}
 use Rattle.seam_law_bounds.specs.Ranks.{rank_by}
+use Rattle.seam_node_steps.specs.Prelude.{Boundaries}
 
 -- ---- lists of letters
 
@@ -33,8 +34,9 @@ from_right n (x ∷ xs) ys h = right_by (is_hand_from n x) (has_hand_from n (xs 
 above_is : (a b : ℕ) → a ≤ b → nat_le a b ≡ true
 above_is a b h = grind (arith, nat_tests)
 
-pub hand_from : (n : ℕ) (m : Msg) → is_hand_from n m ≡ true → (r : RealView) × (m ≡ Hand r) × (n ≤ r.generation)
-hand_from n (Hand r) h = (r, refl, grind (arith, nat_tests, h))
+pub hand_from : (n : ℕ) (m : Msg) → is_hand_from n m ≡ true → (r : RealView) × (bs : Option Boundaries) × (m ≡ Hand r bs) ×
+    (n ≤ r.generation)
+hand_from n (Hand r bs) h = (r, bs, refl, grind (arith, nat_tests, h))
 hand_from n _ h = cc
 
 pub either : (a b : Bool) → (a || b) ≡ true → (a ≡ true) ⊎ (b ≡ true)
@@ -72,7 +74,8 @@ same_rank s t gen next =
 
 module _ (f : Frame) (e : ℕ) (w v : World)
     (g : Goes (λ k s i t out. MovesTo f e k s i t out × Came f e i) (entity_flow e w) (entity_flow e v))
-    (room : (r : RealView) → comes g.input ≡ Some (Hand r) → FindsRoom f g.k ((entity_flow e w).slot g.k) r) (h : IsRouted f e w)
+    (room : (r : RealView) (bs : Option Boundaries) → comes g.input ≡ Some (Hand r bs) → FindsRoom f g.k ((entity_flow e w).slot g.k) r)
+    (h : IsRouted f e w)
     (a : AreRanked (entity_flow e w) h.real.generation) where
   abbrev before : Flow Has Msg
   before = entity_flow e w
@@ -86,8 +89,8 @@ module _ (f : Frame) (e : ℕ) (w v : World)
   abbrev RoadsOf : Type 0
   RoadsOf = Roads f e g.k (before.slot g.k) (comes g.input) (after.slot g.k) sent
 
-  came_is : (r : RealView) → comes g.input ≡ Some (Hand r) → r.generation ≡ h.real.generation
-  came_is r is = ap generation_of (sole_came real_in real_of g h.place h.real r h.one (ap (carried_in real_of) is)).2
+  came_is : (r : RealView) (bs : Option Boundaries) → comes g.input ≡ Some (Hand r bs) → r.generation ≡ h.real.generation
+  came_is r bs is = ap generation_of (sole_came real_in real_of g h.place h.real r h.one (ap (carried_in real_of) is)).2
 
   here_is : (r : RealView) → real_in (before.slot g.k) ≡ Some r → r.generation ≡ h.real.generation
   here_is r is = ap generation_of (sole_here real_in real_of before h.place h.real r g.k h.one is).1
@@ -99,10 +102,10 @@ module _ (f : Frame) (e : ℕ) (w v : World)
   -- the rank of the node that makes the step does not fall
   own_rank : RoadsOf → rank_of (before.slot g.k) ≤ rank_of (after.slot g.k)
   own_rank (plain no_hand gen next silent) = let same = same_rank (before.slot g.k) (after.slot g.k) gen next in omega (arith, same)
-  own_rank (arrives r is low free at next z) =
+  own_rank (arrives r bs is low free at next z) =
       let high = a.highest g.k in
       let now = rank_real (after.slot g.k) r at in
-      let top = came_is r is in
+      let top = came_is r bs is in
       omega (arith, high, now, top)
   own_rank (departs r q j first no_hand was gone gen next silent z) =
       let had = rank_real (before.slot g.k) r was in
@@ -131,9 +134,9 @@ module _ (f : Frame) (e : ℕ) (w v : World)
       let same = same_rank (before.slot g.k) (after.slot g.k) gen next in
       let high = a.highest g.k in
       omega (arith, same, high)
-  own_high (arrives r is low free at next z) =
+  own_high (arrives r bs is low free at next z) =
       let now = rank_real (after.slot g.k) r at in
-      let same = came_is r is in
+      let same = came_is r bs is in
       omega (arith, now, same)
   own_high (departs r q j first no_hand was gone gen next silent z) =
       let now = gone_rank q j gone next in
@@ -157,11 +160,11 @@ module _ (f : Frame) (e : ℕ) (w v : World)
     was : (before.slot k).cell.slot.next ≡ Some n → Next x k n
     new : (r q : RealView) (j : ℕ) (first : List (ℕ × Msg)) → k ≡ g.k → q.generation ≡ r.generation + 1 →
         r.generation ≡ h.real.generation → top x ≡ h.real.generation + 1 → record { cell = j; generation = q.generation } ≡ n →
-        sent ≡ first ++ (j, Hand q) ∷ [] → Next x k n
+        sent ≡ first ++ (j, Hand q None) ∷ [] → Next x k n
 
   own_next : (x : RoadsOf) (n : NextPlace) → (after.slot g.k).cell.slot.next ≡ Some n → Next x g.k n
   own_next (plain no_hand gen next silent) n at = was (sym next ∙ at)
-  own_next (arrives r is low free there next z) n at = absurd (let y = sym next ∙ at in cc)
+  own_next (arrives r bs is low free there next z) n at = absurd (let y = sym next ∙ at in cc)
   own_next (departs r q j first no_hand had gone gen next silent z) n at =
       new r q j first refl gen (here_is r had) refl (let y = sym next ∙ at in cc) z
 
@@ -183,10 +186,11 @@ module _ (f : Frame) (e : ℕ) (w v : World)
       (omega (arith, now, gen), omega (arith, now, gen, same, up))
 
   -- a hand-over that comes gives its node its rank
-  pub landed_by : (x : RoadsOf) (r : RealView) → comes g.input ≡ Some (Hand r) → rank_of (after.slot g.k) ≡ r.generation
-  landed_by (plain no_hand gen next silent) r is = absurd (no_hand r is)
-  landed_by (departs q p j first no_hand had gone gen next silent z) r is = absurd (no_hand r is)
-  landed_by (arrives q at low free there next z) r is =
+  pub landed_by : (x : RoadsOf) (r : RealView) (bs : Option Boundaries) → comes g.input ≡ Some (Hand r bs) → rank_of (after.slot g.k)
+      ≡ r.generation
+  landed_by (plain no_hand gen next silent) r bs is = absurd (no_hand r bs is)
+  landed_by (departs q p j first no_hand had gone gen next silent z) r bs is = absurd (no_hand r bs is)
+  landed_by (arrives q os at low free there next z) r bs is =
       let same : q ≡ r = let y = sym at ∙ is in cc in
       rank_real (after.slot g.k) q there ∙ ap generation_of same
 
@@ -201,27 +205,29 @@ module _ (f : Frame) (e : ℕ) (w v : World)
       head_by (inr more) = inr (ap (has_hand_from n) is ∙ from_left n l m more)
       head_by (inl hand) =
           let r = hand_from n p.1 hand in
-          let rank = landed_by x r.0 (ap comes at ∙ ap Some r.1) in
+          let rank = landed_by x r.0 r.1 (ap comes at ∙ ap Some r.2) in
           let there = ap (λ i. rank_of (after.slot i)) to in
-          let high = r.2 in
+          let high = r.3 in
           inl (omega (arith, rank, there, high))
 
   old_by : (x : RoadsOf) (k j n : ℕ) → ComesTo before k j n → ComesTo after k j n
   old_by x k j n (inl low) = let up = rank_stays x j in inl (omega (arith, low, up))
   old_by x k j n (inr hand) = let c = change g k j in rest_by x k j n c.l c.m c.is c.rest hand
 
-  more_by : (q : RealView) (j : ℕ) (first : List (ℕ × Msg)) (l m : List Msg) → sent ≡ first ++ (j, Hand q) ∷ [] →
+  more_by : (q : RealView) (j : ℕ) (first : List (ℕ × Msg)) (l m : List Msg) → sent ≡ first ++ (j, Hand q None) ∷ [] →
       after.mail g.k j ≡ l ++ m → More g.out g.k g.k j m → has_hand_from q.generation (after.mail g.k j) ≡ true
   more_by q j first l m z is (none no_ nil) = absurd (no_ refl)
   more_by q j first l m z is (own same out) =
-      let items : m ≡ items_to j first ++ Hand q ∷ [] =
+      let items : m ≡ items_to j first ++ Hand q None ∷ [] =
       out
       ∙ (g.moves.0.items j
-      ∙ (ap (items_to j) z ∙ (items_to-append j first ((j, Hand q) ∷ []) ∙ ap (λ y. items_to j first ++ y) (one_here j (Hand q))))) in
+      ∙ (ap (items_to j) z ∙ (items_to-append j first ((j, Hand q None) ∷ []) ∙ ap (λ y. items_to j first ++ y)
+      (one_here j (Hand q None))))) in
       ap (has_hand_from q.generation) is
       ∙ from_right q.generation l m
       (ap (has_hand_from q.generation) items
-      ∙ from_right q.generation (items_to j first) (Hand q ∷ []) (ap (λ b. b || false) (above_is q.generation q.generation (omega arith))))
+      ∙ from_right q.generation (items_to j first) (Hand q None ∷ [])
+      (ap (λ b. b || false) (above_is q.generation q.generation (omega arith))))
 
   climb_by : (x : RoadsOf) (k : ℕ) (n : NextPlace) → Next x k n → ComesTo after k n.cell n.generation
   climb_by x k n (was at) = old_by x k n.cell n.generation (a.climb k n at)
@@ -265,12 +271,13 @@ leaves_for (On x y) k j n is = cc
 
 module _ (f : Frame) (e : ℕ) (w v : World)
     (g : Goes (λ k s i t out. MovesTo f e k s i t out × Came f e i) (entity_flow e w) (entity_flow e v))
-    (room : (r : RealView) → comes g.input ≡ Some (Hand r) → FindsRoom f g.k ((entity_flow e w).slot g.k) r) (h : IsRouted f e w)
+    (room : (r : RealView) (bs : Option Boundaries) → comes g.input ≡ Some (Hand r bs) → FindsRoom f g.k ((entity_flow e w).slot g.k) r)
+    (h : IsRouted f e w)
     (a : AreRanked (entity_flow e w) h.real.generation) where
   pub handed_by : (x : Roads f e g.k ((entity_flow e w).slot g.k) (comes g.input) ((entity_flow e v).slot g.k) g.moves.0.sent) →
       grown f e w v g room h x ≡ h.real.generation + cond {A = ℕ} (is_handed_over h.place (place_then f e w v g room h x)) 1 0
   handed_by (plain no_hand gen next silent) = same_place h.place h.real.generation
-  handed_by (arrives r is low free at next z) =
+  handed_by (arrives r bs is low free at next z) =
       let from = sole_came real_in real_of g h.place h.real r h.one (ap (carried_in real_of) is) in
       lands_in h.place from.0 g.k h.real.generation from.1
   handed_by (departs r q j first no_hand had gone gen next silent z) =

@@ -18,6 +18,7 @@ use Rattle.seam_law_rounds.proofs.Reaping.{is_told}
 use Rattle.seam_law_bounds.proofs.Bare.{IsBare, bare_leads}
 use Rattle.seam_law_bounds.proofs.Batched.{OrderIs, calls_are}
 use Rattle.seam_law_bounds.proofs.Cans.{base_can, can_by}
+use Rattle.seam_law_rounds.proofs.Framing.{known_at}
 use Rattle.seam_law_bounds.proofs.Given.{reaps_add}
 use Rattle.seam_law_bounds.proofs.NetWeights.{run_ends}
 use Rattle.seam_law_bounds.proofs.NoPasses.{no_pass_by, passes_none}
@@ -144,10 +145,8 @@ module _ (f : Frame) (u : World) (between : IsBetweenRounds f u) (none : HoldsNo
           some_route (table.get b.routes e) _ now
 
       order_by : (o : Order) → IsReap u o → stray_order b o ≡ false
-      order_by (order.Cell c) h = absurd h
-      order_by (order.Base c) h = absurd h
-      order_by order.Tick h = refl
       order_by (order.Reap e) h = route_there e h
+      order_by _ h = absurd h
 
       first_by : (o : Order) (os : List Order) → b.orders ≡ o ∷ os → stray_order b o ≡ false
       first_by o os is =
@@ -187,9 +186,7 @@ module _ (f : Frame) (u : World) (between : IsBetweenRounds f u) (none : HoldsNo
       where
         reap_calls : (o : Order) → IsReap u o → OrderIs (λ c. ⊥) o
         reap_calls (order.Cell c) h = absurd h
-        reap_calls (order.Base c) h = tt
-        reap_calls order.Tick h = tt
-        reap_calls (order.Reap e) h = tt
+        reap_calls _ h = tt
 
         reaps_call : (s : NodeView) → OrdersAre (IsReap u) s → OrdersAre (OrderIs (λ c. ⊥)) s
         reaps_call (Cell c) h = tt
@@ -206,6 +203,6 @@ module _ (f : Frame) (u : World) (between : IsBetweenRounds f u) (none : HoldsNo
       let z : Sizes = record { bases = f.settings.bases; lines = 0; witnesses = λ k. 0 } in
       let few = run_ends z f start frame_loaded (λ x ds on. can_then ds x on z (omega arith)) v vs run in
       let passed = none_passed vs v run in
-      let at_start = reaps_add z f es u between.nodes.nodes in
+      let at_start = reaps_add z f es u (λ k s at. known_at f k s (between.nodes.nodes k s at)) in
       let quiet = quiet_weighs z f u between none in
       omega (arith, few, passed, at_start, quiet)

@@ -39,9 +39,7 @@ order_in os o = by o.1 (λ c is. inl is)
   where
     by : (x : Order) → ((c : CallData) → x ≡ order.Cell c → IsIn (o ∷ os) c) → OrderIs (IsIn (o ∷ os)) x
     by (order.Cell c) h = h c refl
-    by (order.Base c) h = tt
-    by order.Tick h = tt
-    by (order.Reap e) h = tt
+    by _ h = tt
 
 order_later : (os : List (ℕ × Order)) (o : ℕ × Order) (x : Order) → OrderIs (IsIn os) x → OrderIs (IsIn (o ∷ os)) x
 order_later os o (order.Cell c) h = inr h
@@ -128,8 +126,8 @@ module _ (f : Frame) (w : World) (b : Batch) (may : MayBeLoaded f w b) (none : H
       first_by : (o : Order) (os : List Order) → n.orders ≡ o ∷ os → IsKnown o → stray_order n o ≡ false
       first_by (order.Cell c) os is known = order_by (order.Cell c) os c.entity is refl (known c.entity refl) (search_real c.entity start)
       first_by (order.Base c) os is known = order_by (order.Base c) os c.entity is refl (known c.entity refl) (search_real c.entity start)
-      first_by order.Tick os is known = refl
       first_by (order.Reap e) os is known = order_by (order.Reap e) os e is refl (known e refl) (search_real e start)
+      first_by _ os is known = refl
 
       first_free : (o : Order) (os : List Order) → n.orders ≡ o ∷ os → stray_order n o ≡ false
       first_free o os is =

@@ -4,7 +4,7 @@ use Rattle.seam_law_bounds.proofs.Prelude.{Option, None, Some, refl, sym, ap, �
 use Rattle.seam_law_bounds.proofs.Prelude.{AllByRecursion, cases_eq, eq-eqb, ne_eqb, length-map, slice_get-map, link, EachNode, total}
 use Rattle.seam_law_bounds.proofs.Prelude.{Order, Batch, RealView, real_begins, Here, with_value, each_value, CellView, BaseView, NodeView}
 use Rattle.seam_law_bounds.proofs.Prelude.{World, node_has_work, Cell, Base, with_nodes, with_orders, order_if, ordered_at, cell_begins}
-use Rattle.seam_law_bounds.proofs.Prelude.{cell_round, loaded, slot_at, Frame, IsAt, order_concerns, orders_of, has_of, has_none, held_in}
+use Rattle.seam_law_bounds.proofs.Prelude.{cell_round, loaded, slot_at, Frame, order_concerns, orders_of, has_of, has_none, held_in}
 use Rattle.seam_law_bounds.proofs.Prelude.{real_in, reaped_by_order, real_at, framed, each, made, node_loaded, MayBegin, Sizes}
 use Rattle.seam_law_bounds.proofs.Prelude.{settle_weight, settling, look_weight, real_weight, part_weight, order_weight, node_weight}
 use Rattle.seam_law_bounds.proofs.Prelude.{letter_weight, world_weight, HoldsNothing, reals_at, entities, one_if_cell, one_if_tick}
@@ -13,13 +13,15 @@ use Rattle.seam_law_bounds.proofs.Prelude.{loaded_is, node_there, nodes_after, s
 use Rattle.seam_law_bounds.proofs.Prelude.{rows_none, look_cell, reals_stay}
 use Rattle.std.specs.FinMap as table
 use Rattle.seam_call.specs.declared.order.Order.TheVariants as order
-use Rattle.seam_law_rounds.proofs.Framing.{node_begun}
+use Rattle.seam_law_rounds.proofs.Framing.{node_begun, known_at}
+use Rattle.seam_law_calls.specs.Frames.{Knows}
 use Rattle.seam_law_bounds.specs.Phases.{one_if_base}
 use Rattle.seam_law_bounds.proofs.Counts.{none_times}
 use Rattle.seam_law_bounds.proofs.Given.{AreAt, sum_exceeds, sum_adds, turned, nodes_stay, order_stays, orders_add}
 use Rattle.seam_law_bounds.proofs.HandOvers.{real_left, node_left, mine_left, left}
 use Rattle.seam_law_bounds.proofs.LoadedNodes.{IsBlank, entries_each, loaded_blank, idle_blank, cell_ordered}
 use Rattle.seam_law_bounds.proofs.QuietWeights.{map_weighs_none}
+use Rattle.seam_node_steps.specs.Prelude.{TellsNone}
 
 -- ---- sums
 
@@ -38,7 +40,7 @@ total_times g h c (s ∷ ns) each =
     step : (x y m n : ℕ) → x ≡ m * c → y ≡ n * c → x + y ≡ (m + n) * c
     step x y m n here rest = grind (arith, here, rest)
 
--- what a batch's orders weigh, where none is a reap
+-- what a batch's orders weigh, where none is a reap or tells boundaries
 module _ (z : Sizes) where
   abbrev call : ℕ
   call = 3 + settle_weight z
@@ -47,15 +49,16 @@ module _ (z : Sizes) where
   tick = order_weight z order.Tick
 
   orders_weigh : (os : List (ℕ × Order)) → AllByRecursion (λ o. reaped_by_order o.1 ≡ None) os →
+      AllByRecursion (λ o. TellsNone o.1) os →
       total (λ o. order_weight z o.1) os ≡ total (λ o. one_if_cell o.1) os * (3 + settle_weight z) +
       (3 * total (λ o. one_if_base o.1) os + total (λ o. one_if_tick o.1) os * order_weight z order.Tick)
-  orders_weigh [] h =
+  orders_weigh [] h none =
       let a = none_times 0 (3 + settle_weight z) refl in
       let b = none_times 0 (order_weight z order.Tick) refl in
       omega (arith, a, b)
-  orders_weigh (o ∷ os) h =
-      by o.1 h.0 (total (λ o. one_if_cell o.1) os) (total (λ o. one_if_base o.1) os) (total (λ o. one_if_tick o.1) os)
-      (orders_weigh os h.1)
+  orders_weigh (o ∷ os) h none =
+      by o.1 h.0 none.0 (total (λ o. one_if_cell o.1) os) (total (λ o. one_if_base o.1) os) (total (λ o. one_if_tick o.1) os)
+      (orders_weigh os h.1 none.1)
     where
       one : (c x : ℕ) → (1 + c) * x ≡ x + c * x
       one c x = grind arith
@@ -66,22 +69,24 @@ module _ (z : Sizes) where
           plain : (c : ℕ) → 0 + c ≡ c
           plain c = omega arith
 
-      by : (o : Order) → reaped_by_order o ≡ None → (c d k : ℕ) → total (λ o. order_weight z o.1) os ≡ c * call + (3 * d + k * tick) →
+      by : (o : Order) → reaped_by_order o ≡ None → TellsNone o → (c d k : ℕ) → total (λ o. order_weight z o.1) os ≡ c * call +
+          (3 * d + k * tick) →
           order_weight z o + total (λ o. order_weight z o.1) os
           ≡ (one_if_cell o + c) * call + (3 * (one_if_base o + d) + (one_if_tick o + k) * tick)
-      by (order.Cell x) is c d k rest =
+      by (order.Cell x) is none c d k rest =
           let a : (one_if_cell (order.Cell x) + c) * call ≡ call + c * call = one c call in
           let b : (one_if_tick (order.Cell x) + k) * tick ≡ k * tick = zero k tick in
           omega (arith, rest, a, b)
-      by (order.Base x) is c d k rest =
+      by (order.Base x) is none c d k rest =
           let a : (one_if_cell (order.Base x) + c) * call ≡ c * call = zero c call in
           let b : (one_if_tick (order.Base x) + k) * tick ≡ k * tick = zero k tick in
           omega (arith, rest, a, b)
-      by order.Tick is c d k rest =
+      by order.Tick is none c d k rest =
           let a : (one_if_cell order.Tick + c) * call ≡ c * call = zero c call in
           let b : (one_if_tick order.Tick + k) * tick ≡ tick + k * tick = one k tick in
           omega (arith, rest, a, b)
-      by (order.Reap e) is c d k rest = cc
+      by (order.Reap e) is none c d k rest = cc
+      by (order.Bounds x) is none c d k rest = cc
 
 -- orders bring no real
 reals_ordered : (o : ℕ × Order) (ns : List NodeView) → total reals_at (map (ordered_at o) ns) ≡ total reals_at ns
@@ -134,8 +139,9 @@ module _ (f : Frame) (w : World) (b : Batch) (begin : MayBegin f w b) (none : Ho
   pub begun_at : AreAt g begun
   begun_at k t at =
       let was = begun_from k t at in
-      subst (IsAt g k) was.2
-      (node_begun f b begin.fits.tree k was.0 (begin.between.nodes.sound.states k was.0 was.1) (begin.between.nodes.nodes k was.0 was.1)).1
+      subst (Knows g.defs g.settings k) was.2
+      (known_at g k (turn was.0)
+      (node_begun f b begin.fits.tree k was.0 (begin.between.nodes.sound.states k was.0 was.1) (begin.between.nodes.nodes k was.0 was.1)).1)
 
   -- a cell of it is a cell of the loaded world
   cell_there : (k : ℕ) (c : CellView) → slice_get begun.nodes k ≡ Some (Cell c) → slice_get (loaded w b).nodes k ≡ Some (Cell c)
@@ -202,7 +208,7 @@ module _ (f : Frame) (w : World) (b : Batch) (begin : MayBegin f w b) (none : Ho
     loaded_weighs =
         let more = orders_add z g b.orders begun begun_at in
         let start = begun_weighs in
-        let orders = orders_weigh z b.orders begin.fits.spares in
+        let orders = orders_weigh z b.orders begin.fits.spares begin.fits.unmoved in
         let same = ap (λ n. n * settling z) (entities_stay b.orders begun) in
         omega (arith, more, start, orders, same)
 
@@ -284,16 +290,16 @@ module _ (f : Frame) (w : World) (b : Batch) (begin : MayBegin f w b) (none : Ho
     base_adds true n o = let more = filter_adds n.orders o in omega (arith, more)
     base_adds false n o = omega arith
 
-    order_adds : (k : ℕ) (o : ℕ × Order) (s : NodeView) → IsAt g k s →
+    order_adds : (k : ℕ) (o : ℕ × Order) (s : NodeView) → Knows g.defs g.settings k s →
         node_left e (ordered_at o s) ≤ node_left e s + cond {A = ℕ} (eqb k o.0) (one_if_cell o.1) 0
     order_adds k o (Cell c) at = omega arith
     order_adds k o (Base n) at =
         let one = base_adds (eqb o.0 n.here.me) n o.1 in
         let same =
-        ap (λ d. cond {A = ℕ} d (one_if_cell o.1) 0) (ap (λ (h : Here). eqb o.0 h.me) at.here ∙ turned o.0 k) in
+        ap (λ d. cond {A = ℕ} d (one_if_cell o.1) 0) (ap (λ (h : Here). eqb o.0 h.me) at.1 ∙ turned o.0 k) in
         omega (arith, one, same)
 
-    orders_few : (os : List (ℕ × Order)) (v : World) → EachNode (IsAt g) v.nodes →
+    orders_few : (os : List (ℕ × Order)) (v : World) → EachNode (Knows g.defs g.settings) v.nodes →
         left e (with_orders v os) ≤ left e v + total (λ o. one_if_cell o.1) os
     orders_few [] v at = omega arith
     orders_few (o ∷ os) v at =

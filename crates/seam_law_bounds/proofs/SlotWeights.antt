@@ -18,6 +18,7 @@ use Rattle.std.specs.FinSet as set
 use Rattle.seam_node_steps.specs.Prelude.{unless_stray}
 use Rattle.seam_entity.specs.declared.message.Msg.TheVariants.{Call}
 use Rattle.seam_law_bounds.proofs.Counts.{one_more, chosen_are_few}
+use Rattle.seam_node_steps.specs.Prelude.{Boundaries, brought}
 
 module _ (z : Sizes) where
   abbrev g : ℕ → Msg → ℕ
@@ -60,24 +61,25 @@ module _ (z : Sizes) where
       let e = ghosts_weigh h r h.me (haunts_at h t r.state.pos h.me r.haunts) changed in
       omega (arith, e)
 
-  gone_weigh : (h : Here) (s : Slot) (r : RealView) (j : ℕ) (haunts : Cells) (sent : List (ℕ × Msg)) → sent_weight g sent ≤ 16 →
-      step_weight s (gone_to h s r j haunts sent) ≤ real_weight z r + settle_weight z
-  gone_weigh h s r j haunts sent e =
-      let two = total-append (λ p. g p.0 p.1) sent ((j, Hand (settled_to r haunts (r.beat + 1) (r.generation + 1))) ∷ []) in
+  gone_weigh : (h : Here) (t : Boundaries) (s : Slot) (r : RealView) (j : ℕ) (haunts : Cells) (sent : List (ℕ × Msg)) →
+      sent_weight g sent ≤ 16 →
+      step_weight s (gone_to h t s r j haunts sent) ≤ real_weight z r + settle_weight z
+  gone_weigh h t s r j haunts sent e =
+      let two = total-append (λ p. g p.0 p.1) sent ((j, Hand (settled_to r haunts (r.beat + 1) (r.generation + 1)) (brought t)) ∷ []) in
       omega (arith, e, two)
 
-  settled_weigh_by : (b : Bool) (h : Here) (t : Division) (s : Slot) (r : RealView) (changed : Bool) (j : ℕ) →
+  settled_weigh_by : (b : Bool) (h : Here) (t : Boundaries) (s : Slot) (r : RealView) (changed : Bool) (j : ℕ) →
       step_weight s (settled_by b h t s r changed j) ≤ real_weight z r + settle_weight z
-  settled_weigh_by true h t s r changed j = stays_weigh h t s r changed
+  settled_weigh_by true h t s r changed j = stays_weigh h t.tree s r changed
   settled_weigh_by false h t s r changed j =
-      let haunts = haunts_at h t r.state.pos j (set.insert r.haunts h.me) in
-      gone_weigh h s r j haunts _ (ghosts_weigh h r j haunts changed)
+      let haunts = haunts_at h t.tree r.state.pos j (set.insert r.haunts h.me) in
+      gone_weigh h t s r j haunts _ (ghosts_weigh h r j haunts changed)
 
   -- a settle leaves and sends at most what the real weighs and the weight of a settle
-  settled_weigh : (h : Here) (t : Division) (s : Slot) (r : RealView) (changed : Bool) →
+  settled_weigh : (h : Here) (t : Boundaries) (s : Slot) (r : RealView) (changed : Bool) →
       step_weight s (settled h t s r changed) ≤ real_weight z r + settle_weight z
   settled_weigh h t s r changed =
-      settled_weigh_by (home_after h t r.state.pos == h.me) h t s r changed (home_after h t r.state.pos)
+      settled_weigh_by (home_after h t.tree r.state.pos == h.me) h t s r changed (home_after h t.tree r.state.pos)
 
   -- ---- messages
 
@@ -95,7 +97,7 @@ module _ (z : Sizes) where
       real_weight z (with_offer r k) ≡ real_weight z r + settling z
   held_weighs r k lt = one_more _ _ (settling z) (early_counts r.orders (rank_of k.sender) k.number k lt)
 
-  offered_weigh : (h : Here) (t : Division) (s : Slot) (r : RealView) (k : CallData) (o : Ordering) → s.real ≡ Some r →
+  offered_weigh : (h : Here) (t : Boundaries) (s : Slot) (r : RealView) (k : CallData) (o : Ordering) → s.real ≡ Some r →
       nat_cmp k.number (order_of r.orders k.sender).next ≡ o → step_weight s (offered h t s r k o) ≤ real_weight z r + settling z
   offered_weigh h t s r k Less is e = let w = had s r is in omega (arith, w)
   offered_weigh h t s r k Equal is e =
@@ -114,7 +116,8 @@ module _ (z : Sizes) where
   letter_weighs j t s m = step_weight s t + 1 ≤ slot_weight s + g j m
 
   -- a call lowers the weight, or is passed on and keeps it
-  call_weighs : (h : Here) (t : Division) (s : Slot) (k : CallData) (o : Option RealView) (n : Option NextPlace) → s.real ≡ o → s.next ≡ n →
+  call_weighs : (h : Here) (t : Boundaries) (s : Slot) (k : CallData) (o : Option RealView) (n : Option NextPlace) → s.real ≡ o → s.next
+      ≡ n →
       step_weight s (unless_stray (stray_call h k o n) (call h t s k o)) + 1 ≤ slot_weight s + (2 + settle_weight z) + one_if (is_left s)
   call_weighs h t s k (Some r) n is at =
       let w = had s r is in
@@ -160,20 +163,20 @@ module _ (z : Sizes) where
   passed s _ = false
 
   -- a message to a cell lowers the weight, but for a call that is passed on
-  pub message_weighs : (j : ℕ) (h : Here) (t : Division) (s : Slot) (m : Msg) → h.settings.bases ≤ z.bases →
+  pub message_weighs : (j : ℕ) (h : Here) (t : Boundaries) (s : Slot) (m : Msg) → h.settings.bases ≤ z.bases →
       step_weight s (slot_steps h t s m) + 1 ≤ slot_weight s + g j m + one_if (passed s m)
   message_weighs j h t s (Call k) few = let e = call_weighs h t s k s.real s.next refl refl in omega (arith, e)
-  message_weighs j h t s (Hand r) few = let e = hand_weighs h t s r s.real few refl in omega (arith, e)
+  message_weighs j h t s (Hand r bs) few = let e = hand_weighs h t.tree s r s.real few refl in omega (arith, e)
   message_weighs j h t s (GhostSet x n c) few = let e = set_weighs h s x n c s.real refl in omega (arith, e)
   message_weighs j h t s (GhostDrop x n) few =
-      let e = rests_by (is_stray h t s (GhostDrop x n)) s (ghost_drop s n) (slot_weight s) (omega arith) (omega arith) in
+      let e = rests_by (is_stray h t.tree s (GhostDrop x n)) s (ghost_drop s n) (slot_weight s) (omega arith) (omega arith) in
       omega (arith, e)
   message_weighs j h t s (Reap x) few = let e = reap_weighs s s.real refl in omega (arith, e)
   message_weighs j h t s _ few = omega arith
 
   -- ---- tasks
 
-  pub survey_weighs : (h : Here) (t : Division) (s : Slot) (o : Option RealView) → s.real ≡ o →
+  pub survey_weighs : (h : Here) (t : Boundaries) (s : Slot) (o : Option RealView) → s.real ≡ o →
       step_weight s (unless_stray (stray_survey o) (survey_task h t s o)) ≤ slot_weight s + settle_weight z
   survey_weighs h t s None is = omega arith
   survey_weighs h t s (Some r) is =
@@ -181,7 +184,7 @@ module _ (z : Sizes) where
       let one = settled_weigh h t s r false in
       rests_by (not (may_settle r)) s (settled h t s r false) _ (omega arith) (omega (arith, one, w))
 
-  ready_weighs_by : (h : Here) (t : Division) (s : Slot) (r : RealView) (o : ℕ × OrderView CallData) (k : Option CallData) →
+  ready_weighs_by : (h : Here) (t : Boundaries) (s : Slot) (r : RealView) (o : ℕ × OrderView CallData) (k : Option CallData) →
       s.real ≡ Some r → ready_order r.orders ≡ Some o → next_item o.1 ≡ k → is_some k ≡ true →
       step_weight s (executes_ready h t s r o k) + 1 ≤ slot_weight s
   ready_weighs_by h t s r o None is e n some = cc
@@ -192,7 +195,7 @@ module _ (z : Sizes) where
       let w = had s r is in
       omega (arith, one, three, w)
 
-  ready_weighs_if : (h : Here) (t : Division) (s : Slot) (r : RealView) (o : Option (ℕ × OrderView CallData)) → s.real ≡ Some r →
+  ready_weighs_if : (h : Here) (t : Boundaries) (s : Slot) (r : RealView) (o : Option (ℕ × OrderView CallData)) → s.real ≡ Some r →
       ready_order r.orders ≡ o → is_some o ≡ true → step_weight s (ready_in h t s r o) + 1 ≤ slot_weight s
   ready_weighs_if h t s r None is e some = cc
   ready_weighs_if h t s r (Some o) is e some =
@@ -203,7 +206,7 @@ module _ (z : Sizes) where
   not_stray false t is = cc
 
   -- a ready call that may be executed
-  pub ready_weighs : (h : Here) (t : Division) (s : Slot) (r : RealView) → s.real ≡ Some r → may_execute r ≡ true →
+  pub ready_weighs : (h : Here) (t : Boundaries) (s : Slot) (r : RealView) → s.real ≡ Some r → may_execute r ≡ true →
       has_ready r.orders ≡ true →
       step_weight s (unless_stray (stray_ready_call (Some r)) (ready_call_task h t s (Some r))) + 1 ≤ slot_weight s
   ready_weighs h t s r is may some =

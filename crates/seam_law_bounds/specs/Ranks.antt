@@ -15,7 +15,7 @@ rank_of h = rank_by h.cell.slot.real h.cell.slot.next
 
 -- a hand-over of at least that generation
 abbrev pub is_hand_from : ℕ → Msg → Bool
-is_hand_from n (Hand r) = nat_le n r.generation
+is_hand_from n (Hand r bs) = nat_le n r.generation
 is_hand_from n _ = false
 
 abbrev pub has_hand_from : ℕ → List Msg → Bool

@@ -54,6 +54,7 @@ order_weight z (order.Cell k) = 3 + settle_weight z
 order_weight z (order.Base k) = 3
 order_weight z order.Tick = 1 + total (tick_weight z) (range_with_len 0 cell_count)
 order_weight z (order.Reap e) = 18
+order_weight z (order.Bounds b) = 17
 
 -- a base node: its orders and its base parts
 abbrev pub base_weight : Sizes → BaseView → ℕ
@@ -67,7 +68,7 @@ node_weight z (Base b) = base_weight z b
 abbrev pub letter_weight : Sizes → ℕ → Msg → ℕ
 letter_weight z k (Call c) = 2 + settle_weight z
 letter_weight z k (BaseCall c) = 2
-letter_weight z k (Hand r) = 1 + z.bases + real_weight z r
+letter_weight z k (Hand r bs) = 1 + z.bases + real_weight z r
 letter_weight z k Tick = tick_weight z k
 letter_weight z k (Reap e) = 17
 letter_weight z k (Update u) = 2

@@ -53,7 +53,7 @@ module _ (f : Frame) (e k : ℕ) (s : Has) (i : Option Msg) (t : Has) (sent : Li
   cell_blank (deed.goes u r q changed j has own acts at n d) = absurd (never r has)
   cell_blank (deed.holds c r n own has mine may lt d) = absurd (never r has)
   cell_blank (deed.passes c p n own has at d) = with_sent (slot_same _ refl d.state) _ d.sends (tt, tt)
-  cell_blank (deed.lands r n own has may d) = absurd (come (Hand r) n)
+  cell_blank (deed.lands r bs n own has may d) = absurd (come (Hand r bs) n)
   cell_blank (deed.reaped r n has own may d) = absurd (never r has)
   cell_blank (deed.looks n r w known is at has own v small d) = absurd (never r has)
 

@@ -12,6 +12,7 @@ use Rattle.seam_node_steps.specs.BaseCases
 use Rattle.seam_node_steps.specs.BaseCases.{may_call, is_stray}
 use Rattle.seam_law_calls.specs.BaseMoves as move
 use Rattle.seam_law_calls.proofs.Lists.{mine_own, mine_other}
+use Rattle.seam_node_steps.specs.Prelude.{Bounds}
 
 -- ---- maps at the entity's number
 
@@ -181,6 +182,7 @@ module _ (e : ℕ) (b : BaseView) where
   own_moves (BaseCall c) a = call_own c (some_is c.entity e a)
   own_moves (Current x j g) a = current_own x j g (some_is x e a)
   own_moves Tick a = cc
+  own_moves (Bounds x) a = cc
   own_moves (Update u) a = update_own u (some_is u.entity e a)
   own_moves m a = move.strays m refl refl refl refl
 
@@ -195,6 +197,7 @@ module _ (e : ℕ) (b : BaseView) where
 
   hears : (m : Msg) → Hears m (mine e m)
   hears Tick = move.strays Tick refl refl refl refl
+  hears (Bounds x) = move.strays (Bounds x) refl refl refl refl
   hears m = hears_by m (entity_of m) refl (cases_eq (entity_of m) e)
 
   pub message_moves : (a : ℕ) (m : Msg) → Goal (mine e m) (base_steps b (From a m)).state (base_steps b (From a m)).sent

@@ -8,24 +8,28 @@ use Rattle.seam_law_calls.proofs.Prelude.{IsTickOrder, IsTickTo, IsUnknown}
 use Rattle.std.specs.FinMap as table
 use Rattle.seam_call.specs.declared.order.Order.TheVariants as order
 use Rattle.seam_node_steps.specs.BaseCases.{is_stray}
+use Rattle.seam_node_steps.specs.Prelude.{Bounds}
 use Rattle.seam_law_calls.proofs.Holds.{both}
 use Rattle.seam_law_calls.proofs.Lists.{concerned_own, mine_own, orders_own}
 use Rattle.seam_law_calls.proofs.NodeStray.{none_is_stray}
 
 -- ---- ticks
 
--- what is about no entity is a tick
-mine_tick : (e : ℕ) (m : Msg) → about m ≡ None → mine e m ≡ Some m
-mine_tick e Tick is = refl
-mine_tick e _ is = cc
+-- what is about no entity, a tick or boundaries, comes to each of them, and is stray
+mine_of_none : (e : ℕ) (m : Msg) → about m ≡ None → mine e m ≡ Some m
+mine_of_none e Tick is = refl
+mine_of_none e (Bounds b) is = refl
+mine_of_none e _ is = cc
 
-tick_strays : (h : Here) (s : AtBase) (m : Msg) → about m ≡ None → strays_at h s m ≡ true
-tick_strays h s Tick is = refl
-tick_strays h s _ is = cc
+none_strays : (h : Here) (s : AtBase) (m : Msg) → about m ≡ None → strays_at h s m ≡ true
+none_strays h s Tick is = refl
+none_strays h s (Bounds b) is = refl
+none_strays h s _ is = cc
 
-tick_is_free : (b : BaseView) (o : Order) → order_about o ≡ None → stray_order b o ≡ false
-tick_is_free b order.Tick is = refl
-tick_is_free b _ is = cc
+none_is_free : (b : BaseView) (o : Order) → order_about o ≡ None → stray_order b o ≡ false
+none_is_free b order.Tick is = refl
+none_is_free b (order.Bounds x) is = refl
+none_is_free b _ is = cc
 
 -- a tick comes to no base node
 not_to_base : (k : ℕ) (m : Msg) → cell_count ≤ k → IsTickTo k m → ⊥
@@ -58,16 +62,16 @@ module _ (f : Frame) (w : World) (q : IsInFrame f w) (each : (e : ℕ) → Nothi
     own_by e is (inl none) = (none_is_stray f e w q none k b node).messages a m ms at is
     own_by e is (inr u) = absurd (unknown_gets_none e (mine_own e m is) u)
 
-    tick_by : about m ≡ None → NothingIsStray f 0 w ⊎ IsUnknown f 0 w → ⊥
-    tick_by is (inl none) =
-        let free = none.letters a k m (letters_of (mine 0) ms) high (seen 0 (mine_tick 0 m is)) in
-        let z = sym (tick_strays (here_at f k) ((entity_flow 0 w).slot k).base m is) ∙ free in
+    none_by : about m ≡ None → NothingIsStray f 0 w ⊎ IsUnknown f 0 w → ⊥
+    none_by is (inl none) =
+        let free = none.letters a k m (letters_of (mine 0) ms) high (seen 0 (mine_of_none 0 m is)) in
+        let z = sym (none_strays (here_at f k) ((entity_flow 0 w).slot k).base m is) ∙ free in
         cc
-    tick_by is (inr u) = unknown_gets_none 0 (mine_tick 0 m is) u
+    none_by is (inr u) = unknown_gets_none 0 (mine_of_none 0 m is) u
 
     message_by : (o : Option ℕ) → about m ≡ o → is_stray b m ≡ false
     message_by (Some e) is = own_by e is (each e)
-    message_by None is = absurd (tick_by is (each 0))
+    message_by None is = absurd (none_by is (each 0))
 
     message_free : is_stray b m ≡ false
     message_free = message_by (about m) refl
@@ -85,7 +89,7 @@ module _ (f : Frame) (w : World) (q : IsInFrame f w) (each : (e : ℕ) → Nothi
 
     order_by : (x : Option ℕ) → order_about o ≡ x → stray_order b o ≡ false
     order_by (Some e) is = of_entity e is (each e)
-    order_by None is = tick_is_free b o is
+    order_by None is = none_is_free b o is
 
     order_free : stray_order b o ≡ false
     order_free = order_by (order_about o) refl

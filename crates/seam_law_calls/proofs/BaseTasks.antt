@@ -16,6 +16,7 @@ use Rattle.seam_law_calls.specs.BaseMoves as move
 use Rattle.seam_law_calls.proofs.Lists.{AllAbout, all_pass, concerned_own, concerned_other, concerning_own, concerning_other, orders_own}
 use Rattle.seam_law_calls.proofs.Lists.{orders_other}
 use Rattle.seam_law_calls.proofs.BaseSteps.{gone_own, gone_other, at_same, yes_of, part_own, part_other}
+use Rattle.seam_node_steps.specs.Prelude.{TellsNone}
 
 module _ (e : ℕ) (b : BaseView) where
   abbrev s : AtBase
@@ -78,6 +79,7 @@ module _ (e : ℕ) (b : BaseView) where
         let same : c.entity ≡ e = cc in
         base_by c (is_base_node_of b.here c.entity) at same refl sound
     own_order order.Tick at is sound = cc
+    own_order (order.Bounds x) at is sound = cc
     own_order (order.Reap x) at is sound =
         let same : x ≡ e = cc in
         reap_moves x (table.get b.routes x) at same (sym (ap (table.get b.routes) same)) sound
@@ -95,6 +97,7 @@ module _ (e : ℕ) (b : BaseView) where
         let same : c.entity ≡ e = cc in
         sym (ap (λ z. is_base_node_of b.here c.entity && stray_base_call b.here c (table.get b.parts z)) same) ∙ h
     stuck_is order.Tick is h = cc
+    stuck_is (order.Bounds x) is h = cc
     stuck_is (order.Reap x) is h =
         let same : x ≡ e = cc in
         sym (ap (λ z. is_none (table.get b.routes z)) same) ∙ h
@@ -131,6 +134,7 @@ module _ (e : ℕ) (b : BaseView) where
         let same : c.entity ≡ x = cc in
         away_base c (is_base_node_of b.here c.entity) x same n
     away order.Tick x is n = cc
+    away (order.Bounds y) x is n = cc
     away (order.Reap y) x is n =
         let same : y ≡ x = cc in
         record {
@@ -150,11 +154,12 @@ module _ (e : ℕ) (b : BaseView) where
     order_at o x at is (inl same) = own_by o (stray_order b o) at (is ∙ ap Some same) refl
     order_at o x at is (inr n) = other_by o x (stray_order b o) at is n
 
-    order_moves : (o : Order) → b.orders ≡ o ∷ os → Goal (base_task b (o ∷ os))
-    order_moves (order.Cell c) at = order_at (order.Cell c) c.entity at refl (cases_eq c.entity e)
-    order_moves (order.Base c) at = order_at (order.Base c) c.entity at refl (cases_eq c.entity e)
-    order_moves order.Tick at = tick_order (ap (orders_of e) at ∙ orders_own e order.Tick os refl)
-    order_moves (order.Reap x) at = order_at (order.Reap x) x at refl (cases_eq x e)
+    order_moves : (o : Order) → TellsNone o → b.orders ≡ o ∷ os → Goal (base_task b (o ∷ os))
+    order_moves (order.Bounds x) none at = cc
+    order_moves (order.Cell c) none at = order_at (order.Cell c) c.entity at refl (cases_eq c.entity e)
+    order_moves (order.Base c) none at = order_at (order.Base c) c.entity at refl (cases_eq c.entity e)
+    order_moves order.Tick none at = tick_order (ap (orders_of e) at ∙ orders_own e order.Tick os refl)
+    order_moves (order.Reap x) none at = order_at (order.Reap x) x at refl (cases_eq x e)
 
   -- ---- the task without orders
 
@@ -215,9 +220,9 @@ module _ (e : ℕ) (b : BaseView) where
   part_moves (Some p) at = part_at p at (cases_eq p.0 e)
   part_moves None at = proxy_moves (ready_proxy b) refl
 
-  task_at : (os : List Order) → b.orders ≡ os → Goal (base_task b os)
-  task_at (o ∷ os) at = order_moves os o at
-  task_at [] at = part_moves (ready_part b) refl
+  task_at : (os : List Order) → AllByRecursion TellsNone os → b.orders ≡ os → Goal (base_task b os)
+  task_at (o ∷ os) none at = order_moves os o none.0 at
+  task_at [] none at = part_moves (ready_part b) refl
 
-  pub task_moves : Goal (base_task b b.orders)
-  task_moves = task_at b.orders refl
+  pub task_moves : AllByRecursion TellsNone b.orders → Goal (base_task b b.orders)
+  task_moves none = task_at b.orders none refl

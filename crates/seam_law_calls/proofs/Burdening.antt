@@ -14,17 +14,18 @@ use Rattle.seam_law_calls.proofs.CellDeeds.{CellDeeds, cell_deeds}
 use Rattle.seam_law_calls.proofs.Plain.{SeesNoGhost, ghosts_silent, drops_silent, mapped_silent, numbered_silent}
 use Rattle.seam_law_calls.proofs.Paying.{OrdersPay, base_paid}
 use Rattle.seam_law_calls.proofs.HeldCounts.{turn_counts, early_counts, taken_counts}
+use Rattle.seam_node_steps.specs.Prelude.{at_start}
 
 -- eyes that see what weighs something
 abbrev heavy : Msg → Option ℕ
 heavy (Call c) = Some 0
-heavy (Hand r) = Some 0
+heavy (Hand r bs) = Some 0
 heavy (Reap e) = Some 0
 heavy _ = None
 
 light : (m : Msg) → heavy m ≡ None → letter_burden m ≡ 0
 light (Call c) h = cc
-light (Hand r) h = cc
+light (Hand r bs) h = cc
 light (Reap e) h = cc
 light _ h = refl
 
@@ -104,16 +105,16 @@ module _ (f : Frame) (e k : ℕ) (s : Has) (i : Option Msg) (t : Has) (sent : Li
       omega (arith, a, b, c, z, pb, pg, pp, up, was)
 
   goes_eased : (tree : Division) (u : AtCell) (r q : RealView) (changed : Bool) (j : ℕ) → s.cell.slot.real ≡ Some r →
-      Acts (here_at f k) e s.cell i r u q changed → Does u (settle.goes (here_at f k) tree s.cell.slot q changed j) t.cell sent →
+      Acts (here_at f k) e s.cell i r u q changed → Does u (settle.goes (here_at f k) (at_start tree) s.cell.slot q changed j) t.cell sent →
       t.base ≡ s.base → Eased
   goes_eased tree u r q changed j has acts d same =
       let haunts = haunts_at (here_at f k) tree q.state.pos j (set.insert q.haunts k) in
       let told = ghost_messages (here_at f k) q j haunts changed in
       let gone = settled_to q haunts (q.beat + 1) (q.generation + 1) in
-      let a = real_is (settle.goes (here_at f k) tree s.cell.slot q changed j) u d in
-      let b = survey_is (settle.goes (here_at f k) tree s.cell.slot q changed j) u d in
+      let a = real_is (settle.goes (here_at f k) (at_start tree) s.cell.slot q changed j) u d in
+      let b = survey_is (settle.goes (here_at f k) (at_start tree) s.cell.slot q changed j) u d in
       let c : sent_burden sent ≡ sent_burden told + real_burden gone =
-      ap sent_burden d.sends ∙ total-push (λ p. letter_burden p.1) told (j, Hand gone) in
+      ap sent_burden d.sends ∙ total-push (λ p. letter_burden p.1) told (j, Hand gone None) in
       let none = light_sent told (ghosts_silent heavy no_ghosts (here_at f k) q j haunts changed) in
       let z = base_is same in
       let p = pays u r q changed acts in
@@ -148,7 +149,7 @@ module _ (f : Frame) (e k : ℕ) (s : Has) (i : Option Msg) (t : Has) (sent : Li
       let z = base_is same in
       let pay = ap came n in
       omega (arith, a, b, g, z, pay)
-  cell_eased (deed.lands r n is has may d) same =
+  cell_eased (deed.lands r bs n is has may d) same =
       let a = real_is _ s.cell d in
       let b = survey_is _ s.cell d in
       let g = sent_is _ s.cell d (mapped_silent heavy (current_to (here_at f k) r) (λ b. refl) (base_numbers (here_at f k))) in

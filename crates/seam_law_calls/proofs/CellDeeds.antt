@@ -14,6 +14,7 @@ use Rattle.seam_entity.specs.declared.message.Msg.TheVariants.{Call}
 use Rattle.seam_node_steps.specs.Settle as settle
 use Rattle.seam_law_calls.specs.CellMoves as move
 use Rattle.seam_law_calls.proofs.BaseDeeds.{AllSent, mapped_all}
+use Rattle.seam_node_steps.specs.Prelude.{Boundaries, at_start}
 
 -- ---- nothing is done with the real
 
@@ -51,13 +52,14 @@ pub data CellDeeds (h : Here) (t : Division) (e : ℕ) (s : AtCell) (i : Option 
   stays : (u : AtCell) (r q : RealView) (changed : Bool) → s.slot.real ≡ Some r → r.entity ≡ e → Acts h e s i r u q changed
       → home_after h t q.state.pos ≡ h.me → Does u (settle.stays h t s.slot q changed) v sent → CellDeeds h t e s i v sent
   goes : (u : AtCell) (r q : RealView) (changed : Bool) (j : ℕ) → s.slot.real ≡ Some r → r.entity ≡ e → Acts h e s i r u q changed
-      → home_after h t q.state.pos ≡ j → (j ≡ h.me → ⊥) → Does u (settle.goes h t s.slot q changed j) v sent → CellDeeds h t e s i v sent
+      → home_after h t q.state.pos ≡ j → (j ≡ h.me → ⊥) → Does u (settle.goes h (at_start t) s.slot q changed j) v sent →
+      CellDeeds h t e s i v sent
   holds : (c : CallData) (r : RealView) → i ≡ Some (Call c) → c.entity ≡ e → s.slot.real ≡ Some r → r.entity ≡ e
       → may_call h r c ≡ true → (order_of r.orders c.sender).next < c.number
       → Does s (becomes (record s.slot { real = Some (with_offer r c) })) v sent → CellDeeds h t e s i v sent
   passes : (c : CallData) (n : NextPlace) → i ≡ Some (Call c) → c.entity ≡ e → s.slot.real ≡ None → s.slot.next ≡ Some n
       → Does s (record { slot = None; unlisted = false; sent = (n.cell, Call c) ∷ [] }) v sent → CellDeeds h t e s i v sent
-  lands : (r : RealView) → i ≡ Some (Hand r) → r.entity ≡ e → s.slot.real ≡ None → may_come h t r ≡ true
+  lands : (r : RealView) (bs : Option Boundaries) → i ≡ Some (Hand r bs) → r.entity ≡ e → s.slot.real ≡ None → may_come h t r ≡ true
       → Does s (hand_over_comes h s.slot r) v sent → CellDeeds h t e s i v sent
   reaped : (r : RealView) → i ≡ Some (Reap e) → s.slot.real ≡ Some r → r.entity ≡ e → may_rise r.beat ≡ true
       → Does s (reap s.slot (Some r)) v sent → CellDeeds h t e s i v sent
@@ -115,7 +117,7 @@ module _ {h : Here} {t : Division} {e : ℕ} {s : AtCell} {i : Option Msg} {v : 
   cell_deeds (move.late c r n has may lt d) = rest d (late c r n has may lt)
   cell_deeds (move.holds c r n own has mine may lt d) = holds c r n own has mine may lt d
   cell_deeds (move.passes c p n own has at d) = passes c p n own has at d
-  cell_deeds (move.lands r n own has may d) = lands r n own has may d
+  cell_deeds (move.lands r bs n own has may d) = lands r bs n own has may d
   cell_deeds (move.hears_set n c is has d) =
       hears (Some c) n d.state (set_to n c is has (ap (λ a. a.slot.ghost) d.state)) (copies e n c is) d.sends
   cell_deeds (move.ignores_set n c r is has d) = rest d (copies e n c is)
@@ -129,16 +131,17 @@ module _ {h : Here} {t : Division} {e : ℕ} {s : AtCell} {i : Option Msg} {v : 
   cell_deeds (move.stuck r is has ready may d) = rest d (task is)
 
 -- what leaves the real is no hand-over that finds room, no call in its turn and no reap that finds the real
-pub not_handed : {h : Here} {t : Division} {s : AtCell} {i : Option Msg} → Ignored h t s i → (r : RealView) → i ≡ Some (Hand r) →
-    is_stray h t s.slot (Hand r) ≡ true
-not_handed (task n) r is = absurd (let z = sym n ∙ is in cc)
-not_handed {h} {t} {s} (stray m n b) r is =
-    let one : m ≡ Hand r = let z = sym n ∙ is in cc in
+pub not_handed : {h : Here} {t : Division} {s : AtCell} {i : Option Msg} → Ignored h t s i → (r : RealView) (bs : Option Boundaries) → i
+    ≡ Some (Hand r bs) →
+    is_stray h t s.slot (Hand r bs) ≡ true
+not_handed (task n) r bs is = absurd (let z = sym n ∙ is in cc)
+not_handed {h} {t} {s} (stray m n b) r bs is =
+    let one : m ≡ Hand r bs = let z = sym n ∙ is in cc in
     ap (is_stray h t s.slot) (sym one) ∙ b
-not_handed (late c r n has may lt) q is = absurd (let z = sym n ∙ is in cc)
-not_handed (copies e beat c n) r is = absurd (let z = sym n ∙ is in cc)
-not_handed (drops_copy e beat n) r is = absurd (let z = sym n ∙ is in cc)
-not_handed (ticks n) r is = absurd (let z = sym n ∙ is in cc)
+not_handed (late c r n has may lt) q bs is = absurd (let z = sym n ∙ is in cc)
+not_handed (copies e beat c n) r bs is = absurd (let z = sym n ∙ is in cc)
+not_handed (drops_copy e beat n) r bs is = absurd (let z = sym n ∙ is in cc)
+not_handed (ticks n) r bs is = absurd (let z = sym n ∙ is in cc)
 
 pub not_reaped : {h : Here} {t : Division} {s : AtCell} {i : Option Msg} → Ignored h t s i → (e : ℕ) → i ≡ Some (Reap e) →
     is_stray h t s.slot (Reap e) ≡ true
@@ -174,9 +177,9 @@ module _ (Q : ℕ → Msg → Type 0) where
     pub drops : (j x beat : ℕ) → j < cell_count → Q j (GhostDrop x beat)
     pub hands : (u : AtCell) (r q : RealView) (changed : Bool) (j : ℕ) → s.slot.real ≡ Some r → Acts h e s i r u q changed
         → home_after h t q.state.pos ≡ j
-        → Q j (Hand (settled_to q (haunts_at h t q.state.pos j (set.insert q.haunts h.me)) (q.beat + 1) (q.generation + 1)))
+        → Q j (Hand (settled_to q (haunts_at h t q.state.pos j (set.insert q.haunts h.me)) (q.beat + 1) (q.generation + 1)) None)
     pub calls : (c : CallData) (n : NextPlace) → i ≡ Some (Call c) → s.slot.next ≡ Some n → Q n.cell (Call c)
-    pub routes : (r : RealView) (j : ℕ) → i ≡ Some (Hand r) → cell_count ≤ j → j < cell_count + h.settings.bases
+    pub routes : (r : RealView) (bs : Option Boundaries) (j : ℕ) → i ≡ Some (Hand r bs) → cell_count ≤ j → j < cell_count + h.settings.bases
         → Q j (Current r.entity h.me r.generation)
     pub updates : (x : ℕ) (u : UpdateData) → Q (base_of h x) (Update u)
 
@@ -241,21 +244,21 @@ module _ (Q : ℕ → Msg → Type 0) where
         (ghosts_all q j _ changed) (says.hands u r q changed j has acts at, tt))
     cell_says (holds c r n own has mine may lt d) = is_sent _ d.sends tt
     cell_says (passes c p n own has at d) = is_sent _ d.sends (says.calls c p n at, tt)
-    cell_says (lands r n own has may d) =
-        is_sent _ d.sends (mapped_all Q (current_to h r) cell_count h.settings.bases (λ b le lt. says.routes r b n le lt))
+    cell_says (lands r bs n own has may d) =
+        is_sent _ d.sends (mapped_all Q (current_to h r) cell_count h.settings.bases (λ b le lt. says.routes r bs b n le lt))
     cell_says (reaped r n has own may d) = is_sent _ d.sends (drops_all r)
     cell_says (looks n r w known is at has own seen small d) = is_sent _ d.sends (numbered_all r.entity w.sent (shown_of h r w known))
 
 -- eyes that see nothing but calls, and whether they see those
 pub plain_says : {L : Type 0} (mine : Msg → Option L) (h : Here) (t : Division) (e : ℕ) (s : AtCell) (i : Option Msg) →
     ((x beat : ℕ) (c : GhostCopy) → mine (GhostSet x beat c) ≡ None) → ((x beat : ℕ) → mine (GhostDrop x beat) ≡ None) →
-    ((r : RealView) → mine (Hand r) ≡ None) → ((c : CallData) → mine (Call c) ≡ None) → ((x j g : ℕ) → mine (Current x j g) ≡ None) →
+    ((r : RealView) → mine (Hand r None) ≡ None) → ((c : CallData) → mine (Call c) ≡ None) → ((x j g : ℕ) → mine (Current x j g) ≡ None) →
     ((u : UpdateData) → mine (Update u) ≡ None) → Says (λ j m. mine m ≡ None) h t e s i
 plain_says mine h t e s i sets drops hands calls routes updates = record {
   sets = λ j x beat c low. sets x beat c;
   drops = λ j x beat low. drops x beat;
   hands = λ u r q changed j has acts at. hands _;
   calls = λ c n is at. calls c;
-  routes = λ r j is le lt. routes r.entity h.me r.generation;
+  routes = λ r bs j is le lt. routes r.entity h.me r.generation;
   updates = λ x u. updates u;
 }

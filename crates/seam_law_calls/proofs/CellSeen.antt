@@ -25,6 +25,7 @@ use Rattle.seam_law_calls.proofs.Holds.{not_both}
 use Rattle.seam_law_calls.proofs.Plain.{SeesNoGhost, ghosts_silent, mapped_silent, numbered_silent}
 use Rattle.seam_law_calls.proofs.Handling.{FindsRoom, not_stray}
 use Rattle.seam_law_calls.proofs.DeskLemmas.{from_same, from_other, desk_executes, desk_holds, desk_keeps, desk_stays, desk_takes}
+use Rattle.seam_node_steps.specs.Prelude.{Boundaries, at_start}
 
 -- a ready call is of the sender under whose place it is held
 abbrev pub HoldsOwn : Has → Type 0
@@ -145,16 +146,17 @@ module _ (f : Frame) (e k s : ℕ) (h : Has) (i : Option Msg) (t : Has) (sent : 
         (acts_seen u r q changed has own acts seen_out (quiet (silent_of x u d silent))))
 
     goes_seen : (tree : Division) (u : AtCell) (r q : RealView) (changed : Bool) (j : ℕ) → real_in h ≡ Some r → HoldsOwn h →
-        Acts (here_at f k) e h.cell i r u q changed → Does u (settle.goes (here_at f k) tree h.cell.slot q changed j) t.cell sent → Seen
+        Acts (here_at f k) e h.cell i r u q changed → Does u (settle.goes (here_at f k)
+        (at_start tree) h.cell.slot q changed j) t.cell sent → Seen
     goes_seen tree u r q changed j has own acts d =
-        let x = settle.goes (here_at f k) tree h.cell.slot q changed j in
+        let x = settle.goes (here_at f k) (at_start tree) h.cell.slot q changed j in
         let haunts = haunts_at (here_at f k) tree q.state.pos j (set.insert q.haunts k) in
         let gone = settled_to q haunts (q.beat + 1) (q.generation + 1) in
         let silent = ghosts_silent mine no_ghosts (here_at f k) q j haunts changed in
         let after : cell_post s t ≡ post (stores h) None = post_is (stores t) (stores h) (desk_at t) None stores_same (real_is x u d) in
         twice (acted q) (acts_seen u r q changed has own acts (λ y. []) (λ y. refl))
         (leaves (desk_for s q.orders q.done) j refl refl after
-        (only (ghost_messages (here_at f k) q j haunts changed) j (Hand gone) _ d.sends silent refl))
+        (only (ghost_messages (here_at f k) q j haunts changed) j (Hand gone None) _ d.sends silent refl))
 
     holds_seen : (c : CallData) (r : RealView) → i ≡ Some (Call c) → real_in h ≡ Some r → (order_of r.orders c.sender).next < c.number →
         cell_post s t ≡ acted (with_offer r c) → IsSilent mine sent → Seen
@@ -173,11 +175,12 @@ module _ (f : Frame) (e k s : ℕ) (h : Has) (i : Option Msg) (t : Has) (sent : 
           (quiet (subst (IsSilent mine) (sym is) (from_other s c (Item c.number c) other, tt))))
     ]
 
-    module _ (room : (r : RealView) → i ≡ Some (Hand r) → FindsRoom f k h r) (turn : (c : CallData) → i ≡ Some (Call c) →
+    module _ (room : (r : RealView) (bs : Option Boundaries) → i ≡ Some (Hand r bs) → FindsRoom f k h r)
+        (turn : (c : CallData) → i ≡ Some (Call c) →
         FindsTurn f k h c) where
       unseen_by : (tree : Division) → IsTreeOf f tree → (j : Option Msg) → i ≡ j → Ignored (here_at f k) tree h.cell i → came ≡ None
       unseen_by tree of None n why = ap (carried_in mine) n
-      unseen_by tree of (Some (Hand r)) n why = absurd (not_stray f k h r (room r n) tree of (not_handed why r n))
+      unseen_by tree of (Some (Hand r bs)) n why = absurd (not_stray f k h r (room r bs n) tree of (not_handed why r bs n))
       unseen_by tree of (Some (Call c)) n why = absurd (elim (not_called why c n) [
         | inl b ↦ let p = turn c n in call_not_stray (here_at f k) c h.cell.slot.real h.cell.slot.next p.may p.place b
         | inr l ↦ let le = (turn c n).due l.0 l.1 in let lt = l.2 in omega (arith, le, lt)
@@ -194,7 +197,7 @@ module _ (f : Frame) (e k s : ℕ) (h : Has) (i : Option Msg) (t : Has) (sent : 
           holds_seen c r n has lt (post_is (stores t) (stores h) (desk_at t) _ stores_same (real_is _ h.cell d)) (silent_of _ h.cell d tt)
       cell_seen own calm tree of (deed.passes c p n is has at d) =
           passes_seen c p.cell n (post_is (stores t) (stores h) (desk_at t) (desk_at h) stores_same (real_is _ h.cell d)) d.sends
-      cell_seen own calm tree of (deed.lands r n is has may d) =
+      cell_seen own calm tree of (deed.lands r bs n is has may d) =
           once (lands (desk_for s r.orders r.done) (ap (carried_in mine) n)
           (post_is (stores t) (stores h) (desk_at t) _ stores_same (real_is _ h.cell d))
           (quiet (silent_of _ h.cell d (mapped_silent mine (current_to (here_at f k) r) (λ b. refl) (base_numbers (here_at f k))))))
@@ -206,7 +209,8 @@ module _ (f : Frame) (e k s : ℕ) (h : Has) (i : Option Msg) (t : Has) (sent : 
 
   -- ---- a base node
 
-  module _ (cell : t.cell ≡ h.cell) (high : cell_count ≤ k) (room : (r : RealView) → i ≡ Some (Hand r) → FindsRoom f k h r)
+  module _ (cell : t.cell ≡ h.cell) (high : cell_count ≤ k) (room : (r : RealView) (bs : Option Boundaries) → i ≡ Some (Hand r bs) →
+      FindsRoom f k h r)
       (turn : (c : CallData) → i ≡ Some (Call c) → FindsTurn f k h c) where
     desk_same : desk_at t ≡ desk_at h
     desk_same = ap (λ c. real_desk s c.slot.real) cell
@@ -214,7 +218,7 @@ module _ (f : Frame) (e k s : ℕ) (h : Has) (i : Option Msg) (t : Has) (sent : 
     base_none : (j : Option Msg) → i ≡ j → came ≡ None
     base_none None a = ap (carried_in mine) a
     base_none (Some (Call c)) a = let low = (turn c a).cell in absurd (omega (arith, low, high))
-    base_none (Some (Hand r)) a = let low = (room r a).cell in absurd (omega (arith, low, high))
+    base_none (Some (Hand r bs)) a = let low = (room r bs a).cell in absurd (omega (arith, low, high))
     base_none (Some m) a = unseen m a refl
 
     still : IsSilent mine sent → stores t ≡ stores h → Seen
@@ -259,7 +263,8 @@ module _ (f : Frame) (e k s : ℕ) (h : Has) (i : Option Msg) (t : Has) (sent : 
     base_seen cells (base_deed.reaps r n at has z) =
         still (one_silent r.cell (Reap e) refl z) (other_gone (order.Reap e) t.base.orders refl at refl)
 
-  pub calls_seen : ((r : RealView) → i ≡ Some (Hand r) → FindsRoom f k h r) → ((c : CallData) → i ≡ Some (Call c) → FindsTurn f k h c) →
+  pub calls_seen : ((r : RealView) (bs : Option Boundaries) → i ≡ Some (Hand r bs) → FindsRoom f k h r) →
+      ((c : CallData) → i ≡ Some (Call c) → FindsTurn f k h c) →
       HoldsOwn h → (i ≡ Some (Reap e) → ⊥) → Moves f e k h i t sent → Seen
   calls_seen room turn own calm (at_a_cell tree of low m same) = cell_seen same room turn own calm tree of (cell_deeds m)
   calls_seen room turn own calm (at_a_base high m same) = base_seen same high room turn _ (base_deeds m)

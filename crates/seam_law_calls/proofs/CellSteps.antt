@@ -3,7 +3,7 @@ use Rattle.seam_law_calls.proofs.Prelude.{◌≡◌, ℕ, ◌⊎◌, Bool, true,
 use Rattle.seam_law_calls.proofs.Prelude.{subst, inl, inr, option_map, nat_cmp, eq_by_cmp, unsigned_tied, cases_eq, eq-eqb, ne_eqb, found}
 use Rattle.seam_law_calls.proofs.Prelude.{Input, Task, From, RealView, Msg, Tick, number_of, has_ready, Slot, SlotStep, slot_after, about}
 use Rattle.seam_law_calls.proofs.Prelude.{slot_steps, stray_survey, stray_ready_call, stray_look, CellView, slot_of, after_slot}
-use Rattle.seam_law_calls.proofs.Prelude.{unlisted_by, stepped, cell_steps, cell_task, ready_next, look_next, cell_hears, ready_entity}
+use Rattle.seam_law_calls.proofs.Prelude.{unlisted_by, stepped, cell_steps, cell_task, ready_next, look_next, ready_entity}
 use Rattle.seam_law_calls.proofs.Prelude.{real_is_ready, calls_ready, looks_around, known_to, AreUnderTheirEntities, letter_in, mine}
 use Rattle.seam_law_calls.proofs.Prelude.{concerning, times, AtCell, at_cell, unlisted_if, Does, CellMoves, entity_of, slot_stepped}
 use Rattle.std.specs.FinMap as table
@@ -15,6 +15,8 @@ use Rattle.seam_law_calls.proofs.Lists.{times_without, times_without_other}
 use Rattle.seam_law_calls.proofs.Sent.{slot_about, surveys_about, readies_about, looks_about}
 use Rattle.seam_law_calls.proofs.SlotSteps.{message_moves, survey_moves, ready_moves, look_moves}
 use Rattle.seam_law_calls.proofs.Ticking.{ticked}
+use Rattle.seam_node_steps.specs.Prelude.{Bounds, BringsNone, IsPlainInput, Stepped, at_start}
+use Rattle.seam_node_steps.proofs.Plain.{plainly, steps_plainly}
 
 tied : (e : ℕ) → eq_by_cmp nat_cmp e e ≡ true
 tied e = unsigned_tied e e ∙ eq-eqb e e refl
@@ -72,7 +74,11 @@ does_own : (c : CellView) (e : ℕ) (x : SlotStep) → AllAbout e x.sent →
     Does (at_cell e c) x (at_cell e (stepped c e x).state) (concerning e x.sent)
 does_own c e x a = record { state = at_own c e x; sends = concerning_own e x.sent a }
 
-module _ (c : CellView) (keys : AreUnderTheirEntities c.reals) (e : ℕ) where
+-- a cell that goes by the boundaries of the round's start
+module _ (was : CellView) (keys : AreUnderTheirEntities was.reals) (e : ℕ) where
+  abbrev c : CellView
+  c = record was { number = 0 }
+
   abbrev Moved : Option Msg → CellView → List (ℕ × Msg) → Type 0
   Moved i d sent = CellMoves c.here c.tree e (at_cell e c) i (at_cell e d) (concerning e sent)
 
@@ -91,13 +97,14 @@ module _ (c : CellView) (keys : AreUnderTheirEntities c.reals) (e : ℕ) where
       let x = surveys c e (table.get c.reals e) in
       survey_moves c.here c.tree e (at_cell e c) (keys e) (at_cell e (stepped d e x).state) (concerning e x.sent) (times e es)
       (ap (times e) (at ∙ ap (λ z. z ∷ es) is) ∙ times_own e es)
-      (does_own d e x (surveys_about e c.here c.tree (slot_of c e) (stray_survey (table.get c.reals e)) (table.get c.reals e) (keys e))))
+      (does_own d e x (surveys_about e c.here (at_start c.tree) (slot_of c e) (stray_survey (table.get c.reals e)) (table.get c.reals e)
+      (keys e))))
   survey_by y es at (inr n) =
       let d = record c { survey = es } in
       let x = surveys c y (table.get c.reals y) in
       others None d y x refl n
       (at_same _ _ _ _ _ _ refl (sym (ap (times e) at ∙ times_other e y es n)) refl)
-      (surveys_about y c.here c.tree (slot_of c y) (stray_survey (table.get c.reals y)) (table.get c.reals y) (keys y))
+      (surveys_about y c.here (at_start c.tree) (slot_of c y) (stray_survey (table.get c.reals y)) (table.get c.reals y) (keys y))
 
   look_by : (y : ℕ) (es : List ℕ) → c.looks ≡ y ∷ es → (y ≡ e) ⊎ (y ≡ e → ⊥) →
       Moved None (look_next c (y ∷ es)).state (look_next c (y ∷ es)).sent
@@ -107,7 +114,7 @@ module _ (c : CellView) (keys : AreUnderTheirEntities c.reals) (e : ℕ) where
       look_moves c.here c.tree e (at_cell e c) (keys e) (at_cell e (stepped d e x).state) (concerning e x.sent) (times e es) (known_to c e)
       (ap (times e) (at ∙ ap (λ z. z ∷ es) is) ∙ times_own e es)
       (does_own d e x
-      (looks_about e c.here c.tree (slot_of c e) (stray_look c.here (table.get c.reals e) (known_to c e)) (table.get c.reals e)
+      (looks_about e c.here (at_start c.tree) (slot_of c e) (stray_look c.here (table.get c.reals e) (known_to c e)) (table.get c.reals e)
       (known_to c e)
       (keys e))))
   look_by y es at (inr n) =
@@ -115,7 +122,7 @@ module _ (c : CellView) (keys : AreUnderTheirEntities c.reals) (e : ℕ) where
       let x = looks_around c y (table.get c.reals y) (known_to c y) in
       others None d y x refl n
       (at_same _ _ _ _ _ _ refl refl (sym (ap (times e) at ∙ times_other e y es n)))
-      (looks_about y c.here c.tree (slot_of c y) (stray_look c.here (table.get c.reals y) (known_to c y)) (table.get c.reals y)
+      (looks_about y c.here (at_start c.tree) (slot_of c y) (stray_look c.here (table.get c.reals y) (known_to c y)) (table.get c.reals y)
       (known_to c y) (keys y))
 
   look_next_moves : (es : List ℕ) → c.looks ≡ es → Moved None (look_next c es).state (look_next c es).sent
@@ -137,12 +144,12 @@ module _ (c : CellView) (keys : AreUnderTheirEntities c.reals) (e : ℕ) where
       (let x = calls_ready c e (table.get c.reals e) in
       let k = ready_found (find real_is_ready (table.entries c.reals)) e refl (at ∙ ap Some is) in
       ready_moves c.here c.tree e (at_cell e c) (keys e) (at_cell e (stepped c e x).state) (concerning e x.sent) k.0 k.1 k.2
-      (does_own c e x (readies_about e c.here c.tree (slot_of c e) (stray_ready_call (table.get c.reals e)) (table.get c.reals e)
+      (does_own c e x (readies_about e c.here (at_start c.tree) (slot_of c e) (stray_ready_call (table.get c.reals e)) (table.get c.reals e)
       (keys e))))
   ready_by y at (inr n) =
       let x = calls_ready c y (table.get c.reals y) in
       others None c y x refl n refl
-      (readies_about y c.here c.tree (slot_of c y) (stray_ready_call (table.get c.reals y)) (table.get c.reals y) (keys y))
+      (readies_about y c.here (at_start c.tree) (slot_of c y) (stray_ready_call (table.get c.reals y)) (table.get c.reals y) (keys y))
 
   ready_next_moves : (o : Option ℕ) → ready_entity c ≡ o → Moved None (ready_next c o).state (ready_next c o).sent
   ready_next_moves (Some y) at = ready_by y at (cases_eq y e)
@@ -155,25 +162,35 @@ module _ (c : CellView) (keys : AreUnderTheirEntities c.reals) (e : ℕ) where
   -- ---- messages
 
   hears_by : (m : Msg) (y : ℕ) → about m ≡ Some y → (y ≡ e) ⊎ (y ≡ e → ⊥) →
-      Moved (mine e m) (cell_hears c m (Some y)).state (cell_hears c m (Some y)).sent
+      Moved (mine e m) (plainly c m (Some y)).state (plainly c m (Some y)).sent
   hears_by m y a (inl is) =
       let b : about m ≡ Some e = a ∙ ap Some is in
-      subst (λ i. Moved i (cell_hears c m (Some y)).state (cell_hears c m (Some y)).sent) (sym (mine_own e m b))
-      (subst (λ z. Moved (Some m) (cell_hears c m (Some z)).state (cell_hears c m (Some z)).sent) (sym is)
-      (let x = slot_steps c.here c.tree (slot_of c e) m in
+      subst (λ i. Moved i (plainly c m (Some y)).state (plainly c m (Some y)).sent) (sym (mine_own e m b))
+      (subst (λ z. Moved (Some m) (plainly c m (Some z)).state (plainly c m (Some z)).sent) (sym is)
+      (let x = slot_steps c.here (at_start c.tree) (slot_of c e) m in
       message_moves c.here c.tree e (at_cell e c) (keys e) (at_cell e (stepped c e x).state) (concerning e x.sent) m b
-      (does_own c e x (slot_about e c.here c.tree (slot_of c e) m b (keys e)))))
+      (does_own c e x (slot_about e c.here (at_start c.tree) (slot_of c e) m b (keys e)))))
   hears_by m y a (inr n) =
-      let x = slot_steps c.here c.tree (slot_of c y) m in
-      others (mine e m) c y x (mine_other e y m a n) n refl (slot_about y c.here c.tree (slot_of c y) m a (keys y))
+      let x = slot_steps c.here (at_start c.tree) (slot_of c y) m in
+      others (mine e m) c y x (mine_other e y m a n) n refl (slot_about y c.here (at_start c.tree) (slot_of c y) m a (keys y))
 
-  tick_moves : Moved (Some Tick) (cell_hears c Tick None).state (cell_hears c Tick None).sent
+  tick_moves : Moved (Some Tick) (plainly c Tick None).state (plainly c Tick None).sent
   tick_moves = move.ticks refl (at_same _ _ _ _ _ _ refl refl (ticked c e)) refl
 
-  hears_moves : (m : Msg) → Moved (mine e m) (cell_steps c (From 0 m)).state (cell_steps c (From 0 m)).sent
-  hears_moves Tick = tick_moves
-  hears_moves m = hears_by m (entity_of m) refl (cases_eq (entity_of m) e)
+  hears_moves : (m : Msg) → BringsNone m → Moved (mine e m) (plainly c m (about m)).state (plainly c m (about m)).sent
+  hears_moves Tick none = tick_moves
+  hears_moves (Bounds b) none = cc
+  hears_moves m none = hears_by m (entity_of m) refl (cases_eq (entity_of m) e)
 
-  pub cell_moves : (i : Input Msg) → Moved (letter_in (mine e) i) (cell_steps c i).state (cell_steps c i).sent
-  cell_moves Task = task_moves c.survey refl
-  cell_moves (From a m) = hears_moves m
+  first_moves : (i : Input Msg) → IsPlainInput i → Moved (letter_in (mine e) i) (cell_steps c i).state (cell_steps c i).sent
+  first_moves Task fed = task_moves c.survey refl
+  first_moves (From a m) fed =
+      subst (λ (t : Stepped CellView Msg). Moved (mine e m) t.state t.sent) (sym (steps_plainly c refl a m fed)) (hears_moves m fed)
+
+  pub cell_moves : was.number ≡ 0 → (i : Input Msg) → IsPlainInput i →
+      CellMoves was.here was.tree e (at_cell e was) (letter_in (mine e) i) (at_cell e (cell_steps was i).state)
+      (concerning e (cell_steps was i).sent)
+  cell_moves first i fed =
+      let same : c ≡ was = λ j. record was { number = sym first j } in
+      subst (λ (d : CellView). CellMoves d.here d.tree e (at_cell e d) (letter_in (mine e) i) (at_cell e (cell_steps d i).state)
+      (concerning e (cell_steps d i).sent)) same (first_moves i fed)

@@ -269,7 +269,7 @@ module _ (f : Frame) (e ty first n : ℕ) (w : World) (v : Event) (o : Occurs w 
   told : Told f e step.k number before (comes step.input) after step.moves.sent step.out step.moves.items
   told =
       told_by f e step.k number before (comes step.input) after step.moves.sent step.out step.moves.items (λ r is. h.told.cells step.k r is)
-      (λ r is. (came (λ a k m. (q : RealView) → real_of m ≡ Some q → sent_by q + 1 ≡ number) step (Hand r) is h.told.hands).1 r refl)
+      (λ r bs is. (came (λ a k m. (q : RealView) → real_of m ≡ Some q → sent_by q + 1 ≡ number) step (Hand r bs) is h.told.hands).1 r refl)
       (λ u is. never_missed f e step.k before.base u (comes_due u is)) calm step.moves.moves
 
   abbrev Follows : RealView → Type 0

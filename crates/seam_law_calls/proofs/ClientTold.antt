@@ -3,7 +3,8 @@
 use Rattle.seam_law_calls.proofs.Prelude.{◌≡◌, ℕ, ◌+◌, ◌<◌, cond, is_some, List, [], ◌∷◌, ◌++◌, length, ◌⊎◌, Option, None, Some, refl, sym}
 use Rattle.seam_law_calls.proofs.Prelude.{ap, ◌∙◌, subst, arith, inl, inr, true, Bool, false, option_map, AllByRecursion, nat_cmp}
 use Rattle.seam_law_calls.proofs.Prelude.{match_ordering, Ordering, Less, Equal, Greater, eq-eqb, ne_eqb, nat_tests, append-nil, items_to}
-use Rattle.seam_law_calls.proofs.Prelude.{with_item, after_offer, after_taking, next_item, Order, Shown, RealView, Msg, Hand, Update, Here}
+use Rattle.seam_law_calls.proofs.Prelude.{with_item, after_offer, after_taking, next_item, Order, Shown, RealView, Boundaries, Msg, Hand}
+use Rattle.seam_law_calls.proofs.Prelude.{Update, Here}
 use Rattle.seam_law_calls.proofs.Prelude.{cell_count, PartView, ProxyView, line_if, base_text, offered_update, shows_next, numbered}
 use Rattle.seam_law_calls.proofs.Prelude.{letters_of, IsSilent, carried_in, SendsNone, at_once, more_issued, number_from, Frame, here_at}
 use Rattle.seam_law_calls.proofs.Prelude.{Has, Moves, at_a_cell, at_a_base, real_in, real_of, update_in, told, Missed, sent_of, sent_by}
@@ -126,7 +127,7 @@ module _ (f : Frame) (e k number : ℕ) (s : Has) (i : Option Msg) (t : Has) (se
     pub hands : (j : ℕ) → AllByRecursion (λ m. (q : RealView) → real_of m ≡ Some q → Follows us q) (out j)
 
   module _ (here : (r : RealView) → real_in s ≡ Some r → sent_by r + 1 ≡ number)
-      (comes : (r : RealView) → i ≡ Some (Hand r) → sent_by r + 1 ≡ number)
+      (comes : (r : RealView) (bs : Option Boundaries) → i ≡ Some (Hand r bs) → sent_by r + 1 ≡ number)
       (never_missed : (u : UpdateData) → i ≡ Some (Update u) → Missed (here_at f k) u s.base.part → ⊥) where
     quiet : IsSilent update_in sent → SendsNone tells out
     quiet z j = ap (letters_of tells) (items j) ∙ sees_none tells j sent (untold sent z)
@@ -174,12 +175,12 @@ module _ (f : Frame) (e k number : ℕ) (s : Has) (i : Option Msg) (t : Has) (se
         slot = λ q has. let was = kept q has in same_number was.0 q was.2 (here was.0 was.1);
         hands = hands_of [] (none_carried (Follows []) sent b);
       }
-      cell_told (witness.lands r n now a b) = record {
+      cell_told (witness.lands r bs n now a b) = record {
         passes = still a;
         us = [];
         issued = refl;
         teller = inl refl;
-        slot = λ q has. let one : r ≡ q = let z = sym now ∙ has in cc in same_number r q (sym (ap (λ x. x.witness) one)) (comes r n);
+        slot = λ q has. let one : r ≡ q = let z = sym now ∙ has in cc in same_number r q (sym (ap (λ x. x.witness) one)) (comes r bs n);
         hands = hands_of [] (none_carried (Follows []) sent b);
       }
       cell_told (witness.leaves r q to told has gone same z a b) = record {

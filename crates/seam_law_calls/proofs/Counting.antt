@@ -1,6 +1,7 @@
 -- An entity's holders, and the place of its one real.
 use Rattle.seam_law_calls.proofs.Prelude.{◌≡◌, ℕ, Bool, true, false, cond, eqb, Option, None, Some, refl, sym, ap, ◌∙◌, weight, RealView}
-use Rattle.seam_law_calls.proofs.Prelude.{Msg, Hand, Tick, NodeView, World, Cell, Base, one_if_real, held_at, carried, holders, carried_in}
+use Rattle.seam_law_calls.proofs.Prelude.{Boundaries, Msg, Hand, Tick, Bounds, NodeView, World, Cell, Base, one_if_real, held_at, carried}
+use Rattle.seam_law_calls.proofs.Prelude.{holders, carried_in}
 use Rattle.seam_law_calls.proofs.Prelude.{one_if, TokenPlace, Nobody, concerns, kept_if, mine, has_of, has_none, entity_flow, real_in}
 use Rattle.seam_law_calls.proofs.Prelude.{real_of, IsOne}
 use Rattle.std.proofs.Math.Path.{fun_ext}
@@ -20,13 +21,14 @@ kept_none : (b : Bool) (m : Msg) → real_of m ≡ None → one_if (carried_in r
 kept_none true m h = ap one_if h
 kept_none false m h = refl
 
-kept_hand : (b : Bool) (r : RealView) → one_if (carried_in real_of (kept_if b (Hand r))) ≡ cond {A = ℕ} b 1 0
-kept_hand true r = refl
-kept_hand false r = refl
+kept_hand : (b : Bool) (r : RealView) (bs : Option Boundaries) → one_if (carried_in real_of (kept_if b (Hand r bs))) ≡ cond {A = ℕ} b 1 0
+kept_hand true r bs = refl
+kept_hand false r bs = refl
 
 carried_is : (e k : ℕ) (m : Msg) → one_if (carried_in real_of (mine e m)) ≡ carried e k m
-carried_is e k (Hand r) = kept_hand (eqb r.entity e) r
+carried_is e k (Hand r bs) = kept_hand (eqb r.entity e) r bs
 carried_is e k Tick = refl
+carried_is e k (Bounds b) = refl
 carried_is e k m = kept_none (concerns e m) m refl
 
 -- the two counts are one

@@ -1,12 +1,14 @@
 -- What no step raises no event raises; so what is yet to do, and a hand-over that comes has small numbers.
-use Rattle.seam_law_calls.proofs.Prelude.{◌≡◌, ℕ, ◌+◌, ◌<◌, ◌≤◌, Bool, true, false, cond, List, [], ◌∷◌, Some, refl, ap, arith, happens}
-use Rattle.seam_law_calls.proofs.Prelude.{Occurs, total, Input, Task, From, Event, RealView, Msg, Hand, Reap, limit, NodeView, World}
+use Rattle.seam_law_calls.proofs.Prelude.{◌≡◌, ℕ, ◌+◌, ◌<◌, ◌≤◌, Bool, true, false, cond, List, [], ◌∷◌, Option, Some, refl, ap, arith}
+use Rattle.seam_law_calls.proofs.Prelude.{happens, Occurs, total, Input, Task, From, Event, RealView, Boundaries, Msg, Hand, Reap, limit}
+use Rattle.seam_law_calls.proofs.Prelude.{NodeView, World}
 use Rattle.seam_law_calls.proofs.Prelude.{node_steps, letter_in, Frame, IsInFrame, Has, concerns, kept_if, mine, concerning, has_of}
 use Rattle.seam_law_calls.proofs.Prelude.{real_burden, letter_burden, has_burden, node_burden, mine_burden, burden, RunsTo, weight_or}
 use Rattle.seam_law_calls.proofs.Prelude.{weight, input_weight, sent_weight, sound_sends, weight_moves, weight_bounds}
 use Rattle.seam_law_calls.proofs.Classify.{node_laws, node_moves}
 use Rattle.seam_law_calls.proofs.Burdening.{eased}
 use Rattle.seam_law_calls.proofs.Keeping.{run_keeps}
+use Rattle.seam_law_calls.proofs.Classify.{fed_plain}
 
 -- ---- numbers of what a node has of an entity and of messages about it, in a world
 
@@ -63,11 +65,13 @@ module _ (f : Frame) (e : ℕ) (w : World) (v : Event) (o : Occurs w v) (q : IsI
       event_eases has_burden letter_burden e f w v o q
       (eased f e v.node (has_of e o.node) (letter_in (mine e) o.input) (has_of e (node_steps o.node o.input).state)
       (concerning e (node_steps o.node o.input).sent)
-      (node_moves f e v.node o.node o.input (q.sound.states v.node o.node o.is_node) (q.nodes v.node o.node o.is_node)))
+      (node_moves f e v.node o.node o.input (q.sound.states v.node o.node o.is_node) (q.nodes v.node o.node o.is_node)
+      (fed_plain f w v o q)))
 
   -- the numbers of a real that comes are below what the world's are
-  pub came_small : burden e w < limit → (r : RealView) → letter_in (mine e) o.input ≡ Some (Hand r) → real_burden r < limit
-  came_small few r is =
+  pub came_small : burden e w < limit → (r : RealView) (bs : Option Boundaries) → letter_in (mine e) o.input ≡ Some (Hand r bs) →
+      real_burden r < limit
+  came_small few r bs is =
       let a = weight_bounds (node_burden e) (mine_burden e) w v o in
       let b = input_is letter_burden e v.node o.input in
       let c = ap (weight_or letter_burden) is in

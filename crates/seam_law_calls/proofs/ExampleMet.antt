@@ -10,6 +10,7 @@ use Rattle.std.proofs.lemmas.Bool.{eqb-true}
 use Rattle.std.specs.FinMap as table
 use Rattle.std.specs.FinSet as set
 use Rattle.std.proofs.lemmas.List.Elements.{All-nil, All-cons, All-replicate}
+use Rattle.seam_machine.specs.Events.{EachLink}
 use Rattle.seam_node_steps.specs.Prelude.{cut_after, area, IsTree, IsProper, are_of_group, link, run, AllEnabled, IsSquare, ArePeers}
 use Rattle.seam_node_steps.specs.Prelude.{EachNode, Event, Msg, Map, properties, all_held, fits_cell_part, NodeView, World, node_peers}
 use Rattle.seam_node_steps.specs.Prelude.{node_has_work, node_steps, IsNode, holders, RouteView, idle, one, IsRow, two_cells, made, at_home}
@@ -24,6 +25,8 @@ use Rattle.seam_call.specs.declared.order.Order.TheVariants as order
 use Rattle.seam_node_steps.specs.EarlyCall.{world_0, base_17}
 use Rattle.seam_node_steps.proofs.Tables.{computing}
 use Rattle.seam_law_calls.proofs.Trees.{first_tree}
+use Rattle.seam_node_steps.specs.Prelude.{BringsNone}
+use Rattle.seam_law_calls.specs.Frames.{BringNone}
 
 -- ---- lists of nodes, one by one
 
@@ -128,13 +131,13 @@ low_of : (k : ℕ) → k < 16 → IsNode (idle two_cells k)
 low_of k lt = record {
   me_in = lt;
   bases = omega arith;
-  tree = tree_is;
+  cells = omega arith;
   nexts = λ e n at. absurd (none_there e n at);
   keys = λ e r at. absurd (none_there e r at);
 }
 
 idle_at : (k : ℕ) → k < 16 → IsAt frame k (idle two_cells k)
-idle_at k lt = record { low = lt; here = refl; tree = first_tree frame }
+idle_at k lt = record { low = lt; here = refl; tree = first_tree frame; number = refl }
 
 -- one value alone
 pub one_there : {X : Type 0} (x : X) (q : ℕ) → table.get (one x) q ≡ cond (eqb q 1) (Some x) None
@@ -162,7 +165,7 @@ home_is : IsNode (at_home made (1 ∷ []))
 home_is = record {
   me_in = omega arith;
   bases = omega arith;
-  tree = tree_is;
+  cells = omega arith;
   nexts = λ e n at. absurd (none_there e n at);
   keys = λ e r at. sym (ap (λ x. x.entity) (one_is made r e at)) ∙ sym (number_is made r e at);
 }
@@ -179,12 +182,12 @@ idle_is k lt = (low_of k lt, idle_at k lt)
 nodes_are : EachFrom Q 0 world_0.nodes
 unfolding world_0
 nodes_are =
-    nodes_of Q node_0 node_16 node_17 (home_is, record { low = omega arith; here = refl; tree = first_tree frame }) idle_is (
+    nodes_of Q node_0 node_16 node_17 (home_is, record { low = omega arith; here = refl; tree = first_tree frame; number = refl }) idle_is (
       record { bases = omega arith; cells = omega arith; routes = route_low 0 },
-      record { high = omega arith; here = refl; cells = refl },
+      record { high = omega arith; here = refl; cells = refl; orders = (refl, tt) },
     ) (
       record { bases = omega arith; cells = omega arith; routes = route_low 0 },
-      record { high = omega arith; here = refl; cells = refl },
+      record { high = omega arith; here = refl; cells = refl; orders = (refl, (refl, tt)) },
     )
 
 pub peers_from : {N : Type 0} (P : N → Type 0) (xs : List N) → AllByRecursion P xs → All P xs
@@ -206,10 +209,15 @@ peers_are =
       ),
     )
 
+letters_bring_none : EachLink BringNone world_0.rows
+unfolding world_0
+letters_bring_none a k = subst (AllByRecursion BringsNone) (sym (no_link 18 18 a k)) tt
+
 pub world_is : IsInFrame frame world_0
 world_is = record {
   sound = record { square = square_is; peers = peers_are; states = λ k s at. (each_node Q world_0.nodes nodes_are k s at).0 };
   nodes = λ k s at. (each_node Q world_0.nodes nodes_are k s at).1;
+  letters = letters_bring_none;
 }
 
 -- ---- the entity

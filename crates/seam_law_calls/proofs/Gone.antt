@@ -1,6 +1,7 @@
 -- A Reap that finds the real takes it out of the world, and an entity that no one has stays gone.
 use Rattle.seam_law_calls.proofs.Prelude.{◌≡◌, ℕ, ◌+◌, Bool, true, false, not, List, Option, None, Some, refl, sym, ap, ◌∙◌, subst, arith}
-use Rattle.seam_law_calls.proofs.Prelude.{AllByRecursion, Division, happens, Occurs, Event, RealView, Msg, Hand, Reap, limit, may_rise}
+use Rattle.seam_law_calls.proofs.Prelude.{AllByRecursion, Division, happens, Occurs, Event, RealView, Boundaries, Msg, Hand, Reap, limit}
+use Rattle.seam_law_calls.proofs.Prelude.{may_rise}
 use Rattle.seam_law_calls.proofs.Prelude.{is_stray, World, node_steps, Goes, comes, letter_in, letters_of, IsSilent, carried_in, Nobody}
 use Rattle.seam_law_calls.proofs.Prelude.{Handles, still, turns, lands, leaves, relays, Frame, here_at, IsInFrame, Has, AtCell, mine}
 use Rattle.seam_law_calls.proofs.Prelude.{has_of, entity_flow, Acts, surveys, calls, readies, Moves, at_a_cell, at_a_base, MovesTo, Replays}
@@ -23,10 +24,10 @@ module _ (f : Frame) (frame : IsFrame f) (e : ℕ) (w : World) (v : Event) (o : 
   moves : Goes (MovesTo f e) (entity_flow e w) (entity_flow e (happens node_steps w v))
   moves = event_moves f w v o q e
 
-  none_comes : (r : RealView) → comes moves.input ≡ Some (Hand r) → ⊥
-  none_comes r h =
-      (came (λ a k m. (r : RealView) → m ≡ Hand r → ⊥) moves (Hand r) h (λ a k.
-      hands_all (λ r. ⊥) ((entity_flow e w).mail a k) (subst (AllByRecursion (λ r. ⊥)) (sym (none.mail a k)) tt))).1 r refl
+  none_comes : (r : RealView) (bs : Option Boundaries) → comes moves.input ≡ Some (Hand r bs) → ⊥
+  none_comes r bs h =
+      (came (λ a k m. (r : RealView) (bs : Option Boundaries) → m ≡ Hand r bs → ⊥) moves (Hand r bs) h (λ a k.
+      hands_all (λ r. ⊥) ((entity_flow e w).mail a k) (subst (AllByRecursion (λ r. ⊥)) (sym (none.mail a k)) tt))).1 r bs refl
 
   none_here : (r : RealView) → real_at e w moves.k ≡ Some r → ⊥
   none_here r h = let no = sym (none.slots moves.k) ∙ h in cc
@@ -35,14 +36,14 @@ module _ (f : Frame) (frame : IsFrame f) (e : ℕ) (w : World) (v : Event) (o : 
       ((entity_flow e (happens node_steps w v)).slot moves.k) moves.out → Nobody real_in real_of (entity_flow e (happens node_steps w v))
   gone_by (still a b c) = nobody_still real_in real_of moves none a b c
   gone_by (turns r p a b c d s) = absurd (none_here r a)
-  gone_by (lands r p a b c s) = absurd (none_comes r (came_hand (comes moves.input) r a))
+  gone_by (lands r p a b c s) = let h = came_hand (comes moves.input) r a in absurd (none_comes r h.0 h.1)
   gone_by (leaves r p to a b c d s) = absurd (none_here r a)
-  gone_by (relays r p to a b c s) = absurd (none_comes r (came_hand (comes moves.input) r a))
+  gone_by (relays r p to a b c s) = let h = came_hand (comes moves.input) r a in absurd (none_comes r h.0 h.1)
 
   pub gone_happens : Nobody real_in real_of (entity_flow e (happens node_steps w v))
   gone_happens =
       gone_by (handled f frame e 0 moves.k _ (comes moves.input) _ moves.moves.sent moves.out moves.moves.items
-      (λ r h. absurd (none_comes r h)) (λ r h is. none_here r h) moves.moves.moves).0
+      (λ r bs h. absurd (none_comes r bs h)) (λ r h is. none_here r h) moves.moves.moves).0
 
 -- after every list of events
 pub gone_leads : (f : Frame) → IsFrame f → (e : ℕ) (w v : World) (es : List Event) → IsInFrame f w →
@@ -83,7 +84,7 @@ module _ (f : Frame) (e k : ℕ) (s : Has) (i : Option Msg) (t : Has) (sent : Li
   takes (deed.goes u p q changed j h own acts at n d) = acts_not u p q changed acts
   takes (deed.holds c p n own h mine m lt d) = not_reap _ n (λ z. cc)
   takes (deed.passes c p n own h at d) = not_reap _ n (λ z. cc)
-  takes (deed.lands p n own h m d) = not_reap _ n (λ z. cc)
+  takes (deed.lands p bs n own h m d) = not_reap _ n (λ z. cc)
   takes (deed.reaped p n h own m d) = record {
     none = ap (λ a. a.slot.real) d.state;
     silent = subst (IsSilent real_of) (sym d.sends) (drops_silent real_of reals_unseen p);

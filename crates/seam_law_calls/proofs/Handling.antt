@@ -1,6 +1,6 @@
 -- What each move does with the entity's real: it stays as it is, is turned into what calls make of it, lands, or leaves.
 use Rattle.seam_law_calls.proofs.Prelude.{◌≡◌, ℕ, ◌+◌, ◌<◌, ◌≤◌, Bool, true, List, [], ◌∷◌, Option, None, Some, refl, sym, ap, ◌∙◌, subst}
-use Rattle.seam_law_calls.proofs.Prelude.{arith, inl, inr, Division, items_to, RealView, Msg, Hand, Reap}
+use Rattle.seam_law_calls.proofs.Prelude.{arith, inl, inr, Division, items_to, RealView, Boundaries, Msg, Hand, Reap}
 use Rattle.seam_law_calls.proofs.Prelude.{cell_count, base_numbers, base_of, with_offer, settled_to, SlotStep, slot_after}
 use Rattle.seam_law_calls.proofs.Prelude.{haunts_at, ghost_messages, beat_after, current_to, is_stray, may_come, shown_of, looks_with}
 use Rattle.seam_law_calls.proofs.Prelude.{letters_of, IsSilent, carried_in, SendsNone, Handles, still, turns, lands, leaves}
@@ -17,6 +17,7 @@ use Rattle.seam_law_calls.proofs.Holds.{not_both}
 use Rattle.seam_law_calls.proofs.Plain.{SeesNoGhost, ghosts_silent, mapped_silent, numbered_silent}
 use Rattle.seam_law_calls.proofs.Replaying.{acts_replays}
 use Rattle.seam_law_calls.proofs.RealsKept.{executed_fits, held_fits, ready_fits, settled_fits, home_is_low}
+use Rattle.seam_node_steps.specs.Prelude.{at_start}
 
 pub reals_unseen : SeesNoGhost real_of
 reals_unseen = record { sets = λ e n c. refl; drops = λ e n. refl }
@@ -29,10 +30,11 @@ pub record FindsRoom (f : Frame) (k : ℕ) (s : Has) (r : RealView) : Type 0 whe
 
 -- so it is not stray
 pub not_stray : (f : Frame) (k : ℕ) (s : Has) (r : RealView) → FindsRoom f k s r → (tree : Division) → IsTreeOf f tree →
-    is_stray (here_at f k) tree s.cell.slot (Hand r) ≡ true → ⊥
+    is_stray (here_at f k) tree s.cell.slot (Hand r None) ≡ true → ⊥
 not_stray f k s r p tree of stray =
     not_both (may_come (here_at f k) tree r) (p.may tree of)
-    (sym (ap (λ o. is_stray (here_at f k) tree (record { real = o; next = s.cell.slot.next; ghost = s.cell.slot.ghost }) (Hand r)) p.free)
+    (sym (ap (λ o. is_stray (here_at f k) tree (record { real = o; next = s.cell.slot.next; ghost = s.cell.slot.ghost })
+    (Hand r None)) p.free)
     ∙ stray)
 
 module _ (f : Frame) (frame : IsFrame f) (e ty k : ℕ) (s : Has) (i : Option Msg) (t : Has) (sent : List (ℕ × Msg)) (out : ℕ →
@@ -87,8 +89,9 @@ module _ (f : Frame) (frame : IsFrame f) (e ty k : ℕ) (s : Has) (i : Option Ms
   came_none : (m : Msg) → i ≡ Some m → real_of m ≡ None → carried_in real_of i ≡ None
   came_none m h n = ap (carried_in real_of) h ∙ n
 
-  none_handed : (j : Option Msg) → i ≡ j → ((r : RealView) → i ≡ Some (Hand r) → ⊥) → carried_in real_of i ≡ None
-  none_handed (Some (Hand r)) is never = absurd (never r is)
+  none_handed : (j : Option Msg) → i ≡ j → ((r : RealView) (bs : Option Boundaries) → i ≡ Some (Hand r bs) → ⊥) → carried_in real_of i
+      ≡ None
+  none_handed (Some (Hand r bs)) is never = absurd (never r bs is)
   none_handed None is never = ap (carried_in real_of) is
   none_handed (Some m) is never = ap (carried_in real_of) is
 
@@ -113,22 +116,22 @@ module _ (f : Frame) (frame : IsFrame f) (e ty k : ℕ) (s : Has) (i : Option Ms
     -- a settling that goes
     goes_handled : (u : AtCell) (r q : RealView) (changed : Bool) (j : ℕ) → real_in s ≡ Some r →
         Acts (here_at f k) e s.cell i r u q changed → settle.home_after (here_at f k) tree q.state.pos ≡ j →
-        Does u (settle.goes (here_at f k) tree s.cell.slot q changed j) t.cell sent → Handled
+        Does u (settle.goes (here_at f k) (at_start tree) s.cell.slot q changed j) t.cell sent → Handled
     goes_handled u r q changed j has acts at d =
         let old = set.insert q.haunts k in
         let haunts = haunts_at (here_at f k) tree q.state.pos j old in
         let told = ghost_messages (here_at f k) q j haunts changed in
         let gone = settled_to q haunts (q.beat + 1) (q.generation + 1) in
         let silent = ghosts_silent real_of reals_unseen (here_at f k) q j haunts changed in (
-          leaves r gone j has (real_is (settle.goes (here_at f k) tree s.cell.slot q changed j) u d)
+          leaves r gone j has (real_is (settle.goes (here_at f k) (at_start tree) s.cell.slot q changed j) u d)
               (inr (settled_replays u r q changed haunts (q.beat + 1) (q.generation + 1) acts)) (acts_none u r q changed acts)
               (record {
                 here =
                     ap (letters_of real_of) (items j ∙ ap (items_to j) d.sends)
-                    ∙ (sees_after_silent real_of j told ((j, Hand gone) ∷ []) silent ∙ sees_one_here real_of j (Hand gone));
+                    ∙ (sees_after_silent real_of j told ((j, Hand gone None) ∷ []) silent ∙ sees_one_here real_of j (Hand gone None));
                 others = λ x n.
                     ap (letters_of real_of) (items x ∙ ap (items_to x) d.sends)
-                    ∙ (sees_after_silent real_of x told ((j, Hand gone) ∷ []) silent ∙ sees_one_there real_of j x (Hand gone) n);
+                    ∙ (sees_after_silent real_of x told ((j, Hand gone None) ∷ []) silent ∙ sees_one_there real_of j x (Hand gone None) n);
               }),
           λ is.
               let fits = acts_fit u r q changed acts is in
@@ -136,11 +139,11 @@ module _ (f : Frame) (frame : IsFrame f) (e ty k : ℕ) (s : Has) (i : Option Ms
               (home_is_low f frame tree of k q.state.pos j at is.home),
         )
 
-    cell_handled : ((r : RealView) → i ≡ Some (Hand r) → FindsRoom f k s r) →
+    cell_handled : ((r : RealView) (bs : Option Boundaries) → i ≡ Some (Hand r bs) → FindsRoom f k s r) →
         ((r : RealView) → real_in s ≡ Some r → i ≡ Some (Reap e) → ⊥) →
         CellDeeds (here_at f k) tree e s.cell i t.cell sent → Handled
     cell_handled room spared (deed.idles a z) =
-        rests a.real (none_handed i refl (λ r is. not_stray f k s r (room r is) tree of (not_handed a.why r is)))
+        rests a.real (none_handed i refl (λ r bs is. not_stray f k s r (room r bs is) tree of (not_handed a.why r bs is)))
         (subst (IsSilent real_of) (sym z) tt)
     cell_handled room spared (deed.stays u r q changed has own acts at d) = stays_handled u r q changed has acts d
     cell_handled room spared (deed.goes u r q changed j has own acts at n d) = goes_handled u r q changed j has acts at d
@@ -151,7 +154,7 @@ module _ (f : Frame) (frame : IsFrame f) (e ty k : ℕ) (s : Has) (i : Option Ms
     )
     cell_handled room spared (deed.passes c p n is has at d) =
         rests (real_is _ s.cell d) (came_none (Call c) n refl) (silent_of _ s.cell d (refl, tt))
-    cell_handled room spared (deed.lands r n is has may d) = (
+    cell_handled room spared (deed.lands r bs n is has may d) = (
       lands r r (ap (carried_in real_of) n) (real_is _ s.cell d) (inl refl)
           (sends_none (silent_of _ s.cell d (mapped_silent real_of (current_to (here_at f k) r) (λ b. refl) (base_numbers (here_at f k))))),
       λ fits. fits,
@@ -175,13 +178,14 @@ module _ (f : Frame) (frame : IsFrame f) (e ty k : ℕ) (s : Has) (i : Option Ms
 
   -- ---- a base node
 
-  base_handled : cell_count ≤ k → ((r : RealView) → i ≡ Some (Hand r) → FindsRoom f k s r) → (cells : ℕ) →
+  base_handled : cell_count ≤ k → ((r : RealView) (bs : Option Boundaries) → i ≡ Some (Hand r bs) → FindsRoom f k s r) → (cells : ℕ) →
       BaseMoves (here_at f k) cells e s.base i t.base sent → real_in t ≡ real_in s → Handled
   base_handled high room cells m same =
-      rests same (none_handed i refl (λ r is. let low = (room r is).cell in omega (arith, low, high)))
+      rests same (none_handed i refl (λ r bs is. let low = (room r bs is).cell in omega (arith, low, high)))
       (base_silent real_of sees_no_real _ cells e _ i _ sent m)
 
-  pub handled : ((r : RealView) → i ≡ Some (Hand r) → FindsRoom f k s r) → ((r : RealView) → real_in s ≡ Some r → i ≡ Some (Reap e) → ⊥) →
+  pub handled : ((r : RealView) (bs : Option Boundaries) → i ≡ Some (Hand r bs) → FindsRoom f k s r) →
+      ((r : RealView) → real_in s ≡ Some r → i ≡ Some (Reap e) → ⊥) →
       Moves f e k s i t sent → Handled
   handled room spared (at_a_cell tree of low m same) = cell_handled tree of room spared (cell_deeds m)
   handled room spared (at_a_base high m same) = base_handled high room _ m (ap (λ c. c.slot.real) same)

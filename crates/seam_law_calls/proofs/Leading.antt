@@ -1,7 +1,8 @@
 -- Whatever leads to a cell still leads to one after an event.
 use Rattle.seam_law_calls.proofs.Prelude.{◌≡◌, ℕ, Bool, true, false, not, ◌&&◌, ◌||◌, ◌⊎◌, List, [], ◌∷◌, ◌++◌, map, Option, None, Some}
 use Rattle.seam_law_calls.proofs.Prelude.{refl, sym, ap, ◌∙◌, subst, inl, inr, AllByRecursion, cases_eq, items_to, Call as CallData}
-use Rattle.seam_law_calls.proofs.Prelude.{RealView, Msg, Hand, Current, NextPlace, RouteView, Flow, Goes, comes, IsSilent, Has, is_visited}
+use Rattle.seam_law_calls.proofs.Prelude.{RealView, Boundaries, Msg, Hand, Current, NextPlace, RouteView, Flow, Goes, comes, IsSilent, Has}
+use Rattle.seam_law_calls.proofs.Prelude.{is_visited}
 use Rattle.seam_law_calls.proofs.Prelude.{is_call, is_hand, has_hand, follow, NamesVisited, AllLead, Rest, whole, tail, More, own, none}
 use Rattle.seam_law_calls.proofs.Prelude.{change, came, letters_kept, one_here, one_there}
 use Rattle.seam_machine.proofs.SendLemmas.{items_to-append}
@@ -11,8 +12,8 @@ use Rattle.seam_law_calls.proofs.Holds.{both}
 use Rattle.seam_law_calls.proofs.Following.{follow_more, follow_append, has_append, has_later, or_left, or_right}
 use Rattle.seam_law_calls.proofs.WayMoves.{kept, call_in, route_in, Way, by_next, by_route, Sends, plain, tells, one_call, Leads}
 
-hand_of : (m : Msg) → is_hand m ≡ true → (r : RealView) × (m ≡ Hand r)
-hand_of (Hand r) h = (r, refl)
+hand_of : (m : Msg) → is_hand m ≡ true → (r : RealView) × (bs : Option Boundaries) × (m ≡ Hand r bs)
+hand_of (Hand r bs) h = (r, bs, refl)
 hand_of _ h = cc
 
 either : (a b : Bool) → (a || b) ≡ true → (a ≡ true) ⊎ (b ≡ true)
@@ -51,7 +52,7 @@ module _ {Moves : ℕ → Has → Option Msg → Has → (ℕ → List Msg) → 
   hand_lands : (p : ℕ × Msg) → g.input ≡ Some p → is_hand p.1 ≡ true → is_visited (v.slot g.k) ≡ true
   hand_lands p at h =
       let r = hand_of p.1 h in
-      lead.landed r.0 (ap comes at ∙ ap Some r.1)
+      lead.landed r.0 r.1 (ap comes at ∙ ap Some r.2)
 
   -- ---- routes
 
@@ -124,13 +125,13 @@ module _ {Moves : ℕ → Has → Option Msg → Has → (ℕ → List Msg) → 
   more_has c m (own a is) h = ap has_hand is ∙ h
   more_has c m (none n is) h = absurd (n refl)
 
-  new_has : (c : ℕ) (xs : List (ℕ × Msg)) (r : RealView) → sent ≡ xs ++ (c, Hand r) ∷ [] → has_hand (g.out c) ≡ true
+  new_has : (c : ℕ) (xs : List (ℕ × Msg)) (r : RealView) → sent ≡ xs ++ (c, Hand r None) ∷ [] → has_hand (g.out c) ≡ true
   new_has c xs r is =
-      ap has_hand (items c ∙ (ap (items_to c) is ∙ items_to-append c xs ((c, Hand r) ∷ [])))
-      ∙ has_later (items_to c xs) (items_to c ((c, Hand r) ∷ [])) (ap has_hand (one_here c (Hand r)))
+      ap has_hand (items c ∙ (ap (items_to c) is ∙ items_to-append c xs ((c, Hand r None) ∷ [])))
+      ∙ has_later (items_to c xs) (items_to c ((c, Hand r None) ∷ [])) (ap has_hand (one_here c (Hand r None)))
 
   next_here : (n : NextPlace) → ((w.slot g.k).cell.slot.next ≡ Some n) ⊎
-      ((xs : List (ℕ × Msg)) × (r : RealView) × (sent ≡ xs ++ (n.cell, Hand r) ∷ [])) →
+      ((xs : List (ℕ × Msg)) × (r : RealView) × (sent ≡ xs ++ (n.cell, Hand r None) ∷ [])) →
       (is_visited (v.slot n.cell) || has_hand (v.mail g.k n.cell)) ≡ true
   next_here n (inl h) = next_kept g.k n.cell (all.nexts g.k n h)
   next_here n (inr p) =

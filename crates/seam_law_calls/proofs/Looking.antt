@@ -1,13 +1,13 @@
 -- What a step does with an entity's witness: it looks at what the cell knows of others, or its entry in the look list is not taken.
 use Rattle.seam_law_calls.proofs.Prelude.{◌≡◌, ℕ, ◌+◌, ◌⊎◌, Bool, true, false, cond, List, [], ◌∷◌, Option, None, Some, refl, sym, ap, ◌∙◌}
 use Rattle.seam_law_calls.proofs.Prelude.{subst, inl, inr, nat_cmp, eq_by_cmp, unsigned_tied, Ordering, Less, Equal, Greater, cases_eq}
-use Rattle.seam_law_calls.proofs.Prelude.{eq-eqb, ne_eqb, Input, Task, From, OrderView, next_item, Division, Call as CallData, Shown}
+use Rattle.seam_law_calls.proofs.Prelude.{eq-eqb, ne_eqb, Input, Task, From, OrderView, next_item, Call as CallData, Shown}
 use Rattle.seam_law_calls.proofs.Prelude.{ready_order, order_of, executed, executed_ready, RealView, WitnessView, Msg, GhostSet, Tick, Reap}
 use Rattle.seam_law_calls.proofs.Prelude.{Here, base_of, Slot, NextPlace, SlotStep, slot_after, settled, settled_by, home_after, about}
 use Rattle.seam_law_calls.proofs.Prelude.{slot_steps, is_stray, call_next_place, ghost_set, reap, survey_task, stray_survey}
 use Rattle.seam_law_calls.proofs.Prelude.{ready_call_task, stray_ready_call, ready_in, Known, numbered, shown_of, looks_of, after_looking}
 use Rattle.seam_law_calls.proofs.Prelude.{look_task, look_by, stray_look, stray_look_by, CellView, slot_of, after_slot, unlisted_by}
-use Rattle.seam_law_calls.proofs.Prelude.{stepped, cell_steps, cell_task, ready_next, look_next, cell_hears, ready_entity, calls_ready}
+use Rattle.seam_law_calls.proofs.Prelude.{stepped, cell_steps, cell_task, ready_next, look_next, ready_entity, calls_ready}
 use Rattle.seam_law_calls.proofs.Prelude.{looks_around, known_to, AreUnderTheirEntities, letter_in, mine, concerning, times, AtCell}
 use Rattle.seam_law_calls.proofs.Prelude.{at_cell, entity_of, case_of, call, slot_stepped}
 use Rattle.std.specs.FinMap as table
@@ -19,6 +19,8 @@ use Rattle.seam_entity.specs.declared.message.Msg.TheVariants.{Call}
 use Rattle.seam_node_steps.specs.CellCases.{offered}
 use Rattle.seam_law_calls.proofs.Lists.{AllAbout, concerning_own, concerning_other, times_own}
 use Rattle.seam_law_calls.proofs.Sent.{slot_about, surveys_about, readies_about, looks_about}
+use Rattle.seam_node_steps.specs.Prelude.{Boundaries, Bounds, BringsNone, IsPlainInput, Stepped, at_start, boundaries_of}
+use Rattle.seam_node_steps.proofs.Plain.{plainly, steps_plainly}
 
 -- ---- what leaves the lists goes with its real
 
@@ -27,14 +29,15 @@ module _ (s : Slot) where
   abbrev TakesReal : SlotStep → Type 0
   TakesReal x = x.unlisted ≡ true → (slot_after x.slot s).real ≡ None
 
-  settled_takes : (b : Bool) (h : Here) (t : Division) (r : RealView) (changed : Bool) (j : ℕ) → TakesReal (settled_by b h t s r changed j)
+  settled_takes : (b : Bool) (h : Here) (t : Boundaries) (r : RealView) (changed : Bool) (j : ℕ) → TakesReal
+      (settled_by b h t s r changed j)
   settled_takes true h t r changed j is = cc
   settled_takes false h t r changed j is = refl
 
-  settle_takes : (h : Here) (t : Division) (r : RealView) (changed : Bool) → TakesReal (settled h t s r changed)
-  settle_takes h t r changed = settled_takes _ h t r changed (home_after h t r.state.pos)
+  settle_takes : (h : Here) (t : Boundaries) (r : RealView) (changed : Bool) → TakesReal (settled h t s r changed)
+  settle_takes h t r changed = settled_takes _ h t r changed (home_after h t.tree r.state.pos)
 
-  offered_takes : (h : Here) (t : Division) (r : RealView) (k : CallData) (o : Ordering) → TakesReal (offered h t s r k o)
+  offered_takes : (h : Here) (t : Boundaries) (r : RealView) (k : CallData) (o : Ordering) → TakesReal (offered h t s r k o)
   offered_takes h t r k Less is = cc
   offered_takes h t r k Equal is = settle_takes h t (executed h r k) (shows h r k) is
   offered_takes h t r k Greater is = cc
@@ -43,7 +46,7 @@ module _ (s : Slot) where
   passed_takes k None is = cc
   passed_takes k (Some n) is = cc
 
-  call_takes : (h : Here) (t : Division) (k : CallData) (o : Option RealView) → TakesReal (call h t s k o)
+  call_takes : (h : Here) (t : Boundaries) (k : CallData) (o : Option RealView) → TakesReal (call h t s k o)
   call_takes h t k (Some r) is = offered_takes h t r k (nat_cmp k.number (order_of r.orders k.sender).next) is
   call_takes h t k None is = passed_takes k s.next is
 
@@ -55,7 +58,7 @@ module _ (s : Slot) where
   set_takes beat c None is = cc
   set_takes beat c (Some r) is = cc
 
-  case_takes : (h : Here) (t : Division) (m : Msg) → TakesReal (case_of h t s m)
+  case_takes : (h : Here) (t : Boundaries) (m : Msg) → TakesReal (case_of h t s m)
   case_takes h t (Call k) is = call_takes h t k s.real is
   case_takes h t (GhostSet e beat c) is = set_takes beat c s.real is
   case_takes h t (Reap e) is = reap_takes s.real is
@@ -65,20 +68,20 @@ module _ (s : Slot) where
   unless_takes true x h is = cc
   unless_takes false x h is = h is
 
-  survey_takes : (h : Here) (t : Division) (o : Option RealView) → TakesReal (survey_task h t s o)
+  survey_takes : (h : Here) (t : Boundaries) (o : Option RealView) → TakesReal (survey_task h t s o)
   survey_takes h t (Some r) is = settle_takes h t r false is
   survey_takes h t None is = cc
 
-  item_takes : (h : Here) (t : Division) (r : RealView) (o : ℕ × OrderView CallData) (k : Option CallData) →
+  item_takes : (h : Here) (t : Boundaries) (r : RealView) (o : ℕ × OrderView CallData) (k : Option CallData) →
       TakesReal (executes_ready h t s r o k)
   item_takes h t r o (Some k) is = settle_takes h t (executed_ready h r o k) (shows h r k) is
   item_takes h t r o None is = cc
 
-  order_takes : (h : Here) (t : Division) (r : RealView) (o : Option (ℕ × OrderView CallData)) → TakesReal (ready_in h t s r o)
+  order_takes : (h : Here) (t : Boundaries) (r : RealView) (o : Option (ℕ × OrderView CallData)) → TakesReal (ready_in h t s r o)
   order_takes h t r (Some o) is = item_takes h t r o (next_item o.1) is
   order_takes h t r None is = cc
 
-  ready_takes : (h : Here) (t : Division) (o : Option RealView) → TakesReal (ready_call_task h t s o)
+  ready_takes : (h : Here) (t : Boundaries) (o : Option RealView) → TakesReal (ready_call_task h t s o)
   ready_takes h t (Some r) is = order_takes h t r (ready_order r.orders) is
   ready_takes h t None is = cc
 
@@ -158,12 +161,12 @@ module _ (c : CellView) (keys : AreUnderTheirEntities c.reals) (e : ℕ) where
       subst (λ z. Does None (cell_task c (z ∷ es)).state (cell_task c (z ∷ es)).sent) (sym is)
       (own None (record c { survey = es }) (surveys c e (table.get c.reals e)) _ refl refl
       (unless_takes (slot_of c e) (stray_survey (table.get c.reals e)) _
-      (survey_takes (slot_of c e) c.here c.tree (table.get c.reals e))))
+      (survey_takes (slot_of c e) c.here (boundaries_of c) (table.get c.reals e))))
   survey_by y es (inr n) =
       let x = surveys c y (table.get c.reals y) in
       others None (record c { survey = es }) y x n refl
       (concerning_other e y x.sent
-      (surveys_about y c.here c.tree (slot_of c y) (stray_survey (table.get c.reals y)) (table.get c.reals y) (keys y)) n)
+      (surveys_about y c.here (boundaries_of c) (slot_of c y) (stray_survey (table.get c.reals y)) (table.get c.reals y) (keys y)) n)
 
   -- it is its turn to look
   module _ (es : List ℕ) (at : c.looks ≡ e ∷ es) where
@@ -224,7 +227,7 @@ module _ (c : CellView) (keys : AreUnderTheirEntities c.reals) (e : ℕ) where
       let x = looks_around c y (table.get c.reals y) (known_to c y) in
       others None (record c { looks = es }) y x n refl
       (concerning_other e y x.sent
-      (looks_about y c.here c.tree (slot_of c y) (stray_look c.here (table.get c.reals y) (known_to c y)) (table.get c.reals y)
+      (looks_about y c.here (boundaries_of c) (slot_of c y) (stray_look c.here (table.get c.reals y) (known_to c y)) (table.get c.reals y)
       (known_to c y) (keys y)) n)
 
   look_next_does : (es : List ℕ) → c.looks ≡ es → Does None (look_next c es).state (look_next c es).sent
@@ -236,12 +239,12 @@ module _ (c : CellView) (keys : AreUnderTheirEntities c.reals) (e : ℕ) where
       subst (λ z. Does None (ready_next c (Some z)).state (ready_next c (Some z)).sent) (sym is)
       (own None c (calls_ready c e (table.get c.reals e)) _ refl refl
       (unless_takes (slot_of c e) (stray_ready_call (table.get c.reals e)) _
-      (ready_takes (slot_of c e) c.here c.tree (table.get c.reals e))))
+      (ready_takes (slot_of c e) c.here (boundaries_of c) (table.get c.reals e))))
   ready_by y (inr n) =
       let x = calls_ready c y (table.get c.reals y) in
       others None c y x n refl
       (concerning_other e y x.sent
-      (readies_about y c.here c.tree (slot_of c y) (stray_ready_call (table.get c.reals y)) (table.get c.reals y) (keys y)) n)
+      (readies_about y c.here (boundaries_of c) (slot_of c y) (stray_ready_call (table.get c.reals y)) (table.get c.reals y) (keys y)) n)
 
   ready_does : (o : Option ℕ) → Does None (ready_next c o).state (ready_next c o).sent
   ready_does (Some y) = ready_by y (cases_eq y e)
@@ -254,19 +257,22 @@ module _ (c : CellView) (keys : AreUnderTheirEntities c.reals) (e : ℕ) where
   -- ---- messages
 
   hears_by : (i : Option Msg) (m : Msg) (y : ℕ) → about m ≡ Some y → (y ≡ e) ⊎ (y ≡ e → ⊥) →
-      Does i (cell_hears c m (Some y)).state (cell_hears c m (Some y)).sent
+      Does i (plainly c m (Some y)).state (plainly c m (Some y)).sent
   hears_by i m y a (inl is) =
-      subst (λ z. Does i (cell_hears c m (Some z)).state (cell_hears c m (Some z)).sent) (sym is)
-      (own i c (slot_steps c.here c.tree (slot_of c e) m) _ refl refl
-      (unless_takes (slot_of c e) (is_stray c.here c.tree (slot_of c e) m) _ (case_takes (slot_of c e) c.here c.tree m)))
+      subst (λ z. Does i (plainly c m (Some z)).state (plainly c m (Some z)).sent) (sym is)
+      (own i c (slot_steps c.here (at_start c.tree) (slot_of c e) m) _ refl refl
+      (unless_takes (slot_of c e) (is_stray c.here c.tree (slot_of c e) m) _ (case_takes (slot_of c e) c.here (at_start c.tree) m)))
   hears_by i m y a (inr n) =
-      let x = slot_steps c.here c.tree (slot_of c y) m in
-      others i c y x n refl (concerning_other e y x.sent (slot_about y c.here c.tree (slot_of c y) m a (keys y)) n)
+      let x = slot_steps c.here (at_start c.tree) (slot_of c y) m in
+      others i c y x n refl (concerning_other e y x.sent (slot_about y c.here (at_start c.tree) (slot_of c y) m a (keys y)) n)
 
-  hears_does : (m : Msg) → Does (mine e m) (cell_steps c (From 0 m)).state (cell_steps c (From 0 m)).sent
-  hears_does Tick = elsewhere (ticked refl)
-  hears_does m = hears_by _ m (entity_of m) refl (cases_eq (entity_of m) e)
+  hears_does : (m : Msg) → BringsNone m → Does (mine e m) (plainly c m (about m)).state (plainly c m (about m)).sent
+  hears_does Tick none = elsewhere (ticked refl)
+  hears_does (Bounds b) none = cc
+  hears_does m none = hears_by _ m (entity_of m) refl (cases_eq (entity_of m) e)
 
-  pub cell_looks : (i : Input Msg) → Does (letter_in (mine e) i) (cell_steps c i).state (cell_steps c i).sent
-  cell_looks Task = task_does c.survey
-  cell_looks (From a m) = hears_does m
+  pub cell_looks : c.number ≡ 0 → (i : Input Msg) → IsPlainInput i → Does (letter_in (mine e) i) (cell_steps c i).state
+      (cell_steps c i).sent
+  cell_looks first Task fed = task_does c.survey
+  cell_looks first (From a m) fed =
+      subst (λ (t : Stepped CellView Msg). Does (mine e m) t.state t.sent) (sym (steps_plainly c first a m fed)) (hears_does m fed)

@@ -15,6 +15,7 @@ use Rattle.seam_law_calls.proofs.Paying.{OrdersPay, base_paid}
 use Rattle.seam_law_calls.proofs.NoLooks.{ticks_silent}
 use Rattle.seam_law_calls.specs.Telling.{letter_looks, has_looks}
 use Rattle.seam_law_calls.proofs.Looking.{LooksAt}
+use Rattle.seam_law_calls.proofs.Classify.{fed_plain}
 
 -- ---- what is sent
 
@@ -86,7 +87,7 @@ module _ (f : Frame) (e k : ℕ) (s : Has) (i : Option Msg) (t : Has) (sent : Li
       eases (deed.goes u r q changed j has own acts at n d) = now _ u d (acts_keep u r q changed acts)
       eases (deed.holds c r n own has mine may lt d) = now _ s.cell d (omega arith)
       eases (deed.passes c p n own has at d) = now _ s.cell d (omega arith)
-      eases (deed.lands r n own has may d) = now _ s.cell d (omega arith)
+      eases (deed.lands r bs n own has may d) = now _ s.cell d (omega arith)
       eases (deed.reaped r n has own may d) = now _ s.cell d (omega arith)
       eases (deed.looks n r w known h at has own v small d) = now _ _ d (omega (arith, at))
 
@@ -128,7 +129,8 @@ module _ (f : Frame) (most : cells_of f.tree ≤ cell_count) (e : ℕ) (w : Worl
   looks_left_happens =
       event_eases has_looks letter_looks e f w v o q
       (move_eases f e v.node s (letter_in (mine e) o.input) t sent most
-      (node_moves f e v.node o.node o.input (q.sound.states v.node o.node o.is_node) (q.nodes v.node o.node o.is_node)))
+      (node_moves f e v.node o.node o.input (q.sound.states v.node o.node o.is_node) (q.nodes v.node o.node o.is_node)
+      (fed_plain f w v o q)))
 
   -- and falls where the witness looks
   pub looks_left_falls : (b : ℕ) (h : Here) (known : List Known) → s.base.orders ≡ [] → t.base.orders ≡ [] →

@@ -49,7 +49,7 @@ module _ (f : Frame) (e k : ℕ) (s : Has) (i : Option Msg) (t : Has) (sent : Li
     none_left (deed.goes u r q changed j has own acts at n d) = looks_are _ u d (acts_keep u r q changed acts)
     none_left (deed.holds c r n own has mine may lt d) = looks_are _ s.cell d none
     none_left (deed.passes c p n own has at d) = looks_are _ s.cell d none
-    none_left (deed.lands r n own has may d) = looks_are _ s.cell d none
+    none_left (deed.lands r bs n own has may d) = looks_are _ s.cell d none
     none_left (deed.reaped r n has own may d) = looks_are _ s.cell d none
     none_left (deed.looks n r w known h at has own v small d) = absurd (omega (arith, at, none))
 

@@ -133,6 +133,7 @@ module _ (f : Frame) (e ty : ℕ) (first : ℕ → ℕ) (batch : ℕ → List Ca
   no_order k (order.Base c) os at =
       base_order_by k c os (is_base_node_of (here_at f k) c.entity) at (eqb-true c.entity e (order_own e w k (order.Base c) os at)) refl
   no_order k order.Tick os at = refl
+  no_order k (order.Bounds x) os at = refl
   no_order k (order.Reap x) os at = routed k (order.Reap x) os at
 
   -- ---- parts

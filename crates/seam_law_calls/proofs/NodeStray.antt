@@ -24,6 +24,7 @@ order_is b e (order.Cell c) is = ap (λ x. is_none (table.get b.routes x)) (enti
 order_is b e (order.Base c) is =
     ap (λ x. is_base_node_of b.here c.entity && stray_base_call b.here c (table.get b.parts x)) (entity_is c.entity e is)
 order_is b e order.Tick is = refl
+order_is b e (order.Bounds x) is = refl
 order_is b e (order.Reap x) is = ap (λ y. is_none (table.get b.routes y)) (entity_is x e is)
 
 module _ (f : Frame) (e : ℕ) (w : World) (q : IsInFrame f w) (nothing : NothingIsStray f e w) (k : ℕ) (b : BaseView)

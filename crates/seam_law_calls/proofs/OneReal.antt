@@ -11,7 +11,6 @@ use Rattle.seam_law_calls.proofs.Prelude.{NoReapComes, RunsTo, real_at, of_group
 use Rattle.seam_law_calls.proofs.Prelude.{came, sole_came, sole_goes, token_turns, haunts_cell}
 use Rattle.std.specs.FinSet as set
 use Rattle.seam_defs.specs.declared.flags.Group.TheVariants as group
-use Rattle.seam_entity.specs.declared.message.Msg.TheVariants.{Call}
 use Rattle.seam_law_calls.proofs.Keeping.{run_keeps}
 use Rattle.seam_law_calls.proofs.Classify.{frame_happens, event_moves_with}
 use Rattle.seam_law_calls.proofs.Trees.{cells_alike}
@@ -20,6 +19,7 @@ use Rattle.seam_law_calls.proofs.Replaying.{replays_none, replays_on}
 use Rattle.seam_law_calls.proofs.Handling.{FindsRoom, StillFits, Handled, handled}
 use Rattle.seam_law_calls.proofs.Sparing.{items_all, orders_spared, sent_spared}
 use Rattle.seam_law_calls.proofs.Easing.{burden_happens, came_small}
+use Rattle.seam_node_steps.specs.Prelude.{Boundaries}
 
 -- ---- a real that fits may come
 
@@ -54,23 +54,23 @@ module _ (f : Frame) (frame : IsFrame f) (e ty k : ℕ) (tree : Division) (of : 
 
 -- ---- letters that carry a real
 
-hand_is : (m : Msg) (r : RealView) → real_of m ≡ Some r → m ≡ Hand r
-hand_is (Call c) r h = cc
+hand_is : (m : Msg) (r : RealView) → real_of m ≡ Some r → (bs : Option Boundaries) × (m ≡ Hand r bs)
+hand_is (Hand q bs) r h = (bs, let same : q ≡ r = cc in ap (λ x. Hand x bs) same)
 hand_is _ r h = cc
 
-pub came_hand : (i : Option Msg) (r : RealView) → carried_in real_of i ≡ Some r → i ≡ Some (Hand r)
+pub came_hand : (i : Option Msg) (r : RealView) → carried_in real_of i ≡ Some r → (bs : Option Boundaries) × (i ≡ Some (Hand r bs))
 came_hand None r h = cc
-came_hand (Some m) r h = ap Some (hand_is m r h)
+came_hand (Some m) r h = let p = hand_is m r h in (p.0, ap Some p.1)
 
 module _ (P : RealView → Type 0) where
   abbrev OfHand : Msg → Type 0
-  OfHand m = (r : RealView) → m ≡ Hand r → P r
+  OfHand m = (r : RealView) (bs : Option Boundaries) → m ≡ Hand r bs → P r
 
   -- what is true of each real that the letters carry
   hands_by : (m : Msg) (ms : List Msg) → AllByRecursion P (letters_of real_of (m ∷ ms)) →
       (AllByRecursion P (letters_of real_of ms) → AllByRecursion OfHand ms) → AllByRecursion OfHand (m ∷ ms)
-  hands_by (Hand q) ms h more = ((λ r is. let same : q ≡ r = cc in subst P same h.0), more h.1)
-  hands_by _ ms h more = ((λ r is. cc), more h)
+  hands_by (Hand q bs) ms h more = ((λ r os is. let same : q ≡ r = cc in subst P same h.0), more h.1)
+  hands_by _ ms h more = ((λ r os is. cc), more h)
 
   pub hands_all : (ms : List Msg) → AllByRecursion P (letters_of real_of ms) → AllByRecursion OfHand ms
   hands_all [] h = tt
@@ -93,10 +93,10 @@ module _ (f : Frame) (frame : IsFrame f) (e ty k : ℕ) (s : Has) (i : Option Ms
   none_fits o at r h = cc
 
   slot_fits : (m : Handles_it) → StillFits f frame e ty k s i t sent out items m → IsFitReal f e ty k (real_in s) →
-      ((r : RealView) → i ≡ Some (Hand r) → RealFits f e ty k r) → IsFitReal f e ty k (real_in t)
+      ((r : RealView) (bs : Option Boundaries) → i ≡ Some (Hand r bs) → RealFits f e ty k r) → IsFitReal f e ty k (real_in t)
   slot_fits (still a b c) fit here hand = same_fits (real_in s) (real_in t) a here
   slot_fits (turns r q a b c d o) fit here hand = one_fits q (real_in t) b (fit (here r a))
-  slot_fits (lands r q a b c o) fit here hand = one_fits q (real_in t) b (fit (hand r (came_hand i r a)))
+  slot_fits (lands r q a b c o) fit here hand = one_fits q (real_in t) b (fit (hand r (came_hand i r a).0 (came_hand i r a).1))
   slot_fits (leaves r q to a b c d o) fit here hand = none_fits (real_in t) b
   slot_fits (relays r q to a b c o) fit here hand = same_fits (real_in s) (real_in t) b here
 
@@ -113,12 +113,14 @@ module _ (f : Frame) (frame : IsFrame f) (e ty k : ℕ) (s : Has) (i : Option Ms
   ]
 
   out_fits : (m : Handles_it) → StillFits f frame e ty k s i t sent out items m → IsFitReal f e ty k (real_in s) →
-      ((r : RealView) → i ≡ Some (Hand r) → RealFits f e ty k r) → (j : ℕ) → AllByRecursion (IsFitHand f e ty j) (out j)
+      ((r : RealView) (bs : Option Boundaries) → i ≡ Some (Hand r bs) → RealFits f e ty k r) → (j : ℕ) → AllByRecursion
+      (IsFitHand f e ty j) (out j)
   out_fits (still a b c) fit here hand j = nothing_fits j (c j)
   out_fits (turns r q a b c d o) fit here hand j = nothing_fits j (o j)
   out_fits (lands r q a b c o) fit here hand j = nothing_fits j (o j)
   out_fits (leaves r q to a b c d o) fit here hand j = sent_fits_by q to j o.here o.others (fit (here r a))
-  out_fits (relays r q to a b c o) fit here hand j = sent_fits_by q to j o.here o.others (fit (hand r (came_hand i r a)))
+  out_fits (relays r q to a b c o) fit here hand j = sent_fits_by q to j o.here o.others
+      (fit (hand r (came_hand i r a).0 (came_hand i r a).1))
 
 -- ---- an event
 
@@ -126,7 +128,7 @@ module _ (f : Frame) (frame : IsFrame f) (e ty : ℕ) (known : ty < length f.def
     (has : HasOne f e ty w) (calm : letter_in (mine e) o.input ≡ Some (Reap e) → ⊥) where
   -- a hand-over that comes has small numbers, and no Reap comes
   abbrev Came : Option Msg → Type 0
-  Came i = ((r : RealView) → i ≡ Some (Hand r) → real_burden r < limit) × (i ≡ Some (Reap e) → ⊥)
+  Came i = ((r : RealView) (bs : Option Boundaries) → i ≡ Some (Hand r bs) → real_burden r < limit) × (i ≡ Some (Reap e) → ⊥)
 
   abbrev next : World
   next = happens node_steps w v
@@ -140,22 +142,22 @@ module _ (f : Frame) (frame : IsFrame f) (e ty : ℕ) (known : ty < length f.def
   abbrev letter : Option Msg
   letter = comes goes.input
 
-  hand_fits : (r : RealView) → letter ≡ Some (Hand r) → RealFits f e ty node r
-  hand_fits r is = (came (λ a k m. IsFitHand f e ty k m) goes (Hand r) is has.fits.hands).1 r refl
+  hand_fits : (r : RealView) (bs : Option Boundaries) → letter ≡ Some (Hand r bs) → RealFits f e ty node r
+  hand_fits r bs is = (came (λ a k m. IsFitHand f e ty k m) goes (Hand r bs) is has.fits.hands).1 r bs refl
 
   free_by : (p : TokenPlace) (a : ℕ) → p ≡ On a node → Sole real_in real_of (entity_flow e w) p has.real → real_at e w node ≡ None
   free_by p a is one = let s = subst (λ x. Sole real_in real_of (entity_flow e w) x has.real) is one in s.slots node
 
-  pub room : (r : RealView) → letter ≡ Some (Hand r) → FindsRoom f node ((entity_flow e w).slot node) r
-  room r is =
+  pub room : (r : RealView) (bs : Option Boundaries) → letter ≡ Some (Hand r bs) → FindsRoom f node ((entity_flow e w).slot node) r
+  room r bs is =
       let c = sole_came real_in real_of goes has.place has.real r has.one (ap (carried_in real_of) is) in
-      let fits = hand_fits r is in
+      let fits = hand_fits r bs is in
       let low = fits.home in
       let most = frame.tree.cells_to in
       record {
         cell = omega (arith, low, most);
         free = free_by has.place c.0 c.1 has.one;
-        may = λ tree of. may_land f frame e ty node tree of r known fits (goes.moves.1.0 r is);
+        may = λ tree of. may_land f frame e ty node tree of r known fits (goes.moves.1.0 r bs is);
       }
 
   what : Handled f frame e ty node ((entity_flow e w).slot node) letter ((entity_flow e next).slot node) goes.moves.0.sent goes.out

@@ -9,6 +9,7 @@ use Rattle.seam_law_calls.proofs.Classify.{node_moves}
 use Rattle.seam_law_calls.proofs.Easing.{event_eases}
 use Rattle.seam_law_calls.proofs.HeldCounts.{turn_counts, early_counts, taken_counts}
 use Rattle.seam_law_calls.proofs.PartSteps.{part_moves}
+use Rattle.seam_law_calls.proofs.Classify.{fed_plain}
 
 abbrev sent_asks : List (ℕ × Msg) → ℕ
 sent_asks ps = total (λ p. asks p.1) ps
@@ -106,7 +107,8 @@ module _ (f : Frame) (e : ℕ) (w : World) (v : Event) (o : Occurs w v) where
       let i = letter_in (mine e) o.input in
       let t = has_of e (node_steps o.node o.input).state in
       let sent = concerning e (node_steps o.node o.input).sent in
-      let m = node_moves f e v.node o.node o.input (q.sound.states v.node o.node o.is_node) (q.nodes v.node o.node o.is_node) in
+      let m = node_moves f e v.node o.node o.input (q.sound.states v.node o.node o.is_node) (q.nodes v.node o.node o.is_node)
+      (fed_plain f w v o q) in
       let less = part_eases (here_at f v.node) e s.base i t.base sent (part_moves f e v.node s i t sent m) in
       let came = came_by i in
       event_eases (λ h. has_base_burden h.base) asks e f w v o q (omega (arith, less, came))

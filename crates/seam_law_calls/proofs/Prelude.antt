@@ -64,6 +64,7 @@ pub use Rattle.seam_node_steps.proofs.Slots.{slot_stepped}
 pub use Rattle.seam_node_steps.specs.BaseCases.{executes_ready, may_execute, unless_stray}
 pub use Rattle.seam_node_steps.specs.CellCases.{call, case_of, haunts_cell}
 pub use Rattle.seam_node_steps.specs.EarlyCall.{base_17, steps, world_0}
+pub use Rattle.seam_node_steps.specs.Prelude.{Boundaries, Bounds, at_start, boundaries_of, bounds_in}
 pub use Rattle.seam_node_steps.specs.Prelude.{AllEnabled, AreDefs, ArePeers, AreUnderTheirEntities, Base, BaseCall, BaseView, Call, Cell}
 pub use Rattle.seam_node_steps.specs.Prelude.{CellView, Cells, Current, Deed, Division, EachNode, Event, From, Ghost, GhostCopy, GhostDrop}
 pub use Rattle.seam_node_steps.specs.Prelude.{GhostSet, Hand, Here, Input, IsNode, IsOfGroup, IsProper, IsQuiet, IsRow, IsSquare, IsTree}

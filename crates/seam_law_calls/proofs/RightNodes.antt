@@ -1,6 +1,7 @@
 -- Each move sends its messages to nodes that have a case for them, and routes that fit.
 use Rattle.seam_law_calls.proofs.Prelude.{◌≡◌, ℕ, ◌<◌, ◌≤◌, Bool, true, false, List, Option, Some, refl, sym, ap, ◌∙◌, arith, cond}
-use Rattle.seam_law_calls.proofs.Prelude.{Division, Pos, IsTree, leaf_at, cells_of, RealView, Msg, BaseCall, Hand, Current, GhostSet}
+use Rattle.seam_law_calls.proofs.Prelude.{Division, Pos, IsTree, leaf_at, cells_of, RealView, Boundaries, Msg, BaseCall, Hand, Current}
+use Rattle.seam_law_calls.proofs.Prelude.{GhostSet}
 use Rattle.seam_law_calls.proofs.Prelude.{GhostDrop, Tick, Update, limit, cell_count, base_of, NextPlace, home_after, RouteView, Frame}
 use Rattle.seam_law_calls.proofs.Prelude.{here_at, Has, CellMoves, BaseMoves, Moves, at_a_cell, at_a_base, IsFrame, IsBaseNumber}
 use Rattle.seam_law_calls.proofs.Prelude.{is_for_cells, IsForNode, leaf_is_cell}
@@ -53,7 +54,7 @@ home_low f tree k p is low =
 -- ---- moves
 
 module _ (f : Frame) (frame : IsFrame f) (some : 1 ≤ f.settings.bases) (e k : ℕ) (s : Has) (i : Option Msg) (t : Has)
-    (sent : List (ℕ × Msg)) (small : (r : RealView) → i ≡ Some (Hand r) → r.generation < limit) where
+    (sent : List (ℕ × Msg)) (small : (r : RealView) (bs : Option Boundaries) → i ≡ Some (Hand r bs) → r.generation < limit) where
   abbrev Right : Type 0
   Right = AllSent (IsForNode f) sent
 
@@ -67,7 +68,7 @@ module _ (f : Frame) (frame : IsFrame f) (some : 1 ≤ f.settings.bases) (e k : 
             let home = home_low f tree k q.state.pos is_tree low in
             for_cell f j _ refl (omega (arith, home, at));
         calls = λ c n is at. for_cell f n.cell _ refl (nexts n at);
-        routes = λ r b is le lt. current_for f b r.entity k r.generation (record { from = le; below = lt }) low (small r is);
+        routes = λ r bs b is le lt. current_for f b r.entity k r.generation (record { from = le; below = lt }) low (small r bs is);
         updates = λ x u. update_for f _ u (home_is_base f x some);
       }) (cell_deeds m)
 

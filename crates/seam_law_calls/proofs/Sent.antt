@@ -12,6 +12,7 @@ use Rattle.seam_node_steps.specs.Prelude.{unless_stray, told}
 use Rattle.seam_entity.specs.declared.message.Msg.TheVariants.{Call}
 use Rattle.seam_node_steps.specs.CellCases
 use Rattle.seam_law_calls.proofs.Lists.{AllAbout}
+use Rattle.seam_node_steps.specs.Prelude.{Boundaries, brought}
 
 abbrev IsAbout : ℕ → Option (ℕ × Msg) → Type 0
 IsAbout e None = Unit {0}
@@ -54,20 +55,21 @@ module _ (e : ℕ) where
       AllAbout e (stays h t s r changed).sent
   stays_about h t s r changed is = ghosts_about h r h.me (haunts_at h t r.state.pos h.me r.haunts) changed is
 
-  pub goes_about : (h : Here) (t : Division) (s : Slot) (r : RealView) (changed : Bool) (j : ℕ) → r.entity ≡ e →
+  pub goes_about : (h : Here) (t : Boundaries) (s : Slot) (r : RealView) (changed : Bool) (j : ℕ) → r.entity ≡ e →
       AllAbout e (goes h t s r changed j).sent
   goes_about h t s r changed j is =
-      let haunts = haunts_at h t r.state.pos j (set.insert r.haunts h.me) in
+      let haunts = haunts_at h t.tree r.state.pos j (set.insert r.haunts h.me) in
       all_append (λ p. about p.1 ≡ Some e) (ghost_messages h r j haunts changed)
-      ((j, Hand (settled_to r haunts (r.beat + 1) (r.generation + 1))) ∷ []) (ghosts_about h r j haunts changed is) (own r is, tt)
+      ((j, Hand (settled_to r haunts (r.beat + 1) (r.generation + 1)) (brought t)) ∷ []) (ghosts_about h r j haunts changed is)
+      (own r is, tt)
 
-  module _ (h : Here) (t : Division) (s : Slot) where
+  module _ (h : Here) (t : Boundaries) (s : Slot) where
     settled_about_by : (b : Bool) (r : RealView) (changed : Bool) (j : ℕ) → r.entity ≡ e → AllAbout e (settled_by b h t s r changed j).sent
-    settled_about_by true r changed j is = stays_about h t s r changed is
+    settled_about_by true r changed j is = stays_about h t.tree s r changed is
     settled_about_by false r changed j is = goes_about h t s r changed j is
 
     pub settled_about : (r : RealView) (changed : Bool) → r.entity ≡ e → AllAbout e (settled h t s r changed).sent
-    settled_about r changed is = settled_about_by (home_after h t r.state.pos == h.me) r changed (home_after h t r.state.pos) is
+    settled_about r changed is = settled_about_by (home_after h t.tree r.state.pos == h.me) r changed (home_after h t.tree r.state.pos) is
 
     unless_about : (b : Bool) (x : SlotStep) → AllAbout e x.sent → AllAbout e (unless_stray b x).sent
     unless_about true x a = tt
@@ -109,14 +111,14 @@ module _ (e : ℕ) where
 
     case_about : (m : Msg) → about m ≡ Some e → ((r : RealView) → s.real ≡ Some r → r.entity ≡ e) → AllAbout e (case_of h t s m).sent
     case_about (Call c) is keys = call_about c s.real (inside c.entity e is) keys
-    case_about (Hand r) is keys = currents_about r (base_numbers h) (inside r.entity e is)
+    case_about (Hand r bs) is keys = currents_about r (base_numbers h) (inside r.entity e is)
     case_about (GhostSet x beat c) is keys = set_about beat c s.real
     case_about (Reap x) is keys = reap_about s.real keys
     case_about _ is keys = tt
 
     -- what a message about an entity makes its slot send
     pub slot_about : (m : Msg) → about m ≡ Some e → ((r : RealView) → s.real ≡ Some r → r.entity ≡ e) → AllAbout e (slot_steps h t s m).sent
-    slot_about m is keys = unless_about (is_stray h t s m) (case_of h t s m) (case_about m is keys)
+    slot_about m is keys = unless_about (is_stray h t.tree s m) (case_of h t s m) (case_about m is keys)
 
     survey_about : (o : Option RealView) → ((r : RealView) → o ≡ Some r → r.entity ≡ e) → AllAbout e (CellCases.survey_task h t s o).sent
     survey_about (Some r) keys = settled_about r false (keys r refl)

@@ -14,6 +14,7 @@ use Rattle.seam_law_calls.proofs.WitnessSteps.{witness_moves}
 use Rattle.seam_law_calls.proofs.LooksLeft.{looks_left_happens}
 use Rattle.seam_law_calls.proofs.Telling.{event_fact}
 use Rattle.seam_law_calls.proofs.Keeping.{run_keeps}
+use Rattle.seam_law_calls.proofs.Classify.{fed_plain}
 
 -- the node's real has no witness that is to look
 abbrev NeverLooks : AtCell → Type 0
@@ -22,7 +23,7 @@ NeverLooks s = (n : ℕ) (r : RealView) (w : WitnessView) → s.looks ≡ n + 1 
 module _ (f : Frame) (e k : ℕ) (s : Has) (i : Option Msg) (t : Has) (sent : List (ℕ × Msg)) (never : NeverLooks s.cell) where
   cell_silent : WitnessMoves (here_at f k) e s.cell i (real_in t) sent → IsSilent update_in sent
   cell_silent (witness.rests keeps a b) = a
-  cell_silent (witness.lands r n now a b) = a
+  cell_silent (witness.lands r bs n now a b) = a
   cell_silent (witness.leaves r q to told has gone same z a b) =
       subst (IsSilent update_in) (sym z) (all_append (λ p. update_in p.1 ≡ None) told _ a (refl, tt))
   cell_silent (witness.looks n r q w v shown at has wit now wit' sum small z) = absurd (never n r w at has wit)
@@ -43,7 +44,8 @@ module _ (f : Frame) (e : ℕ) (w : World) (v : Event) (o : Occurs w v) (q : IsI
       let g = event_fact f e w v o q Silent
       (moves_silent f e v.node (has_of e o.node) (letter_in (mine e) o.input) (has_of e (node_steps o.node o.input).state)
       (concerning e (node_steps o.node o.input).sent) never
-      (node_moves f e v.node o.node o.input (q.sound.states v.node o.node o.is_node) (q.nodes v.node o.node o.is_node))) in
+      (node_moves f e v.node o.node o.input (q.sound.states v.node o.node o.is_node) (q.nodes v.node o.node o.is_node)
+      (fed_plain f w v o q))) in
       letters_kept (λ a k m. update_in m ≡ None) g none
       (λ j. subst (AllByRecursion (λ m. update_in m ≡ None)) (sym (g.moves.0.items j))
       (items_all (λ m. update_in m ≡ None) j g.moves.0.sent g.moves.1))

@@ -11,6 +11,7 @@ use Rattle.seam_node_steps.specs.Prelude.{may_execute, shows, unless_stray}
 use Rattle.seam_entity.specs.declared.message.Msg.TheVariants.{Call}
 use Rattle.seam_node_steps.specs.CellCases
 use Rattle.seam_law_calls.specs.CellMoves as move
+use Rattle.seam_node_steps.specs.Prelude.{Boundaries, at_start}
 
 less_of : (a b : ℕ) → nat_cmp a b ≡ Less → a < b
 less_of a b is = grind (arith, nat_tests)
@@ -38,18 +39,20 @@ module _ (h : Here) (t : Division) (e : ℕ) (s : AtCell) (key : IsKey e s.slot)
 
   module _ (i : Option Msg) (u : AtCell) (r q : RealView) (changed : Bool) (has : s.slot.real ≡ Some r) (acts : Acts h e s i r u q changed)
     where
-      by_home : (b : Bool) (j : ℕ) → home_after h t q.state.pos ≡ j → eqb j h.me ≡ b → Does u (settled_by b h t s.slot q changed j) v sent →
+      by_home : (b : Bool) (j : ℕ) → home_after h t q.state.pos ≡ j → eqb j h.me ≡ b → Does u
+          (settled_by b h (at_start t) s.slot q changed j) v sent →
           Goal i
       by_home true j at is d = move.stays u r q changed has (key r has) acts (at ∙ eqb-true j h.me is) d
       by_home false j at is d = move.goes u r q changed j has (key r has) acts at (eqb-false j h.me is) d
 
-      settles : Does u (settled h t s.slot q changed) v sent → Goal i
+      settles : Does u (settled h (at_start t) s.slot q changed) v sent → Goal i
       settles d = by_home (home_after h t q.state.pos == h.me) (home_after h t q.state.pos) refl refl d
 
   -- ---- messages
 
   offered_moves : (c : CallData) (r : RealView) (o : Ordering) → c.entity ≡ e → s.slot.real ≡ Some r → may_call h r c ≡ true →
-      nat_cmp c.number (order_of r.orders c.sender).next ≡ o → Does s (CellCases.offered h t s.slot r c o) v sent → Goal (Some (Call c))
+      nat_cmp c.number (order_of r.orders c.sender).next ≡ o → Does s (CellCases.offered h (at_start t) s.slot r c o) v sent → Goal
+      (Some (Call c))
   offered_moves c r Less is has may at d = move.late c r refl has may (less_of c.number (order_of r.orders c.sender).next at) d
   offered_moves c r Equal is has may at d =
       settles (Some (Call c)) s r (executed h r c) (shows h r c) has
@@ -63,15 +66,16 @@ module _ (h : Here) (t : Division) (e : ℕ) (s : AtCell) (key : IsKey e s.slot)
   passed_moves c (Some n) is has at sound d = move.passes c n refl is has at d
 
   call_moves : (c : CallData) (o : Option RealView) → c.entity ≡ e → s.slot.real ≡ o → CellCases.stray_call h c o s.slot.next ≡ false →
-      Does s (CellCases.call h t s.slot c o) v sent → Goal (Some (Call c))
+      Does s (CellCases.call h (at_start t) s.slot c o) v sent → Goal (Some (Call c))
   call_moves c (Some r) is has sound d =
       offered_moves c r (nat_cmp c.number (order_of r.orders c.sender).next) is has (yes_of (may_call h r c) sound) refl d
   call_moves c None is has sound d = passed_moves c s.slot.next is has refl sound d
 
-  hand_moves : (r : RealView) (o : Option RealView) → r.entity ≡ e → s.slot.real ≡ o → CellCases.stray_hand h t r o ≡ false →
-      Does s (CellCases.hand_over_comes h s.slot r) v sent → Goal (Some (Hand r))
-  hand_moves r (Some q) is has sound d = cc
-  hand_moves r None is has sound d = move.lands r refl is has (yes_of (may_come h t r) sound) d
+  hand_moves : (r : RealView) (bs : Option Boundaries) (o : Option RealView) → r.entity ≡ e → s.slot.real ≡ o →
+      CellCases.stray_hand h t r o ≡ false →
+      Does s (CellCases.hand_over_comes h s.slot r) v sent → Goal (Some (Hand r bs))
+  hand_moves r bs (Some q) is has sound d = cc
+  hand_moves r bs None is has sound d = move.lands r bs refl is has (yes_of (may_come h t r) sound) d
 
   set_moves : (x beat : ℕ) (c : GhostCopy) (o : Option RealView) → x ≡ e → s.slot.real ≡ o →
       Does s (CellCases.ghost_set s.slot beat c o) v sent → Goal (Some (GhostSet x beat c))
@@ -84,58 +88,60 @@ module _ (h : Here) (t : Division) (e : ℕ) (s : AtCell) (key : IsKey e s.slot)
       move.reaped r (ap (λ y. Some (Reap y)) is) has (key r has) (yes_of (may_rise r.beat) sound) d
   reap_moves x None is has sound d = cc
 
-  case_moves : (m : Msg) → about m ≡ Some e → is_stray h t s.slot m ≡ false → Does s (case_of h t s.slot m) v sent → Goal (Some m)
+  case_moves : (m : Msg) → about m ≡ Some e → is_stray h t s.slot m ≡ false → Does s (case_of h (at_start t) s.slot m) v sent → Goal
+      (Some m)
   case_moves (Call c) is sound d = call_moves c s.slot.real (inside c.entity e is) refl sound d
-  case_moves (Hand r) is sound d = hand_moves r s.slot.real (inside r.entity e is) refl sound d
+  case_moves (Hand r bs) is sound d = hand_moves r bs s.slot.real (inside r.entity e is) refl sound d
   case_moves (GhostSet x beat c) is sound d = set_moves x beat c s.slot.real (inside x e is) refl d
   case_moves (GhostDrop x beat) is sound d = move.hears_drop beat (ap (λ y. Some (GhostDrop y beat)) (inside x e is)) d
   case_moves (Reap x) is sound d = reap_moves x s.slot.real (inside x e is) refl sound d
   case_moves _ is sound d = cc
 
   stray_moves : (m : Msg) (b : Bool) → about m ≡ Some e → is_stray h t s.slot m ≡ b →
-      Does s (unless_stray b (case_of h t s.slot m)) v sent → Goal (Some m)
+      Does s (unless_stray b (case_of h (at_start t) s.slot m)) v sent → Goal (Some m)
   stray_moves m true is at d = move.strays m refl at d
   stray_moves m false is at d = case_moves m is at d
 
   -- a message about the entity
-  pub message_moves : (m : Msg) → about m ≡ Some e → Does s (slot_steps h t s.slot m) v sent → Goal (Some m)
+  pub message_moves : (m : Msg) → about m ≡ Some e → Does s (slot_steps h (at_start t) s.slot m) v sent → Goal (Some m)
   message_moves m is d = stray_moves m (is_stray h t s.slot m) is refl d
 
   -- ---- tasks
 
   survey_by : (n : ℕ) (r : RealView) (b : Bool) → s.survey ≡ n + 1 → s.slot.real ≡ Some r → may_settle r ≡ b →
-      Does (record s { survey = n }) (unless_stray (not b) (survey_task h t s.slot (Some r))) v sent → Goal None
+      Does (record s { survey = n }) (unless_stray (not b) (survey_task h (at_start t) s.slot (Some r))) v sent → Goal None
   survey_by n r true at_n has may d = settles None (record s { survey = n }) r r false has (surveys n refl at_n may) d
   survey_by n r false at_n has may d = move.unlists n refl at_n (ap stray_survey has ∙ ap not may) d
 
   survey_at : (n : ℕ) (o : Option RealView) → s.survey ≡ n + 1 → s.slot.real ≡ o →
-      Does (record s { survey = n }) (unless_stray (stray_survey o) (survey_task h t s.slot o)) v sent → Goal None
+      Does (record s { survey = n }) (unless_stray (stray_survey o) (survey_task h (at_start t) s.slot o)) v sent → Goal None
   survey_at n (Some r) at_n has d = survey_by n r (may_settle r) at_n has refl d
   survey_at n None at_n has d = move.unlists n refl at_n (ap stray_survey has) d
 
   -- the entity is taken from the survey list
   pub survey_moves : (n : ℕ) → s.survey ≡ n + 1 →
-      Does (record s { survey = n }) (unless_stray (stray_survey s.slot.real) (survey_task h t s.slot s.slot.real)) v sent → Goal None
+      Does (record s { survey = n }) (unless_stray (stray_survey s.slot.real) (survey_task h (at_start t) s.slot s.slot.real)) v sent →
+      Goal None
   survey_moves n at_n d = survey_at n s.slot.real at_n refl d
 
   item_moves : (r : RealView) (o : ℕ × OrderView CallData) (c : Option CallData) → s.slot.real ≡ Some r → may_execute r ≡ true →
-      ready_order r.orders ≡ Some o → next_item o.1 ≡ c → Does s (CellCases.executes_ready h t s.slot r o c) v sent → Goal None
+      ready_order r.orders ≡ Some o → next_item o.1 ≡ c → Does s (CellCases.executes_ready h (at_start t) s.slot r o c) v sent → Goal None
   item_moves r o (Some c) has may at item d =
       settles None s r (executed_ready h r o c) (shows h r c) has (readies o c refl may at item) d
   item_moves r o None has may at item d = move.rests refl d
 
   order_moves : (r : RealView) (o : Option (ℕ × OrderView CallData)) → s.slot.real ≡ Some r → may_execute r ≡ true →
-      ready_order r.orders ≡ o → Does s (CellCases.ready_in h t s.slot r o) v sent → Goal None
+      ready_order r.orders ≡ o → Does s (CellCases.ready_in h (at_start t) s.slot r o) v sent → Goal None
   order_moves r (Some o) has may at d = item_moves r o (next_item o.1) has may at refl d
   order_moves r None has may at d = move.rests refl d
 
   ready_by : (r : RealView) (b : Bool) → s.slot.real ≡ Some r → has_ready r.orders ≡ true → may_execute r ≡ b →
-      Does s (unless_stray (not b) (ready_call_task h t s.slot (Some r))) v sent → Goal None
+      Does s (unless_stray (not b) (ready_call_task h (at_start t) s.slot (Some r))) v sent → Goal None
   ready_by r true has is may d = order_moves r (ready_order r.orders) has may refl d
   ready_by r false has is may d = move.stuck r refl has is may d
 
   ready_at : (o : Option RealView) (r : RealView) → s.slot.real ≡ o → o ≡ Some r → has_ready r.orders ≡ true →
-      Does s (unless_stray (stray_ready_call o) (ready_call_task h t s.slot o)) v sent → Goal None
+      Does s (unless_stray (stray_ready_call o) (ready_call_task h (at_start t) s.slot o)) v sent → Goal None
   ready_at (Some q) r at has is d =
       let same : q ≡ r = cc in
       ready_by q (may_execute q) at (ap (λ y. has_ready y.orders) same ∙ is) refl d
@@ -143,7 +149,7 @@ module _ (h : Here) (t : Division) (e : ℕ) (s : AtCell) (key : IsKey e s.slot)
 
   -- the entity's real has a ready call
   pub ready_moves : (r : RealView) → s.slot.real ≡ Some r → has_ready r.orders ≡ true →
-      Does s (unless_stray (stray_ready_call s.slot.real) (ready_call_task h t s.slot s.slot.real)) v sent → Goal None
+      Does s (unless_stray (stray_ready_call s.slot.real) (ready_call_task h (at_start t) s.slot s.slot.real)) v sent → Goal None
   ready_moves r has is d = ready_at s.slot.real r refl has is d
 
   look_if : (n : ℕ) (r : RealView) (w : WitnessView) (known : List Known) (b : Bool) → s.looks ≡ n + 1 → s.slot.real ≡ Some r →

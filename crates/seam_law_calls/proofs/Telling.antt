@@ -2,7 +2,8 @@
 use Rattle.seam_law_calls.proofs.Prelude.{◌≡◌, ℕ, ◌+◌, ◌*◌, ◌<◌, ◌≤◌, Bool, true, false, List, [], ◌∷◌, length, map, filter_map, Option}
 use Rattle.seam_law_calls.proofs.Prelude.{None, Some, refl, sym, ap, ◌∙◌, subst, arith, inl, inr, slice_get, AllByRecursion, cases_lt}
 use Rattle.seam_law_calls.proofs.Prelude.{length-map, Division, cells_of, happens, enabled, Occurs, Event, copy_in, GhostCopy, Shown}
-use Rattle.seam_law_calls.proofs.Prelude.{RealView, WitnessView, Msg, Hand, Here, base_numbers, base_of, cell_count, SlotStep, slot_after}
+use Rattle.seam_law_calls.proofs.Prelude.{RealView, WitnessView, Boundaries, Msg, Hand, Here, base_numbers, base_of, cell_count, SlotStep}
+use Rattle.seam_law_calls.proofs.Prelude.{slot_after}
 use Rattle.seam_law_calls.proofs.Prelude.{haunts_at, ghost_messages, current_to, Known, seen_as, shown_for, own_due, looks_of, shown_of}
 use Rattle.seam_law_calls.proofs.Prelude.{after_looking, CellView, known_to, NodeView, World, node_steps, node_has_work, Cell, Base, IsNode}
 use Rattle.seam_law_calls.proofs.Prelude.{Goes, comes, letter_in, slot_at, IsSilent, Frame, here_at, IsInFrame, Has, AtCell, mine}
@@ -24,6 +25,8 @@ use Rattle.seam_law_calls.proofs.Below.{AllBelow, known_to_below, known_to_few, 
 use Rattle.seam_law_calls.proofs.Absent.{absent_happens}
 use Rattle.seam_law_calls.proofs.Looking.{NotTaken, as_often, gone, ticked, looked_at, LooksAt, Look, still, elsewhere, looks, cell_looks}
 use Rattle.seam_law_calls.proofs.LooksLeft.{looks_left_happens, looks_left_falls}
+use Rattle.seam_law_calls.proofs.Classify.{fed_plain}
+use Rattle.seam_law_calls.specs.Frames.{IsAt}
 
 no_real : SeesNoGhost real_of
 no_real = record { sets = λ e n c. refl; drops = λ e n. refl }
@@ -31,7 +34,8 @@ no_real = record { sets = λ e n c. refl; drops = λ e n. refl }
 -- ---- where the entry is not taken, each real has the witness that it had
 
 module _ (P : RealView → Type 0) (by_witness : ByWitness P) (f : Frame) (e k : ℕ) (s : Has) (i : Option Msg) (t : Has)
-    (sent : List (ℕ × Msg)) (here : (r : RealView) → real_in s ≡ Some r → P r) (comes : (r : RealView) → i ≡ Some (Hand r) → P r) where
+    (sent : List (ℕ × Msg)) (here : (r : RealView) → real_in s ≡ Some r → P r)
+    (comes : (r : RealView) (bs : Option Boundaries) → i ≡ Some (Hand r bs) → P r) where
   record Holds : Type 0 where
     slot : (r : RealView) → real_in t ≡ Some r → P r
     sends : AllByRecursion (λ p. OfReal P p.1) sent
@@ -85,8 +89,8 @@ module _ (P : RealView → Type 0) (by_witness : ByWitness P) (f : Frame) (e k :
       witness_of (Some r) = r.witness
   cell_holds not (deed.holds c r n own has mine may lt d) = turned r _ has (is_now _ s.cell d) refl (silent _ s.cell d tt)
   cell_holds not (deed.passes c p n own has at d) = same (is_now _ s.cell d) (silent _ s.cell d (refl, tt))
-  cell_holds not (deed.lands r n own has may d) = record {
-    slot = λ x now. let one : r ≡ x = let y = sym (is_now _ s.cell d) ∙ now in cc in subst P one (comes r n);
+  cell_holds not (deed.lands r bs n own has may d) = record {
+    slot = λ x now. let one : r ≡ x = let y = sym (is_now _ s.cell d) ∙ now in cc in subst P one (comes r bs n);
     sends =
         none_carried P sent
         (silent _ s.cell d (mapped_silent real_of (current_to (here_at f k) r) (λ b. refl) (base_numbers (here_at f k))));
@@ -116,7 +120,8 @@ module _ (f : Frame) (e : ℕ) (w : World) (v : Event) (o : Occurs w v) (q : IsI
       event_goes (mine e) (has_of e) has_none Facts node_steps w v o q.sound.square (sound_sends node_laws w v o q.sound) (
         record {
           sent = concerning e (node_steps o.node o.input).sent;
-          moves = node_moves f e v.node o.node o.input (q.sound.states v.node o.node o.is_node) (q.nodes v.node o.node o.is_node);
+          moves = node_moves f e v.node o.node o.input (q.sound.states v.node o.node o.is_node) (q.nodes v.node o.node o.is_node)
+              (fed_plain f w v o q);
           items = λ j. letters_are e j (node_steps o.node o.input).sent;
         },
         fact,
@@ -166,7 +171,7 @@ module _ (f : Frame) (e : ℕ) (w : World) (v : Event) (o : Occurs w v) (frame :
       let g = event_fact f e w v o frame IsNotTaken fact in
       let held =
       moves_hold P by_witness f e g.k ((entity_flow e w).slot g.k) (comes g.input) ((entity_flow e after).slot g.k) g.moves.0.sent
-      (each.cells g.k) (λ r is. (came (λ a k m. OfReal P m) g (Hand r) is each.hands).1 r refl) g.moves.1 g.moves.0.moves in
+      (each.cells g.k) (λ r bs is. (came (λ a k m. OfReal P m) g (Hand r bs) is each.hands).1 r refl) g.moves.1 g.moves.0.moves in
       each_then IsNotTaken g held.slot held.sends
 
   module _ (at : Here) (known : List Known) where
@@ -195,7 +200,8 @@ module _ (f : Frame) (e : ℕ) (w : World) (v : Event) (o : Occurs w v) (frame :
         by
         (subst (λ s. Look e c.here (known_to c e) (has_of e s).cell (letter_in (mine e) o.input)
         (has_of e (node_steps s o.input).state).cell (concerning e (node_steps s o.input).sent)) (sym is)
-        (cell_looks c node.keys e o.input))
+        (cell_looks c node.keys e (subst (IsAt f v.node) is (frame.nodes v.node o.node o.is_node)).number o.input
+        (fed_plain f w v o frame)))
       where
         by : Look e c.here (known_to c e) (has_of e o.node).cell (letter_in (mine e) o.input)
             (has_of e (node_steps o.node o.input).state).cell (concerning e (node_steps o.node o.input).sent) → EachReal e P after

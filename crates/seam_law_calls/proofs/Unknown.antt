@@ -63,7 +63,7 @@ module _ (f : Frame) (few : cells_of f.tree ≤ cell_count) (e k : ℕ) (s : Has
   cell_silent base (deed.goes u r q changed j has own acts at n d) = absurd (never r has)
   cell_silent base (deed.holds c r n own has mine may lt d) = absurd (never r has)
   cell_silent base (deed.passes c p n own has at d) = absurd (come (Call c) n)
-  cell_silent base (deed.lands r n own has may d) = absurd (come (Hand r) n)
+  cell_silent base (deed.lands r bs n own has may d) = absurd (come (Hand r bs) n)
   cell_silent base (deed.reaped r n has own may d) = absurd (never r has)
   cell_silent base (deed.looks n r w known is at has own v small d) = absurd (never r has)
 

@@ -13,6 +13,7 @@ use Rattle.seam_law_calls.proofs.BaseDeeds as base_deed
 use Rattle.seam_law_calls.proofs.BaseDeeds.{BaseDeeds, RouteAfter, same_route, newer_of, base_deeds, base_route}
 use Rattle.seam_law_calls.proofs.Plain.{SeesNoGhost, ghosts_silent, mapped_silent, numbered_silent}
 use Rattle.seam_law_calls.proofs.Handling.{FindsRoom, not_stray}
+use Rattle.seam_node_steps.specs.Prelude.{Boundaries}
 
 abbrev pub kept : Bool → Option ℕ
 kept true = Some 0
@@ -34,7 +35,8 @@ no_routes = record { sets = λ e n c. refl; drops = λ e n. refl }
 
 -- where the call that node with s sends goes
 pub data Way (s : Has) (i : Option Msg) (j : ℕ) : Type 0 where
-  by_next : (n : NextPlace) → s.cell.slot.next ≡ Some n → n.cell ≡ j → ((r : RealView) → i ≡ Some (Hand r) → ⊥) → Way s i j
+  by_next : (n : NextPlace) → s.cell.slot.next ≡ Some n → n.cell ≡ j →
+      ((r : RealView) (bs : Option Boundaries) → i ≡ Some (Hand r bs) → ⊥) → Way s i j
   by_route : (r : RouteView) → s.base.route ≡ Some r → r.cell ≡ j → Way s i j
 
 -- what the node sends: neither calls nor routes, routes to itself where the real is, or one call
@@ -46,9 +48,9 @@ pub data Sends (k : ℕ) (s : Has) (i : Option Msg) (t : Has) (sent : List (ℕ 
 
 pub record Leads (k : ℕ) (s : Has) (i : Option Msg) (t : Has) (sent : List (ℕ × Msg)) : Type 0 where
   pub visited : is_visited s ≡ true → is_visited t ≡ true
-  pub landed : (r : RealView) → i ≡ Some (Hand r) → is_visited t ≡ true
+  pub landed : (r : RealView) (bs : Option Boundaries) → i ≡ Some (Hand r bs) → is_visited t ≡ true
   pub next : (n : NextPlace) → t.cell.slot.next ≡ Some n → (s.cell.slot.next ≡ Some n) ⊎
-      ((xs : List (ℕ × Msg)) × (r : RealView) × (sent ≡ xs ++ (n.cell, Hand r) ∷ []))
+      ((xs : List (ℕ × Msg)) × (r : RealView) × (sent ≡ xs ++ (n.cell, Hand r None) ∷ []))
   pub route : (r : RouteView) → t.base.route ≡ Some r → (s.base.route ≡ Some r) ⊎ ((e : ℕ) × (i ≡ Some (Current e r.cell r.generation)))
   pub sends : Sends k s i t sent
 
@@ -56,19 +58,19 @@ abbrev seen : Slot → Bool
 seen a = is_some a.real || is_some a.next
 
 module _ (f : Frame) (e k : ℕ) (s : Has) (i : Option Msg) (t : Has) (sent : List (ℕ × Msg))
-    (room : (r : RealView) → i ≡ Some (Hand r) → FindsRoom f k s r) (unreaped : i ≡ Some (Reap e) → ⊥) where
+    (room : (r : RealView) (bs : Option Boundaries) → i ≡ Some (Hand r bs) → FindsRoom f k s r) (unreaped : i ≡ Some (Reap e) → ⊥) where
   abbrev Goal : Type 0
   Goal = Leads k s i t sent
 
   abbrev NoHand : Type 0
-  NoHand = (r : RealView) → i ≡ Some (Hand r) → ⊥
+  NoHand = (r : RealView) (bs : Option Boundaries) → i ≡ Some (Hand r bs) → ⊥
 
   -- nothing that leads is changed
   same : NoHand → is_visited t ≡ is_visited s → t.cell.slot.next ≡ s.cell.slot.next → t.base.route ≡ s.base.route → Sends k s i t sent →
       Goal
   same nh v n r d = record {
     visited = λ h. v ∙ h;
-    landed = λ q h. absurd (nh q h);
+    landed = λ q bs h. absurd (nh q bs h);
     next = λ q h. inl (sym n ∙ h);
     route = λ q h. inl (sym r ∙ h);
     sends = d;
@@ -78,18 +80,18 @@ module _ (f : Frame) (e k : ℕ) (s : Has) (i : Option Msg) (t : Has) (sent : Li
   here : NoHand → is_visited t ≡ true → t.cell.slot.next ≡ s.cell.slot.next → t.base.route ≡ s.base.route → Sends k s i t sent → Goal
   here nh v n r d = record {
     visited = λ h. v;
-    landed = λ q h. v;
+    landed = λ q bs h. v;
     next = λ q h. inl (sym n ∙ h);
     route = λ q h. inl (sym r ∙ h);
     sends = d;
   }
 
   no_task : i ≡ None → NoHand
-  no_task n r h = let z = sym n ∙ h in cc
+  no_task n r bs h = let z = sym n ∙ h in cc
 
   acts_no : (u : AtCell) (r q : RealView) (changed : Bool) → Acts (here_at f k) e s.cell i r u q changed → NoHand
   acts_no u r q changed (surveys n a b c) = no_task a
-  acts_no u r q changed (calls c a b d g) = λ x h. let z = sym a ∙ h in cc
+  acts_no u r q changed (calls c a b d g) = λ x bs h. let z = sym a ∙ h in cc
   acts_no u r q changed (readies o c a b d g) = no_task a
 
   module _ (x : SlotStep) (u : AtCell) (d : Does u x t.cell sent) where
@@ -104,7 +106,7 @@ module _ (f : Frame) (e k : ℕ) (s : Has) (i : Option Msg) (t : Has) (sent : Li
 
   cell_leads : t.base ≡ s.base → (tree : Division) → IsTreeOf f tree → CellDeeds (here_at f k) tree e s.cell i t.cell sent → Goal
   cell_leads b tree of (deed.idles a z) =
-      same (λ r is. not_stray f k s r (room r is) tree of (not_handed a.why r is)) (ap2 a.real a.next) a.next (ap (λ a. a.route) b)
+      same (λ r bs is. not_stray f k s r (room r bs is) tree of (not_handed a.why r bs is)) (ap2 a.real a.next) a.next (ap (λ a. a.route) b)
       (plain (subst (IsSilent call_in) (sym z) tt) (subst (IsSilent route_in) (sym z) tt))
     where
       ap2 : t.cell.slot.real ≡ s.cell.slot.real → t.cell.slot.next ≡ s.cell.slot.next → is_visited t ≡ is_visited s
@@ -120,34 +122,34 @@ module _ (f : Frame) (e k : ℕ) (s : Has) (i : Option Msg) (t : Has) (sent : Li
       let gone = settled_to q haunts (q.beat + 1) (q.generation + 1) in
       record {
         visited = λ h. seen_is _ u d;
-        landed = λ x h. seen_is _ u d;
+        landed = λ x bs h. seen_is _ u d;
         next =
             λ x h. inr (
               told,
               gone,
-              d.sends ∙ ap (λ y. told ++ (y, Hand gone) ∷ [])
+              d.sends ∙ ap (λ y. told ++ (y, Hand gone None) ∷ [])
                   (new_next j (q.generation + 1) x (sym (next_is _ u d) ∙ h)),
             );
         route = λ x h. inl (sym (ap (λ a. a.route) b) ∙ h);
         sends =
             quiet _ u d
-            (all_append (λ p. call_in p.1 ≡ None) told ((j, Hand gone) ∷ [])
+            (all_append (λ p. call_in p.1 ≡ None) told ((j, Hand gone None) ∷ [])
             (ghosts_silent call_in no_calls (here_at f k) q j haunts changed)
             (refl, tt))
-            (all_append (λ p. route_in p.1 ≡ None) told ((j, Hand gone) ∷ [])
+            (all_append (λ p. route_in p.1 ≡ None) told ((j, Hand gone None) ∷ [])
             (ghosts_silent route_in no_routes (here_at f k) q j haunts changed) (refl, tt));
       }
     where
       new_next : (j g : ℕ) (x : NextPlace) → Some (record { cell = j; generation = g }) ≡ Some x → j ≡ x.cell
       new_next j g x h = let z : record { cell = j; generation = g } ≡ x = cc in ap (λ y. y.cell) z
   cell_leads b tree of (deed.holds c r n own has mine may lt d) =
-      here (λ q h. let z = sym n ∙ h in cc) (seen_is _ s.cell d) (next_is _ s.cell d) (ap (λ a. a.route) b) (quiet _ s.cell d tt tt)
+      here (λ q bs h. let z = sym n ∙ h in cc) (seen_is _ s.cell d) (next_is _ s.cell d) (ap (λ a. a.route) b) (quiet _ s.cell d tt tt)
   cell_leads b tree of (deed.passes c p n own has at d) =
-      same (λ q h. let z = sym n ∙ h in cc) (seen_is _ s.cell d) (next_is _ s.cell d) (ap (λ a. a.route) b)
-      (one_call c p.cell d.sends (by_next p at refl (λ q h. let z = sym n ∙ h in cc)))
-  cell_leads b tree of (deed.lands r n own has may d) = record {
+      same (λ q bs h. let z = sym n ∙ h in cc) (seen_is _ s.cell d) (next_is _ s.cell d) (ap (λ a. a.route) b)
+      (one_call c p.cell d.sends (by_next p at refl (λ q bs h. let z = sym n ∙ h in cc)))
+  cell_leads b tree of (deed.lands r bs n own has may d) = record {
     visited = λ h. seen_is _ s.cell d;
-    landed = λ q h. seen_is _ s.cell d;
+    landed = λ q bs h. seen_is _ s.cell d;
     next = λ q h. absurd (let z = sym (next_is _ s.cell d) ∙ h in cc);
     route = λ q h. inl (sym (ap (λ a. a.route) b) ∙ h);
     sends = tells r (base_numbers (here_at f k)) d.sends (seen_is _ s.cell d);
@@ -162,7 +164,7 @@ module _ (f : Frame) (e k : ℕ) (s : Has) (i : Option Msg) (t : Has) (sent : Li
 
   module _ (high : cell_count ≤ k) (is : t.cell ≡ s.cell) where
     no_hand : NoHand
-    no_hand r h = let p = room r h in let low = p.cell in omega (arith, low, high)
+    no_hand r bs h = let p = room r bs h in let low = p.cell in omega (arith, low, high)
 
     nothing : sent ≡ [] → Sends k s i t sent
     nothing z = plain (subst (IsSilent call_in) (sym z) tt) (subst (IsSilent route_in) (sym z) tt)
@@ -196,7 +198,7 @@ module _ (f : Frame) (e k : ℕ) (s : Has) (i : Option Msg) (t : Has) (sent : Li
     base_leads : (cells : ℕ) → BaseMoves (here_at f k) cells e s.base i t.base sent → Goal
     base_leads cells m = record {
       visited = λ h. ap (λ a. seen a.slot) is ∙ h;
-      landed = λ q h. absurd (no_hand q h);
+      landed = λ q bs h. absurd (no_hand q bs h);
       next = λ q h. inl (sym (ap (λ a. a.slot.next) is) ∙ h);
       route = base_routes (base_route m);
       sends = base_sends cells (base_deeds m);

@@ -1,6 +1,7 @@
 -- What is true of each real of an entity by its witness stays true.
 use Rattle.seam_law_calls.proofs.Prelude.{◌≡◌, ℕ, ◌+◌, Bool, is_some, List, [], ◌∷◌, length, Option, Some, refl, sym, ap, ◌∙◌, subst}
-use Rattle.seam_law_calls.proofs.Prelude.{AllByRecursion, happens, Occurs, Event, Shown, RealView, WitnessView, Msg, Hand, World}
+use Rattle.seam_law_calls.proofs.Prelude.{AllByRecursion, happens, Occurs, Event, Shown, RealView, WitnessView, Boundaries, Msg, Hand}
+use Rattle.seam_law_calls.proofs.Prelude.{World}
 use Rattle.seam_law_calls.proofs.Prelude.{node_steps, comes, IsSilent, Frame, here_at, IsInFrame, Has, AtCell, entity_flow, Moves}
 use Rattle.seam_law_calls.proofs.Prelude.{at_a_cell, at_a_base, real_in, real_of, WitnessMoves, EachReal, RunsTo, all_append, slots_kept}
 use Rattle.seam_law_calls.proofs.Prelude.{letters_kept, came}
@@ -41,7 +42,7 @@ ByLooks P s = (n : ℕ) (r q : RealView) (w v : WitnessView) (shown : List Shown
 
 module _ (P : RealView → Type 0) (by_witness : ByWitness P) (f : Frame) (e k : ℕ) (s : Has) (i : Option Msg) (t : Has)
     (sent : List (ℕ × Msg)) (by_looks : ByLooks P s.cell) (here : (r : RealView) → real_in s ≡ Some r → P r)
-    (comes : (r : RealView) → i ≡ Some (Hand r) → P r) where
+    (comes : (r : RealView) (bs : Option Boundaries) → i ≡ Some (Hand r bs) → P r) where
   pub record Kept : Type 0 where
     pub slot : (r : RealView) → real_in t ≡ Some r → P r
     pub sends : AllByRecursion (λ p. OfReal P p.1) sent
@@ -51,8 +52,8 @@ module _ (P : RealView → Type 0) (by_witness : ByWitness P) (f : Frame) (e k :
     slot = λ q has. let was = kept q has in by_witness was.0 q was.2 (here was.0 was.1);
     sends = none_carried P sent b;
   }
-  cell_keeps (witness.lands r n now a b) = record {
-    slot = λ q has. let one : r ≡ q = let z = sym now ∙ has in cc in subst P one (comes r n);
+  cell_keeps (witness.lands r bs n now a b) = record {
+    slot = λ q has. let one : r ≡ q = let z = sym now ∙ has in cc in subst P one (comes r bs n);
     sends = none_carried P sent b;
   }
   cell_keeps (witness.leaves r q to told has gone same z a b) = record {
@@ -83,7 +84,8 @@ module _ (P : RealView → Type 0) (by_witness : ByWitness P) (f : Frame) (e : �
       let g = event_moves f w v o q e in
       let kept =
       moves_keep P by_witness f e g.k ((entity_flow e w).slot g.k) (comes g.input) ((entity_flow e (happens node_steps w v)).slot g.k)
-      g.moves.sent (by_looks g.k) (each.cells g.k) (λ r is. (came (λ a k m. OfReal P m) g (Hand r) is each.hands).1 r refl) g.moves.moves in
+      g.moves.sent (by_looks g.k) (each.cells g.k) (λ r bs is. (came (λ a k m. OfReal P m) g
+      (Hand r bs) is each.hands).1 r refl) g.moves.moves in
       record {
         cells = slots_kept (λ k s. (r : RealView) → real_in s ≡ Some r → P r) g each.cells kept.slot;
         hands =

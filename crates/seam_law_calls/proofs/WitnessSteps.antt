@@ -71,8 +71,8 @@ module _ (f : Frame) (e k : ℕ) (s : Has) (i : Option Msg) (t : Has) (sent : Li
   by_deed (deed.holds c r n own has mine may lt d) =
       of _ s.cell d (keeps_turned was is_now r _ has (real_is _ s.cell d) refl) tt tt
   by_deed (deed.passes c p n own has at d) = still _ s.cell d refl (refl, tt) (refl, tt)
-  by_deed (deed.lands r n own has may d) =
-      lands r n (real_is _ s.cell d)
+  by_deed (deed.lands r bs n own has may d) =
+      lands r bs n (real_is _ s.cell d)
       (subst (IsSilent update_in) (sym d.sends)
       (mapped_silent update_in (current_to (here_at f k) r) (λ b. refl) (base_numbers (here_at f k))))
       (subst (IsSilent real_of) (sym d.sends) (mapped_silent real_of (current_to (here_at f k) r) (λ b. refl) (base_numbers (here_at f k))))

@@ -23,8 +23,8 @@ strays_at h s _ = true
 abbrev pub is_stuck : Here → AtBase → Order → Bool
 is_stuck h s (order.Cell c) = is_none s.route
 is_stuck h s (order.Base c) = is_base_node_of h c.entity && stray_base_call h c s.part
-is_stuck h s order.Tick = false
 is_stuck h s (order.Reap e) = is_none s.route
+is_stuck h s _ = false
 
 -- the route of greater generation
 abbrev pub newer : RouteView → RouteView → RouteView

@@ -20,13 +20,12 @@ real_burden r = r.version + (r.beat + (r.generation + 3 * held_in r.orders))
 
 abbrev pub order_burden : Order → ℕ
 order_burden (order.Cell c) = 3
-order_burden (order.Base c) = 0
-order_burden order.Tick = 0
 order_burden (order.Reap e) = 1
+order_burden _ = 0
 
 abbrev pub letter_burden : Msg → ℕ
 letter_burden (Call c) = 3
-letter_burden (Hand r) = real_burden r
+letter_burden (Hand r bs) = real_burden r
 letter_burden (Reap e) = 1
 letter_burden _ = 0
 

@@ -9,6 +9,7 @@ use Rattle.seam_entity.specs.declared.message.Msg.TheVariants.{Call}
 use Rattle.seam_node_steps.specs.Slots as slot_step
 use Rattle.seam_node_steps.specs.Settle as settle
 use Rattle.seam_law_calls.specs.Sights.{AtCell}
+use Rattle.seam_node_steps.specs.Prelude.{Boundaries, at_start}
 
 abbrev pub unlisted_if : Bool → ℕ → ℕ
 unlisted_if true n = 0
@@ -44,7 +45,7 @@ has_witness (Some r) = is_some r.witness
 abbrev pub looks_after_tick : Option RealView → ℕ
 looks_after_tick o = if has_witness o then 1 else 0
 
--- a cell with the tree t, which has s of entity e, is fed i, has v afterwards and sends this about e
+-- a cell with the tree t from the round's start on, which has s of entity e, is fed i, has v afterwards and sends this about e
 pub data CellMoves (h : Here) (t : Division) (e : ℕ) (s : AtCell) (i : Option Msg) (v : AtCell) (sent : List (ℕ × Msg)) : Type 0 where
   -- nothing comes and nothing changes
   rests : i ≡ None → Does s slot_step.rests v sent → CellMoves h t e s i v sent
@@ -58,7 +59,7 @@ pub data CellMoves (h : Here) (t : Division) (e : ℕ) (s : AtCell) (i : Option 
   -- the real settles, and is handed over to cell j
   goes : (u : AtCell) (r q : RealView) (changed : Bool) (j : ℕ) → s.slot.real ≡ Some r → r.entity ≡ e
       → Acts h e s i r u q changed → home_after h t q.state.pos ≡ j → (j ≡ h.me → ⊥)
-      → Does u (settle.goes h t s.slot q changed j) v sent → CellMoves h t e s i v sent
+      → Does u (settle.goes h (at_start t) s.slot q changed j) v sent → CellMoves h t e s i v sent
   -- a call whose turn is over
   late : (c : CallData) (r : RealView) → i ≡ Some (Call c) → s.slot.real ≡ Some r → may_call h r c ≡ true
       → c.number < (order_of r.orders c.sender).next → Does s slot_step.rests v sent → CellMoves h t e s i v sent
@@ -71,7 +72,7 @@ pub data CellMoves (h : Here) (t : Division) (e : ℕ) (s : AtCell) (i : Option 
   passes : (c : CallData) (n : NextPlace) → i ≡ Some (Call c) → c.entity ≡ e → s.slot.real ≡ None → s.slot.next ≡ Some n
       → Does s (record { slot = None; unlisted = false; sent = (n.cell, Call c) ∷ [] }) v sent → CellMoves h t e s i v sent
   -- a hand-over comes
-  lands : (r : RealView) → i ≡ Some (Hand r) → r.entity ≡ e → s.slot.real ≡ None → may_come h t r ≡ true
+  lands : (r : RealView) (bs : Option Boundaries) → i ≡ Some (Hand r bs) → r.entity ≡ e → s.slot.real ≡ None → may_come h t r ≡ true
       → Does s (hand_over_comes h s.slot r) v sent → CellMoves h t e s i v sent
   -- a copy comes; it is ignored where the real is here
   hears_set : (beat : ℕ) (c : GhostCopy) → i ≡ Some (GhostSet e beat c) → s.slot.real ≡ None

@@ -46,7 +46,7 @@ cell_post s h = record { stored = letters_of (cell_order_from s) h.base.orders; 
 -- what a message is to the sender: one of its calls, or its desk with the real
 abbrev pub cell_mail : ℕ → Msg → Option (Mail CallData)
 cell_mail s (Call c) = kept_if (is_from s c) (Item c.number c)
-cell_mail s (Hand r) = Some (Parcel (desk_for s r.orders r.done))
+cell_mail s (Hand r bs) = Some (Parcel (desk_for s r.orders r.done))
 cell_mail s _ = None
 
 -- an entity's flow as the sender sees it

@@ -4,6 +4,7 @@ use Rattle.std.specs.FinSet as set
 use Rattle.seam_node_steps.specs.Prelude.{cells_of, IsOfGroup, RealView, Msg, Hand, is_inside, properties, all_held, fits_cell_part}
 use Rattle.seam_defs.specs.declared.flags.Group.TheVariants as group
 use Rattle.seam_law_calls.specs.Frames.{Frame, here_at}
+use Rattle.seam_node_steps.specs.Prelude.{Boundaries}
 
 -- the real is one of entity e and of type ty, has values of the group, is in the space, and each call that it holds fits; it is in cell
 -- k or on its way there, and that cell and its haunts are cells of the trees
@@ -22,4 +23,4 @@ IsFitReal f e ty k o = (r : RealView) → o ≡ Some r → RealFits f e ty k r
 
 -- the real that a letter to node k carries, if it carries one, fits
 abbrev pub IsFitHand : Frame → ℕ → ℕ → ℕ → Msg → Type 0
-IsFitHand f e ty k m = (r : RealView) → m ≡ Hand r → RealFits f e ty k r
+IsFitHand f e ty k m = (r : RealView) (bs : Option Boundaries) → m ≡ Hand r bs → RealFits f e ty k r

@@ -1,7 +1,9 @@
 -- What all nodes of a world go by in a round.
 use Rattle.std.specs.Prelude.{◌≡◌, ℕ, ◌<◌, ◌≤◌, List, [], ◌∷◌, slice_get, Some}
+use Rattle.std.specs.List.{AllByRecursion}
+use Rattle.seam_machine.specs.Events.{EachLink}
 use Rattle.seam_node_steps.specs.Prelude.{Division, cells_of, TypeDef, Settings, EachNode, Here, cell_count, CellView, BaseView, NodeView}
-use Rattle.seam_node_steps.specs.Prelude.{World, node_peers, Cell, Base, here_of, IsNode}
+use Rattle.seam_node_steps.specs.Prelude.{World, node_peers, Cell, Base, here_of, IsNode, Msg, BringsNone, TellsNone}
 use Rattle.seam_net_runs.specs.Sound.{IsSound}
 
 -- the definitions, the settings, the tree that applies at the round's start, and those that replace it in the round, in their order
@@ -28,23 +30,36 @@ pub record IsTreeOf (f : Frame) (t : Division) : Type 0 where
 abbrev pub here_at : Frame → ℕ → Here
 here_at f k = here_of f.defs f.settings k
 
--- node k is a cell, and has one of the frame's trees
+-- node k knows these definitions and settings, and is a cell or a base node by its number
+abbrev pub Knows : List TypeDef → Settings → ℕ → NodeView → Type 0
+Knows defs settings k (Cell c) = (k < cell_count) × (c.here ≡ here_of defs settings k)
+Knows defs settings k (Base b) = (cell_count ≤ k) × (b.here ≡ here_of defs settings k)
+
+-- node k is a cell, and has one of the frame's trees, which no boundaries replaced
 pub record IsCellAt (f : Frame) (k : ℕ) (c : CellView) : Type 0 where
   pub low : k < cell_count
   pub here : c.here ≡ here_at f k
   pub tree : IsTreeOf f c.tree
+  pub number : c.number ≡ 0
 
--- node k is a base node, and knows how many cells the trees have
+-- node k is a base node, knows how many cells the trees have, and is to tell no boundaries
 pub record IsBaseAt (f : Frame) (k : ℕ) (b : BaseView) : Type 0 where
   pub high : cell_count ≤ k
   pub here : b.here ≡ here_at f k
   pub cells : b.cells ≡ cells_of f.tree
+  pub orders : AllByRecursion TellsNone b.orders
 
 abbrev pub IsAt : Frame → ℕ → NodeView → Type 0
 IsAt f k (Cell c) = IsCellAt f k c
 IsAt f k (Base b) = IsBaseAt f k b
 
--- a world whose nodes go by the frame: they send to its nodes alone, and what is true of every node is true of each
+-- no message on a link brings boundaries
+abbrev pub BringNone : ℕ → ℕ → List Msg → Type 0
+BringNone a k ms = AllByRecursion BringsNone ms
+
+-- a world whose nodes go by the frame: they send to its nodes alone, what is true of every node is true of each, and no boundaries are on
+-- their way
 pub record IsInFrame (f : Frame) (w : World) : Type 0 where
   pub sound : IsSound node_peers IsNode w
   pub nodes : EachNode (IsAt f) w.nodes
+  pub letters : EachLink BringNone w.rows

@@ -20,7 +20,7 @@ real_at e w k = real_in ((entity_flow e w).slot k)
 
 -- the real that a letter carries
 abbrev pub real_of : Msg → Option RealView
-real_of (Hand r) = Some r
+real_of (Hand r bs) = Some r
 real_of _ = None
 
 -- the entity's one real is r, and it is at that place

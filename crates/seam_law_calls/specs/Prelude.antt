@@ -12,7 +12,7 @@ pub use Rattle.seam_law_calls.specs.ClientUpdates.{EachReal, FindsClient, HasCli
 pub use Rattle.seam_law_calls.specs.ClientUpdates.{lines_in, order_in, proxy_of, shown_at, shown_in, tells, tick_in, updates_at}
 pub use Rattle.seam_law_calls.specs.ClientUpdates.{with_number}
 pub use Rattle.seam_law_calls.specs.Fits.{IsFitHand, IsFitReal, RealFits}
-pub use Rattle.seam_law_calls.specs.Frames.{Frame, HasOneTree, IsAt, IsBaseAt, IsInFrame, IsTreeOf, here_at, trees_of}
+pub use Rattle.seam_law_calls.specs.Frames.{Frame, HasOneTree, IsAt, IsBaseAt, IsInFrame, IsTreeOf, Knows, here_at, trees_of}
 pub use Rattle.seam_law_calls.specs.HandOverExample.{events_of, frame}
 pub use Rattle.seam_law_calls.specs.Moves.{Moves, MovesTo, at_a_base, at_a_cell}
 pub use Rattle.seam_law_calls.specs.Ones.{AllFits, HasNoReaps, HasOne, IsFrame, IsLaterTree, IsOne, IsSpared, NoReapComes, OneFrom, real_at}

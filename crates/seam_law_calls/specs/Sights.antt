@@ -8,7 +8,7 @@ use Rattle.seam_call.specs.declared.order.Order.TheVariants as order
 
 -- ---- what is about the entity
 
--- a message or an order about no entity, which is a tick, concerns each of them
+-- a message or an order about no entity, a tick or boundaries, concerns each of them
 abbrev pub concerned : ℕ → Option ℕ → Bool
 concerned e None = true
 concerned e (Some x) = x == e
@@ -38,8 +38,8 @@ concerning e sent = filter (item_concerns e) sent
 abbrev pub order_about : Order → Option ℕ
 order_about (order.Cell c) = Some c.entity
 order_about (order.Base c) = Some c.entity
-order_about order.Tick = None
 order_about (order.Reap e) = Some e
+order_about _ = None
 
 abbrev pub order_concerns : ℕ → Order → Bool
 order_concerns e o = concerned e (order_about o)

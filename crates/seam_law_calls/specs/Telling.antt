@@ -24,7 +24,7 @@ pub record IsBlank (h : Has) : Type 0 where
 
 -- a message that carries neither the real nor a copy
 abbrev pub CarriesNoEntity : Msg → Type 0
-CarriesNoEntity (Hand r) = ⊥
+CarriesNoEntity (Hand r bs) = ⊥
 CarriesNoEntity (GhostSet e n c) = ⊥
 CarriesNoEntity _ = Unit {0}
 

@@ -5,6 +5,7 @@ use Rattle.seam_law_flow.specs.Prelude.{IsSilent}
 use Rattle.seam_law_calls.specs.Sights.{AtCell}
 use Rattle.seam_law_calls.specs.Ones.{real_of}
 use Rattle.seam_law_calls.specs.PartMoves.{update_in}
+use Rattle.seam_node_steps.specs.Prelude.{Boundaries}
 
 -- how many updates a witness sent
 abbrev pub sent_of : Option WitnessView → ℕ
@@ -20,10 +21,11 @@ pub data WitnessMoves (h : Here) (e : ℕ) (s : AtCell) (i : Option Msg) (t : Op
   rests : ((q : RealView) → t ≡ Some q → (r : RealView) × (s.slot.real ≡ Some r) × (q.witness ≡ r.witness)) → IsSilent update_in sent
       → IsSilent real_of sent → WitnessMoves h e s i t sent
   -- the real comes with its witness
-  lands : (r : RealView) → i ≡ Some (Hand r) → t ≡ Some r → IsSilent update_in sent → IsSilent real_of sent → WitnessMoves h e s i t sent
+  lands : (r : RealView) (bs : Option Boundaries) → i ≡ Some (Hand r bs) → t ≡ Some r → IsSilent update_in sent → IsSilent real_of sent →
+      WitnessMoves h e s i t sent
   -- it goes with it
   leaves : (r q : RealView) (to : ℕ) (told : List (ℕ × Msg)) → s.slot.real ≡ Some r → t ≡ None → q.witness ≡ r.witness
-      → sent ≡ told ++ (to, Hand q) ∷ [] → IsSilent update_in told → IsSilent real_of told → WitnessMoves h e s i t sent
+      → sent ≡ told ++ (to, Hand q None) ∷ [] → IsSilent update_in told → IsSilent real_of told → WitnessMoves h e s i t sent
   -- its entry in the look list is taken, and the witness tells these
   looks : (n : ℕ) (r q : RealView) (w v : WitnessView) (shown : List Shown) → s.looks ≡ n + 1 → s.slot.real ≡ Some r
       → r.witness ≡ Some w → t ≡ Some q → q.witness ≡ Some v

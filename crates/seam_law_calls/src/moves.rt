@@ -10,15 +10,16 @@
 //! and sends for them; and what it does with its route).
 
 ghost use Rattle.std.specs.Prelude.{◌≡◌, ℕ, true};
-ghost use Rattle.seam_node_steps.specs.Prelude.{happens, enabled, Occurs, Input, Event, Msg, NodeView, World, node_steps, IsNode};
+ghost use Rattle.seam_node_steps.specs.Prelude.{happens, enabled, Occurs, Input, IsPlainInput, Event, Msg, NodeView, World, node_steps};
+ghost use Rattle.seam_node_steps.specs.Prelude.{IsNode};
 ghost use Rattle.seam_law_flow.specs.Prelude.{Goes, letter_in};
 ghost use Rattle.seam_law_calls.specs.Prelude.{Frame, IsAt, IsInFrame, mine, concerning, has_of, entity_flow, Moves, MovesTo};
 
-/// A step of a node is, for each entity, one of the moves.
+/// A step of a node that is fed no boundaries is, for each entity, one of the moves.
 pub fn a_step_is_a_move()
     ensures { (f : Frame) (e k : ℕ) (s : NodeView) (i : Input Msg) → IsNode s → IsAt f k s →
-        Moves f e k (has_of e s) (letter_in (mine e) i) (has_of e (node_steps s i).state)
-        (concerning e (node_steps s i).sent) }
+        IsPlainInput i → Moves f e k (has_of e s) (letter_in (mine e) i)
+        (has_of e (node_steps s i).state) (concerning e (node_steps s i).sent) }
 {}
 
 /// An event of a world is, for each entity, a step of its flow by one of the moves, and the world's nodes go by the same frame after it.

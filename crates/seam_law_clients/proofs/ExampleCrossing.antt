@@ -226,6 +226,7 @@ fits = record {
   destroys = tt;
   ends_once = tt;
   spares = (refl, tt);
+  unmoved = (refl, tt);
   known = (
     (λ e is. let same : 3 ≡ e = cc in subst (λ x. holders (loaded empty_world batch) x ≡ 1) same (holder_of 3 holds_3)),
     tt,

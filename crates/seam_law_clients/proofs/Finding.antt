@@ -1,4 +1,5 @@
 -- No update comes without a client: of an entity that is there, by the laws of its client; of one that is not, since none tells it.
+use Rattle.seam_law_clients.proofs.Prelude.{refl}
 use Rattle.seam_law_clients.proofs.Prelude.{◌≡◌, ℕ, ◌⊎◌, List, [], ◌∷◌, None, Some, sym, ap, ◌∙◌, subst, inl, inr, AllByRecursion, Event}
 use Rattle.seam_law_clients.proofs.Prelude.{Batch, RealView, Msg, World, node_has_work, ordered_at, loaded, look_loaded, letters_of, Frame}
 use Rattle.seam_law_clients.proofs.Prelude.{IsInFrame, mine, entity_flow, real_of, update_in, FindsClient, RunsTo, real_at, IsBetweenRounds}
@@ -43,7 +44,7 @@ module _ (f : Frame) (u : World) (between : IsBetweenRounds f u) (parts : HasPar
   looks_by : Somewhere e u ⊎ Nowhere e u → FindsClient f e k ((entity_flow e v).slot k).base m
   looks_by (inl p) = look_finds f u between parts small vs v run e p.0 p.1 p.2 a k m ms at
   looks_by (inr n) =
-      none_comes f e (look_loaded u) v vs (look_framed f u between.nodes tick) run
+      none_comes f e (look_loaded u) v vs (look_framed f u between.nodes tick refl) run
       (λ j. reals_stay e (ordered_at tick) (look_cell e tick) u j ∙ n j)
       (λ x j. ap (letters_of (mine e)) (quiet_links node_has_work u between.nodes.sound.square between.quiet x j)) a k m ms at
 

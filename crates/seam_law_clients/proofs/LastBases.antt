@@ -81,6 +81,7 @@ module _ (f : Frame) (e home : ℕ) (r : RealView) (u : World) (settled : IsSett
   at_node (order.Base c) k os at h = absurd h
   at_node order.Tick k os at h = refl
   at_node (order.Reap x) k os at h = routed k (order.Reap x) os at
+  at_node (order.Bounds x) k os at h = absurd h
 
   none_stray : NothingIsStray f e v
   none_stray = record {

@@ -81,7 +81,7 @@ module _ (f : Frame) (u : World) (between : IsBetweenRounds f u) (room : HaveRoo
 
   starts : IsLooking f u between may (look_loaded u)
   starts = record {
-    frame = look_framed f u between.nodes tick_order;
+    frame = look_framed f u between.nodes tick_order refl;
     orders = order.Tick ∷ [];
     which = inl refl;
     bases = λ j b at. bases_by j b (slice_get u.nodes j) refl (sym (node_loaded j) ∙ at);

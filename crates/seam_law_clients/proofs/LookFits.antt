@@ -33,7 +33,7 @@ module _ (f : Frame) (u : World) (x : ℕ) where
   routes_lead v vs frame run =
       (all_lead f x (λ k s. HasRoute ((entity_flow x u).slot k).base → HasRoute s.base) (λ a k m. Unit {0})
       (λ k s i t sent here come m. ((λ had. route_moves f x k s i t sent m (here had)), units sent)) (look_loaded u) v vs
-      (look_framed f u frame tick_order) run (record {
+      (look_framed f u frame tick_order refl) run (record {
         slots = λ k had. (had.0, route_loaded k ∙ had.1);
         letters = λ a k. units ((entity_flow x (look_loaded u)).mail a k);
       })).slots

@@ -75,7 +75,7 @@ module _ (f : Frame) (u : World) (between : IsBetweenRounds f u) (parts : HasPar
 
   still : HasItStill f e r.ty r had.part start
   still =
-      still_then f u between e home r here had small (ordered_at tick) (look_framed f u between.nodes tick)
+      still_then f u between e home r here had small (ordered_at tick) (look_framed f u between.nodes tick refl)
       (λ k s at. look_given e f k cell_count s (quiet_tasks node_has_work u between.quiet k s at)) (λ s. parts_ordered e (tick ∷ []) s)
       (looking.calm f u between e home r here)
 

@@ -13,6 +13,7 @@ use Rattle.seam_law_calls.proofs.CellDeeds as deed
 use Rattle.seam_law_calls.proofs.CellDeeds.{CellDeeds, cell_deeds}
 use Rattle.seam_law_calls.proofs.Plain.{drops_silent}
 use Rattle.seam_law_calls.proofs.BaseSilent.{sees_no_update, sees_no_real, base_silent}
+use Rattle.seam_node_steps.specs.Prelude.{Boundaries}
 
 no_update : SeesNoGhost update_in
 no_update = record { sets = λ e n c. refl; drops = λ e n. refl }
@@ -33,7 +34,8 @@ module _ (seen : Option WitnessView) where
   HasSeen r = r.witness ≡ seen
 
   module _ (f : Frame) (e k : ℕ) (s : Has) (i : Option Msg) (t : Has) (sent : List (ℕ × Msg))
-      (here : (r : RealView) → real_in s ≡ Some r → HasSeen r) (comes : (r : RealView) → i ≡ Some (Hand r) → HasSeen r) where
+      (here : (r : RealView) → real_in s ≡ Some r → HasSeen r) (comes : (r : RealView) (bs : Option Boundaries) → i ≡ Some (Hand r bs) →
+      HasSeen r) where
     -- each real has that witness afterwards, and nothing is told
     pub record Holds : Type 0 where
       pub slot : (r : RealView) → real_in t ≡ Some r → HasSeen r
@@ -97,8 +99,8 @@ module _ (seen : Option WitnessView) where
         }
     cell_holds not (deed.holds c r n own has mine may lt d) = turned _ s.cell d r _ has refl refl (tt, tt)
     cell_holds not (deed.passes c p n own has at d) = still _ s.cell d refl ((refl, tt), (refl, tt))
-    cell_holds not (deed.lands r n own has may d) =
-        of _ s.cell d (λ x now. let one : r ≡ x = let z = sym (is_now _ s.cell d) ∙ now in cc in subst HasSeen one (comes r n)) (
+    cell_holds not (deed.lands r bs n own has may d) =
+        of _ s.cell d (λ x now. let one : r ≡ x = let z = sym (is_now _ s.cell d) ∙ now in cc in subst HasSeen one (comes r bs n)) (
           mapped_silent update_in (current_to (here_at f k) r) (λ b. refl) (base_numbers (here_at f k)),
           mapped_silent real_of (current_to (here_at f k) r) (λ b. refl) (base_numbers (here_at f k)),
         )

@@ -18,6 +18,8 @@ use Rattle.seam_law_calls.proofs.ClientTold.{Told, told_by}
 use Rattle.seam_law_calls.proofs.Looking.{Look}
 use Rattle.seam_law_clients.proofs.Silent.{moves_hold, untold, numbered_here, same_items, issued_is}
 use Rattle.seam_law_clients.proofs.Reals.{each_of}
+use Rattle.seam_node_steps.specs.Prelude.{Boundaries}
+use Rattle.seam_law_calls.proofs.Classify.{fed_plain}
 
 -- what the witness of an entity told, in updates that are numbered from `first` on, so that P is true of it, of the real and of the witness
 pub record Tells (f : Frame) (e ty first : ℕ) (P : List Shown → RealView → WitnessView → Type 0) (w : World) : Type 0 where
@@ -87,13 +89,13 @@ module _ (f : Frame) (e ty first n : ℕ) (P : List Shown → RealView → Witne
         let same : i.1 ≡ Update u = let z = i.3 in cc in
         finds_client f e ty first n w client most room i.0 g.k u g.rest (i.4 ∙ ap (λ l. l ∷ g.rest) same)
 
-    comes_with : (r : RealView) → comes g.input ≡ Some (Hand r) → HasIt r
-    comes_with r is = (came (λ a k m. OfReal HasIt m) g (Hand r) is each_has.hands).1 r refl
+    comes_with : (r : RealView) (bs : Option Boundaries) → comes g.input ≡ Some (Hand r bs) → HasIt r
+    comes_with r bs is = (came (λ a k m. OfReal HasIt m) g (Hand r bs) is each_has.hands).1 r refl
 
     told : Told f e g.k number before (comes g.input) after sent g.out g.moves.0.items
     told =
         told_by f e g.k number before (comes g.input) after sent g.out g.moves.0.items (λ r is. sent_is r (each_has.cells g.k r is))
-        (λ r is. sent_is r (comes_with r is)) (λ u is. never_missed f e g.k before.base u (comes_due u is))
+        (λ r bs is. sent_is r (comes_with r bs is)) (λ u is. never_missed f e g.k before.base u (comes_due u is))
         (λ os. unordered e w g.k os spared) g.moves.0.moves
 
     -- what was told is what the letters tell
@@ -227,7 +229,8 @@ module _ (f : Frame) (e ty first n : ℕ) (P : List Shown → RealView → Witne
   then_by (Cell cell) is more =
       let there = o.is_node ∙ ap Some is in
       let node : IsNode (Cell cell) = subst IsNode is (h.one.fits.frame.sound.states v.node o.node o.is_node) in
-      look_by (cell_looks cell node.keys e o.input) (h.one.fits.frame.nodes v.node (Cell cell) there).here (more cell there)
+      look_by (cell_looks cell node.keys e (h.one.fits.frame.nodes v.node (Cell cell) there).number o.input
+      (fed_plain f w v o h.one.fits.frame)) (h.one.fits.frame.nodes v.node (Cell cell) there).here (more cell there)
     where
       look_by : Look e cell.here (known_to cell e) (has_of e (Cell cell)).cell (letter_in (mine e) o.input)
           (has_of e (node_steps (Cell cell) o.input).state).cell (concerning e (node_steps (Cell cell) o.input).sent) →

@@ -138,7 +138,7 @@ world_1 = with_cells (cell_0 (and_third 1 watcher_1 walker) no no (1 ∷ 3 ∷ [
 -- entity 3 moves, and is handed over
 unfoldable pub world_2 : World
 world_2 = with_cells (left watcher_1 (only 3 heard_3) (1 ∷ [])) (cell_1 (only 2 watcher_2) no (2 ∷ []))
-    (base_16 [] (route 0 0)) (base_17 (route 0 0)) ((0, 1, Hand crossed ∷ []) ∷ [])
+    (base_16 [] (route 0 0)) (base_17 (route 0 0)) ((0, 1, Hand crossed None ∷ []) ∷ [])
 
 unfoldable pub world_3 : World
 world_3 = with_cells (left watcher_1 (only 3 heard_3) (1 ∷ [])) (come watcher_2 (only 3 (ghost 1 None)) (2 ∷ []))

@@ -13,6 +13,7 @@ use Rattle.seam_law_ghosts.proofs.Ways.{way_due, way_survey, way_call}
 use Rattle.seam_law_ghosts.proofs.Paths.{is_at_last, path_more, same_further, more_further}
 use Rattle.seam_law_ghosts.proofs.Placing.{Settles, by_survey, by_call, PlacesBy, Placed}
 use Rattle.seam_law_ghosts.proofs.PlaceMoves.{by_first_tree}
+use Rattle.seam_node_steps.specs.Prelude.{Boundaries}
 
 module _ (f : Frame) (alone : HasOneTree f) (home : ℕ) (start : RealView) where
   abbrev d : Distances
@@ -66,7 +67,7 @@ module _ (f : Frame) (alone : HasOneTree f) (home : ℕ) (start : RealView) wher
       flow = entity_flow e w
 
       abbrev Comes : Option Msg → Type 0
-      Comes i = ((r : RealView) → i ≡ Some (Hand r) → real_burden r < limit) × (i ≡ Some (Reap e) → ⊥)
+      Comes i = ((r : RealView) (bs : Option Boundaries) → i ≡ Some (Hand r bs) → real_burden r < limit) × (i ≡ Some (Reap e) → ⊥)
 
       abbrev g : Goes (λ k s i t out. MovesTo f e k s i t out × Comes i) flow (entity_flow e next)
       g = goes f frame e ty known w v o has calm

@@ -22,7 +22,7 @@ module _ (f : Frame) (e k : ℕ) (s : Has) (i : Option Msg) (t : Has) (sent : Li
   book_rises (ghost.misses m h none missed real book z) = kept book
   book_rises (ghost.ignores n c r h has real book z) = kept book
   book_rises (ghost.hears p h none real book z) = heard p book
-  book_rises (ghost.lands r h has real book z) = heard (r.beat, None) book
+  book_rises (ghost.lands r bs h has real book z) = heard (r.beat, None) book
   book_rises (ghost.stays r q changed haunts own none has acts real book z) = kept book
   book_rises (ghost.goes r q changed j haunts apart goal none has acts real book z) = heard _ book
   book_rises (ghost.reaped r h has real book z) = heard (r.beat + 1, None) book

@@ -60,7 +60,7 @@ module _ (f : Frame) (e home : ℕ) (r : RealView) (told : Bool) (k : ℕ) (s : 
   cell_keeps (deed.goes u p q changed j has own acts at n d) = absurd (acts_never u p q changed has acts)
   cell_keeps (deed.holds c p n is has own may lt d) = absurd (come (Call c) n)
   cell_keeps (deed.passes c p n is has at d) = absurd (come (Call c) n)
-  cell_keeps (deed.lands p n own has may d) = absurd (come (Hand p) n)
+  cell_keeps (deed.lands p bs n own has may d) = absurd (come (Hand p bs) n)
   cell_keeps (deed.reaped q n has own may d) = steps _ s.cell d (dropped s.cell.slot.ghost (q.beat + 1))
   cell_keeps (deed.looks n q w known h at has own is small d) = steps _ _ d same
 

@@ -205,6 +205,7 @@ module _ (load : loaded empty_world batch ≡ world_0) (row : IsRow 1 1 world_0 
     destroys = tt;
     ends_once = tt;
     spares = (refl, (refl, tt));
+    unmoved = (refl, (refl, tt));
     known = (known, (known, tt));
     calls = λ e k r at.
         let is = is_made e k r (ap (λ w. real_at e w k) (sym load) ∙ at) in

@@ -1,4 +1,5 @@
 -- In a round no message to a cell is stray.
+use Rattle.seam_law_ghosts.proofs.Prelude.{Option}
 use Rattle.seam_law_ghosts.proofs.Prelude.{◌≡◌, ℕ, ◌<◌, ◌≤◌, ◌⊎◌, false, List, ◌∷◌, None, Some, refl, sym, ap, ◌∙◌, subst, inl, inr}
 use Rattle.seam_law_ghosts.proofs.Prelude.{slice_get, AllByRecursion, Division, link, Event, Batch, RealView, Msg, Hand, Tick, limit}
 use Rattle.seam_law_ghosts.proofs.Prelude.{cell_count, about, is_stray, CellView, slot_of, NodeView, World, Cell, loaded, letters_of}
@@ -12,12 +13,13 @@ use Rattle.seam_law_calls.proofs.CellRuns.{finds}
 use Rattle.seam_law_ghosts.proofs.Sending.{FitsNode}
 use Rattle.seam_law_ghosts.proofs.Lasting.{IsFair, fair_leads}
 use Rattle.seam_law_ghosts.proofs.Strays.{mine_is, seen_first, feeds, kind_fits}
+use Rattle.seam_node_steps.specs.Prelude.{Boundaries}
 
 -- the first letter carries the one real, so no node has it
-free_by : (e : ℕ) (w : World) (p : TokenPlace) (r q : RealView) (a k : ℕ) (ms : List Msg) → IsOne e w p r →
-    (entity_flow e w).mail a k ≡ Hand q ∷ ms → (j : ℕ) → real_at e w j ≡ None
-free_by e w (On x y) r q a k ms one at j = one.slots j
-free_by e w (In x) r q a k ms one at j =
+free_by : (e : ℕ) (w : World) (p : TokenPlace) (r q : RealView) (bs : Option Boundaries) (a k : ℕ) (ms : List Msg) → IsOne e w p r →
+    (entity_flow e w).mail a k ≡ Hand q bs ∷ ms → (j : ℕ) → real_at e w j ≡ None
+free_by e w (On x y) r q bs a k ms one at j = one.slots j
+free_by e w (In x) r q bs a k ms one at j =
     let some = sym (ap (letters_of real_of) at) ∙ one.mail a k in
     absurd (let z = some in cc)
 
@@ -66,13 +68,14 @@ module _ (f : Frame) (w : World) (b : Batch) (begin : MayBegin f w b) (v : World
       seen : (entity_flow e v).mail a k ≡ m ∷ letters_of (mine e) ms
       seen = seen_first e v a k m ms at is
 
-      hand_fits : (q : RealView) → m ≡ Hand q → (real_at e v k ≡ None) × RealFits g e r.ty k q × (real_burden q < limit)
-      hand_fits q same =
+      hand_fits : (q : RealView) (bs : Option Boundaries) → m ≡ Hand q bs → (real_at e v k ≡ None) × RealFits g e r.ty k q ×
+          (real_burden q < limit)
+      hand_fits q bs same =
           let has = fair.one.has in
           let there = seen ∙ ap (λ x. x ∷ letters_of (mine e) ms) same in (
-            free_by e v has.place has.real q a k (letters_of (mine e) ms) has.one there k,
-            (subst (AllByRecursion (IsFitHand g e r.ty k)) there (has.fits.hands a k)).0 q refl,
-            came_small g e v (record { node = k; from = Some a }) (feeds v a k s m ms node at) has.fits.frame has.fits.room q
+            free_by e v has.place has.real q bs a k (letters_of (mine e) ms) has.one there k,
+            (subst (AllByRecursion (IsFitHand g e r.ty k)) there (has.fits.hands a k)).0 q bs refl,
+            came_small g e v (record { node = k; from = Some a }) (feeds v a k s m ms node at) has.fits.frame has.fits.room q bs
                 (mine_is e m is ∙ ap Some same),
           )
 

@@ -77,7 +77,7 @@ module _ (f : Frame) (e k : ℕ) (s : Has) (i : Option Msg) (t : Has) (sent : Li
       listed _ u d a.0 a.1 (inl refl)
   cell_listed (deed.holds c r n own has mine may lt d) = turned _ s.cell r _ d (omega arith) (omega arith) refl has refl refl
   cell_listed (deed.passes c p n own has at d) = same _ s.cell d (omega arith) (omega arith) refl refl
-  cell_listed (deed.lands r n own has may d) =
+  cell_listed (deed.lands r bs n own has may d) =
       listed _ s.cell d (omega arith) (omega arith) (inr (
         refl,
         (λ one. refl),

@@ -66,7 +66,7 @@ greater_either : (e p : Entry) → (greater_entry e (Some p) ≡ e) ⊎ (greater
 greater_either e p = greater_by e p (ltb e.0 p.0)
 
 pub unseen_by : (m : Msg) → brings m ≡ None → real_of m ≡ None
-unseen_by (Hand r) h = cc
+unseen_by (Hand r bs) h = cc
 unseen_by _ h = refl
 
 pub none_carried : (i : Option Msg) → entry_in brings i ≡ None → carried_in real_of i ≡ None
@@ -233,7 +233,7 @@ module _ (f : Frame) (e k : ℕ) (s : Has) (i : Option Msg) (t : Has) (sent : Li
   goes_by : (r q : RealView) (changed : Bool) (j : ℕ) (haunts : Cells) → entry_in brings i ≡ None → real_in s ≡ Some r →
       Executes f r q changed →
       real_in t ≡ None → book_entry t ≡ greater_entry (book_entry s) (Some (left_entry f k haunts q)) →
-      sent ≡ told_settling f k j haunts q changed ++ (j, Hand (going haunts q)) ∷ [] → Handled
+      sent ≡ told_settling f k j haunts q changed ++ (j, Hand (going haunts q) None) ∷ [] → Handled
   goes_by r q changed j haunts none has acts real book z =
       let after = going haunts q in
       let ms = told_settling f k j haunts q changed in
@@ -246,17 +246,17 @@ module _ (f : Frame) (e k : ℕ) (s : Has) (i : Option Msg) (t : Has) (sent : Li
             (record {
               here =
                   ap (letters_of real_of) (items j ∙ ap (items_to j) z)
-                  ∙ (sees_after_silent real_of j ms ((j, Hand after) ∷ []) unseen ∙ sees_one_here real_of j (Hand after));
+                  ∙ (sees_after_silent real_of j ms ((j, Hand after None) ∷ []) unseen ∙ sees_one_here real_of j (Hand after None));
               others = λ x n.
                   ap (letters_of real_of) (items x ∙ ap (items_to x) z)
-                  ∙ (sees_after_silent real_of x ms ((j, Hand after) ∷ []) unseen ∙ sees_one_there real_of j x (Hand after) n);
+                  ∙ (sees_after_silent real_of x ms ((j, Hand after None) ∷ []) unseen ∙ sees_one_there real_of j x (Hand after None) n);
             }),
         fresh (ap (λ n. n + 1) (executes_beat f r q changed acts))
             (record {
               book = left_book q haunts book;
               sent = all_sent (IsFresh f after)
                   (subst (AllByRecursion (λ p. Brings (IsFresh f after) p.1)) (sym z)
-                  (all_append (λ p. Brings (IsFresh f after) p.1) ms ((j, Hand after) ∷ []) all
+                  (all_append (λ p. Brings (IsFresh f after) p.1) ms ((j, Hand after None) ∷ []) all
                   (record { at = refl; copy = λ c h. cc }, tt)));
             }),
       )
@@ -270,7 +270,7 @@ module _ (f : Frame) (e k : ℕ) (s : Has) (i : Option Msg) (t : Has) (sent : Li
   told_of spared (ghost.misses m h none missed real book z) = nothing_told real (ap (carried_in real_of) h ∙ none) z (inl book)
   told_of spared (ghost.ignores n c r h has real book z) = nothing_told real (ap (carried_in real_of) h) z (inl book)
   told_of spared (ghost.hears p h none real book z) = nothing_told real none z (heard_book p h book)
-  told_of spared (ghost.lands r h has real book z) = (
+  told_of spared (ghost.lands r bs h has real book z) = (
     lands r r (ap (carried_in real_of) h) real (inl refl) (sends_none (all_unseen sent z)),
     (
       refl,

@@ -17,6 +17,7 @@ use Rattle.seam_law_ghosts.specs.GhostMoves as ghost
 use Rattle.seam_law_ghosts.proofs.Making.{executes_beat, NoEntry, none_carried, all_unseen, none_brought, none_here}
 use Rattle.seam_law_ghosts.proofs.Present.{same_shown_of, unseen_same}
 use Rattle.seam_law_ghosts.proofs.NewestTelling.{Gets, nothing, entry, none_there, gets, beat_rises, beat_up, drops_to}
+use Rattle.seam_node_steps.specs.Prelude.{Boundaries}
 
 -- an entry that is not newer does not change the book
 kept_by : (a p : Entry) (t : Bool) → ltb a.0 p.0 ≡ t → p.0 ≤ a.0 → cond t p a ≡ a
@@ -257,7 +258,7 @@ module _ (f : Frame) (e : ℕ) (w v : World) {Moves : ℕ → Has → Option Msg
     module _ (q : RealView) (changed : Bool) (j : ℕ) (haunts : Cells) (apart : j ≡ g.k → ⊥) (goal : set.contains haunts j ≡ false)
         (at : p ≡ In g.k) (acts : Executes f r q changed)
         (book : book_entry t ≡ greater_entry (book_entry s) (Some (left_entry f g.k haunts q)))
-        (z : sent ≡ told_settling f g.k j haunts q changed ++ (j, Hand (going haunts q)) ∷ []) where
+        (z : sent ≡ told_settling f g.k j haunts q changed ++ (j, Hand (going haunts q) None) ∷ []) where
       abbrev handed : RealView
       handed = going haunts q
 
@@ -271,22 +272,22 @@ module _ (f : Frame) (e : ℕ) (w v : World) {Moves : ℕ → Has → Option Msg
       sends = record {
         here =
             ap (letters_of real_of) (items j ∙ ap (items_to j) z)
-            ∙ (sees_after_silent real_of j news ((j, Hand handed) ∷ []) news_unseen ∙ sees_one_here real_of j (Hand handed));
+            ∙ (sees_after_silent real_of j news ((j, Hand handed None) ∷ []) news_unseen ∙ sees_one_here real_of j (Hand handed None));
         others = λ x n.
             ap (letters_of real_of) (items x ∙ ap (items_to x) z)
-            ∙ (sees_after_silent real_of x news ((j, Hand handed) ∷ []) news_unseen ∙ sees_one_there real_of j x (Hand handed) n);
+            ∙ (sees_after_silent real_of x news ((j, Hand handed None) ∷ []) news_unseen ∙ sees_one_there real_of j x (Hand handed None) n);
       }
 
       more : r.beat < handed.beat
       more = let same = executes_beat f r q changed acts in omega (arith, same)
 
-      out : (k : ℕ) → g.out k ≡ items_to k news ++ items_to k ((j, Hand handed) ∷ [])
-      out k = items k ∙ (ap (items_to k) z ∙ items_to-append k news ((j, Hand handed) ∷ []))
+      out : (k : ℕ) → g.out k ≡ items_to k news ++ items_to k ((j, Hand handed None) ∷ [])
+      out k = items k ∙ (ap (items_to k) z ∙ items_to-append k news ((j, Hand handed None) ∷ []))
 
       left_told : (k : ℕ) → k < cell_count → k ≡ g.k → NewestIsWanted f e v handed k
       left_told k low is =
-          let none_out : g.out k ≡ [] = out k ∙ (ap (λ l. l ++ items_to k ((j, Hand handed) ∷ [])) (ap (λ x. items_to x news) is
-          ∙ none_here f g.k q j haunts changed) ∙ one_there j k (Hand handed) (λ x. apart (sym x ∙ is))) in
+          let none_out : g.out k ≡ [] = out k ∙ (ap (λ l. l ++ items_to k ((j, Hand handed None) ∷ [])) (ap (λ x. items_to x news) is
+          ∙ none_here f g.k q j haunts changed) ∙ one_there j k (Hand handed None) (λ x. apart (sym x ∙ is))) in
           let now : book_entry (after.slot k) ≡ (handed.beat, wanted f handed k) =
           subst (λ x. book_entry (after.slot x) ≡ (handed.beat, wanted f handed x)) (sym is)
           (book ∙ taken_comes handed.beat (wanted f handed g.k) (book_entry s)
@@ -297,11 +298,11 @@ module _ (f : Frame) (e : ℕ) (w v : World) {Moves : ℕ → Has → Option Msg
 
       goal_told : (k : ℕ) → k < cell_count → k ≡ j → (k ≡ g.k → ⊥) → NewestIsWanted f e v handed k
       goal_told k low is other =
-          let one_out : g.out k ≡ Hand handed ∷ [] = out k ∙ (ap (λ x. items_to x news ++ items_to x ((j, Hand handed) ∷ [])) is
-          ∙ (ap (λ l. l ++ items_to j ((j, Hand handed) ∷ [])) (none_there (here_at f g.k) q j haunts changed
-          (subst (λ x. x < cell_count) is low)) ∙ one_here j (Hand handed))) in
+          let one_out : g.out k ≡ Hand handed None ∷ [] = out k ∙ (ap (λ x. items_to x news ++ items_to x ((j, Hand handed None) ∷ [])) is
+          ∙ (ap (λ l. l ++ items_to j ((j, Hand handed None) ∷ [])) (none_there (here_at f g.k) q j haunts changed
+          (subst (λ x. x < cell_count) is low)) ∙ one_here j (Hand handed None))) in
           let none : set.contains handed.haunts k ≡ false = ap (set.contains handed.haunts) is ∙ goal in
-          sent_told r handed (omega (arith, more)) k (told.cells k low) (λ x. other (sym x)) more (Hand handed) one_out
+          sent_told r handed (omega (arith, more)) k (told.cells k low) (λ x. other (sym x)) more (Hand handed None) one_out
           (ap (λ b. Some (handed.beat, copy_if b (present f handed))) (sym none))
 
       departed : real_in s ≡ Some r → real_in t ≡ None → carried_in real_of i ≡ None → After
@@ -316,7 +317,7 @@ module _ (f : Frame) (e : ℕ) (w v : World) {Moves : ℕ → Has → Option Msg
                 | inr n ↦
                     gets_told r handed (omega (arith, more)) k (told.cells k low) (λ x. other (sym x)) (q.beat + 1)
                     (set.contains q.haunts k) changed (items_to k news)
-                    (out k ∙ (ap (λ l. items_to k news ++ l) (one_there j k (Hand handed) n) ∙ append-nil (items_to k news)))
+                    (out k ∙ (ap (λ l. items_to k news ++ l) (one_there j k (Hand handed None) n) ∙ append-nil (items_to k news)))
                     (ap (λ h. set.contains h k) (executes_haunts f r q changed acts)) (executes_unseen f r q changed acts)
                     (λ m got. (refl, more)) (gets (here_at f g.k) q j haunts changed k low other n)
               ]
@@ -383,7 +384,7 @@ module _ (f : Frame) (e : ℕ) (w v : World) {Moves : ℕ → Has → Option Msg
         ∙ greater_kept (book_entry s) (n, Some c) (hushed n c x h has)))
     after_move (ghost.hears x h none real book z) =
         unmoved none real z (λ low. book ∙ sym (ap (greater_entry (book_entry s)) h))
-    after_move (ghost.lands x h has real book z) =
+    after_move (ghost.lands x bs h has real book z) =
         let carried = ap (carried_in real_of) h in
         let from = sole_came real_in real_of g p r x one carried in
         landed from.0 from.1 (carried ∙ ap Some from.2) (real ∙ ap Some from.2) z
@@ -403,7 +404,8 @@ module _ (f : Frame) (e : ℕ) (w v : World) {Moves : ℕ → Has → Option Msg
 
   -- ---- an entity that is nowhere stays forgotten
 
-  module _ (free : real_in s ≡ None) (none_lands : (r : RealView) → i ≡ Some (Hand r) → ⊥) (was : IsForgotten e w) (fresh : IsFresh) where
+  module _ (free : real_in s ≡ None) (none_lands : (r : RealView) (bs : Option Boundaries) → i ≡ Some (Hand r bs) → ⊥)
+      (was : IsForgotten e w) (fresh : IsFresh) where
     never : (r : RealView) → real_in s ≡ Some r → ⊥
     never r has = let z = sym free ∙ has in cc
 
@@ -422,7 +424,7 @@ module _ (f : Frame) (e : ℕ) (w v : World) {Moves : ℕ → Has → Option Msg
     still_forgotten (ghost.misses m h none missed real book z) = forgotten z (missed_takes fresh m (brings m) h refl none missed book)
     still_forgotten (ghost.ignores n c x h has real book z) = absurd (never x has)
     still_forgotten (ghost.hears x h none real book z) = forgotten z (λ low. book ∙ sym (ap (greater_entry (book_entry s)) h))
-    still_forgotten (ghost.lands x h has real book z) = absurd (none_lands x h)
+    still_forgotten (ghost.lands x bs h has real book z) = absurd (none_lands x bs h)
     still_forgotten (ghost.stays x q changed haunts own none has acts real book z) = absurd (never x has)
     still_forgotten (ghost.goes x q changed j haunts apart goal none has acts real book z) = absurd (never x has)
     still_forgotten (ghost.reaped x h has real book z) = absurd (never x has)

@@ -210,7 +210,7 @@ module _ (f : Frame) (u : World) (between : IsBetweenRounds f u) (es : List ℕ)
 
 module _ (f : Frame) (u : World) (between : IsBetweenRounds f u) where
   pub frame_look : IsInFrame f (look_loaded u)
-  frame_look = look_framed f u between.nodes looking.tick
+  frame_look = look_framed f u between.nodes looking.tick refl
 
   lists_look : (e : ℕ) → AreListed f e (look_loaded u)
   lists_look e = lists_turned f u between (ordered_at looking.tick) frame_look e (look_cell e looking.tick)

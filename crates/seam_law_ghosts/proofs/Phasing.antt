@@ -88,7 +88,7 @@ module _ (f : Frame) (frame : IsFrame f) (u : World) (between : IsBetweenRounds 
     move : GhostMoves f e g.k ((entity_flow e w).slot g.k) (comes g.input) ((entity_flow e next).slot g.k) g.moves.sent
     move =
         ghost_moves f e r.ty g.k ((entity_flow e w).slot g.k) (comes g.input) ((entity_flow e next).slot g.k) g.moves.sent
-        (λ q is. absurd (comes_calm (Hand q) is)) (λ q at. fits_by g.k q ((calm.nodes g.k).real q at)) g.moves.moves
+        (λ q bs is. absurd (comes_calm (Hand q bs) is)) (λ q at. fits_by g.k q ((calm.nodes g.k).real q at)) g.moves.moves
 
     -- one that is somewhere is at home
     home_by : (o : Option RealView) → real_at e next home ≡ o → (p : TokenPlace) (q : RealView) → IsOne e next p q →
@@ -119,7 +119,8 @@ module _ (f : Frame) (frame : IsFrame f) (u : World) (between : IsBetweenRounds 
         inr (record {
           gone = (gone_leads f frame e w next (v ∷ []) calm.frame nobody once).slots home;
           forgotten =
-              still_forgotten f e w next g g.moves.sent g.moves.items (nobody.slots g.k) (λ q is. comes_calm (Hand q) is) x.forgotten fresh
+              still_forgotten f e w next g g.moves.sent g.moves.items (nobody.slots g.k)
+              (λ q bs is. comes_calm (Hand q bs) is) x.forgotten fresh
               move;
         })
 

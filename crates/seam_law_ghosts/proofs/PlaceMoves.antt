@@ -6,6 +6,7 @@ use Rattle.seam_law_ghosts.proofs.Prelude.{HasOne, weight_or, all_two, below_is,
 use Rattle.seam_law_calls.proofs.Trees.{only_tree}
 use Rattle.seam_law_ghosts.proofs.Lasting.{slot_bound}
 use Rattle.seam_law_ghosts.proofs.Placing.{Placed, placed}
+use Rattle.seam_node_steps.specs.Prelude.{Boundaries}
 
 module _ (f : Frame) (frame : IsFrame f) (e ty : ℕ) (known : ty < length f.defs) (w : World) (v : Event) (o : Occurs w v)
     (has : HasOne f e ty w) (calm : letter_in (mine e) o.input ≡ Some (Reap e) → ⊥) where
@@ -13,7 +14,7 @@ module _ (f : Frame) (frame : IsFrame f) (e ty : ℕ) (known : ty < length f.def
   next = happens node_steps w v
 
   abbrev Comes : Option Msg → Type 0
-  Comes i = ((r : RealView) → i ≡ Some (Hand r) → real_burden r < limit) × (i ≡ Some (Reap e) → ⊥)
+  Comes i = ((r : RealView) (bs : Option Boundaries) → i ≡ Some (Hand r bs) → real_burden r < limit) × (i ≡ Some (Reap e) → ⊥)
 
   abbrev g : Goes (λ k s i t out. MovesTo f e k s i t out × Comes i) (entity_flow e w) (entity_flow e next)
   g = goes f frame e ty known w v o has calm

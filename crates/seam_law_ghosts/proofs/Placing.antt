@@ -13,6 +13,8 @@ use Rattle.seam_entity.specs.declared.message.Msg.TheVariants.{Call}
 use Rattle.seam_node_steps.specs.Settle as settle
 use Rattle.seam_law_calls.proofs.CellDeeds as deed
 use Rattle.seam_law_calls.proofs.CellDeeds.{CellDeeds, cell_deeds, not_handed}
+use Rattle.seam_node_steps.specs.Prelude.{Boundaries}
+use Rattle.seam_node_steps.specs.Prelude.{at_start}
 
 -- ---- what becomes of a real and its place
 
@@ -105,15 +107,15 @@ module _ (f : Frame) (tree : Division) (e k : ℕ) (s : Has) (i : Option Msg) (t
 
   -- ---- it lands
 
-  lands_by : Does_it → (r : RealView) → i ≡ Some (Hand r) → real_in s ≡ None → real_in t ≡ Some r → Its
-  lands_by (still a b c) r is free at = absurd (let z = sym (ap (carried_in real_of) is) ∙ b in cc)
-  lands_by (turns x q a b c d o) r is free at = absurd (let z = sym free ∙ a in cc)
-  lands_by (lands x q a b c o) r is free at =
+  lands_by : Does_it → (r : RealView) (bs : Option Boundaries) → i ≡ Some (Hand r bs) → real_in s ≡ None → real_in t ≡ Some r → Its
+  lands_by (still a b c) r bs is free at = absurd (let z = sym (ap (carried_in real_of) is) ∙ b in cc)
+  lands_by (turns x q a b c d o) r bs is free at = absurd (let z = sym free ∙ a in cc)
+  lands_by (lands x q a b c o) r bs is free at =
       let was : r ≡ x = let z = sym (ap (carried_in real_of) is) ∙ a in cc in
       let now : r ≡ q = let z = sym at ∙ b in cc in
       (lands x q a b c o, sym now ∙ was)
-  lands_by (leaves x q to a b c d o) r is free at = absurd (let z = sym free ∙ a in cc)
-  lands_by (relays x q to a b c o) r is free at = absurd (let z = sym at ∙ (b ∙ free) in cc)
+  lands_by (leaves x q to a b c d o) r bs is free at = absurd (let z = sym free ∙ a in cc)
+  lands_by (relays x q to a b c o) r bs is free at = absurd (let z = sym at ∙ (b ∙ free) in cc)
 
   -- ---- it settles
 
@@ -162,38 +164,39 @@ module _ (f : Frame) (tree : Division) (e k : ℕ) (s : Has) (i : Option Msg) (t
 
   goes_placed : (u : AtCell) (r q : RealView) (changed : Bool) (j : ℕ) → real_in s ≡ Some r →
       Acts (here_at f k) e s.cell i r u q changed → home_after (here_at f k) tree q.state.pos ≡ j →
-      Does u (settle.goes (here_at f k) tree s.cell.slot q changed j) t.cell sent → Its
+      Does u (settle.goes (here_at f k) (at_start tree) s.cell.slot q changed j) t.cell sent → Its
   goes_placed u r q changed j has acts at d =
       let haunts = haunts_at (here_at f k) tree q.state.pos j (set.insert q.haunts k) in
       let told = ghost_messages (here_at f k) q j haunts changed in
       let gone = settled_to q haunts (q.beat + 1) (q.generation + 1) in
       let silent = ghosts_silent real_of reals_unseen (here_at f k) q j haunts changed in (
-        leaves r gone j has (real_is (settle.goes (here_at f k) tree s.cell.slot q changed j) u d)
+        leaves r gone j has (real_is (settle.goes (here_at f k) (at_start tree) s.cell.slot q changed j) u d)
             (inr (settled_replays u r q changed haunts (q.beat + 1) (q.generation + 1) acts)) (acts_none u r q changed acts)
             (record {
               here =
                   ap (letters_of real_of) (items j ∙ ap (items_to j) d.sends)
-                  ∙ (sees_after_silent real_of j told ((j, Hand gone) ∷ []) silent ∙ sees_one_here real_of j (Hand gone));
+                  ∙ (sees_after_silent real_of j told ((j, Hand gone None) ∷ []) silent ∙ sees_one_here real_of j (Hand gone None));
               others = λ x n.
                   ap (letters_of real_of) (items x ∙ ap (items_to x) d.sends)
-                  ∙ (sees_after_silent real_of x told ((j, Hand gone) ∷ []) silent ∙ sees_one_there real_of j x (Hand gone) n);
+                  ∙ (sees_after_silent real_of x told ((j, Hand gone None) ∷ []) silent ∙ sees_one_there real_of j x (Hand gone None) n);
             }),
         acts_settle u r q changed acts j haunts (q.beat + 1) (q.generation + 1) (goes_settled f tree k q.state.pos q.haunts j at),
       )
 
   -- ---- every move
 
-  module _ (of : IsTreeOf f tree) (room : (r : RealView) → i ≡ Some (Hand r) → FindsRoom f k s r)
+  module _ (of : IsTreeOf f tree) (room : (r : RealView) (bs : Option Boundaries) → i ≡ Some (Hand r bs) → FindsRoom f k s r)
       (spared : (r : RealView) → real_in s ≡ Some r → i ≡ Some (Reap e) → ⊥)
       (may : (r : RealView) → real_in s ≡ Some r → 1 ≤ s.cell.survey → may_settle r ≡ true) where
-    none_handed : (j : Option Msg) → i ≡ j → ((r : RealView) → i ≡ Some (Hand r) → ⊥) → carried_in real_of i ≡ None
-    none_handed (Some (Hand r)) is never = absurd (never r is)
+    none_handed : (j : Option Msg) → i ≡ j → ((r : RealView) (bs : Option Boundaries) → i ≡ Some (Hand r bs) → ⊥) → carried_in real_of i
+        ≡ None
+    none_handed (Some (Hand r bs)) is never = absurd (never r bs is)
     none_handed None is never = ap (carried_in real_of) is
     none_handed (Some m) is never = ap (carried_in real_of) is
 
     cell_placed : Does_it → CellDeeds (here_at f k) tree e s.cell i t.cell sent → Its
     cell_placed m (deed.idles a z) =
-        same m (none_handed i refl (λ r is. not_stray f k s r (room r is) tree of (not_handed a.why r is))) a.real
+        same m (none_handed i refl (λ r bs is. not_stray f k s r (room r bs is) tree of (not_handed a.why r bs is))) a.real
         -- a real that may settle is not taken off the list unsettled
         (λ r has some. elim a.taken [
           | inl kept ↦ omega (arith, kept, some)
@@ -207,7 +210,7 @@ module _ (f : Frame) (tree : Division) (e k : ℕ) (s : Has) (i : Option Msg) (t
         (still_due (due_is _ s.cell d))
     cell_placed m (deed.passes c p n is has at d) =
         same m (came_none (Call c) n refl) (real_is _ s.cell d) (still_due (due_is _ s.cell d))
-    cell_placed m (deed.lands r n is has may d) = lands_by m r n has (real_is _ s.cell d)
+    cell_placed m (deed.lands r bs n is has may d) = lands_by m r bs n has (real_is _ s.cell d)
     cell_placed m (deed.reaped r n has own may d) = absurd (spared r has n)
     cell_placed m (deed.looks n r w known h at has own is small d) =
         alike m (none_of h) (alike_one r _ has (real_is _ _ d) (record { done = refl; state = refl; haunts = refl }))
@@ -216,7 +219,7 @@ module _ (f : Frame) (tree : Division) (e k : ℕ) (s : Has) (i : Option Msg) (t
     -- a base node is fed no real
     base_none : cell_count ≤ k → (o : Option RealView) → carried_in real_of i ≡ o → o ≡ None
     base_none high None is = refl
-    base_none high (Some r) is = let low = (room r (came_hand i r is)).cell in absurd (omega (arith, low, high))
+    base_none high (Some r) is = let low = (room r (came_hand i r is).0 (came_hand i r is).1).cell in absurd (omega (arith, low, high))
 
     base_placed : Does_it → cell_count ≤ k → t.cell ≡ s.cell → Its
     base_placed m high is =
@@ -224,7 +227,7 @@ module _ (f : Frame) (tree : Division) (e k : ℕ) (s : Has) (i : Option Msg) (t
 
 -- a move does it by one of the trees
 module _ (f : Frame) (frame : IsFrame f) (e ty k : ℕ) (s : Has) (i : Option Msg) (t : Has) (sent : List (ℕ × Msg)) (out : ℕ → List Msg)
-    (items : (j : ℕ) → out j ≡ items_to j sent) (room : (r : RealView) → i ≡ Some (Hand r) → FindsRoom f k s r)
+    (items : (j : ℕ) → out j ≡ items_to j sent) (room : (r : RealView) (bs : Option Boundaries) → i ≡ Some (Hand r bs) → FindsRoom f k s r)
     (spared : (r : RealView) → real_in s ≡ Some r → i ≡ Some (Reap e) → ⊥)
     (may : (r : RealView) → real_in s ≡ Some r → 1 ≤ s.cell.survey → may_settle r ≡ true) where
   abbrev PlacedByOne : Type 0

@@ -10,6 +10,7 @@ use Rattle.seam_law_ghosts.proofs.Prelude.{one_loaded, spared_loaded}
 use Rattle.seam_law_ghosts.proofs.Begun.{listed}
 use Rattle.seam_law_ghosts.proofs.Placing.{IsAlike, Settles, by_survey, by_call, PlacesBy}
 use Rattle.seam_law_ghosts.proofs.PlaceMoves.{by_first_tree}
+use Rattle.seam_node_steps.specs.Prelude.{Boundaries}
 
 -- ---- one real
 
@@ -51,7 +52,7 @@ module _ (f : Frame) (tree : Division) (k : ℕ) (s : Has) (i : Option Msg) (t :
   same q p x a b rests = let one : q ≡ p = let z = sym a ∙ b in cc in subst (Rests k) one rests
 
   module _ (before : (r : RealView) → real_in s ≡ Some r → s.cell.survey ≡ 0 → Rests k r)
-      (hand : (r : RealView) → i ≡ Some (Hand r) → Rests k r) where
+      (hand : (r : RealView) (bs : Option Boundaries) → i ≡ Some (Hand r bs) → Rests k r) where
     pub slot_rests : (m : Does_it) → PlacesBy f tree k s i t out m → (p : RealView) → real_in t ≡ Some p → t.cell.survey ≡ 0 → Rests k p
     slot_rests (still a b c) stays p at none =
         let was = sym a ∙ at in before p was (none_before s.cell.survey t.cell.survey (stays p was) none)
@@ -59,7 +60,8 @@ module _ (f : Frame) (tree : Division) (k : ℕ) (s : Has) (i : Option Msg) (t :
         same q p (real_in t) b at
         (alike_rests f.settings tree k r q alike (before r a (none_before s.cell.survey t.cell.survey stays none)))
     slot_rests (turns r q a b c y z) (inr settles) p at none = same q p (real_in t) b at (settles_rests k r q settles)
-    slot_rests (lands r q a b c y) is p at none = same q p (real_in t) b at (subst (Rests k) (sym is) (hand r (came_hand i r a)))
+    slot_rests (lands r q a b c y) is p at none = same q p (real_in t) b at
+        (subst (Rests k) (sym is) (hand r (came_hand i r a).0 (came_hand i r a).1))
     slot_rests (leaves r q to a b c y z) settles p at none = absurd (let x = sym b ∙ at in cc)
     slot_rests (relays r q to a b c z) never p at none = absurd never
 
@@ -95,7 +97,7 @@ module _ (f : Frame) (alone : HasOneTree f) (frame : IsFrame f) (e ty : ℕ) (kn
         cells =
             slots_kept (λ k s. (p : RealView) → real_in s ≡ Some p → s.cell.survey ≡ 0 → IsRestful f.settings f.tree k p) x h.cells
             (slot_rests f f.tree x.k s (comes x.input) t x.out (h.cells x.k)
-            (λ r is. (came (λ a k m. IsRestfulHand f.settings f.tree k m) x (Hand r) is h.hands).1 r refl) what.0 what.1);
+            (λ r bs is. (came (λ a k m. IsRestfulHand f.settings f.tree k m) x (Hand r bs) is h.hands).1 r bs refl) what.0 what.1);
         hands =
             letters_kept (λ a k m. IsRestfulHand f.settings f.tree k m) x h.hands
             (out_rests f f.tree x.k s (comes x.input) t x.out what.0 what.1);

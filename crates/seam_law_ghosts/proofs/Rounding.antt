@@ -36,10 +36,10 @@ module _ (f : Frame) (e : ℕ) where
       record {
         unknown = unknown_leads f e w next (v ∷ []) x.unknown (record { each = (on, tt); is_run = refl });
         forgotten =
-            still_forgotten f e w next g g.moves.sent g.moves.items free (λ r is. ticks (Hand r) is) x.forgotten
+            still_forgotten f e w next g g.moves.sent g.moves.items free (λ r bs is. ticks (Hand r bs) is) x.forgotten
             (λ m y is cell brought none tree stray. tick_brings g.k m y (ticks m is) brought)
             (ghost_moves f e 0 g.k ((entity_flow e w).slot g.k) (comes g.input) ((entity_flow e next).slot g.k) g.moves.sent
-            (λ r is. absurd (ticks (Hand r) is)) (λ r at. absurd (let z = sym free ∙ at in cc)) g.moves.moves);
+            (λ r bs is. absurd (ticks (Hand r bs) is)) (λ r at. absurd (let z = sym free ∙ at in cc)) g.moves.moves);
       }
 
   pub lost_leads : (w v : World) (es : List Event) → IsUnknown f e w → IsForgotten e w → RunsTo w es v → IsForgotten e v

@@ -15,6 +15,7 @@ use Rattle.seam_law_ghosts.proofs.Hushing.{IsQuelled, quelled_leads, hushed_wher
 use Rattle.seam_law_ghosts.proofs.Books.{risen_leads, copies_rise}
 use Rattle.seam_law_ghosts.proofs.Moving.{After, here, gone, after_move}
 use Rattle.seam_law_ghosts.proofs.Still.{same_one, came_with, told_still, table_still}
+use Rattle.seam_node_steps.specs.Prelude.{Boundaries}
 
 -- what fits is not stray
 pub news_fit : (f : Frame) (k : ℕ) (s : Has) (m : Msg) (x : Entry) → FitsNode f k m → brings m ≡ Some x → real_of m ≡ None →
@@ -56,7 +57,7 @@ module _ (f : Frame) (frame : IsFrame f) (e ty : ℕ) (known : ty < length f.def
     calm = calm_of f e w v o has.fits.frame x.quelled.spared
 
     abbrev Came : Option Msg → Type 0
-    Came i = ((r : RealView) → i ≡ Some (Hand r) → real_burden r < limit) × (i ≡ Some (Reap e) → ⊥)
+    Came i = ((r : RealView) (bs : Option Boundaries) → i ≡ Some (Hand r bs) → real_burden r < limit) × (i ≡ Some (Reap e) → ⊥)
 
     abbrev g : Goes (λ k s i t out. MovesTo f e k s i t out × Came i) (entity_flow e w) (entity_flow e next)
     g = goes f frame e ty known w v o has calm

@@ -174,7 +174,7 @@ module _ (f : Frame) where
     cell_sends (move.late c r n has may lt d) = of [] d.sends tt
     cell_sends (move.holds c r n own has mine may lt d) = of [] d.sends tt
     cell_sends (move.passes c p n own has at d) = of _ d.sends (tt, tt)
-    cell_sends (move.lands r n own has may d) = of _ d.sends (currents_by h r cell_count f.settings.bases (omega arith))
+    cell_sends (move.lands r bs n own has may d) = of _ d.sends (currents_by h r cell_count f.settings.bases (omega arith))
     cell_sends (move.hears_set n c is has d) = of [] d.sends tt
     cell_sends (move.ignores_set n c r is has d) = of [] d.sends tt
     cell_sends (move.hears_drop n is d) = of [] d.sends tt

@@ -18,6 +18,7 @@ use Rattle.seam_law_calls.specs.CellMoves as move
 use Rattle.seam_law_calls.specs.BaseMoves as base_move
 use Rattle.seam_law_ghosts.specs.GhostMoves as ghost
 use Rattle.seam_law_ghosts.proofs.NewestTelling.{no_haunt_at_home}
+use Rattle.seam_node_steps.specs.Prelude.{Boundaries}
 
 -- ---- a book that hears an entry keeps the greater one
 
@@ -94,14 +95,16 @@ module _ (f : Frame) (e ty k : ℕ) (s : Has) (i : Option Msg) (t : Has) (sent :
   leaves_it ps n m none d silent = ghost.rests none (real_is _ _ d) (book_is _ _ d) (silent_of _ _ d silent)
 
   -- stray input at a cell
-  strays_by : ((r : RealView) → i ≡ Some (Hand r) → FindsRoom f k s r) → (tree : Division) → IsTreeOf f tree → (m : Msg) → i ≡ Some m →
+  strays_by : ((r : RealView) (bs : Option Boundaries) → i ≡ Some (Hand r bs) → FindsRoom f k s r) → (tree : Division) → IsTreeOf f tree →
+      (m : Msg) → i ≡ Some m →
       is_stray (here_at f k) tree s.cell.slot m ≡ true → real_in t ≡ real_in s → book_entry t ≡ book_entry s → IsSilent brings sent → Its
-  strays_by room tree of (Hand r) h b x y z = absurd (not_stray f k s r (room r h) tree of b)
+  strays_by room tree of (Hand r bs) h b x y z = absurd (not_stray f k s r (room r bs h) tree of b)
   strays_by room tree of (GhostSet q n c) h b x y z = ghost.misses (GhostSet q n c) h refl (inr (tree, b)) x y z
   strays_by room tree of (GhostDrop q n) h b x y z = ghost.misses (GhostDrop q n) h refl (inr (tree, b)) x y z
   strays_by room tree of m h b x y z = ghost.rests (came_none m h refl) x y z
 
-  cell_step : ((r : RealView) → i ≡ Some (Hand r) → FindsRoom f k s r) → ((r : RealView) → real_in s ≡ Some r → RealFits f e ty k r) →
+  cell_step : ((r : RealView) (bs : Option Boundaries) → i ≡ Some (Hand r bs) → FindsRoom f k s r) →
+      ((r : RealView) → real_in s ≡ Some r → RealFits f e ty k r) →
       (tree : Division) → IsTreeOf f tree → CellMoves (here_at f k) tree e s.cell i t.cell sent → Its
   cell_step room fit tree of (move.rests n d) = leaves_it [] _ _ (none_of n) d tt
   cell_step room fit tree of (move.strays m n b d) =
@@ -122,8 +125,8 @@ module _ (f : Frame) (e ty k : ℕ) (s : Has) (i : Option Msg) (t : Has) (sent :
       (record { entity = refl; type = refl; haunts = refl; beat = refl; generation = refl }) refl (book_is _ s.cell d)
       (silent_of _ s.cell d tt)
   cell_step room fit tree of (move.passes c p n own has at d) = leaves_it _ _ _ (came_none (Call c) n refl) d (refl, tt)
-  cell_step room fit tree of (move.lands r n own has may d) =
-      ghost.lands r n has (real_is _ s.cell d) (book_is _ s.cell d ∙ heard_is s.cell.slot.ghost r.beat None)
+  cell_step room fit tree of (move.lands r bs n own has may d) =
+      ghost.lands r bs n has (real_is _ s.cell d) (book_is _ s.cell d ∙ heard_is s.cell.slot.ghost r.beat None)
       (silent_of _ s.cell d (mapped_silent brings (current_to (here_at f k) r) (λ b. refl) (base_numbers (here_at f k))))
   cell_step room fit tree of (move.hears_set n c h has d) =
       ghost.hears (n, Some c) (ap (entry_in brings) h) (ap (carried_in real_of) h) (real_is _ s.cell d)
@@ -164,13 +167,14 @@ module _ (f : Frame) (e ty k : ℕ) (s : Has) (i : Option Msg) (t : Has) (sent :
         ghost.misses m n none (inl high) (ap (λ c. c.slot.real) same) (ap (λ c. (beat_in c.slot.ghost, copy_in c.slot.ghost)) same)
         (quiet z)
 
-    base_strays : ((r : RealView) → i ≡ Some (Hand r) → FindsRoom f k s r) → (m : Msg) → i ≡ Some m → sent ≡ [] → Its
-    base_strays room (Hand r) n z = let low = (room r n).cell in absurd (omega (arith, low, high))
+    base_strays : ((r : RealView) (bs : Option Boundaries) → i ≡ Some (Hand r bs) → FindsRoom f k s r) → (m : Msg) → i ≡ Some m → sent
+        ≡ [] → Its
+    base_strays room (Hand r bs) n z = let low = (room r bs n).cell in absurd (omega (arith, low, high))
     base_strays room (GhostSet x m c) n z = missed (GhostSet x m c) n refl z
     base_strays room (GhostDrop x m) n z = missed (GhostDrop x m) n refl z
     base_strays room m n z = idle (came_none m n refl) (quiet z)
 
-    base_step : ((r : RealView) → i ≡ Some (Hand r) → FindsRoom f k s r) → (cells : ℕ) →
+    base_step : ((r : RealView) (bs : Option Boundaries) → i ≡ Some (Hand r bs) → FindsRoom f k s r) → (cells : ℕ) →
         BaseMoves (here_at f k) cells e s.base i t.base sent → Its
     base_step room cells (base_move.rests n a z) = idle (none_of n) (quiet z)
     base_step room cells (base_move.strays m n b a z) = base_strays room m n z
@@ -190,7 +194,8 @@ module _ (f : Frame) (e ty k : ℕ) (s : Has) (i : Option Msg) (t : Has) (sent :
     base_step room cells (base_move.shows p n has is may a z) = idle (none_of n) (quiet z)
     base_step room cells (base_move.stuck_client p n has is may a z) = idle (none_of n) (quiet z)
 
-  pub ghost_moves : ((r : RealView) → i ≡ Some (Hand r) → FindsRoom f k s r) → ((r : RealView) → real_in s ≡ Some r →
+  pub ghost_moves : ((r : RealView) (bs : Option Boundaries) → i ≡ Some (Hand r bs) → FindsRoom f k s r) →
+      ((r : RealView) → real_in s ≡ Some r →
       RealFits f e ty k r) → Moves f e k s i t sent → Its
   ghost_moves room fit (at_a_cell tree of low m same) = cell_step room fit tree of m
   ghost_moves room fit (at_a_base high m same) = base_step high same room _ m

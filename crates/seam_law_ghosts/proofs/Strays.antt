@@ -8,6 +8,8 @@ use Rattle.seam_law_ghosts.proofs.Prelude.{IsFrame, Has, concerned, kept_if, min
 use Rattle.seam_law_ghosts.proofs.Prelude.{FindsTurn, all_two, may_land}
 use Rattle.seam_entity.specs.declared.message.Msg.TheVariants.{Call}
 use Rattle.seam_law_ghosts.proofs.Sending.{FitsNode}
+use Rattle.seam_node_steps.specs.Prelude.{Boundaries}
+use Rattle.seam_node_steps.specs.Prelude.{Bounds}
 
 -- ---- a message on a link, as its entity sees it
 
@@ -56,17 +58,18 @@ module _ (f : Frame) (frame : IsFrame f) (e ty k : ℕ) (known : ty < length f.d
   hand_by r (Some q) is may = cc
 
   pub kind_fits : (m : Msg) → FitsNode f k m → reaped_by m ≡ None → ((c : CallData) → m ≡ Call c → FindsTurn f k s c) →
-      ((r : RealView) → m ≡ Hand r → (real_in s ≡ None) × RealFits f e ty k r × (real_burden r < limit)) →
+      ((r : RealView) (bs : Option Boundaries) → m ≡ Hand r bs → (real_in s ≡ None) × RealFits f e ty k r × (real_burden r < limit)) →
       is_stray (here_at f k) tree s.cell.slot m ≡ false
   kind_fits (Call c) fits spared turn hand =
       let t = turn c refl in
       call_by c s.cell.slot.real s.cell.slot.next (either (is_some s.cell.slot.real) (is_some s.cell.slot.next) t.place) t.may
-  kind_fits (Hand r) fits spared turn hand =
-      let h = hand r refl in
+  kind_fits (Hand r bs) fits spared turn hand =
+      let h = hand r bs refl in
       hand_by r s.cell.slot.real h.0 (may_land f frame e ty k tree of r known h.1 h.2)
   kind_fits (GhostSet x n c) fits spared turn hand =
       not_true (is_small n && (is_small c.version && fits_copy (here_at f k) c)) (all_two _ _ fits.0 (all_two _ _ fits.1 fits.2))
   kind_fits (GhostDrop x n) fits spared turn hand = not_true (is_small n) fits
   kind_fits Tick fits spared turn hand = refl
+  kind_fits (Bounds b) fits spared turn hand = refl
   kind_fits (Reap x) fits spared turn hand = cc
   kind_fits _ fits spared turn hand = absurd (omega (arith, fits, low))

@@ -9,7 +9,7 @@ Entry = ℕ × Option GhostCopy
 
 -- a set brings a copy, a drop none; a hand-over brings none at the real's beat
 abbrev pub brings : Msg → Option Entry
-brings (Hand r) = Some (r.beat, None)
+brings (Hand r bs) = Some (r.beat, None)
 brings (GhostSet e n c) = Some (n, Some c)
 brings (GhostDrop e n) = Some (n, None)
 brings _ = None

@@ -8,6 +8,7 @@ use Rattle.seam_law_flow.specs.Prelude.{entry_in, greater_entry, IsSilent, carri
 use Rattle.seam_law_calls.specs.Prelude.{Frame, here_at, Has, account_of, after_call, real_in, real_of}
 use Rattle.seam_defs.specs.declared.flags.Part.TheVariants as part
 use Rattle.seam_law_ghosts.specs.Entries.{Entry, brings, book_entry}
+use Rattle.seam_node_steps.specs.Prelude.{Boundaries}
 
 -- q is the same entity's real as r, with the same haunts, beat and generation
 pub record IsPlacedAlike (r q : RealView) : Type 0 where
@@ -62,7 +63,7 @@ pub data GhostMoves (f : Frame) (e k : ℕ) (s : Has) (i : Option Msg) (t : Has)
   hears : (p : Entry) → entry_in brings i ≡ Some p → carried_in real_of i ≡ None → real_in t ≡ real_in s
       → book_entry t ≡ greater_entry (book_entry s) (Some p) → IsSilent brings sent → GhostMoves f e k s i t sent
   -- a hand-over comes
-  lands : (r : RealView) → i ≡ Some (Hand r) → real_in s ≡ None → real_in t ≡ Some r
+  lands : (r : RealView) (bs : Option Boundaries) → i ≡ Some (Hand r bs) → real_in s ≡ None → real_in t ≡ Some r
       → book_entry t ≡ greater_entry (book_entry s) (Some (r.beat, None)) → IsSilent brings sent → GhostMoves f e k s i t sent
   -- the real settles, with haunts of which its home is none, and stays
   stays : (r q : RealView) (changed : Bool) (haunts : Cells) → set.contains haunts k ≡ false → entry_in brings i ≡ None
@@ -72,7 +73,7 @@ pub data GhostMoves (f : Frame) (e k : ℕ) (s : Has) (i : Option Msg) (t : Has)
   goes : (r q : RealView) (changed : Bool) (j : ℕ) (haunts : Cells) → (j ≡ k → ⊥) → set.contains haunts j ≡ false
       → entry_in brings i ≡ None → real_in s ≡ Some r → Executes f r q changed → real_in t ≡ None
       → book_entry t ≡ greater_entry (book_entry s) (Some (left_entry f k haunts q))
-      → sent ≡ told_settling f k j haunts q changed ++ (j, Hand (going haunts q)) ∷ [] → GhostMoves f e k s i t sent
+      → sent ≡ told_settling f k j haunts q changed ++ (j, Hand (going haunts q) None) ∷ [] → GhostMoves f e k s i t sent
   -- the entity leaves the world
   reaped : (r : RealView) → i ≡ Some (Reap e) → real_in s ≡ Some r → real_in t ≡ None
       → book_entry t ≡ greater_entry (book_entry s) (Some (r.beat + 1, None)) → sent ≡ drops r → GhostMoves f e k s i t sent

@@ -10,6 +10,7 @@ use Rattle.seam_law_calls.specs.Prelude.{Frame, here_at, entity_flow, OneFrom, R
 use Rattle.seam_law_rounds.specs.Prelude.{AreReapable}
 use Rattle.seam_haunt.specs.Places.{settled}
 use Rattle.seam_law_flow.specs.Tokens as token
+use Rattle.seam_node_steps.specs.Prelude.{Boundaries}
 
 -- up to which distances a cell keeps an entity, gets a ghost of it and keeps that ghost, by the settings
 abbrev pub distances_of : Settings → Distances
@@ -80,7 +81,7 @@ IsRestful g tree k r = settled (distances_of g) tree (place_of k r) r.state.pos 
 
 -- nor does the real that a letter to cell k carries, if it carries one
 abbrev pub IsRestfulHand : Settings → Division → ℕ → Msg → Type 0
-IsRestfulHand g tree k m = (r : RealView) → m ≡ Hand r → IsRestful g tree k r
+IsRestfulHand g tree k m = (r : RealView) (bs : Option Boundaries) → m ≡ Hand r bs → IsRestful g tree k r
 
 -- the entity's real needs no settling by the frame's first tree where its cell's survey list has it not, nor on its way
 pub record AreRestful (f : Frame) (e : ℕ) (w : World) : Type 0 where

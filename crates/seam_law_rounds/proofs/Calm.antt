@@ -9,10 +9,9 @@ abbrev pub IsSame : RealView → RealView → Type 0
 IsSame r q = (x : Option WitnessView) × (record r { witness = x } ≡ q)
 
 abbrev pub IsCalmOrder : ℕ → Order → Type 0
-IsCalmOrder e (order.Cell c) = ⊥
-IsCalmOrder e (order.Base c) = ⊥
 IsCalmOrder e order.Tick = Unit {0}
 IsCalmOrder e (order.Reap x) = x ≡ e
+IsCalmOrder e _ = ⊥
 
 -- what node k has of the entity, whose real was r in cell `home` of world u
 pub record IsCalmAt (e home : ℕ) (r : RealView) (u : World) (k : ℕ) (h : Has) : Type 0 where

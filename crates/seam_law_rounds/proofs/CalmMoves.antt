@@ -151,7 +151,7 @@ module _ (f : Frame) (e home : ℕ) (r : RealView) (was : World) (none : (s : �
     cell_calmed base (deed.goes u p q changed j has own acts at n d) = absurd (acts_never u p q changed has acts)
     cell_calmed base (deed.holds c p n is has own may lt d) = absurd (come.letter (Call c) n)
     cell_calmed base (deed.passes c p n is has at d) = absurd (come.letter (Call c) n)
-    cell_calmed base (deed.lands p n own has may d) = absurd (come.letter (Hand p) n)
+    cell_calmed base (deed.lands p bs n own has may d) = absurd (come.letter (Hand p bs) n)
     cell_calmed base (deed.reaped q n has own may d) =
         let same = (here.real q has).1 in
         let beat : q.beat ≡ r.beat = sym (ap (λ (y : RealView). y.beat) same.1) in

@@ -11,6 +11,7 @@ use Rattle.std.specs.FinMap as table
 use Rattle.seam_law_rounds.proofs.Shape.{items_each}
 use Rattle.seam_law_rounds.proofs.Calm.{IsCalmAt, IsCalmTo, letter_reaps, node_reaps, mine_reaps, reaps_of, one_if, IsCalm}
 use Rattle.seam_law_rounds.proofs.CalmMoves.{sent_reaps, Calmed, stays, ends, Comes, calmed}
+use Rattle.seam_law_calls.proofs.Classify.{fed_plain}
 
 -- ---- weights
 
@@ -140,7 +141,8 @@ module _ (f : Frame) (e home : ℕ) (r : RealView) (low : home < cell_count) (no
         calmed f e home r was none leads told v.node (has_of e o.node) fed (has_of e (node_steps o.node o.input).state)
         (concerning e (node_steps o.node o.input).sent) (subst (IsCalmAt e home r was v.node) (sym node_is) (c.nodes v.node))
         (comes_to v.node fed_to (has_of e o.node) node_is fed refl) low c.cells
-        (node_moves f e v.node o.node o.input (c.frame.sound.states v.node o.node o.is_node) (c.frame.nodes v.node o.node o.is_node))
+        (node_moves f e v.node o.node o.input (c.frame.sound.states v.node o.node o.is_node) (c.frame.nodes v.node o.node o.is_node)
+        (fed_plain f w v o c.frame))
 
     weighs_by : Calmed f e home r was none leads told v.node (has_of e o.node) fed (has_of e (node_steps o.node o.input).state)
         (concerning e (node_steps o.node o.input).sent) →

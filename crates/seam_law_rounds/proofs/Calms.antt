@@ -344,7 +344,7 @@ module _ (f : Frame) (u : World) (between : IsBetweenRounds f u) (parts : HasPar
 module _ (f : Frame) (u : World) (between : IsBetweenRounds f u) (parts : HasPartsBetweenRounds f u) (small : HasSmallNumbers f u)
     (vs : List Event) (v : World) (run : RunsTo (look_loaded u) vs v) where
   in_looks : IsInFrame f (look_loaded u)
-  in_looks = look_framed f u between.nodes tick
+  in_looks = look_framed f u between.nodes tick refl
 
   looks_framed : IsInFrame f v
   looks_framed = frame_leads f (look_loaded u) v vs in_looks run

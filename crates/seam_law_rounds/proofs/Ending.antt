@@ -74,10 +74,9 @@ module _ (f : Frame) (e home : ℕ) (r : RealView) (u : World) (settled : IsSett
 
   no_orders : (s : ℕ) (os : List Order) → AllByRecursion (IsCalmOrder e) os → letters_of (cell_order_from s) os ≡ []
   no_orders s [] h = refl
-  no_orders s (order.Cell c ∷ os) h = absurd h.0
-  no_orders s (order.Base c ∷ os) h = absurd h.0
   no_orders s (order.Tick ∷ os) h = no_orders s os h.1
   no_orders s (order.Reap x ∷ os) h = no_orders s os h.1
+  no_orders s (_ ∷ os) h = absurd h.0
 
   no_letters : (s k : ℕ) (ms : List Msg) → AllByRecursion (IsCalmTo told home r k) ms → letters_of (cell_mail s) ms ≡ []
   no_letters s k [] h = refl

@@ -302,6 +302,7 @@ fits = record {
   destroys = tt;
   ends_once = tt;
   spares = (refl, tt);
+  unmoved = (refl, tt);
   known = ((λ e is. let same : 2 ≡ e = cc in subst (λ x. holders (loaded first_look_5 batch) x ≡ 1) same holder_is), tt);
   calls = for_real;
   few = omega arith;

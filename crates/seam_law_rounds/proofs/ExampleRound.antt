@@ -127,6 +127,7 @@ fits = record {
   destroys = tt;
   ends_once = tt;
   spares = tt;
+  unmoved = tt;
   known = tt;
   calls = for_real;
   few = omega arith;

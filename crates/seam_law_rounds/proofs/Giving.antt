@@ -9,26 +9,33 @@ use Rattle.seam_machine.proofs.Totals.{total-append}
 use Rattle.seam_call.specs.declared.order.Order.TheVariants as order
 use Rattle.seam_law_rounds.proofs.Loading.{each_keeps, Any, any}
 use Rattle.seam_law_rounds.proofs.Framing.{frame_turns}
+use Rattle.seam_node_steps.specs.Prelude.{TellsNone}
 use Rattle.seam_law_rounds.proofs.Calm.{IsCalmOrder, order_reaps}
 use Rattle.seam_law_rounds.proofs.Starting.{Given, idle_orders}
 
 -- ---- a world stays in its frame
 
-order_goes : (f : Frame) (k : ℕ) (d : Bool) (b : BaseView) (o : Order) → IsNode (Base b) × IsAt f k (Base b) →
+order_goes : (f : Frame) (k : ℕ) (d : Bool) (b : BaseView) (o : Order) → TellsNone o → IsNode (Base b) × IsAt f k (Base b) →
     IsNode (Base (order_if d b o)) × IsAt f k (Base (order_if d b o))
-order_goes f k true b o h = (
+order_goes f k true b o none h = (
   record { bases = h.0.bases; cells = h.0.cells; routes = h.0.routes },
-  record { high = h.1.high; here = h.1.here; cells = h.1.cells },
+  record {
+    high = h.1.high;
+    here = h.1.here;
+    cells = h.1.cells;
+    orders = all_append TellsNone b.orders (o ∷ []) h.1.orders (none, tt);
+  },
 )
-order_goes f k false b o h = h
+order_goes f k false b o none h = h
 
 reap_goes : (f : Frame) (k q : ℕ) (s : NodeView) → IsNode s × IsAt f k s → IsNode (reap_ordered_at q s) × IsAt f k (reap_ordered_at q s)
 reap_goes f k q (Cell c) h = h
-reap_goes f k q (Base b) h = order_goes f k (eqb (base_of b.here q) b.here.me) b (order.Reap q) h
+reap_goes f k q (Base b) h = order_goes f k (eqb (base_of b.here q) b.here.me) b (order.Reap q) refl h
 
-tick_goes : (f : Frame) (k : ℕ) (o : ℕ × Order) (s : NodeView) → IsNode s × IsAt f k s → IsNode (ordered_at o s) × IsAt f k (ordered_at o s)
-tick_goes f k o (Cell c) h = h
-tick_goes f k o (Base b) h = order_goes f k (eqb o.0 b.here.me) b o.1 h
+tick_goes : (f : Frame) (k : ℕ) (o : ℕ × Order) → TellsNone o.1 → (s : NodeView) → IsNode s × IsAt f k s → IsNode (ordered_at o s)
+    × IsAt f k (ordered_at o s)
+tick_goes f k o none (Cell c) h = h
+tick_goes f k o none (Base b) h = order_goes f k (eqb o.0 b.here.me) b o.1 none h
 
 module _ (f : Frame) (u : World) (q : IsInFrame f u) where
   pub reaps_framed : (es : List ℕ) → IsInFrame f (with_nodes u (each reap_ordered_at es))
@@ -38,8 +45,8 @@ module _ (f : Frame) (u : World) (q : IsInFrame f u) where
       (node, at)) u
       q
 
-  pub look_framed : (o : ℕ × Order) → IsInFrame f (with_nodes u (ordered_at o))
-  look_framed o = frame_turns f f refl (ordered_at o) (λ k s node at. tick_goes f k o s (node, at)) u q
+  pub look_framed : (o : ℕ × Order) → TellsNone o.1 → IsInFrame f (with_nodes u (ordered_at o))
+  look_framed o none = frame_turns f f refl (ordered_at o) (λ k s node at. tick_goes f k o none s (node, at)) u q
 
   -- there is a base node
   bases_by : (e home : ℕ) (r : RealView) (o : Option NodeView) → slice_get u.nodes home ≡ o →
@@ -150,7 +157,7 @@ module _ (e : ℕ) where
     reaps_by (q ∷ es) n s b at g =
         let d = eqb (base_of b.here q) b.here.me in
         let now = reap_by n s b q d (λ is. its at q is) g in
-        let at_next = at_more d b (order.Reap q) at in
+        let at_next = at_more d b (order.Reap q) refl at in
         as_many _ _ s _ (times_more n (eqb k base) q es) (reaps_by es _ s (order_if d b (order.Reap q)) at_next now)
       where
         turned : (x y : ℕ) → eqb x y ≡ eqb y x
@@ -164,9 +171,14 @@ module _ (e : ℕ) where
             ap (λ h. eqb (base_of h q) h.me) at.here
             ∙ (ap (λ x. eqb (base_of (here_at f k) x) k) is ∙ turned base k)
 
-        at_more : (d : Bool) (b : BaseView) (o : Order) → IsBaseAt f k b → IsBaseAt f k (order_if d b o)
-        at_more true b o at = record { high = at.high; here = at.here; cells = at.cells }
-        at_more false b o at = at
+        at_more : (d : Bool) (b : BaseView) (o : Order) → TellsNone o → IsBaseAt f k b → IsBaseAt f k (order_if d b o)
+        at_more true b o none at = record {
+          high = at.high;
+          here = at.here;
+          cells = at.cells;
+          orders = all_append TellsNone b.orders (o ∷ []) at.orders (none, tt);
+        }
+        at_more false b o none at = at
 
     same_cell : (c : CellView) (es : List ℕ) → each reap_ordered_at es (Cell c) ≡ Cell c
     same_cell c [] = refl

@@ -20,10 +20,9 @@ use Rattle.seam_law_rounds.proofs.Serving.{HasItStill}
 -- calm orders weigh what their reaps do
 calm_weigh : (e : ℕ) (os : List Order) → AllByRecursion (IsCalmOrder e) os → total order_burden os ≡ total order_reaps os
 calm_weigh e [] h = refl
-calm_weigh e (order.Cell c ∷ os) h = absurd h.0
-calm_weigh e (order.Base c ∷ os) h = absurd h.0
 calm_weigh e (order.Tick ∷ os) h = let more = calm_weigh e os h.1 in omega (arith, more)
 calm_weigh e (order.Reap x ∷ os) h = let more = calm_weigh e os h.1 in omega (arith, more)
+calm_weigh e (_ ∷ os) h = absurd h.0
 
 module _ (f : Frame) (u : World) (between : IsBetweenRounds f u) (e home : ℕ) (r : RealView) (here : real_at e u home ≡ Some r)
     (had : HasSettledPart f e r.ty u) (small : HasSmallNumbers f u) (turn : NodeView → NodeView) (frame : IsInFrame f (with_nodes u turn))

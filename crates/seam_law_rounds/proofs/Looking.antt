@@ -28,7 +28,7 @@ module _ (f : Frame) (u : World) (between : IsBetweenRounds f u) where
   module _ (e home : ℕ) (r : RealView) (here : real_at e u home ≡ Some r) where
     pub calm : IsCalm f e home r u false (look_loaded u)
     calm =
-        starts_calm f u between e home r here (ordered_at tick) false (look_framed f u between.nodes tick)
+        starts_calm f u between e home r here (ordered_at tick) false (look_framed f u between.nodes tick refl)
         (reals_stay e (ordered_at tick) (look_cell e tick) u) (some_base f u between.nodes e home r here) (λ k s at.
         subst (λ n. Given e n s (ordered_at tick s)) (zero_by (eqb k (base_of (here_at f 0) e)))
         (look_given e f k cell_count s (quiet_tasks node_has_work u between.quiet k s at)))
@@ -46,7 +46,7 @@ module _ (f : Frame) (u : World) (between : IsBetweenRounds f u) where
     pub look_makes_none : (e : ℕ) → holders u e ≡ 0 → holders v e ≡ 0
     look_makes_none e zero =
         none_counts v e
-        (gone_leads f between.frame e (look_loaded u) v vs (look_framed f u between.nodes tick) (nobody e (counted_none u e zero)) run)
+        (gone_leads f between.frame e (look_loaded u) v vs (look_framed f u between.nodes tick refl) (nobody e (counted_none u e zero)) run)
 
     pub look_calls_none : (e : ℕ) → holders u e ≡ 1 → HasNoCalls e v
     look_calls_none e one =
@@ -57,5 +57,5 @@ module _ (f : Frame) (u : World) (between : IsBetweenRounds f u) where
 
     pub look_ends_between : IsQuiet node_has_work v → IsBetweenRounds f v
     look_ends_between quiet =
-        between_again f u between (look_loaded u) (look_framed f u between.nodes tick) (length-map u.nodes (ordered_at tick)) nobody
+        between_again f u between (look_loaded u) (look_framed f u between.nodes tick refl) (length-map u.nodes (ordered_at tick)) nobody
         (λ e. false) calm (λ e k r here. small r) v vs run quiet

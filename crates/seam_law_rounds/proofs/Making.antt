@@ -13,6 +13,7 @@ use Rattle.std.specs.FinSet as set
 use Rattle.seam_defs.specs.declared.flags.Group.TheVariants as group
 use Rattle.seam_defs.proofs.Numbers.{type_of-is}
 use Rattle.seam_defs.proofs.Starts.{start_of_group}
+use Rattle.seam_node_steps.specs.Prelude.{TellsNone}
 use Rattle.seam_law_rounds.proofs.Framing.{While, while_created}
 use Rattle.seam_law_rounds.proofs.Staying.{Stays, same, stays_as, Becomes, base_stays, creates_stay, becomes_after}
 
@@ -88,7 +89,8 @@ module _ (f : Frame) (b : Batch) (tree : IsTree b.tree) (x : Create) (k : ℕ) w
   orders_by n true none = subst (AllByRecursion (λ o. reaped_by_order o ≡ None)) (sym none) tt
   orders_by n false none = subst (AllByRecursion (λ o. reaped_by_order o ≡ None)) (sym none) tt
 
-  made_by : (s : NodeView) → While f b tree k s → Stays same has_none (has_of e s) → Made f b x k (has_of e (created_at b.tree x s))
+  made_by : (s : NodeView) → While TellsNone f b tree k s → Stays same has_none (has_of e s) → Made f b x k
+      (has_of e (created_at b.tree x s))
   made_by (Cell c) at h = record {
     real =
         cell_by c (eqb leaf c.here.me) at.here h.real
@@ -107,7 +109,7 @@ module _ (f : Frame) (b : Batch) (tree : IsTree b.tree) (x : Create) (k : ℕ) w
           let same = eqb-true leaf k is in
           let low = leaf_is_cell b.tree x.pos in
           let most = tree.cells_to in
-          let high = at.at.high in
+          let high = at.high in
           absurd (omega (arith, same, low, most, high))
       none_by false is = refl
 

@@ -1,4 +1,5 @@
 -- A world as it is opened keeps the record between rounds.
+use Rattle.seam_law_rounds.proofs.Prelude.{AllByRecursion}
 use Rattle.seam_law_rounds.proofs.Prelude.{◌≡◌, ℕ, zero, suc, ◌+◌, ◌<◌, ◌≤◌, false, ◌||◌, is_some, List, [], ◌++◌, map, find, length}
 use Rattle.seam_law_rounds.proofs.Prelude.{replicate, Option, None, Some, refl, sym, ap, ◌∙◌, subst, arith, option_map, slice_get}
 use Rattle.seam_law_rounds.proofs.Prelude.{slice_index_or, range_with_len, nat_cmp, append-nil, length-append, length-replicate}
@@ -10,6 +11,7 @@ use Rattle.seam_law_rounds.proofs.Prelude.{IsFrame, real_at, IsBetweenRounds, fi
 use Rattle.std.specs.FinMap as table
 use Rattle.std.proofs.lemmas.List.FromFn.{length-map-range_with_len}
 use Rattle.seam_machine.proofs.Quiet.{quiet_from}
+use Rattle.seam_node_steps.specs.Prelude.{BringsNone}
 
 -- what is true of each that is made for a range of numbers, and of what comes after
 each_range : {N : Type 0} (P : ℕ → N → Type 0) (make : ℕ → N) (a n : ℕ) (ys : List N) →
@@ -67,11 +69,11 @@ module _ (defs : List TypeDef) (settings : Settings) (frame : IsFrame (first_fra
     node = record {
       me_in = low;
       bases = bases;
-      tree = frame.tree;
+      cells = frame.tree.cells_to;
       nexts = λ e n at. absurd (none_there e n at);
       keys = λ e r at. absurd (none_there e r at);
     };
-    at = record { low = low; here = refl; tree = first_tree f };
+    at = record { low = low; here = refl; tree = first_tree f; number = refl };
     peers = refl;
     idle = ap (λ es. is_some (option_map number_of (find real_is_ready es)) || false) entries_empty;
     new = λ e. no_slots _ _ _ (table.get-empty nat_cmp e) (table.get-empty nat_cmp e) (table.get-empty nat_cmp e);
@@ -80,7 +82,7 @@ module _ (defs : List TypeDef) (settings : Settings) (frame : IsFrame (first_fra
   base_open : (k : ℕ) → cell_count ≤ k → IsOpen k (empty_base defs settings k)
   base_open k high = record {
     node = record { bases = bases; cells = omega arith; routes = λ e r at. absurd (none_there e r at) };
-    at = record { high = high; here = refl; cells = refl };
+    at = record { high = high; here = refl; cells = refl; orders = tt };
     peers = refl;
     idle =
         ap (λ es. is_some (find part_is_ready es) || is_some (find client_is_ready es)) entries_empty;
@@ -128,6 +130,7 @@ module _ (defs : List TypeDef) (settings : Settings) (frame : IsFrame (first_fra
     nodes = record {
       sound = record { square = square; peers = peers; states = λ k s at. (each_node k s at).node };
       nodes = λ k s at. (each_node k s at).at;
+      letters = λ a k. subst (AllByRecursion BringsNone) (sym (no_link many many a k)) tt;
     };
     many = many_is;
     quiet = quiet_from node_has_work w (no_link many many) (λ k s at. (each_node k s at).idle);

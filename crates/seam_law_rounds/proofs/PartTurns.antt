@@ -84,10 +84,10 @@ module _ (f : Frame) (w : World) (b : Batch) (may : MayBeLoaded f w b) (e home :
 
   orders_there : (k : ℕ) (n : NodeView) → slice_get w.nodes k ≡ Some n → cell_count ≤ k →
       (has_of e (node_loaded b n)).base.orders ≡ orders_of e (items_to k b.orders)
-  orders_there = node_orders f w b may.begin.between may.begin.fits.tree e
+  orders_there = node_orders f w b may.begin.between may.begin.fits.tree may.begin.fits.unmoved e
 
   orders_none : (k : ℕ) (n : NodeView) → slice_get w.nodes k ≡ Some n → k < cell_count → (has_of e (node_loaded b n)).base.orders ≡ []
-  orders_none = node_none f w b may.begin.between may.begin.fits.tree e
+  orders_none = node_none f w b may.begin.between may.begin.fits.tree may.begin.fits.unmoved e
 
   module _ (s : ℕ) where
     abbrev kept_in : List Order → List (ℕ × CallData)

@@ -12,10 +12,11 @@ use Rattle.seam_law_calls.proofs.CellDeeds as deed
 use Rattle.seam_law_calls.proofs.CellDeeds.{CellDeeds, cell_deeds, not_handed}
 use Rattle.seam_law_calls.proofs.BaseDeeds.{RouteAfter, same_route, newer_of, base_route}
 use Rattle.seam_law_calls.proofs.BaseSilent.{base_silent}
+use Rattle.seam_node_steps.specs.Prelude.{Boundaries}
 
 -- eyes that see hand-overs and routes
 abbrev pub road_of : Msg → Option Msg
-road_of (Hand r) = Some (Hand r)
+road_of (Hand r bs) = Some (Hand r bs)
 road_of (Current e j g) = Some (Current e j g)
 road_of _ = None
 
@@ -35,27 +36,31 @@ not_both false h k = cc
 module _ (f : Frame) (e k : ℕ) (s : Has) (i : Option Msg) (t : Has) (sent : List (ℕ × Msg)) where
   -- the real stays or is nowhere here; it comes; or it goes
   pub data Roads : Type 0 where
-    plain : ((r : RealView) → i ≡ Some (Hand r) → ⊥) → generation_in t ≡ generation_in s → t.cell.slot.next ≡ s.cell.slot.next
+    plain : ((r : RealView) (bs : Option Boundaries) → i ≡ Some (Hand r bs) → ⊥) → generation_in t ≡ generation_in s → t.cell.slot.next
+        ≡ s.cell.slot.next
         → IsSilent road_of sent → Roads
-    arrives : (r : RealView) → i ≡ Some (Hand r) → k < cell_count → real_in s ≡ None → real_in t ≡ Some r → t.cell.slot.next ≡ None
+    arrives : (r : RealView) (bs : Option Boundaries) → i ≡ Some (Hand r bs) → k < cell_count → real_in s ≡ None → real_in t ≡ Some r →
+        t.cell.slot.next ≡ None
         → sent ≡ currents (here_at f k) r → Roads
-    departs : (r q : RealView) (j : ℕ) (first : List (ℕ × Msg)) → ((x : RealView) → i ≡ Some (Hand x) → ⊥) → real_in s ≡ Some r
+    departs : (r q : RealView) (j : ℕ) (first : List (ℕ × Msg)) → ((x : RealView) (bs : Option Boundaries) → i ≡ Some (Hand x bs) → ⊥) →
+        real_in s ≡ Some r
         → real_in t ≡ None → q.generation ≡ r.generation + 1 → t.cell.slot.next ≡ Some (record { cell = j; generation = q.generation })
-        → IsSilent road_of first → sent ≡ first ++ (j, Hand q) ∷ [] → Roads
+        → IsSilent road_of first → sent ≡ first ++ (j, Hand q None) ∷ [] → Roads
 
-  no_hand : i ≡ None → (r : RealView) → i ≡ Some (Hand r) → ⊥
-  no_hand n r is = let z = sym n ∙ is in cc
+  no_hand : i ≡ None → (r : RealView) (bs : Option Boundaries) → i ≡ Some (Hand r bs) → ⊥
+  no_hand n r bs is = let z = sym n ∙ is in cc
 
-  other : (m : Msg) → i ≡ Some m → ((r : RealView) → m ≡ Hand r → ⊥) → (r : RealView) → i ≡ Some (Hand r) → ⊥
-  other m at n r is = n r (let z = sym at ∙ is in cc)
+  other : (m : Msg) → i ≡ Some m → ((r : RealView) (bs : Option Boundaries) → m ≡ Hand r bs → ⊥) → (r : RealView)
+      (bs : Option Boundaries) → i ≡ Some (Hand r bs) → ⊥
+  other m at n r bs is = n r bs (let z = sym at ∙ is in cc)
 
   silent_of : (l : List (ℕ × Msg)) → sent ≡ l → IsSilent road_of l → IsSilent road_of sent
   silent_of l is h = subst (IsSilent road_of) (sym is) h
 
   acts_hand : (u : AtCell) (r q : RealView) (changed : Bool) → Acts (here_at f k) e s.cell i r u q changed →
-      (x : RealView) → i ≡ Some (Hand x) → ⊥
+      (x : RealView) (bs : Option Boundaries) → i ≡ Some (Hand x bs) → ⊥
   acts_hand u r q changed (surveys n a b c) = no_hand a
-  acts_hand u r q changed (calls c a b d g) = other _ a (λ x z. cc)
+  acts_hand u r q changed (calls c a b d g) = other _ a (λ x bs z. cc)
   acts_hand u r q changed (readies o c a b d g) = no_hand a
 
   acts_same : (u : AtCell) (r q : RealView) (changed : Bool) → Acts (here_at f k) e s.cell i r u q changed → q.generation ≡ r.generation
@@ -76,10 +81,11 @@ module _ (f : Frame) (e k : ℕ) (s : Has) (i : Option Msg) (t : Has) (sent : Li
       t.cell.slot.next ≡ s.cell.slot.next
   next_of x u d is = ap (λ a. a.slot.next) d.state ∙ is
 
-  module _ (room : (r : RealView) → i ≡ Some (Hand r) → FindsRoom f k s r) (spared : i ≡ Some (Reap e) → ⊥) where
+  module _ (room : (r : RealView) (bs : Option Boundaries) → i ≡ Some (Hand r bs) → FindsRoom f k s r)
+      (spared : i ≡ Some (Reap e) → ⊥) where
     cell_roads : k < cell_count → (tree : Division) → IsTreeOf f tree → CellDeeds (here_at f k) tree e s.cell i t.cell sent → Roads
     cell_roads low tree of (deed.idles a z) =
-        plain (λ r is. not_stray f k s r (room r is) tree of (not_handed a.why r is)) (ap (option_map generation_of) a.real) a.next
+        plain (λ r bs is. not_stray f k s r (room r bs is) tree of (not_handed a.why r bs is)) (ap (option_map generation_of) a.real) a.next
         (silent_of [] z tt)
     cell_roads low tree of (deed.stays u r q changed has own acts at d) =
         plain (acts_hand u r q changed acts) (turned _ u r _ d has refl (acts_same u r q changed acts)) (next_of _ u d refl)
@@ -92,10 +98,11 @@ module _ (f : Frame) (e k : ℕ) (s : Has) (i : Option Msg) (t : Has) (sent : Li
         (ap (λ a. a.slot.next) d.state)
         (ghosts_silent road_of no_ghosts (here_at f k) q j haunts changed) d.sends
     cell_roads low tree of (deed.holds c r n own has mine may lt d) =
-        plain (other _ n (λ x z. cc)) (turned _ s.cell r _ d has refl refl) (next_of _ s.cell d refl) (silent_of [] d.sends tt)
-    cell_roads low tree of (deed.passes c p n own has at d) = plain (other _ n (λ x z. cc)) (same _ s.cell d refl) (next_of _ s.cell d refl)
+        plain (other _ n (λ x bs z. cc)) (turned _ s.cell r _ d has refl refl) (next_of _ s.cell d refl) (silent_of [] d.sends tt)
+    cell_roads low tree of (deed.passes c p n own has at d) = plain (other _ n (λ x bs z. cc)) (same _ s.cell d refl)
+        (next_of _ s.cell d refl)
         (silent_of _ d.sends (refl, tt))
-    cell_roads low tree of (deed.lands r n own has may d) = arrives r n low has (ap (λ a. a.slot.real) d.state) (ap
+    cell_roads low tree of (deed.lands r bs n own has may d) = arrives r bs n low has (ap (λ a. a.slot.real) d.state) (ap
         (λ a. a.slot.next) d.state) d.sends
     cell_roads low tree of (deed.reaped r n has own may d) = absurd (spared n)
     cell_roads low tree of (deed.looks n r w known is at has own v small d) =
@@ -104,8 +111,8 @@ module _ (f : Frame) (e k : ℕ) (s : Has) (i : Option Msg) (t : Has) (sent : Li
         (next_of (looks_with (here_at f k) s.cell.slot r w known (shown_of (here_at f k) r w known)) _ d refl)
         (silent_of _ d.sends (numbered_silent road_of (base_of (here_at f k) r.entity) r.entity w.sent _ (λ u. refl)))
 
-    hand_at_base : cell_count ≤ k → (r : RealView) → i ≡ Some (Hand r) → ⊥
-    hand_at_base high r is = let low = (room r is).cell in omega (arith, low, high)
+    hand_at_base : cell_count ≤ k → (r : RealView) (bs : Option Boundaries) → i ≡ Some (Hand r bs) → ⊥
+    hand_at_base high r bs is = let low = (room r bs is).cell in omega (arith, low, high)
 
     base_roads : cell_count ≤ k → t.cell ≡ s.cell → (cells : ℕ) → BaseMoves (here_at f k) cells e s.base i t.base sent → Roads
     base_roads high cell cells m =

@@ -13,11 +13,12 @@ use Rattle.seam_law_flow.specs.Prelude.{Has}
 use Rattle.seam_law_flow.proofs.NewestLemmas.{newest_stays, newest_rises, newest_rests}
 use Rattle.seam_law_calls.proofs.Sparing.{items_all}
 use Rattle.seam_law_rounds.proofs.RoadMoves.{road_of, generation_of, IsGoodRoute, Roads, plain, arrives, departs, roads, Reroutes, reroutes}
+use Rattle.seam_node_steps.specs.Prelude.{Boundaries}
 
 -- ---- letters that bring no route and carry no real
 
-no_carried : (i : Option Msg) → ((r : RealView) → i ≡ Some (Hand r) → ⊥) → carried_in real_of i ≡ None
-no_carried (Some (Hand r)) n = absurd (n r refl)
+no_carried : (i : Option Msg) → ((r : RealView) (bs : Option Boundaries) → i ≡ Some (Hand r bs) → ⊥) → carried_in real_of i ≡ None
+no_carried (Some (Hand r bs)) n = absurd (n r bs refl)
 no_carried _ n = refl
 
 record Neither (m : Msg) : Type 0 where
@@ -26,7 +27,7 @@ record Neither (m : Msg) : Type 0 where
   good : IsGoodRoute m
 
 neither : (m : Msg) → road_of m ≡ None → Neither m
-neither (Hand r) h = cc
+neither (Hand r bs) h = cc
 neither (Current e j g) h = cc
 neither _ h = record { real = refl; route = refl; good = λ x j g is. absurd (let z = is in cc) }
 
@@ -65,7 +66,7 @@ current_good k x n low few y j m is =
     let b : n ≡ m = let z = is in cc in
     (omega (arith, low, a), omega (arith, few, b))
 
-hand_good : (r : RealView) → IsGoodRoute (Hand r)
+hand_good : (r : RealView) → IsGoodRoute (Hand r None)
 hand_good r x j m is = absurd (let z = is in cc)
 
 module _ (f : Frame) (e : ℕ) where
@@ -94,12 +95,13 @@ module _ (f : Frame) (e : ℕ) where
 
   -- what is known of the letter that comes
   abbrev pub Came : Option Msg → Type 0
-  Came i = ((r : RealView) → i ≡ Some (Hand r) → real_burden r < limit) × (i ≡ Some (Reap e) → ⊥)
+  Came i = ((r : RealView) (bs : Option Boundaries) → i ≡ Some (Hand r bs) → real_burden r < limit) × (i ≡ Some (Reap e) → ⊥)
 
   -- ---- a step
 
   module _ (w v : World) (g : Goes (λ k s i t out. MovesTo f e k s i t out × Came i) (entity_flow e w) (entity_flow e v))
-      (room : (r : RealView) → comes g.input ≡ Some (Hand r) → FindsRoom f g.k ((entity_flow e w).slot g.k) r) (h : IsRouted w) where
+      (room : (r : RealView) (bs : Option Boundaries) → comes g.input ≡ Some (Hand r bs) → FindsRoom f g.k ((entity_flow e w).slot g.k) r)
+      (h : IsRouted w) where
     abbrev pub before : Flow Had Msg
     before = entity_flow e w
 
@@ -205,9 +207,10 @@ module _ (f : Frame) (e : ℕ) where
     key_by (On x y) a b is n = n
     key_by (In x) a b is n = cc
 
-    arrives_by : (r : RealView) → comes g.input ≡ Some (Hand r) → g.k < cell_count → real_in (after.slot g.k) ≡ Some r →
+    arrives_by : (r : RealView) (bs : Option Boundaries) → comes g.input ≡ Some (Hand r bs) → g.k < cell_count → real_in (after.slot g.k)
+        ≡ Some r →
         sent ≡ currents (here_at f g.k) r → Grows h.real.generation (In g.k)
-    arrives_by r is low at z =
+    arrives_by r bs is low at z =
         let carried = ap (carried_in real_of) is in
         let from = sole_came real_in real_of g h.place h.real r h.one carried in
         let no_hands : IsSilent real_of sent =
@@ -219,7 +222,7 @@ module _ (f : Frame) (e : ℕ) where
             place = In g.k;
             real = r;
             one = sole_goes real_in real_of Any g h.place h.real h.one (lands r r carried at (inl refl) none);
-            good = good_then (subst (AllByRecursion (λ p. IsGoodRoute p.1)) (sym z) (told_good g.k r (g.moves.1.0 r is) low
+            good = good_then (subst (AllByRecursion (λ p. IsGoodRoute p.1)) (sym z) (told_good g.k r (g.moves.1.0 r bs is) low
                 (base_numbers (here_at f g.k))));
             there = there_then;
             known = λ b high below.
@@ -243,18 +246,20 @@ module _ (f : Frame) (e : ℕ) where
     at_by (In x) b is n = let same : x ≡ g.k = let z = is in cc in subst (Newest route_entry sent_route before b h.real.generation) same n
     at_by (On x y) b is n = cc
 
-    departs_by : (r q : RealView) (j : ℕ) (first : List (ℕ × Msg)) → ((x : RealView) → comes g.input ≡ Some (Hand x) → ⊥) →
+    departs_by : (r q : RealView) (j : ℕ) (first : List (ℕ × Msg)) →
+        ((x : RealView) (bs : Option Boundaries) → comes g.input ≡ Some (Hand x bs) → ⊥) →
         real_in (before.slot g.k) ≡ Some r → real_in (after.slot g.k) ≡ None → q.generation ≡ r.generation + 1 → IsSilent road_of first →
-        sent ≡ first ++ (j, Hand q) ∷ [] → Grows (h.real.generation + 1) (On g.k j)
+        sent ≡ first ++ (j, Hand q None) ∷ [] → Grows (h.real.generation + 1) (On g.k j)
     departs_by r q j first no_hand was gone gen silent z =
         let at = sole_here real_in real_of before h.place h.real r g.k h.one was in
         let one : SendsOne real_of g.out j q = record {
           here =
               ap (letters_of real_of) (g.moves.0.items j ∙ ap (items_to j) z)
-              ∙ (sees_after_silent real_of j first ((j, Hand q) ∷ []) (no_reals first silent) ∙ sees_one_here real_of j (Hand q));
+              ∙ (sees_after_silent real_of j first ((j, Hand q None) ∷ []) (no_reals first silent) ∙ sees_one_here real_of j (Hand q None));
           others = λ x n.
               ap (letters_of real_of) (g.moves.0.items x ∙ ap (items_to x) z)
-              ∙ (sees_after_silent real_of x first ((j, Hand q) ∷ []) (no_reals first silent) ∙ sees_one_there real_of j x (Hand q) n);
+              ∙ (sees_after_silent real_of x first ((j, Hand q None) ∷ []) (no_reals first silent) ∙ sees_one_there real_of j x
+              (Hand q None) n);
         } in
         let rise : h.real.generation < q.generation = let same = ap generation_of at.1 in omega (arith, gen, same) in (
           record {
@@ -263,14 +268,14 @@ module _ (f : Frame) (e : ℕ) where
             one = sole_goes real_in real_of Any g h.place h.real h.one (leaves r q j was gone (inr tt) (no_carried
                 (comes g.input) no_hand) one);
             good = good_then (subst (AllByRecursion (λ p. IsGoodRoute p.1)) (sym z)
-                (all_append (λ p. IsGoodRoute p.1) first ((j, Hand q) ∷ []) (all_good first silent) (hand_good q, tt)));
+                (all_append (λ p. IsGoodRoute p.1) first ((j, Hand q None) ∷ []) (all_good first silent) (hand_good q, tt)));
             there = there_then;
             known = λ b high low. (
               h.real.generation,
               g.k,
               rise,
-              stays_new b high low h.real.generation g.k (at_by h.place b at.0 (h.known b high low)) (first ++ (j, Hand q) ∷ [])
-                  (all_append (λ p. sent_route p.1 ≡ None) first ((j, Hand q) ∷ []) (no_routes first silent) (refl, tt)) z,
+              stays_new b high low h.real.generation g.k (at_by h.place b at.0 (h.known b high low)) (first ++ (j, Hand q None) ∷ [])
+                  (all_append (λ p. sent_route p.1 ≡ None) first ((j, Hand q None) ∷ []) (no_routes first silent) (refl, tt)) z,
             );
           },
           gen ∙ ap (λ x. generation_of x + 1) at.1,
@@ -280,18 +285,18 @@ module _ (f : Frame) (e : ℕ) where
     -- the generation after the step: it rises by one where the real is handed over
     abbrev pub grown : Roads f e g.k (before.slot g.k) (comes g.input) (after.slot g.k) sent → ℕ
     grown (plain no_hand gen next silent) = h.real.generation
-    grown (arrives r is low free at next z) = h.real.generation
+    grown (arrives r bs is low free at next z) = h.real.generation
     grown (departs r q j first no_hand was gone gen next silent z) = h.real.generation + 1
 
     abbrev pub place_then : Roads f e g.k (before.slot g.k) (comes g.input) (after.slot g.k) sent → TokenPlace
     place_then (plain no_hand gen next silent) = h.place
-    place_then (arrives r is low free at next z) = In g.k
+    place_then (arrives r bs is low free at next z) = In g.k
     place_then (departs r q j first no_hand was gone gen next silent z) = On g.k j
 
     pub routed_by : (x : Roads f e g.k (before.slot g.k) (comes g.input) (after.slot g.k) sent) → Grows (grown x) (place_then x)
     routed_by (plain no_hand gen next silent) =
         plain_by (real_in (before.slot g.k)) (real_in (after.slot g.k)) refl refl gen (no_carried (comes g.input) no_hand) silent
-    routed_by (arrives r is low free at next z) = arrives_by r is low at z
+    routed_by (arrives r bs is low free at next z) = arrives_by r bs is low at z
     routed_by (departs r q j first no_hand was gone gen next silent z) = departs_by r q j first no_hand was gone gen silent z
 
     pub routed_goes : IsRouted v

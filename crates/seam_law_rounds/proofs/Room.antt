@@ -243,9 +243,10 @@ module _ (f : Frame) (w : World) (b : Batch) (begin : MayBegin f w b) (e home : 
   orders_weigh_at : (k : ℕ) (s : NodeView) → slice_get w.nodes k ≡ Some s →
       total order_burden (has_of e (node_loaded b s)).base.orders ≤ 3 * length (items_to k b.orders)
   orders_weigh_at k s at = elim (cases_lt k cell_count) [
-    | inl low ↦ let none = ap (total order_burden) (node_none f w b begin.between begin.fits.tree e k s at low) in omega (arith, none)
+    | inl low ↦ let none = ap (total order_burden) (node_none f w b begin.between begin.fits.tree begin.fits.unmoved e k s at low) in omega
+        (arith, none)
     | inr high ↦
-        let is = ap (total order_burden) (node_orders f w b begin.between begin.fits.tree e k s at high) in
+        let is = ap (total order_burden) (node_orders f w b begin.between begin.fits.tree begin.fits.unmoved e k s at high) in
         let few = orders_weigh e (items_to k b.orders) in
         omega (arith, is, few)
   ]

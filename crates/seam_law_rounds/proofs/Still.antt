@@ -96,17 +96,17 @@ module _ (f : Frame) (e : ℕ) (had : ℕ → Option PartView) (idle : (k : ℕ)
 
 none_reaps : (os : List Order) → total order_reaps os ≡ 0 → AllByRecursion (λ o. reaped_by_order o ≡ None) os
 none_reaps [] h = tt
+none_reaps (order.Reap x ∷ os) h = absurd (omega (arith, h))
 none_reaps (order.Cell c ∷ os) h = (refl, none_reaps os (omega (arith, h)))
 none_reaps (order.Base c ∷ os) h = (refl, none_reaps os (omega (arith, h)))
 none_reaps (order.Tick ∷ os) h = (refl, none_reaps os (omega (arith, h)))
-none_reaps (order.Reap x ∷ os) h = absurd (omega (arith, h))
+none_reaps (order.Bounds x ∷ os) h = (refl, none_reaps os (omega (arith, h)))
 
 pub none_calls : (e : ℕ) (os : List Order) → AllByRecursion (IsCalmOrder e) os → letters_of base_call_of os ≡ []
 none_calls e [] h = refl
-none_calls e (order.Cell c ∷ os) h = absurd h.0
-none_calls e (order.Base c ∷ os) h = absurd h.0
 none_calls e (order.Tick ∷ os) h = none_calls e os h.1
 none_calls e (order.Reap x ∷ os) h = none_calls e os h.1
+none_calls e (_ ∷ os) h = absurd h.0
 
 module _ (f : Frame) (u : World) (between : IsBetweenRounds f u) (e ty : ℕ) (h : HasSettledPart f e ty u) (turn : NodeView → NodeView)
     (frame : IsInFrame f (with_nodes u turn)) (given : (k : ℕ) (s : NodeView) → slice_get u.nodes k ≡ Some s → Given e 0 s (turn s))

@@ -206,9 +206,10 @@ module _ (f : Frame) (w : World) (b : Batch) (begin : MayBegin f w b) (had : Has
     looks_by k s at = (
       ap (λ p. p.1) (loaded_aside e (aside e s) b s refl) ∙ idle_looks e s (quiet_tasks node_has_work w begin.between.quiet k s at),
       elim (cases_lt k cell_count) [
-        | inl low ↦ let none = ap ticks_of (node_none f w b begin.between begin.fits.tree e k s at low) in omega (arith, none)
+        | inl low ↦ let none = ap ticks_of (node_none f w b begin.between begin.fits.tree begin.fits.unmoved e k s at low) in omega
+            (arith, none)
         | inr high ↦
-            let is = ap ticks_of (node_orders f w b begin.between begin.fits.tree e k s at high) in
+            let is = ap ticks_of (node_orders f w b begin.between begin.fits.tree begin.fits.unmoved e k s at high) in
             let few = few_ticks e (items_to k b.orders) in
             omega (arith, is, few)
       ],
@@ -230,6 +231,7 @@ no_ticks (order.Cell c ∷ os) h = let more = no_ticks os h.1 in omega (arith, m
 no_ticks (order.Base c ∷ os) h = let more = no_ticks os h.1 in omega (arith, more)
 no_ticks (order.Tick ∷ os) h = absurd (let z = h.0 in cc)
 no_ticks (order.Reap x ∷ os) h = let more = no_ticks os h.1 in omega (arith, more)
+no_ticks (order.Bounds x ∷ os) h = let more = no_ticks os h.1 in omega (arith, more)
 
 -- ---- a load that only gives orders
 

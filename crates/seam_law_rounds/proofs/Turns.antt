@@ -15,6 +15,7 @@ use Rattle.std.specs.FinMap as table
 use Rattle.seam_law_rounds.proofs.Framing.{node_begun, node_goes}
 use Rattle.seam_law_rounds.proofs.Staying.{made_orders}
 use Rattle.seam_law_rounds.proofs.Loaded.{no_items, after, no_mail, slot_is, Loaded, real_loaded}
+use Rattle.seam_node_steps.specs.Prelude.{TellsNone}
 
 -- ---- the calls fit
 
@@ -94,13 +95,14 @@ idle_orders e (Cell c) h = refl
 idle_orders e (Base n) h = ap (orders_of e) (no_items n.orders _ h)
 
 -- what a loaded node has of orders that concern the entity
-module _ (f : Frame) (w : World) (b : Batch) (between : IsBetweenRounds f w) (tree : IsTree b.tree) (e : ℕ) where
+module _ (f : Frame) (w : World) (b : Batch) (between : IsBetweenRounds f w) (tree : IsTree b.tree)
+    (unmoved : AllByRecursion (λ o. TellsNone o.1) b.orders) (e : ℕ) where
   pub node_orders : (k : ℕ) (s : NodeView) → slice_get w.nodes k ≡ Some s → cell_count ≤ k →
       (has_of e (node_loaded b s)).base.orders ≡ orders_of e (items_to k b.orders)
   node_orders k s at high =
       let q = between.nodes in
       let begun = node_begun f b tree k s (q.sound.states k s at) (q.nodes k s at) in
-      let goes = node_goes f b tree k s (q.sound.states k s at) (q.nodes k s at) in
+      let goes = node_goes f b tree k unmoved s (q.sound.states k s at) (q.nodes k s at) in
       let none = made_orders e b s ∙ idle_orders e s (quiet_tasks node_has_work w between.quiet k s at) in
       at_base_is (framed f b) e k (orders_of e (items_to k b.orders)) (node_loaded b s) goes.1 high
       (orders_given (framed f b) e k b.orders (cell_round b.tree (made b s)) begun.1 none high)
@@ -108,7 +110,7 @@ module _ (f : Frame) (w : World) (b : Batch) (between : IsBetweenRounds f w) (tr
   pub node_none : (k : ℕ) (s : NodeView) → slice_get w.nodes k ≡ Some s → k < cell_count → (has_of e (node_loaded b s)).base.orders ≡ []
   node_none k s at low =
       at_cell_none (framed f b) e k (node_loaded b s)
-      (node_goes f b tree k s (between.nodes.sound.states k s at) (between.nodes.nodes k s at)).1 low
+      (node_goes f b tree k unmoved s (between.nodes.sound.states k s at) (between.nodes.nodes k s at)).1 low
 
 module _ (f : Frame) (w : World) (b : Batch) (begin : MayBegin f w b) (e home : ℕ) (r : RealView)
     (here : real_at e (loaded w b) home ≡ Some r) where
@@ -132,14 +134,15 @@ module _ (f : Frame) (w : World) (b : Batch) (begin : MayBegin f w b) (e home : 
     there_by : (k : ℕ) (n : NodeView) → slice_get w.nodes k ≡ Some n → cell_count ≤ k → stored k ≡ calls_at b e s k
     there_by k n at high =
         stored_is k (Some n) at
-        ∙ ap (letters_of (cell_order_from s)) (node_orders f w b begin.between begin.fits.tree e k n at high)
+        ∙ ap (letters_of (cell_order_from s)) (node_orders f w b begin.between begin.fits.tree begin.fits.unmoved e k n at high)
 
     none_by : (k : ℕ) (o : Option NodeView) → slice_get w.nodes k ≡ o → calls_at b e s k ≡ [] → stored k ≡ []
     none_by k None at none = stored_is k None at
     none_by k (Some n) at none = elim (cases_lt k cell_count) [
       | inr high ↦ there_by k n at high ∙ none
       | inl low ↦
-          stored_is k (Some n) at ∙ ap (letters_of (cell_order_from s)) (node_none f w b begin.between begin.fits.tree e k n at low)
+          stored_is k (Some n) at ∙ ap (letters_of (cell_order_from s))
+          (node_none f w b begin.between begin.fits.tree begin.fits.unmoved e k n at low)
     ]
 
     -- ---- in turn

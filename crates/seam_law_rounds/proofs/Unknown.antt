@@ -8,6 +8,7 @@ use Rattle.seam_law_rounds.proofs.Prelude.{slot_at, letters_of, Frame, here_at, 
 use Rattle.seam_law_rounds.proofs.Prelude.{real_in, real_of, order_about, order_concerns, orders_of, times, IsTickOrder, IsTickTo}
 use Rattle.seam_law_rounds.proofs.Prelude.{IsUnknown, OnlyTicks, RunsTo, IsBetweenRounds, AreReapable, framed, each, node_loaded, MayBegin}
 use Rattle.seam_law_rounds.proofs.Prelude.{with_proxy, quiet_links, quiet_tasks, counted_none, none_counts, none_is_ready, unknown_leads}
+use Rattle.seam_node_steps.specs.Prelude.{TellsNone}
 use Rattle.seam_call.specs.declared.order.Order.TheVariants as order
 use Rattle.seam_law_rounds.proofs.Loading.{node_there}
 use Rattle.seam_law_rounds.proofs.Framing.{in_frame}
@@ -84,30 +85,33 @@ module _ (f : Frame) (w : World) (b : Batch) (begin : MayBegin f w b) where
     -- ---- its orders
 
     tick_by : (o : Order) (os : List Order) (d : Bool) → order_concerns e o ≡ d →
-        ((x : ℕ) → order_about o ≡ Some x → holders (loaded w b) x ≡ 1) → AllByRecursion IsTickOrder os →
-        AllByRecursion IsTickOrder (cond d (o ∷ os) os)
-    tick_by (order.Cell c) os true is known all = absurd (about c.entity (eqb-true c.entity e is) (known c.entity refl))
-    tick_by (order.Base c) os true is known all = absurd (about c.entity (eqb-true c.entity e is) (known c.entity refl))
-    tick_by order.Tick os true is known all = (tt, all)
-    tick_by (order.Reap x) os true is known all = absurd (about x (eqb-true x e is) (known x refl))
-    tick_by o os false is known all = all
+        ((x : ℕ) → order_about o ≡ Some x → holders (loaded w b) x ≡ 1) → TellsNone o →
+        AllByRecursion IsTickOrder os → AllByRecursion IsTickOrder (cond d (o ∷ os) os)
+    tick_by (order.Cell c) os true is known plain all = absurd (about c.entity (eqb-true c.entity e is) (known c.entity refl))
+    tick_by (order.Base c) os true is known plain all = absurd (about c.entity (eqb-true c.entity e is) (known c.entity refl))
+    tick_by order.Tick os true is known plain all = (tt, all)
+    tick_by (order.Reap x) os true is known plain all = absurd (about x (eqb-true x e is) (known x refl))
+    tick_by (order.Bounds x) os true is known plain all = cc
+    tick_by o os false is known plain all = all
 
     item_by : (o : ℕ × Order) (os : List Order) (d : Bool) → ((x : ℕ) → order_about o.1 ≡ Some x → holders (loaded w b) x ≡ 1) →
-        AllByRecursion IsTickOrder (orders_of e os) → AllByRecursion IsTickOrder (orders_of e (cond d (o.1 ∷ os) os))
-    item_by o os true known all = tick_by o.1 (orders_of e os) (order_concerns e o.1) refl known all
-    item_by o os false known all = all
+        TellsNone o.1 → AllByRecursion IsTickOrder (orders_of e os) → AllByRecursion IsTickOrder (orders_of e (cond d (o.1 ∷ os) os))
+    item_by o os true known plain all = tick_by o.1 (orders_of e os) (order_concerns e o.1) refl known plain all
+    item_by o os false known plain all = all
 
     ticks_only : (k : ℕ) (os : List (ℕ × Order)) → AllByRecursion (λ o. (x : ℕ) → order_about o.1 ≡ Some x → holders (loaded w b) x ≡ 1) os
-        → AllByRecursion IsTickOrder (orders_of e (items_to k os))
-    ticks_only k [] h = tt
-    ticks_only k (o ∷ os) h = item_by o (items_to k os) (eqb o.0 k) h.0 (ticks_only k os h.1)
+        → AllByRecursion (λ o. TellsNone o.1) os → AllByRecursion IsTickOrder (orders_of e (items_to k os))
+    ticks_only k [] h plain = tt
+    ticks_only k (o ∷ os) h plain = item_by o (items_to k os) (eqb o.0 k) h.0 plain.0 (ticks_only k os h.1 plain.1)
 
     orders_at : (k : ℕ) (s : NodeView) → slice_get w.nodes k ≡ Some s →
         AllByRecursion IsTickOrder (has_of e (node_loaded b s)).base.orders
     orders_at k s at = elim (cases_lt k cell_count) [
-      | inl low ↦ subst (AllByRecursion IsTickOrder) (sym (node_none f w b begin.between begin.fits.tree e k s at low)) tt
-      | inr high ↦ subst (AllByRecursion IsTickOrder) (sym (node_orders f w b begin.between begin.fits.tree e k s at high))
-          (ticks_only k b.orders begin.fits.known)
+      | inl low ↦ subst (AllByRecursion IsTickOrder) (sym (node_none f w b begin.between begin.fits.tree begin.fits.unmoved e k s at low))
+          tt
+      | inr high ↦ subst (AllByRecursion IsTickOrder) (sym (node_orders f w b begin.between begin.fits.tree begin.fits.unmoved e k s at
+          high))
+          (ticks_only k b.orders begin.fits.known begin.fits.unmoved)
     ]
 
     -- ---- its part, which the batch neither makes nor gives a client
@@ -147,10 +151,9 @@ module _ (f : Frame) (w : World) (b : Batch) (begin : MayBegin f w b) where
 
 no_reaps : (e : ℕ) (os : List Order) → AllByRecursion (IsCalmOrder e) os → total order_reaps os ≡ 0 → AllByRecursion IsTickOrder os
 no_reaps e [] h none = tt
-no_reaps e (order.Cell c ∷ os) h none = absurd h.0
-no_reaps e (order.Base c ∷ os) h none = absurd h.0
 no_reaps e (order.Tick ∷ os) h none = (tt, no_reaps e os h.1 (omega (arith, none)))
 no_reaps e (order.Reap x ∷ os) h none = absurd (omega (arith, none))
+no_reaps e (_ ∷ os) h none = absurd h.0
 
 module _ (f : Frame) (u : World) (between : IsBetweenRounds f u) (turn : NodeView → NodeView) (frame : IsInFrame f (with_nodes u turn))
     (e : ℕ) (nowhere : Nowhere e u) (given : (k : ℕ) (s : NodeView) → slice_get u.nodes k ≡ Some s → Given e 0 s (turn s))
@@ -196,7 +199,7 @@ module _ (f : Frame) (u : World) (between : IsBetweenRounds f u) (es : List ℕ)
 module _ (f : Frame) (u : World) (between : IsBetweenRounds f u) where
   pub unknown_look : (e : ℕ) → Nowhere e u → IsUnknown f e (look_loaded u)
   unknown_look e n =
-      unknown_turned f u between (ordered_at looking.tick) (look_framed f u between.nodes looking.tick) e n
+      unknown_turned f u between (ordered_at looking.tick) (look_framed f u between.nodes looking.tick refl) e n
       (λ k s at. look_given e f k cell_count s (quiet_tasks node_has_work u between.quiet k s at)) (parts_ordered e (looking.tick ∷ []))
 
 -- ---- over a list of events, of an entity without a holder

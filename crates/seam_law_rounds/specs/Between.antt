@@ -3,7 +3,7 @@ use Rattle.std.specs.Prelude.{◌≡◌, ℕ, ◌+◌, ◌^◌, ◌<◌, ◌≤�
 use Rattle.std.specs.List.{AllByRecursion, IsDistinct}
 use Rattle.std.specs.FinMap as table
 use Rattle.seam_node_steps.specs.Prelude.{cells_of, IsTree, IsQuiet, items_to, Call as CallData, Create, Order, Batch, order_or, RealView}
-use Rattle.seam_node_steps.specs.Prelude.{limit, is_inside, cell_count, fits_cell_part, holders, World, node_has_work, loaded}
+use Rattle.seam_node_steps.specs.Prelude.{limit, is_inside, cell_count, fits_cell_part, holders, TellsNone, World, node_has_work, loaded}
 use Rattle.seam_law_flow.specs.Prelude.{letters_of, number_from}
 use Rattle.seam_law_calls.specs.Prelude.{Frame, here_at, IsInFrame, has_none, order_about, orders_of, entity_flow, RealFits}
 use Rattle.seam_law_calls.specs.Prelude.{reaped_by_order, IsFrame, from_sender, cell_order_from, real_at}
@@ -134,6 +134,8 @@ pub record IsFitting (f : Frame) (w : World) (b : Batch) : Type 0 where
   pub ends_once : IsDistinct eqb b.destroys
   -- none of its orders is a reap: these are loaded after the round's calls
   pub spares : AllByRecursion (λ o. reaped_by_order o.1 ≡ None) b.orders
+  -- and none tells boundaries
+  pub unmoved : AllByRecursion (λ o. TellsNone o.1) b.orders
   -- each of its orders is about an entity that is there once it is loaded
   pub known : AllByRecursion (λ o. (e : ℕ) → order_about o.1 ≡ Some e → holders (loaded w b) e ≡ 1) b.orders
   -- and its calls fit those entities

@@ -84,9 +84,10 @@ module _ (f : Frame) (w : World) (b : Batch) (may : MayBeLoaded f w b) (tickless
       AllByRecursion (λ o. is_tick_order o ≡ false) (has_of e (node_loaded b s)).base.orders
   orders_by k s at = elim (cases_lt k cell_count) [
     | inl low ↦ subst (AllByRecursion (λ o. is_tick_order o ≡ false))
-        (sym (node_none f w b may.begin.between may.begin.fits.tree e k s at low)) tt
+        (sym (node_none f w b may.begin.between may.begin.fits.tree may.begin.fits.unmoved e k s at low)) tt
     | inr high ↦
-        subst (AllByRecursion (λ o. is_tick_order o ≡ false)) (sym (node_orders f w b may.begin.between may.begin.fits.tree e k s at high))
+        subst (AllByRecursion (λ o. is_tick_order o ≡ false)) (sym (node_orders f w b may.begin.between may.begin.fits.tree
+        may.begin.fits.unmoved e k s at high))
         (orders_none e (items_to k b.orders) (items_none k b.orders tickless))
   ]
 

@@ -16,6 +16,7 @@ use Rattle.seam_defs.specs.declared.flags.Part.TheVariants as part
 use Rattle.seam_entity.specs.declared.message.Msg.TheVariants.{Call}
 use Rattle.seam_law_rounds.specs.Between as core
 use Rattle.seam_law_book.proofs.Numbering.{cell_calls, base_calls}
+use Rattle.seam_node_steps.specs.Prelude.{Boundaries}
 
 -- ---- the hand-overs of an entity
 
@@ -32,14 +33,14 @@ module _ (P : RealView → Type 0) (e : ℕ) where
   this_letter true m ls is all = all.0
   this_letter false m ls is all = absurd (false≢true is)
 
-  pub in_letters : (ms : List Msg) → AllByRecursion IsSo (letters_of (mine e) ms) → (r : RealView) → Contains ms (Hand r) →
-      r.entity ≡ e → P r
-  in_letters [] all r (k, within, at) is = absurd (omega arith)
-  in_letters (m ∷ ms) all r has is = elim (contains_cases m (Hand r) ms has) [
+  pub in_letters : (ms : List Msg) → AllByRecursion IsSo (letters_of (mine e) ms) → (r : RealView) (bs : Option Boundaries) →
+      Contains ms (Hand r bs) → r.entity ≡ e → P r
+  in_letters [] all r bs (k, within, at) is = absurd (omega arith)
+  in_letters (m ∷ ms) all r bs has is = elim (contains_cases m (Hand r bs) ms has) [
     | inl same ↦
-        this_letter (r.entity == e) (Hand r) (letters_of (mine e) ms) (eq-eqb r.entity e is)
+        this_letter (r.entity == e) (Hand r bs) (letters_of (mine e) ms) (eq-eqb r.entity e is)
         (subst (λ x. AllByRecursion IsSo (letters_of (mine e) (x ∷ ms))) same all) r refl
-    | inr later ↦ in_letters ms (later_letters (mine e m) (letters_of (mine e) ms) all) r later is
+    | inr later ↦ in_letters ms (later_letters (mine e m) (letters_of (mine e) ms) all) r bs later is
   ]
 
 -- ---- the one desk, where a real carries it
@@ -80,7 +81,7 @@ module _ (s : ℕ) (d : Desk CallData) where
   carried_desks [] all = tt
   carried_desks (Call c ∷ ms) all =
       ((λ q is. absurd (let z = is in cc)), carried_desks ms (without_call (is_from s c) c (letters_of (cell_mail s) ms) all))
-  carried_desks (Hand r ∷ ms) all = (
+  carried_desks (Hand r bs ∷ ms) all = (
     (λ q is.
         let same : r ≡ q = (let z = is in cc) in
         ap (λ (x : RealView). desk_for s x.orders x.done) (sym same) ∙ all.0),
@@ -170,7 +171,7 @@ module _ (h : Header) (s : Standing) (tree : Division) (clients : ℕ → Client
 
 -- no real is handed over
 pub none_handed : (told : Bool) (home : ℕ) (r : RealView) (k : ℕ) (m : Msg) → IsCalmTo told home r k m → real_of m ≡ None
-none_handed told home r k (Hand q) calm = absurd calm
+none_handed told home r k (Hand q bs) calm = absurd calm
 none_handed told home r k _ calm = refl
 
 -- and each part is what it was before, but for its witness or its client

@@ -1,6 +1,7 @@
 -- In turn: at every step of a round each part has executed, of the calls that were accepted for it from each sender, the first ones.
-use Rattle.std.specs.Prelude.{◌≡◌, ℕ, List, ◌++◌, Contains, slice_get, Some}
-use Rattle.seam_node_steps.specs.Prelude.{Event, Part, Call, Create, RealView, PartView, Hand, loaded, reaps_loaded, look_loaded, World}
+use Rattle.std.specs.Prelude.{◌≡◌, ℕ, List, ◌++◌, Contains, slice_get, Option, Some}
+use Rattle.seam_node_steps.specs.Prelude.{Event, Part, Call, Create, RealView, PartView, Hand, Boundaries, loaded, reaps_loaded, World}
+use Rattle.seam_node_steps.specs.Prelude.{look_loaded}
 use Rattle.seam_rule_lines.specs.Orders.{IsLegal}
 use Rattle.seam_rule_rounds.specs.Prelude.{Header, accepted, live_as, Standing}
 use Rattle.seam_machine.specs.Nets.{link}
@@ -19,7 +20,8 @@ AreFirstCalls s p e done = IsLegal (accepted s.book p e) (s.orders p e ++ done)
 -- so it is with the cell part of entity e, in a cell or in the hand-over that carries it, and with its base part, at whichever node
 pub record HasFirstCalls (s : Standing) (e : ℕ) (u : World) : Type 0 where
   pub cell : (k : ℕ) (r : RealView) → real_here e (slice_get u.nodes k) ≡ Some r → AreFirstCalls s part.Cell e r.done
-  pub hand : (a k : ℕ) (r : RealView) → Contains (link u.rows a k) (Hand r) → r.entity ≡ e → AreFirstCalls s part.Cell e r.done
+  pub hand : (a k : ℕ) (r : RealView) (bs : Option Boundaries) → Contains (link u.rows a k) (Hand r bs) → r.entity ≡ e →
+      AreFirstCalls s part.Cell e r.done
   pub base : (k : ℕ) (p : PartView) → part_here e (slice_get u.nodes k) ≡ Some p → AreFirstCalls s part.Base e p.done
 
 -- whatever events happen from the world w on

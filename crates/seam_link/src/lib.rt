@@ -214,19 +214,63 @@ impl<T: Drop> LinkIn<T> {
     }
 }
 
-/// What was put into a link and not taken from it, once both ends are in one thread again.
-pub fn drain<T: Drop>(alloc: Global, out: LinkOut<T>, end: LinkIn<T>) -> Result<Vec<T>, AllocError>
+/// A link in which nothing is, with both ends in one thread: all that was put into it was taken. It can be used again, and its ring is
+/// memory that need not be made anew.
+#[derive(Drop)]
+pub struct EmptyLink<T: Drop> {
+    out: LinkOut<T>,
+    end: LinkIn<T>,
+}
+
+impl<T: Drop> Model for EmptyLink<T> {
+    ghost use Rattle.std.specs.Prelude.{◌≡◌};
+    ghost use Rattle.std.specs.declared.alloc.Global.{Global};
+    ghost use Rattle.seam_link.specs.Ends.{InView};
+
+    ghost Value = { InView T Global };
+
+    ghost view = { λ l. l.end };
+
+    ghost invariant = { λ l. (l.out.ring ≡ l.end.ring) × (l.out.put ≡ l.end.taken) };
+}
+
+impl<T: Drop> EmptyLink<T> {
+    /// A new link, whose ring has room for `cap` items.
+    pub fn new(alloc: Global, cap: u32) -> Result<EmptyLink<T>, AllocError>
+        requires { 1 ≤ cap }
+    {
+        let (out, end) = link(alloc, cap)?;
+        Ok(EmptyLink { out, end })
+    }
+
+    /// Its ends.
+    pub fn ends(self) -> (LinkOut<T>, LinkIn<T>)
+        ensures one { result.0.ring ≡ result.1.ring }
+        ensures empty { result.0.put ≡ result.1.taken }
+    {
+        let EmptyLink { out, end } = self;
+        (out, end)
+    }
+}
+
+/// What was put into a link and not taken from it, once both ends are in one thread again; and the link, which is empty then. The ring
+/// stays, and what the spill took is given back.
+pub fn drain<T: Drop>(
+    alloc: Global,
+    out: LinkOut<T>,
+    end: LinkIn<T>,
+) -> Result<(Vec<T>, EmptyLink<T>), AllocError>
     requires { out.ring ≡ end.ring }
-    ensures { IfOk result (λ v. end.taken ++ v.items ≡ out.put) }
+    ensures { IfOk result (λ r. end.taken ++ r.0.items ≡ out.put) }
 {
     let LinkOut {
         mut ring,
         mut spill,
-        fulls: _,
+        fulls,
     } = out;
     let LinkIn {
         ring: mut consumer,
-        nones: _,
+        nones,
     } = end;
     let mut left = Vec::new(alloc);
     let n = consumer.slots_beside(&mut ring);
@@ -238,5 +282,14 @@ pub fn drain<T: Drop>(alloc: Global, out: LinkOut<T>, end: LinkIn<T>) -> Result<
     while let Some(item) = spill.pop_front() {
         left.push_reserved(item);
     }
-    Ok(left)
+    let out = LinkOut {
+        ring,
+        spill: VecDeque::new(alloc),
+        fulls,
+    };
+    let end = LinkIn {
+        ring: consumer,
+        nones,
+    };
+    Ok((left, EmptyLink { out, end }))
 }

@@ -8,7 +8,7 @@ use Rattle.seam_machine.proofs.Writes.{slice_get-set}
 use Rattle.seam_link.specs.Ends.{InView, OutView}
 use Rattle.seam_stamp.specs.declared.Letter.{Letter}
 use Rattle.seam_logged.specs.Logs.{EndsView}
-use Rattle.seam_logged.specs.Mesh.{IsOut, IsIn, AreLinked, IsNew}
+use Rattle.seam_logged.specs.Mesh.{IsOut, IsIn, AreLinked, IsFilled}
 use Rattle.seam_logged.specs.SomeLinks.{Reached}
 
 module _ {X : Type 0} where
@@ -142,7 +142,8 @@ module _ {T H : Type 0} where
           let within = slice_get_within e.ins c p h in
           omega (arith, many, within, f)
 
-      pub linked_more : (links : List (List T)) → IsNew (get_or links (a * n + b) []) o i → AreLinked n links ends → AreLinked n links after
+      pub linked_more : (links : List (List T)) → IsFilled (get_or links (a * n + b) []) o i → AreLinked n links ends →
+          AreLinked n links after
       linked_more links new are c d p q out end = elim (out_before c d p out) [
         | inl f ↦ elim (in_before c d q end) [
           | inl g ↦ are c d p q f g

@@ -29,17 +29,16 @@ abbrev pub ArePaired : {T H : Type 0} → List (EndsView T H) → Type 0
 ArePaired {T} {H} ends =
     (a b : ℕ) (o : OutView (Letter T) H) (i : InView (Letter T) H) → IsOut ends a b o → IsIn ends a b i → o.ring ≡ i.ring
 
--- both ends of a new link, into which these letters were put
-pub record IsNew {T H : Type 0} (letters : List T) (o : OutView (Letter T) H) (i : InView (Letter T) H) : Type 0 where
+-- both ends of a link that was empty, into which these letters were put
+pub record IsFilled {T H : Type 0} (letters : List T) (o : OutView (Letter T) H) (i : InView (Letter T) H) : Type 0 where
   pub ring : o.ring ≡ i.ring
-  pub taken : i.taken ≡ []
-  pub put : o.put ≡ at_start letters
+  pub put : o.put ≡ i.taken ++ at_start letters
 
--- the link from a to b is a new one, with the letters at place a * n + b
+-- the link from a to b holds the letters at place a * n + b
 abbrev pub AreLinked : {T H : Type 0} → ℕ → List (List T) → List (EndsView T H) → Type 0
 AreLinked {T} {H} n links ends =
     (a b : ℕ) (o : OutView (Letter T) H) (i : InView (Letter T) H) → IsOut ends a b o → IsIn ends a b i →
-    IsNew (slice_index_or links (a * n + b) []) o i
+    IsFilled (slice_index_or links (a * n + b) []) o i
 
 -- the letters of the link from a to b that no step received: first those in the receiver's hand that came from a, and then what was put
 -- into the link and not taken from it

@@ -17,18 +17,51 @@ ghost use Rattle.seam_logged.specs.Mesh.{IsOut, IsIn, AreFull, AreLinked, ArePai
 ghost use Rattle.seam_logged.specs.SomeLinks.{Reached, Remaining, IsRow};
 
 use crate::Ends;
-use seam_link::{LinkIn, LinkOut, drain, link};
+use seam_link::{EmptyLink, LinkIn, LinkOut, drain};
 use seam_stamp::Letter;
 use std::alloc::{AllocError, Global};
 use std::collections::VecDeque;
 
-/// How many letters a link's ring has room for; more wait in its spill. The rings of all pairs of nodes are made for each run, so that
-/// much larger ones would cost fresh memory.
+/// How many letters a link's ring has room for; more wait in its spill.
 pub const RING_CAPACITY: u32 = 128;
+
+/// Links in which nothing is, kept from run to run. To make the rings of all pairs of nodes anew costs more than many steps.
+#[derive(Drop)]
+pub struct FreeLinks<T: Drop> {
+    links: Vec<EmptyLink<Letter<T>>>,
+}
+
+impl<T: Drop> FreeLinks<T> {
+    /// No links yet.
+    pub fn new(alloc: Global) -> FreeLinks<T> {
+        FreeLinks {
+            links: Vec::new(alloc),
+        }
+    }
+
+    /// Where links are made.
+    pub fn allocator(&self) -> Global {
+        *self.links.allocator()
+    }
+
+    // The ends of a link in which nothing is: of one that was kept, or of a new one.
+    fn next(&mut self) -> Result<(LinkOut<Letter<T>>, LinkIn<Letter<T>>), AllocError>
+        ensures one { IfOk result (λ r. r.0.ring ≡ r.1.ring) }
+        ensures empty { IfOk result (λ r. r.0.put ≡ r.1.taken) }
+    {
+        match self.links.pop() {
+            Some(link) => Ok(link.ends()),
+            None => {
+                let link = EmptyLink::new(self.allocator(), RING_CAPACITY)?;
+                Ok(link.ends())
+            }
+        }
+    }
+}
 
 /// The ends of the links of n nodes, into which the letters were put, each with the stamp 0.
 pub fn linked<T: Drop>(
-    alloc: Global,
+    free: &mut FreeLinks<T>,
     n: usize,
     links: Vec<Vec<T>>,
 ) -> Result<Vec<Ends<T>>, AllocError>
@@ -37,9 +70,9 @@ pub fn linked<T: Drop>(
     ensures linked { IfOk result (λ v. AreLinked n (map (λ l. l.items) links.items) v.items) }
 {
     let mut rest = VecDeque::from_vec(links);
-    let mut ends = no_ends(alloc, n)?;
+    let mut ends = no_ends(free.allocator(), n)?;
     for from in 0..n {
-        link_row(alloc, from, &mut rest, &mut ends)?;
+        link_row(free, from, &mut rest, &mut ends)?;
     }
     Ok(ends)
 }
@@ -60,7 +93,7 @@ fn no_ends<T: Drop>(alloc: Global, n: usize) -> Result<Vec<Ends<T>>, AllocError>
 
 // Makes the links from one node, with the next letters of the rest.
 fn link_row<T: Drop>(
-    alloc: Global,
+    free: &mut FreeLinks<T>,
     from: usize,
     rest: &mut VecDeque<Vec<T>>,
     ends: &mut Vec<Ends<T>>,
@@ -79,14 +112,14 @@ fn link_row<T: Drop>(
         let Some(letters) = rest.pop_front() else {
             unreachable!()
         };
-        add_link(alloc, from, to, letters, ends)?;
+        add_link(free, from, to, letters, ends)?;
     }
     Ok(())
 }
 
 // Makes the link between two nodes.
 fn add_link<T: Drop>(
-    alloc: Global,
+    free: &mut FreeLinks<T>,
     from: usize,
     to: usize,
     letters: Vec<T>,
@@ -101,7 +134,7 @@ fn add_link<T: Drop>(
         AreLinked (length ends.old.items) links ends.old.items →
         AreLinked (length ends.old.items) links ends.new.items) }
 {
-    let (mut out, end) = link(alloc, RING_CAPACITY)?;
+    let (mut out, end) = free.next()?;
     fill(&mut out, letters)?;
     ends[from].outs.push(out)?;
     ends[to].ins.push(end)?;
@@ -123,9 +156,9 @@ fn fill<T: Drop>(out: &mut LinkOut<Letter<T>>, letters: Vec<T>) -> Result<(), Al
 }
 
 /// What no step received of the letters of each link: those in the receiver's hand, and then what was put and not taken.
-/// Hand k is that of node k, and each letter in it has the number of its sender.
+/// Hand k is that of node k, and each letter in it has the number of its sender. The links are free then.
 pub fn left<T: Drop>(
-    alloc: Global,
+    free: &mut FreeLinks<T>,
     mut ends: Vec<Ends<T>>,
     mut hands: Vec<VecDeque<(u8, Letter<T>)>>,
 ) -> Result<Vec<Vec<T>>, AllocError>
@@ -137,18 +170,18 @@ pub fn left<T: Drop>(
         IsCell ends.items (map (λ h. h.items) hands.items) a b
         (slice_index_or (map (λ l. l.items) v.items) (a * length ends.items + b) [])) }
 {
-    let mut links = VecDeque::new(alloc);
+    let mut links = VecDeque::new(free.allocator());
     let mut from = ends.len();
     while from > 0 {
         from -= 1;
-        meet_row(alloc, from, &mut ends, &mut hands, &mut links)?;
+        meet_row(free, from, &mut ends, &mut hands, &mut links)?;
     }
     Ok(links.into_vec())
 }
 
 // What was left of the links from one node, put before the others.
 fn meet_row<T: Drop>(
-    alloc: Global,
+    free: &mut FreeLinks<T>,
     from: usize,
     ends: &mut Vec<Ends<T>>,
     hands: &mut Vec<VecDeque<(u8, Letter<T>)>>,
@@ -169,7 +202,7 @@ fn meet_row<T: Drop>(
     let mut to = ends.len();
     while to > 0 {
         to -= 1;
-        let link = meet_link(alloc, from, to, ends, hands)?;
+        let link = meet_link(free, from, to, ends, hands)?;
         links.push_front(link)?;
     }
     Ok(())
@@ -177,7 +210,7 @@ fn meet_row<T: Drop>(
 
 // What was left of the link between two nodes.
 fn meet_link<T: Drop>(
-    alloc: Global,
+    free: &mut FreeLinks<T>,
     from: usize,
     to: usize,
     ends: &mut Vec<Ends<T>>,
@@ -200,8 +233,10 @@ fn meet_link<T: Drop>(
     let Some(end) = ends[to].ins.pop() else {
         unreachable!()
     };
+    let alloc = free.allocator();
     let mut link = from_hand(alloc, &mut hands[to], from)?;
-    let letters = drain(alloc, out, end)?;
+    let (letters, emptied) = drain(alloc, out, end)?;
+    free.links.push(emptied)?;
     add_letters(&mut link, letters)?;
     Ok(link)
 }

@@ -45,7 +45,9 @@ fn what_is_put_is_taken_in_order(rt: HostRuntime) -> Result<(), AllocError> {
     let none = end.take();
     out.flush();
     let second = end.take();
-    let left = drain(alloc, out, end)?;
+    let (left, empty) = drain(alloc, out, end)?;
+    let (mut out, mut end) = empty.ends();
+    let again = (out.put(4).is_ok(), end.take(), end.take());
     assert_eq!(rt;
         ((one, two, three), many),
         ((true, true, true), (true, None, None))
@@ -54,5 +56,6 @@ fn what_is_put_is_taken_in_order(rt: HostRuntime) -> Result<(), AllocError> {
         (first, none, second, left.as_slice()),
         (Some(1), None, Some(2), &[3][..])
     );
+    assert_eq!(rt; again, (true, Some(4), None));
     Ok(())
 }

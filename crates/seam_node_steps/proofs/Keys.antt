@@ -4,7 +4,8 @@ use Rattle.std.specs.FinMap as table
 use Rattle.std.specs.Ordering.{nat_cmp}
 use Rattle.std.specs.declared.cmp.Ordering.{Ordering}
 use Rattle.std.specs.declared.cmp.Ordering.TheVariants.{Less, Equal, Greater}
-use Rattle.seam_node_steps.specs.Prelude.{Division, OrderView, next_item, Call as CallData, GhostCopy, order_of, RealView, WitnessView, Msg}
+use Rattle.seam_node_steps.specs.Prelude.{Boundaries, boundaries_of, OrderView, next_item, Call as CallData, GhostCopy, order_of, RealView}
+use Rattle.seam_node_steps.specs.Prelude.{WitnessView, Msg}
 use Rattle.seam_node_steps.specs.Prelude.{Hand, GhostSet, GhostDrop, Reap, Here, ready_order, executed}
 use Rattle.seam_node_steps.specs.Prelude.{executed_ready, shows, Slot, NextPlace, SlotStep, unless_stray, home_after, settled_by, settled}
 use Rattle.seam_node_steps.specs.Prelude.{about, slot_steps, look_by, look_task, CellView, slot_of, known_to, IsCell}
@@ -27,7 +28,7 @@ some_of e x is r h = let same : r ≡ x = cc in ap (λ y. y.entity) same ∙ is
 none_of : (e : ℕ) → IsOf e None
 none_of e r h = cc
 
-module _ (h : Here) (t : Division) (e : ℕ) where
+module _ (h : Here) (t : Boundaries) (e : ℕ) where
   unless_of : (b : Bool) (s : SlotStep) → StepIsOf e s.slot → StepIsOf e (unless_stray b s).slot
   unless_of true s is = tt
   unless_of false s is = is
@@ -37,7 +38,7 @@ module _ (h : Here) (t : Division) (e : ℕ) where
   by_of false s r changed j is = none_of e
 
   settled_of : (s : Slot) (r : RealView) (changed : Bool) → r.entity ≡ e → StepIsOf e (settled h t s r changed).slot
-  settled_of s r changed is = by_of _ s r changed (home_after h t r.state.pos) is
+  settled_of s r changed is = by_of _ s r changed (home_after h t.tree r.state.pos) is
 
   offered_of : (s : Slot) (r : RealView) (k : CallData) (o : Ordering) → r.entity ≡ e → StepIsOf e (CellCases.offered h t s r k o).slot
   offered_of s r k Less is = tt
@@ -65,14 +66,14 @@ module _ (h : Here) (t : Division) (e : ℕ) where
 
   case_of_entity : (s : Slot) (m : Msg) → about m ≡ Some e → IsOf e s.real → StepIsOf e (CellCases.case_of h t s m).slot
   case_of_entity s (Call k) a is = call_of s k s.real is
-  case_of_entity s (Hand r) a is = some_of e r (hand_is r a)
+  case_of_entity s (Hand r o) a is = some_of e r (hand_is r a)
   case_of_entity s (GhostSet x b c) a is = set_of s b c s.real is
   case_of_entity s (GhostDrop x b) a is = is
   case_of_entity s (Reap x) a is = reap_of s s.real
   case_of_entity s _ a is = tt
 
   pub slot_is_of : (s : Slot) (m : Msg) → about m ≡ Some e → IsOf e s.real → StepIsOf e (slot_steps h t s m).slot
-  slot_is_of s m a is = unless_of (CellCases.is_stray h t s m) (CellCases.case_of h t s m) (case_of_entity s m a is)
+  slot_is_of s m a is = unless_of (CellCases.is_stray h t.tree s m) (CellCases.case_of h t s m) (case_of_entity s m a is)
 
   survey_of : (s : Slot) (o : Option RealView) → IsOf e o → StepIsOf e (CellCases.survey_task h t s o).slot
   survey_of s (Some r) is = settled_of s r false (is r refl)
@@ -102,16 +103,16 @@ module _ (h : Here) (t : Division) (e : ℕ) where
 
 module _ (c : CellView) (is : IsCell c) (e : ℕ) where
   pub surveys_of : StepIsOf e (Cells.surveys c e (table.get c.reals e)).slot
-  surveys_of = unless_of c.here c.tree e (CellCases.stray_survey (table.get c.reals e))
-      (CellCases.survey_task c.here c.tree (slot_of c e) (table.get c.reals e))
-      (survey_of c.here c.tree e (slot_of c e) (table.get c.reals e) (is.keys e))
+  surveys_of = unless_of c.here (boundaries_of c) e (CellCases.stray_survey (table.get c.reals e))
+      (CellCases.survey_task c.here (boundaries_of c) (slot_of c e) (table.get c.reals e))
+      (survey_of c.here (boundaries_of c) e (slot_of c e) (table.get c.reals e) (is.keys e))
 
   pub calls_ready_of : StepIsOf e (Cells.calls_ready c e (table.get c.reals e)).slot
-  calls_ready_of = unless_of c.here c.tree e (CellCases.stray_ready_call (table.get c.reals e))
-      (CellCases.ready_call_task c.here c.tree (slot_of c e) (table.get c.reals e))
-      (ready_of c.here c.tree e (slot_of c e) (table.get c.reals e) (is.keys e))
+  calls_ready_of = unless_of c.here (boundaries_of c) e (CellCases.stray_ready_call (table.get c.reals e))
+      (CellCases.ready_call_task c.here (boundaries_of c) (slot_of c e) (table.get c.reals e))
+      (ready_of c.here (boundaries_of c) e (slot_of c e) (table.get c.reals e) (is.keys e))
 
   pub looks_of : StepIsOf e (Cells.looks_around c e (table.get c.reals e) (known_to c e)).slot
-  looks_of = unless_of c.here c.tree e (CellLooks.stray_look c.here (table.get c.reals e) (known_to c e))
+  looks_of = unless_of c.here (boundaries_of c) e (CellLooks.stray_look c.here (table.get c.reals e) (known_to c e))
       (look_task c.here (slot_of c e) (table.get c.reals e) (known_to c e))
-      (look_of c.here c.tree e (slot_of c e) (table.get c.reals e) (known_to c e) (is.keys e))
+      (look_of c.here (boundaries_of c) e (slot_of c e) (table.get c.reals e) (known_to c e) (is.keys e))

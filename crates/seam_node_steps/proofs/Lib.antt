@@ -5,6 +5,7 @@ pub mod Keys
 pub mod ValidCells
 pub mod ValidBases
 pub mod Peers
+pub mod Plain
 pub mod Tables
 pub mod Quiet
 pub mod Walks

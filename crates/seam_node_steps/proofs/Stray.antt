@@ -1,11 +1,12 @@
 -- At stray input nothing changes but the list that a task's entry is taken from.
 use Rattle.std.proofs.Common.{◌≡◌, ℕ, true, List, ◌∷◌, ap}
-use Rattle.seam_node_steps.specs.Prelude.{Division, From, Order, Msg, Here, Slot, rests, unless_stray, BaseView}
+use Rattle.seam_node_steps.specs.Prelude.{Boundaries, From, Order, Msg, Here, Slot, rests, unless_stray, BaseView}
 use Rattle.seam_node_steps.specs.CellCases
 use Rattle.seam_node_steps.specs.BaseCases
 
-pub stray_rests : (h : Here) (t : Division) (s : Slot) (m : Msg) → CellCases.is_stray h t s m ≡ true → CellCases.slot_steps h t s m ≡ rests
-stray_rests h t s m is = ap (λ b. unless_stray b (CellCases.case_of h t s m)) is
+pub stray_rests : (h : Here) (b : Boundaries) (s : Slot) (m : Msg) → CellCases.is_stray h b.tree s m ≡ true →
+    CellCases.slot_steps h b s m ≡ rests
+stray_rests h b s m is = ap (λ d. unless_stray d (CellCases.case_of h b s m)) is
 
 pub stray_at_base_rests : (b : BaseView) (a : ℕ) (m : Msg) → BaseCases.is_stray b m ≡ true → BaseCases.base_steps b (From a m)
     ≡ BaseCases.sends_none b

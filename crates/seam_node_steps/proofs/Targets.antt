@@ -1,6 +1,7 @@
 -- A step sends to nodes of the net, and leaves next places that are cells.
 use Rattle.std.proofs.Common.{◌≡◌, ℕ, zero, suc, ◌+◌, ◌<◌, ◌≤◌, Bool, true, false, List, [], ◌∷◌, ◌++◌, Option, None, Some, map, not, ap}
-use Rattle.std.proofs.Common.{refl, arith}
+use Rattle.std.proofs.Common.{refl, arith, subst, nat_le, nat_lt, ◌&&◌}
+use Rattle.std.proofs.lemmas.Bool.Decides.{nat_tests}
 use Rattle.std.specs.Prelude.{filter_map, if◌then◌else◌, ◌==◌, ◌||◌}
 use Rattle.std.specs.List.{range_with_len, cons_option}
 use Rattle.std.specs.FinMap as table
@@ -10,7 +11,10 @@ use Rattle.std.specs.declared.cmp.Ordering.{Ordering}
 use Rattle.std.specs.declared.cmp.Ordering.TheVariants.{Less, Equal, Greater}
 use Rattle.std.proofs.lemmas.List.Elements.{All-nil, All-cons}
 use Rattle.std.proofs.lemmas.Nat.{mod_below}
-use Rattle.seam_node_steps.specs.Prelude.{Division, IsTree, leaf_at, Cells, Stepped, AllBelow, Input, Task, From, OrderView, next_item}
+use Rattle.seam_node_steps.specs.Prelude.{Division, cells_of, leaf_at, Cells, Stepped, AllBelow, Input, Task, From, OrderView, next_item}
+use Rattle.seam_node_steps.specs.Prelude.{Boundaries, Bounds, bounds_in, boundaries_of, renewed, renewed_if, are_newer}
+use Rattle.seam_node_steps.specs.Prelude.{comes_late}
+use Rattle.seam_node_steps.specs.Prelude.{listed_if}
 use Rattle.seam_node_steps.specs.Prelude.{Call as CallData, Order, GhostCopy, Shown, order_of, RealView, WitnessView, Msg, Hand}
 use Rattle.seam_node_steps.specs.Prelude.{Current, GhostSet, GhostDrop, Tick, Reap, Here, cell_count, base_of, peers_of}
 use Rattle.seam_node_steps.specs.Prelude.{ready_order, copy_of_real, executed, executed_ready, with_offer, shows, Slot, NextPlace, SlotStep}
@@ -68,10 +72,11 @@ told_below n k true m h = tt
 told_below n k false None h = tt
 told_below n k false (Some m) h = h
 
-leaf_in : (t : Division) (p : _) → IsTree t → leaf_at t p < cell_count
-leaf_in t p is = let low = leaf_is_cell t p in let most = is.cells_to in omega (arith, low, most)
+leaf_in : (t : Division) (p : _) → cells_of t ≤ cell_count → leaf_at t p < cell_count
+leaf_in t p most = let low = leaf_is_cell t p in omega (arith, low, most)
 
-module _ (h : Here) (me_in : h.me < cell_count) (some : 1 ≤ h.settings.bases) (t : Division) (tree : IsTree t) where
+module _ (h : Here) (me_in : h.me < cell_count) (some : 1 ≤ h.settings.bases) (t : Boundaries)
+    (few : cells_of t.tree ≤ cell_count) where
   abbrev pub NextIn : Option NextPlace → Type 0
   NextIn o = (n : NextPlace) → o ≡ Some n → n.cell < cell_count
 
@@ -100,14 +105,14 @@ module _ (h : Here) (me_in : h.me < cell_count) (some : 1 ≤ h.settings.bases) 
       (λ k lt. told_below (peers_of h) k ((k == h.me) || (k == j))
       (told r.entity (r.beat + 1) (copy_of_real h r) (set.contains haunts k) (set.contains r.haunts k) changed) (omega (arith, lt)))
 
-  good_stays : (s : Slot) (r : RealView) (changed : Bool) → NextIn s.next → IsGood (stays h t s r changed)
+  good_stays : (s : Slot) (r : RealView) (changed : Bool) → NextIn s.next → IsGood (stays h t.tree s r changed)
   good_stays s r changed n = record { sends = ghosts_below r h.me _ changed; next = n }
 
   one_in : (x n : NextPlace) → x.cell < cell_count → Some x ≡ Some n → n.cell < cell_count
   one_in x n lt e = let same : x ≡ n = cc in let cell = ap (λ y. y.cell) same in omega (arith, cell, lt)
 
   good_gone : (s : Slot) (r : RealView) (j : ℕ) (haunts : Cells) (sent : List (ℕ × Msg)) → Below (peers_of h) sent → j < cell_count →
-      IsGood (gone_to h s r j haunts sent)
+      IsGood (gone_to h t s r j haunts sent)
   good_gone s r j haunts sent below lt = record {
     sends = append_below (peers_of h) sent _ below (omega (arith, lt), tt);
     next = λ n e. one_in (record { cell = j; generation = r.generation + 1 }) n lt e;
@@ -126,8 +131,8 @@ module _ (h : Here) (me_in : h.me < cell_count) (some : 1 ≤ h.settings.bases) 
   good_by false s r changed j n lt = good_goes s r changed j lt
 
   good_settled : (s : Slot) (r : RealView) (changed : Bool) → NextIn s.next → IsGood (settled h t s r changed)
-  good_settled s r changed n = good_by _ s r changed (home_after h t r.state.pos) n
-      (home_in _ (leaf_at t r.state.pos) (leaf_in t r.state.pos tree))
+  good_settled s r changed n = good_by _ s r changed (home_after h t.tree r.state.pos) n
+      (home_in _ (leaf_at t.tree r.state.pos) (leaf_in t.tree r.state.pos few))
 
   good_offered : (s : Slot) (r : RealView) (k : CallData) (o : Ordering) → NextIn s.next → IsGood (CellCases.offered h t s r k o)
   good_offered s r k Less n = good_rests
@@ -165,7 +170,7 @@ module _ (h : Here) (me_in : h.me < cell_count) (some : 1 ≤ h.settings.bases) 
 
   good_case : (s : Slot) (m : Msg) → NextIn s.next → IsGood (CellCases.case_of h t s m)
   good_case s (Call k) n = good_call s k s.real n
-  good_case s (Hand r) n = good_hand s r
+  good_case s (Hand r o) n = good_hand s r
   good_case s (GhostSet e b c) n = good_set s b c s.real n
   good_case s (GhostDrop e b) n = record { sends = tt; next = n }
   good_case s (Reap e) n = good_reap s s.real n
@@ -210,20 +215,22 @@ module _ (h : Here) (me_in : h.me < cell_count) (some : 1 ≤ h.settings.bases) 
 -- ---- cells
 
 module _ (c : CellView) (is : IsCell c) where
-  pub cell_surveys : (e : ℕ) → IsGood c.here is.me_in is.bases c.tree is.tree (Cells.surveys c e (table.get c.reals e))
-  cell_surveys e = good_unless c.here is.me_in is.bases c.tree is.tree _ _
-      (good_survey c.here is.me_in is.bases c.tree is.tree (slot_of c e) (table.get c.reals e) (is.nexts e))
+  pub cell_surveys : (e : ℕ) → IsGood c.here is.me_in is.bases (boundaries_of c) is.cells (Cells.surveys c e (table.get c.reals e))
+  cell_surveys e = good_unless c.here is.me_in is.bases (boundaries_of c) is.cells _ _
+      (good_survey c.here is.me_in is.bases (boundaries_of c) is.cells (slot_of c e) (table.get c.reals e) (is.nexts e))
 
-  pub cell_calls_ready : (e : ℕ) → IsGood c.here is.me_in is.bases c.tree is.tree (Cells.calls_ready c e (table.get c.reals e))
-  cell_calls_ready e = good_unless c.here is.me_in is.bases c.tree is.tree _ _
-      (good_ready c.here is.me_in is.bases c.tree is.tree (slot_of c e) (table.get c.reals e) (is.nexts e))
+  pub cell_calls_ready : (e : ℕ) → IsGood c.here is.me_in is.bases (boundaries_of c) is.cells (Cells.calls_ready c e (table.get c.reals e))
+  cell_calls_ready e = good_unless c.here is.me_in is.bases (boundaries_of c) is.cells _ _
+      (good_ready c.here is.me_in is.bases (boundaries_of c) is.cells (slot_of c e) (table.get c.reals e) (is.nexts e))
 
-  pub cell_looks : (e : ℕ) → IsGood c.here is.me_in is.bases c.tree is.tree (Cells.looks_around c e (table.get c.reals e) (known_to c e))
-  cell_looks e = good_unless c.here is.me_in is.bases c.tree is.tree _ _
-      (good_look c.here is.me_in is.bases c.tree is.tree (slot_of c e) (table.get c.reals e) (known_to c e) (is.nexts e))
+  pub cell_looks : (e : ℕ) → IsGood c.here is.me_in is.bases (boundaries_of c) is.cells
+      (Cells.looks_around c e (table.get c.reals e) (known_to c e))
+  cell_looks e = good_unless c.here is.me_in is.bases (boundaries_of c) is.cells _ _
+      (good_look c.here is.me_in is.bases (boundaries_of c) is.cells (slot_of c e) (table.get c.reals e) (known_to c e) (is.nexts e))
 
-  pub cell_slot : (e : ℕ) (m : Msg) → IsGood c.here is.me_in is.bases c.tree is.tree (slot_steps c.here c.tree (slot_of c e) m)
-  cell_slot e m = good_slot c.here is.me_in is.bases c.tree is.tree (slot_of c e) m (is.nexts e)
+  pub cell_slot : (e : ℕ) (m : Msg) → IsGood c.here is.me_in is.bases (boundaries_of c) is.cells
+      (slot_steps c.here (boundaries_of c) (slot_of c e) m)
+  cell_slot e m = good_slot c.here is.me_in is.bases (boundaries_of c) is.cells (slot_of c e) m (is.nexts e)
 
   look_below : (es : List ℕ) → Below (peers_of c.here) (look_next c es).sent
   look_below [] = tt
@@ -237,13 +244,50 @@ module _ (c : CellView) (is : IsCell c) where
   task_below (e ∷ es) = (cell_surveys e).sends
   task_below [] = ready_below (ready_entity c)
 
+  listed_below : (b : Bool) (e : ℕ) (t : Stepped CellView Msg) → Below (peers_of c.here) t.sent →
+      Below (peers_of c.here) (listed_if b e t).sent
+  listed_below true e t h = h
+  listed_below false e t h = h
+
   hears_below : (m : Msg) (o : Option ℕ) → Below (peers_of c.here) (cell_hears c m o).sent
-  hears_below m (Some e) = (cell_slot e m).sends
+  hears_below m (Some e) = listed_below (comes_late c m) e _ (cell_slot e m).sends
   hears_below m None = tt
 
-  cell_targets : (i : Input Msg) → AllBelow (peers_of c.here) (cell_steps c i).sent
-  cell_targets Task = to_all (peers_of c.here) _ (task_below c.survey)
-  cell_targets (From a m) = to_all (peers_of c.here) _ (hears_below m (about m))
+-- boundaries that come: the cell knows the same and is as valid
+renewed_here_by : (d : Bool) (c : CellView) (b : Boundaries) → (renewed_if d c b).here ≡ c.here
+renewed_here_by true c b = refl
+renewed_here_by false c b = refl
+
+pub renewed_here : (c : CellView) (o : Option Boundaries) → (renewed c o).here ≡ c.here
+renewed_here c None = refl
+renewed_here c (Some b) = renewed_here_by (are_newer c b) c b
+
+few_of : (x y : Bool) (n : ℕ) → (x && (y && nat_le n cell_count)) ≡ true → n ≤ cell_count
+few_of true true n h = grind (arith, nat_tests, h)
+few_of true false n h = cc
+few_of false y n h = cc
+
+renewed_valid_by : (d : Bool) (c : CellView) (b : Boundaries) → are_newer c b ≡ d → IsCell c → IsCell (renewed_if d c b)
+renewed_valid_by true c b newer is = record {
+  me_in = is.me_in;
+  bases = is.bases;
+  cells = few_of (nat_lt c.number b.number) (b.tree.size == c.here.settings.size) (cells_of b.tree) newer;
+  nexts = is.nexts;
+  keys = is.keys;
+}
+renewed_valid_by false c b newer is = is
+
+pub renewed_valid : (c : CellView) (o : Option Boundaries) → IsCell c → IsCell (renewed c o)
+renewed_valid c None is = is
+renewed_valid c (Some b) is = renewed_valid_by (are_newer c b) c b refl is
+
+cell_targets : (c : CellView) → IsCell c → (i : Input Msg) → AllBelow (peers_of c.here) (cell_steps c i).sent
+cell_targets c is Task = to_all (peers_of c.here) _ (task_below c is c.survey)
+cell_targets c is (From a m) =
+    let d = renewed c (bounds_in m) in
+    to_all (peers_of c.here) _
+    (subst (λ h. Below (peers_of h) (cell_hears d m (about m)).sent) (renewed_here c (bounds_in m))
+    (hears_below d (renewed_valid c (bounds_in m) is) m (about m)))
 
 -- ---- base nodes
 
@@ -267,6 +311,7 @@ module _ (b : BaseView) (is : IsBase b) where
   order_below os (order.Cell k) = on_route_below (table.get b.routes k.entity) (Call k) (is.routes k.entity)
   order_below os (order.Base k) = base_below (BaseCases.is_base_node_of b.here k.entity) os k
   order_below os order.Tick = let most = is.cells in spread_below (peers_of b.here) 0 b.cells (λ k. Tick) (omega (arith, most))
+  order_below os (order.Bounds x) = let most = is.cells in spread_below (peers_of b.here) 0 b.cells (λ k. Bounds x) (omega (arith, most))
   order_below os (order.Reap e) = on_route_below (table.get b.routes e) (Reap e) (is.routes e)
 
   proxy_below : (o : Option (ℕ × PartView)) → Below (peers_of b.here) (BaseCases.proxy_task b o).sent

@@ -79,6 +79,7 @@ order_same : (b : BaseView) (os : List Order) (o : Order) → SameRoutes b (Base
 order_same b os (order.Cell k) = record { here = refl; cells = refl; routes = refl }
 order_same b os (order.Base k) = base_same (BaseCases.is_base_node_of b.here k.entity) b os k
 order_same b os order.Tick = record { here = refl; cells = refl; routes = refl }
+order_same b os (order.Bounds x) = record { here = refl; cells = refl; routes = refl }
 order_same b os (order.Reap e) = record { here = refl; cells = refl; routes = refl }
 
 proxy_same : (b : BaseView) (o : Option (ℕ × PartView)) → SameRoutes b (BaseCases.proxy_task b o).state

@@ -15,6 +15,7 @@ use Rattle.seam_machine.specs.Views.{Stepped}
 use Rattle.seam_machine.specs.declared.machines.Input.{Input}
 use Rattle.seam_machine.specs.declared.machines.Input.TheVariants.{Task, From}
 use Rattle.seam_call.specs.declared.call.Call.{Call as CallData}
+use Rattle.seam_call.specs.declared.order.Boundaries.{Boundaries}
 use Rattle.seam_call.specs.declared.order.Order.{Order}
 use Rattle.seam_call.specs.declared.order.Order.TheVariants as order
 use Rattle.seam_call.specs.declared.shown.Shown.{Shown}
@@ -24,7 +25,7 @@ use Rattle.seam_call.specs.Senders.{rank_of}
 use Rattle.seam_call.specs.Calls.{is_for}
 use Rattle.seam_entity.specs.Orders.{order_of}
 use Rattle.seam_entity.specs.declared.message.Msg.{Msg}
-use Rattle.seam_entity.specs.declared.message.Msg.TheVariants.{Call, BaseCall, Hand, Current, GhostSet, GhostDrop, Tick, Reap, Update}
+use Rattle.seam_entity.specs.declared.message.Msg.TheVariants.{Call, BaseCall, Current, Tick, Reap, Update, Bounds}
 use Rattle.seam_node_steps.specs.Maps.{has_any}
 use Rattle.seam_entity.specs.Numbers.{is_small, may_rise}
 use Rattle.seam_entity.specs.Fitting.{can_do}
@@ -110,12 +111,16 @@ is_base_node_of h e = base_of h e == h.me
 abbrev pub tick_to : ℕ → ℕ × Msg
 tick_to k = (k, Tick)
 
--- cell order: the call goes to the route's cell; tick order: every cell of the tree is told, in rising number; reap order: the route's cell
--- is told, and the base part goes where it is here, but the route stays
+abbrev pub bounds_to : Boundaries → ℕ → ℕ × Msg
+bounds_to x k = (k, Bounds x)
+
+-- cell order: the call goes to the route's cell; tick order, bounds order: every cell of the tree is told, in rising number; reap order:
+-- the route's cell is told, and the base part goes where it is here, but the route stays
 abbrev pub order_of_node : BaseView → Order → Stepped BaseView Msg
 order_of_node b (order.Cell k) = record { state = b; sent = on_route (table.get b.routes k.entity) (Call k) }
 order_of_node b (order.Base k) = base_order (is_base_node_of b.here k.entity) b k
 order_of_node b order.Tick = record { state = b; sent = map tick_to (range_with_len 0 b.cells) }
+order_of_node b (order.Bounds x) = record { state = b; sent = map (bounds_to x) (range_with_len 0 b.cells) }
 order_of_node b (order.Reap e) =
     record { state = record b { parts = table.remove b.parts e }; sent = on_route (table.get b.routes e) (Reap e) }
 
@@ -123,8 +128,8 @@ order_of_node b (order.Reap e) =
 abbrev pub stray_order : BaseView → Order → Bool
 stray_order b (order.Cell k) = is_none (table.get b.routes k.entity)
 stray_order b (order.Base k) = is_base_node_of b.here k.entity && stray_base_call b.here k (table.get b.parts k.entity)
-stray_order b order.Tick = false
 stray_order b (order.Reap e) = is_none (table.get b.routes e)
+stray_order b _ = false
 
 -- ---- the task without orders
 
@@ -223,27 +228,17 @@ stray_update u (Some p) = stray_proxy_update u p.proxy
 
 -- stray input at a base node: no case is for the message, or its conditions are not met
 abbrev pub is_stray : BaseView → Msg → Bool
-is_stray b (Call k) = true
 is_stray b (BaseCall k) = stray_base_call b.here k (table.get b.parts k.entity)
-is_stray b (Hand r) = true
 is_stray b (Current e j g) = stray_current (record { cell = j; generation = g }) (table.get b.routes e)
-is_stray b (GhostSet e n c) = true
-is_stray b (GhostDrop e n) = true
-is_stray b Tick = true
-is_stray b (Reap e) = true
 is_stray b (Update u) = stray_update u (table.get b.parts u.entity)
+is_stray b _ = true
 
 -- what a message that is not stray makes of the node
 abbrev pub case_of : BaseView → Msg → BaseView
-case_of b (Call k) = b
 case_of b (BaseCall k) = base_call b k
-case_of b (Hand r) = b
 case_of b (Current e j g) = current b e (record { cell = j; generation = g }) (table.get b.routes e)
-case_of b (GhostSet e n c) = b
-case_of b (GhostDrop e n) = b
-case_of b Tick = b
-case_of b (Reap e) = b
 case_of b (Update u) = update b u (table.get b.parts u.entity)
+case_of b _ = b
 
 -- a base node's step
 abbrev pub base_steps : BaseView → Input Msg → Stepped BaseView Msg

@@ -9,11 +9,13 @@ use Rattle.seam_tree.specs.Division.{Division, cells_of}
 use Rattle.seam_order.specs.Held.{OrderView}
 use Rattle.seam_order.specs.Offers.{next_item}
 use Rattle.seam_call.specs.declared.call.Call.{Call as CallData}
+use Rattle.seam_call.specs.declared.order.Boundaries.{Boundaries}
 use Rattle.seam_call.specs.declared.shown.GhostCopy.{GhostCopy}
 use Rattle.seam_entity.specs.Orders.{order_of}
 use Rattle.seam_entity.specs.Reals.{RealView}
 use Rattle.seam_entity.specs.declared.message.Msg.{Msg}
 use Rattle.seam_entity.specs.declared.message.Msg.TheVariants.{Call, BaseCall, Hand, Current, GhostSet, GhostDrop, Tick, Reap, Update}
+use Rattle.seam_entity.specs.declared.message.Msg.TheVariants.{Bounds}
 use Rattle.seam_entity.specs.Numbers.{is_small, may_rise}
 use Rattle.seam_entity.specs.Here.{Here, cell_numbers, base_numbers}
 use Rattle.seam_entity.specs.ReadyCalls.{ready_order}
@@ -25,10 +27,10 @@ use Rattle.seam_node_steps.specs.Settle.{settled}
 -- ---- calls
 
 -- the call is executed and the real settles where it is its turn, it is held where it is early, and nothing changes where it is late
-abbrev pub offered : Here → Division → Slot → RealView → CallData → Ordering → SlotStep
-offered h t s r k Less = rests
-offered h t s r k Equal = settled h t s (executed h r k) (shows h r k)
-offered h t s r k Greater = becomes (record s { real = Some (with_offer r k) })
+abbrev pub offered : Here → Boundaries → Slot → RealView → CallData → Ordering → SlotStep
+offered h b s r k Less = rests
+offered h b s r k Equal = settled h b s (executed h r k) (shows h r k)
+offered h b s r k Greater = becomes (record s { real = Some (with_offer r k) })
 
 -- call, next place: the call is sent to the next place, as it is
 abbrev pub call_next_place : CallData → Option NextPlace → SlotStep
@@ -36,9 +38,9 @@ call_next_place k None = rests
 call_next_place k (Some n) = record { slot = None; unlisted = false; sent = (n.cell, Call k) ∷ [] }
 
 -- where the real is here, the call is offered to its sender's order
-abbrev pub call : Here → Division → Slot → CallData → Option RealView → SlotStep
-call h t s k (Some r) = offered h t s r k (nat_cmp k.number (order_of r.orders k.sender).next)
-call h t s k None = call_next_place k s.next
+abbrev pub call : Here → Boundaries → Slot → CallData → Option RealView → SlotStep
+call h b s k (Some r) = offered h b s r k (nat_cmp k.number (order_of r.orders k.sender).next)
+call h b s k None = call_next_place k s.next
 
 -- a call that the real here may not be offered, or neither the real nor a next place is here
 abbrev pub stray_call : Here → CallData → Option RealView → Option NextPlace → Bool
@@ -125,27 +127,27 @@ stray_reap None = true
 -- ---- tasks about one entity
 
 -- survey task: the real settles, not changed
-abbrev pub survey_task : Here → Division → Slot → Option RealView → SlotStep
-survey_task h t s (Some r) = settled h t s r false
-survey_task h t s None = rests
+abbrev pub survey_task : Here → Boundaries → Slot → Option RealView → SlotStep
+survey_task h b s (Some r) = settled h b s r false
+survey_task h b s None = rests
 
 -- the real is not here, or its numbers may not rise
 abbrev pub stray_survey : Option RealView → Bool
 stray_survey (Some r) = not (may_settle r)
 stray_survey None = true
 
-abbrev pub executes_ready : Here → Division → Slot → RealView → ℕ × OrderView CallData → Option CallData → SlotStep
-executes_ready h t s r o (Some k) = settled h t s (executed_ready h r o k) (shows h r k)
-executes_ready h t s r o None = rests
+abbrev pub executes_ready : Here → Boundaries → Slot → RealView → ℕ × OrderView CallData → Option CallData → SlotStep
+executes_ready h b s r o (Some k) = settled h b s (executed_ready h r o k) (shows h r k)
+executes_ready h b s r o None = rests
 
-abbrev pub ready_in : Here → Division → Slot → RealView → Option (ℕ × OrderView CallData) → SlotStep
-ready_in h t s r (Some o) = executes_ready h t s r o (next_item o.1)
-ready_in h t s r None = rests
+abbrev pub ready_in : Here → Boundaries → Slot → RealView → Option (ℕ × OrderView CallData) → SlotStep
+ready_in h b s r (Some o) = executes_ready h b s r o (next_item o.1)
+ready_in h b s r None = rests
 
 -- ready-call task: the real executes the ready call of its least sender that has one, and settles
-abbrev pub ready_call_task : Here → Division → Slot → Option RealView → SlotStep
-ready_call_task h t s (Some r) = ready_in h t s r (ready_order r.orders)
-ready_call_task h t s None = rests
+abbrev pub ready_call_task : Here → Boundaries → Slot → Option RealView → SlotStep
+ready_call_task h b s (Some r) = ready_in h b s r (ready_order r.orders)
+ready_call_task h b s None = rests
 
 -- the real is not here, or its numbers may not rise
 abbrev pub stray_ready_call : Option RealView → Bool
@@ -158,38 +160,40 @@ stray_ready_call None = true
 abbrev pub about : Msg → Option ℕ
 about (Call k) = Some k.entity
 about (BaseCall k) = Some k.entity
-about (Hand r) = Some r.entity
+about (Hand r b) = Some r.entity
 about (Current e j g) = Some e
 about (GhostSet e beat c) = Some e
 about (GhostDrop e beat) = Some e
-about Tick = None
 about (Reap e) = Some e
 about (Update u) = Some u.entity
+about _ = None
 
 -- stray input at a cell: no case is for the message, or its conditions are not met
 abbrev pub is_stray : Here → Division → Slot → Msg → Bool
 is_stray h t s (Call k) = stray_call h k s.real s.next
-is_stray h t s (BaseCall k) = true
-is_stray h t s (Hand r) = stray_hand h t r s.real
-is_stray h t s (Current e j g) = true
+is_stray h t s (Hand r b) = stray_hand h t r s.real
 is_stray h t s (GhostSet e beat c) = stray_ghost_set h beat c
 is_stray h t s (GhostDrop e beat) = not (is_small beat)
 is_stray h t s Tick = false
 is_stray h t s (Reap e) = stray_reap s.real
-is_stray h t s (Update u) = true
+is_stray h t s (Bounds b) = false
+is_stray h t s _ = true
 
 -- what a message that is not stray does
-abbrev pub case_of : Here → Division → Slot → Msg → SlotStep
-case_of h t s (Call k) = call h t s k s.real
-case_of h t s (BaseCall k) = rests
-case_of h t s (Hand r) = hand_over_comes h s r
-case_of h t s (Current e j g) = rests
-case_of h t s (GhostSet e beat c) = ghost_set s beat c s.real
-case_of h t s (GhostDrop e beat) = ghost_drop s beat
-case_of h t s Tick = rests
-case_of h t s (Reap e) = reap s s.real
-case_of h t s (Update u) = rests
+abbrev pub case_of : Here → Boundaries → Slot → Msg → SlotStep
+case_of h b s (Call k) = call h b s k s.real
+case_of h b s (Hand r o) = hand_over_comes h s r
+case_of h b s (GhostSet e beat c) = ghost_set s beat c s.real
+case_of h b s (GhostDrop e beat) = ghost_drop s beat
+case_of h b s (Reap e) = reap s s.real
+case_of h b s _ = rests
 
 -- what a message does to the slot of its entity
-abbrev pub slot_steps : Here → Division → Slot → Msg → SlotStep
-slot_steps h t s m = unless_stray (is_stray h t s m) (case_of h t s m)
+abbrev pub slot_steps : Here → Boundaries → Slot → Msg → SlotStep
+slot_steps h b s m = unless_stray (is_stray h b.tree s m) (case_of h b s m)
+
+-- the boundaries that a message brings
+abbrev pub bounds_in : Msg → Option Boundaries
+bounds_in (Hand r b) = b
+bounds_in (Bounds b) = Some b
+bounds_in _ = None

@@ -1,29 +1,36 @@
 -- A cell and its step.
-use Rattle.std.specs.Prelude.{ℕ, Bool, true, false, not, ◌||◌, ◌==◌, is_some, List, [], ◌∷◌, ◌++◌, map, filter, find, Option, None, Some}
+use Rattle.std.specs.Prelude.{ℕ, Bool, true, false, not, nat_le, nat_lt, ◌&&◌, ◌||◌, ◌==◌, is_some, List, [], ◌∷◌, ◌++◌, map, filter, find}
+use Rattle.std.specs.Prelude.{Option, None, Some}
 use Rattle.std.specs.Prelude.{option_map}
 use Rattle.std.specs.Ordering.{nat_cmp}
 use Rattle.std.specs.FinMap as table
-use Rattle.seam_tree.specs.Division.{Division}
+use Rattle.seam_tree.specs.Division.{Division, cells_of}
 use Rattle.seam_ghosts.specs.declared.Ghost.{Ghost}
 use Rattle.seam_ghosts.specs.Book.{copied}
 use Rattle.seam_machine.specs.Views.{Stepped}
 use Rattle.seam_machine.specs.declared.machines.Input.{Input}
 use Rattle.seam_machine.specs.declared.machines.Input.TheVariants.{Task, From}
+use Rattle.seam_call.specs.declared.order.Boundaries.{Boundaries}
 use Rattle.seam_call.specs.declared.shown.GhostCopy.{GhostCopy}
+use Rattle.seam_call.specs.Boundaries.{number_in}
 use Rattle.seam_entity.specs.Reals.{RealView}
 use Rattle.seam_entity.specs.declared.message.Msg.{Msg}
-use Rattle.seam_node_steps.specs.Maps.{Map, set_at, number_of, has_any}
-use Rattle.seam_entity.specs.Here.{Here}
+use Rattle.seam_entity.specs.declared.message.Msg.TheVariants.{Hand, Tick}
+use Rattle.seam_node_steps.specs.Maps.{Map, set_at, number_of, has_any, with_entity}
+use Rattle.seam_entity.specs.Here.{Here, cell_count}
 use Rattle.seam_entity.specs.ReadyCalls.{has_ready}
 use Rattle.seam_node_steps.specs.Slots.{Slot, NextPlace, SlotStep, unless_stray}
-use Rattle.seam_node_steps.specs.CellCases.{about, slot_steps, survey_task, stray_survey, ready_call_task, stray_ready_call}
+use Rattle.seam_node_steps.specs.CellCases.{about, bounds_in, slot_steps, survey_task, stray_survey, ready_call_task, stray_ready_call}
+use Rattle.seam_node_steps.specs.CellCases.{stray_hand}
 use Rattle.seam_node_steps.specs.CellLooks.{Known, other_of_real, other_of_copy, look_task, stray_look}
 
--- a cell: its tree, its reals, next places and ghosts by entity, the entities whose reals are to be settled and those whose
+-- a cell: its tree, the number of that among those of the round, its reals, next places and ghosts by entity, the entities whose reals are
+-- to be settled and those whose
 -- witnesses are to look
 pub record CellView : Type 0 where
   pub here : Here
   pub tree : Division
+  pub number : ℕ
   pub reals : Map RealView
   pub nexts : Map NextPlace
   pub ghosts : Map (Ghost GhostCopy)
@@ -60,6 +67,36 @@ stepped c e t = record { state = unlisted_by t.unlisted (after_slot c e t.slot) 
 abbrev pub cell_rests : CellView → Stepped CellView Msg
 cell_rests c = record { state = c; sent = [] }
 
+-- ---- boundaries
+
+-- those that the cell goes by
+abbrev pub boundaries_of : CellView → Boundaries
+boundaries_of c = record { tree = c.tree; number = c.number }
+
+-- they are of this space, and newer than the cell's
+abbrev pub are_newer : CellView → Boundaries → Bool
+are_newer c b = nat_lt c.number b.number && (b.tree.size == c.here.settings.size && nat_le (cells_of b.tree) cell_count)
+
+-- newer bounds: the cell takes them, and all its reals are to settle by them, in rising number; older bounds: nothing changes
+abbrev pub renewed_if : Bool → CellView → Boundaries → CellView
+renewed_if true c b = record c { tree = b.tree; number = b.number; survey = table.keys c.reals }
+renewed_if false c b = c
+
+-- the cell by the boundaries that a message brings, if it brings any
+abbrev pub renewed : CellView → Option Boundaries → CellView
+renewed c None = c
+renewed c (Some b) = renewed_if (are_newer c b) c b
+
+-- the message is a real that comes, and was settled by older boundaries than the cell's
+abbrev pub comes_late : CellView → Msg → Bool
+comes_late c (Hand r b) = nat_lt (number_in b) c.number && not (stray_hand c.here c.tree r (table.get c.reals r.entity))
+comes_late c _ = false
+
+-- the entity is to settle
+abbrev pub listed_if : Bool → ℕ → Stepped CellView Msg → Stepped CellView Msg
+listed_if true e t = record { state = record t.state { survey = with_entity e t.state.survey }; sent = t.sent }
+listed_if false e t = t
+
 -- ---- what the cell knows
 
 abbrev pub known_real : Here → ℕ × RealView → Known
@@ -82,10 +119,10 @@ known_to c e = filter (is_of_another e) (table.entries (table.from_entries {R = 
 -- ---- tasks
 
 abbrev pub surveys : CellView → ℕ → Option RealView → SlotStep
-surveys c e r = unless_stray (stray_survey r) (survey_task c.here c.tree (slot_of c e) r)
+surveys c e r = unless_stray (stray_survey r) (survey_task c.here (boundaries_of c) (slot_of c e) r)
 
 abbrev pub calls_ready : CellView → ℕ → Option RealView → SlotStep
-calls_ready c e r = unless_stray (stray_ready_call r) (ready_call_task c.here c.tree (slot_of c e) r)
+calls_ready c e r = unless_stray (stray_ready_call r) (ready_call_task c.here (boundaries_of c) (slot_of c e) r)
 
 abbrev pub looks_around : CellView → ℕ → Option RealView → List Known → SlotStep
 looks_around c e r known = unless_stray (stray_look c.here r known) (look_task c.here (slot_of c e) r known)
@@ -125,14 +162,19 @@ witnesses c = map number_of (filter has_witness (table.entries c.reals))
 abbrev pub tick : CellView → CellView
 tick c = record c { looks = witnesses c }
 
-abbrev pub cell_hears : CellView → Msg → Option ℕ → Stepped CellView Msg
-cell_hears c m (Some e) = stepped c e (slot_steps c.here c.tree (slot_of c e) m)
-cell_hears c m None = cell_rests (tick c)
+abbrev pub ticked : CellView → Msg → CellView
+ticked c Tick = tick c
+ticked c _ = c
 
--- a cell's step
+-- what a message about an entity, or about all of them, does to the cell; a real that comes late is to settle
+abbrev pub cell_hears : CellView → Msg → Option ℕ → Stepped CellView Msg
+cell_hears c m (Some e) = listed_if (comes_late c m) e (stepped c e (slot_steps c.here (boundaries_of c) (slot_of c e) m))
+cell_hears c m None = cell_rests (ticked c m)
+
+-- a cell's step; boundaries that a message brings come first
 abbrev pub cell_steps : CellView → Input Msg → Stepped CellView Msg
 cell_steps c Task = cell_task c c.survey
-cell_steps c (From a m) = cell_hears c m (about m)
+cell_steps c (From a m) = cell_hears (renewed c (bounds_in m)) m (about m)
 
 -- the cell has a task: an entity is to settle, to execute a ready call, or to look
 abbrev pub cell_has_work : CellView → Bool

@@ -113,7 +113,7 @@ world_3 = with_cells (at_home made []) (idle two_cells 1) (base_16 [] (0, 0)) (b
 -- the move is executed, and the real handed over without a ghost
 unfoldable pub world_4 : World
 world_4 = with_cells left (idle two_cells 1) (base_16 [] (0, 0)) (base_17 (order.Cell hit_2 ∷ []) (0, 0))
-    ((17, 0, Call hit_1 ∷ []) ∷ (0, 1, Hand moved ∷ []) ∷ [])
+    ((17, 0, Call hit_1 ∷ []) ∷ (0, 1, Hand moved None ∷ []) ∷ [])
 
 unfoldable pub world_5 : World
 world_5 = with_cells left (away moved) (base_16 [] (0, 0)) (base_17 (order.Cell hit_2 ∷ []) (0, 0))
@@ -183,11 +183,12 @@ passing_5 = with_cells (at_home hit_at_home []) (idle two_cells 1) (base_16 [] (
 -- the real is handed over
 unfoldable pub passing_6 : World
 passing_6 = with_cells left (idle two_cells 1) (base_16 [] (0, 0)) (base_17 [] (0, 0))
-    ((17, 0, Call hit_2 ∷ []) ∷ (0, 1, Hand hit_and_moved ∷ []) ∷ [])
+    ((17, 0, Call hit_2 ∷ []) ∷ (0, 1, Hand hit_and_moved None ∷ []) ∷ [])
 
 -- the second hit is passed on after it
 unfoldable pub passing_7 : World
-passing_7 = with_cells left (idle two_cells 1) (base_16 [] (0, 0)) (base_17 [] (0, 0)) ((0, 1, Hand hit_and_moved ∷ Call hit_2 ∷ []) ∷ [])
+passing_7 = with_cells left (idle two_cells 1) (base_16 [] (0, 0)) (base_17 [] (0, 0))
+    ((0, 1, Hand hit_and_moved None ∷ Call hit_2 ∷ []) ∷ [])
 
 unfoldable pub passing_8 : World
 passing_8 = with_cells left (away hit_and_moved) (base_16 [] (0, 0)) (base_17 [] (0, 0))

@@ -17,7 +17,7 @@ held_at e (Cell c) = one_if_real (table.get c.reals e)
 held_at e (Base b) = 0
 
 abbrev pub carried : ℕ → ℕ → Msg → ℕ
-carried e to (Hand r) = if r.entity == e then 1 else 0
+carried e to (Hand r b) = if r.entity == e then 1 else 0
 carried e to m = 0
 
 -- in how many cells the entity's real is, and how many Hands carry it

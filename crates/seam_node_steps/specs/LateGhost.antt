@@ -123,17 +123,17 @@ world_3 = with_cells (at_home surveyed []) (idle three_cells 1) (idle three_cell
 -- first move: a set with beat 2 to cell 2, an own copy, and the hand-over to cell 1
 unfoldable pub world_4 : World
 world_4 = with_cells (left (ghost 2 (Some (copy_at 1 5100 4900)))) (idle three_cells 1) (idle three_cells 2) (base_16 [] (0, 0))
-    (base_17 [] (0, 0) new_parts) ((0, 1, set_1 ∷ Hand moved ∷ []) ∷ (0, 2, set_1 ∷ set_2 ∷ []) ∷ (16, 0, Call move_2 ∷ []) ∷ [])
+    (base_17 [] (0, 0) new_parts) ((0, 1, set_1 ∷ Hand moved None ∷ []) ∷ (0, 2, set_1 ∷ set_2 ∷ []) ∷ (16, 0, Call move_2 ∷ []) ∷ [])
 
 -- the second move is passed on
 unfoldable pub world_5 : World
 world_5 = with_cells (left (ghost 2 (Some (copy_at 1 5100 4900)))) (idle three_cells 1) (idle three_cells 2) (base_16 [] (0, 0))
-    (base_17 [] (0, 0) new_parts) ((0, 1, set_1 ∷ Hand moved ∷ Call move_2 ∷ []) ∷ (0, 2, set_1 ∷ set_2 ∷ []) ∷ [])
+    (base_17 [] (0, 0) new_parts) ((0, 1, set_1 ∷ Hand moved None ∷ Call move_2 ∷ []) ∷ (0, 2, set_1 ∷ set_2 ∷ []) ∷ [])
 
 -- a copy in cell 1
 unfoldable pub world_6 : World
 world_6 = with_cells (left (ghost 2 (Some (copy_at 1 5100 4900)))) (heard 1 (ghost 1 (Some (copy_at 0 4900 4900)))) (idle three_cells 2)
-    (base_16 [] (0, 0)) (base_17 [] (0, 0) new_parts) ((0, 1, Hand moved ∷ Call move_2 ∷ []) ∷ (0, 2, set_1 ∷ set_2 ∷ []) ∷ [])
+    (base_16 [] (0, 0)) (base_17 [] (0, 0) new_parts) ((0, 1, Hand moved None ∷ Call move_2 ∷ []) ∷ (0, 2, set_1 ∷ set_2 ∷ []) ∷ [])
 
 -- the real comes there, and the copy goes
 unfoldable pub world_7 : World

@@ -9,6 +9,7 @@ pub mod BaseCases
 pub mod Nodes
 pub mod Loads
 pub mod Holders
+pub mod Plain
 pub mod Valid
 pub mod Rows
 pub mod EarlyCall

@@ -38,6 +38,7 @@ empty_cell defs settings k = Cell
     (record {
       here = here_of defs settings k;
       tree = one_cell settings.size;
+      number = 0;
       reals = table.empty;
       nexts = table.empty;
       ghosts = table.empty;
@@ -104,9 +105,15 @@ attached e (Base b) = Base (record b { parts = set_at b.parts e (option_map (wit
 
 -- ---- load, point 3: the round begins
 
--- a cell takes the tree, forgets its next places, empties its reals' lists of done calls, and is to settle all its reals
+-- a cell takes the tree, whose number is 0, forgets its next places, empties its reals' lists of done calls, and is to settle all its reals
 abbrev pub cell_begins : Division → CellView → CellView
-cell_begins t c = record c { tree = t; nexts = table.empty; reals = each_value real_begins c.reals; survey = table.keys c.reals }
+cell_begins t c = record c {
+  tree = t;
+  number = 0;
+  nexts = table.empty;
+  reals = each_value real_begins c.reals;
+  survey = table.keys c.reals;
+}
 
 abbrev pub proxy_begins : ProxyView → ProxyView
 proxy_begins x = record x { lines = [] }

@@ -12,6 +12,7 @@ use Rattle.seam_order.specs.Held.{OrderView}
 use Rattle.seam_tree.specs.Cells.{Cells}
 use Rattle.seam_call.specs.declared.sender.Sender.TheVariants as sender
 use Rattle.seam_call.specs.declared.call.Call.{Call}
+use Rattle.seam_call.specs.declared.order.Boundaries.{Boundaries}
 use Rattle.seam_call.specs.declared.order.Order.{Order}
 use Rattle.seam_call.specs.declared.shown.GhostCopy.{GhostCopy}
 use Rattle.seam_call.specs.declared.shown.Shown.{Shown}
@@ -27,6 +28,7 @@ use Rattle.seam_node_steps.specs.Cells.{CellView}
 use Rattle.seam_node_steps.specs.Bases.{BaseView, PartView, ProxyView}
 use Rattle.seam_node_steps.specs.Rows.{at, call, here, cell, real, order, one, no}
 use Rattle.seam_node_steps.specs.LateGhost.{three_cells}
+use Rattle.seam_node_steps.specs.Loads.{one_cell}
 
 -- cell k of the three
 abbrev pub cell_of : ℕ → Map RealView → Map NextPlace → Map (Ghost GhostCopy) → List ℕ → List ℕ → CellView
@@ -69,6 +71,10 @@ has_first k = order 1 ((1, k) ∷ [])
 -- the orders of base sender 1 alone
 abbrev pub of_first : OrderView Call → Orders
 of_first o = one o
+
+-- the boundaries of one cell in the space of the three, with that number
+abbrev pub one_with : ℕ → Boundaries
+one_with n = record { tree = one_cell 10000; number = n }
 
 -- ---- base nodes
 

@@ -23,11 +23,13 @@ pub use Rattle.seam_defs.specs.declared.types.TypeDef.{TypeDef}
 pub use Rattle.seam_tree.specs.Cells.{Cells}
 pub use Rattle.seam_tree.specs.Division.{Division, IsInSpace, IsTree, area, cells_of, cut_after, leaf_at}
 pub use Rattle.seam_tree.specs.declared.area_table.TheConstants.{MOST_CELLS}
+pub use Rattle.seam_call.specs.Boundaries.{at_start, brought, number_in, unless_first}
 pub use Rattle.seam_call.specs.Calls.{is_for, is_from, same_part}
 pub use Rattle.seam_call.specs.Senders.{IsSender, rank_of, same_sender}
 pub use Rattle.seam_call.specs.declared.call.Call.{Call}
 pub use Rattle.seam_call.specs.declared.create.Create.{Create}
 pub use Rattle.seam_call.specs.declared.order.Batch.{Batch}
+pub use Rattle.seam_call.specs.declared.order.Boundaries.{Boundaries}
 pub use Rattle.seam_call.specs.declared.order.Order.{Order}
 pub use Rattle.seam_call.specs.declared.sender.Sender.{Sender}
 pub use Rattle.seam_call.specs.declared.shown.ClientText.{ClientText}
@@ -68,8 +70,9 @@ pub use Rattle.seam_entity.specs.Reals.{RealView, WitnessView}
 pub use Rattle.seam_entity.specs.WitnessLooks.{new_witness, told_after}
 pub use Rattle.seam_entity.specs.Witnesses.{witness_of}
 pub use Rattle.seam_entity.specs.declared.message.Msg.{Msg}
-pub use Rattle.seam_entity.specs.declared.message.Msg.TheVariants.{BaseCall, Current, GhostDrop, GhostSet, Hand, Reap, Tick, Update}
-pub use Rattle.seam_node_steps.specs.BaseCases.{after_ready, after_showing, base_has_work, base_order, base_steps, base_task, case_of}
+pub use Rattle.seam_entity.specs.declared.message.Msg.TheVariants.{BaseCall, Bounds, Current, GhostDrop, GhostSet, Hand, Reap, Tick, Update}
+pub use Rattle.seam_node_steps.specs.BaseCases.{after_ready, after_showing, base_has_work, base_order, base_steps, base_task, bounds_to}
+pub use Rattle.seam_node_steps.specs.BaseCases.{case_of}
 pub use Rattle.seam_node_steps.specs.BaseCases.{client_is_ready, current, fits_base_part, is_base_node_of, may_show, newer_route, offered}
 pub use Rattle.seam_node_steps.specs.BaseCases.{offered_update, on_route, order_of_node, part_called, part_is_ready, proxy_is_ready}
 pub use Rattle.seam_node_steps.specs.BaseCases.{proxy_task, ready_part, ready_proxy, sends_none, shows_next, stray_base_call, stray_current}
@@ -77,14 +80,16 @@ pub use Rattle.seam_node_steps.specs.BaseCases.{stray_order, stray_proxy_update,
 pub use Rattle.seam_node_steps.specs.BaseCases.{updated_proxy, with_deed, with_order}
 pub use Rattle.seam_node_steps.specs.Bases.{BaseView, PartView, ProxyView, RouteView, base_text, line_if, shown_to_client, with_line}
 pub use Rattle.seam_node_steps.specs.Bases.{with_part}
-pub use Rattle.seam_node_steps.specs.CellCases.{about, call_next_place, current_to, currents, drop_at, drop_if, drops, executes_ready}
+pub use Rattle.seam_node_steps.specs.CellCases.{about, bounds_in, call_next_place, current_to, currents, drop_at, drop_if, drops}
+pub use Rattle.seam_node_steps.specs.CellCases.{executes_ready}
 pub use Rattle.seam_node_steps.specs.CellCases.{ghost_drop, ghost_set, hand_over_comes, is_cell_if, is_stray, may_come, ready_call_task}
 pub use Rattle.seam_node_steps.specs.CellCases.{ready_in, reap, slot_steps, stray_call, stray_ghost_set, stray_hand, stray_ready_call}
 pub use Rattle.seam_node_steps.specs.CellCases.{stray_reap, stray_survey, survey_task}
 pub use Rattle.seam_node_steps.specs.CellLooks.{Known, after_looking, all_shown, known_of, look_by, look_task, looks_of, looks_with}
 pub use Rattle.seam_node_steps.specs.CellLooks.{numbered, other_of_copy, other_of_real, own_due, seen_as, shown_for, shown_of}
 pub use Rattle.seam_node_steps.specs.CellLooks.{shown_of_known, stray_look, stray_look_by}
-pub use Rattle.seam_node_steps.specs.Cells.{CellView, after_slot, calls_ready, cell_has_work, cell_hears, cell_rests, cell_steps, cell_task}
+pub use Rattle.seam_node_steps.specs.Cells.{CellView, after_slot, are_newer, boundaries_of, calls_ready, cell_has_work, cell_hears}
+pub use Rattle.seam_node_steps.specs.Cells.{cell_rests, cell_steps, cell_task, comes_late, listed_if, renewed, renewed_if, ticked}
 pub use Rattle.seam_node_steps.specs.Cells.{has_witness, is_another, is_of_another, known_copy, known_in, known_real, known_to, look_next}
 pub use Rattle.seam_node_steps.specs.Cells.{looks_around, ready_entity, ready_next, real_is_ready, slot_of, stepped, surveys, tick}
 pub use Rattle.seam_node_steps.specs.Cells.{unlisted_by, with_slot, without, witnesses}
@@ -97,10 +102,11 @@ pub use Rattle.seam_node_steps.specs.Loads.{attached, base_round, cell_begins, c
 pub use Rattle.seam_node_steps.specs.Loads.{loaded, look_loaded, new_part, new_proxy, one_cell, opened, order_if, ordered_at, part_begins}
 pub use Rattle.seam_node_steps.specs.Loads.{part_if, proxy_begins, real_if, reap_ordered_at, reaps_loaded, with_nodes, with_orders}
 pub use Rattle.seam_node_steps.specs.Loads.{with_proxy, with_reap, with_route, with_witness}
-pub use Rattle.seam_node_steps.specs.Maps.{Map, each_value, has_any, number_of, set_at, with_value}
+pub use Rattle.seam_node_steps.specs.Maps.{Map, each_value, has_any, number_of, set_at, with_entity, with_value}
 pub use Rattle.seam_node_steps.specs.Nodes.{NodeView, World, node_has_work, node_peers, node_steps}
 pub use Rattle.seam_node_steps.specs.Nodes.NodeView.{Base, Cell}
 pub use Rattle.seam_node_steps.specs.OneStep.{has_first, of_first, promote, proxy, ranked}
+pub use Rattle.seam_node_steps.specs.Plain.{BringsNone, IsPlain, IsPlainInput, TellsNone, bounds_ordered}
 pub use Rattle.seam_node_steps.specs.Rows.{IsRow, Way, at, avatar_at, call, cell, copy_at, copy_in_cell, done_in_cell, empty_world, ghost}
 pub use Rattle.seam_node_steps.specs.Rows.{here, hit, idle, lines_of_client, mail, next_place, no, one, order, orders, real, task, world}
 pub use Rattle.seam_node_steps.specs.Settle.{beat_after, copy_if, ghost_message, ghost_messages, goes, gone_to, haunts_at, home_after}

@@ -129,7 +129,7 @@ empty_world = opened builtin standard
 
 abbrev pub cell : Division → ℕ → Map RealView → Map NextPlace → Map (Ghost GhostCopy) → List ℕ → List ℕ → CellView
 cell t k reals nexts ghosts survey looks =
-    record { here = here k; tree = t; reals = reals; nexts = nexts; ghosts = ghosts; survey = survey; looks = looks }
+    record { here = here k; tree = t; number = 0; reals = reals; nexts = nexts; ghosts = ghosts; survey = survey; looks = looks }
 
 abbrev pub idle : Division → ℕ → NodeView
 idle t k = Cell (cell t k no no no [] [])

@@ -6,7 +6,9 @@ use Rattle.seam_tree.specs.Division.{Division}
 use Rattle.seam_tree.specs.Cells.{Cells}
 use Rattle.seam_haunt.specs.Haunts.{haunts_of}
 use Rattle.seam_haunt.specs.Places.{home_at}
+use Rattle.seam_call.specs.declared.order.Boundaries.{Boundaries}
 use Rattle.seam_call.specs.declared.shown.GhostCopy.{GhostCopy}
+use Rattle.seam_call.specs.Boundaries.{brought}
 use Rattle.seam_entity.specs.Reals.{RealView}
 use Rattle.seam_entity.specs.declared.message.Msg.{Msg}
 use Rattle.seam_entity.specs.declared.message.Msg.TheVariants.{Hand, GhostSet, GhostDrop}
@@ -67,31 +69,31 @@ stays h t s r changed =
     stayed s r haunts (ghost_messages h r h.me haunts changed)
 
 -- ---- point 3: it goes to cell j; beat and generation rise, this cell counts as a former haunt, and its own book takes the
--- copy or drops it; the Hand comes last
+-- copy or drops it; the Hand comes last, with the cell's boundaries
 
 abbrev pub copy_if : Bool → GhostCopy → Option GhostCopy
 copy_if true c = Some c
 copy_if false c = None
 
-abbrev pub gone_to : Here → Slot → RealView → ℕ → Cells → List (ℕ × Msg) → SlotStep
-gone_to h s r j haunts sent = record {
+abbrev pub gone_to : Here → Boundaries → Slot → RealView → ℕ → Cells → List (ℕ × Msg) → SlotStep
+gone_to h b s r j haunts sent = record {
   slot = Some (heard (record s { real = None; next = Some (record { cell = j; generation = r.generation + 1 }) }) (r.beat + 1)
       (copy_if (set.contains haunts h.me) (copy_of_real h r)));
   unlisted = true;
-  sent = sent ++ (j, Hand (settled_to r haunts (r.beat + 1) (r.generation + 1))) ∷ [];
+  sent = sent ++ (j, Hand (settled_to r haunts (r.beat + 1) (r.generation + 1)) (brought b)) ∷ [];
 }
 
-abbrev pub goes : Here → Division → Slot → RealView → Bool → ℕ → SlotStep
-goes h t s r changed j =
-    let haunts : Cells = haunts_at h t r.state.pos j (set.insert r.haunts h.me) in
-    gone_to h s r j haunts (ghost_messages h r j haunts changed)
+abbrev pub goes : Here → Boundaries → Slot → RealView → Bool → ℕ → SlotStep
+goes h b s r changed j =
+    let haunts : Cells = haunts_at h b.tree r.state.pos j (set.insert r.haunts h.me) in
+    gone_to h b s r j haunts (ghost_messages h r j haunts changed)
 
 -- ---- all of it
 
-abbrev pub settled_by : Bool → Here → Division → Slot → RealView → Bool → ℕ → SlotStep
-settled_by true h t s r changed j = stays h t s r changed
-settled_by false h t s r changed j = goes h t s r changed j
+abbrev pub settled_by : Bool → Here → Boundaries → Slot → RealView → Bool → ℕ → SlotStep
+settled_by true h b s r changed j = stays h b.tree s r changed
+settled_by false h b s r changed j = goes h b s r changed j
 
--- the real, which is in this cell, settles; `changed` says that others may see a change of it
-abbrev pub settled : Here → Division → Slot → RealView → Bool → SlotStep
-settled h t s r changed = let j = home_after h t r.state.pos in settled_by (j == h.me) h t s r changed j
+-- the real, which is in this cell, settles by its boundaries; `changed` says that others may see a change of it
+abbrev pub settled : Here → Boundaries → Slot → RealView → Bool → SlotStep
+settled h b s r changed = let j = home_after h b.tree r.state.pos in settled_by (j == h.me) h b s r changed j

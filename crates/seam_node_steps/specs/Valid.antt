@@ -1,7 +1,7 @@
 -- What is true of every node.
 use Rattle.std.specs.Prelude.{◌≡◌, ℕ, ◌<◌, ◌≤◌, Some}
 use Rattle.std.specs.FinMap as table
-use Rattle.seam_tree.specs.Division.{IsTree}
+use Rattle.seam_tree.specs.Division.{cells_of}
 use Rattle.seam_entity.specs.Reals.{RealView}
 use Rattle.seam_node_steps.specs.Maps.{Map}
 use Rattle.seam_entity.specs.Here.{cell_count}
@@ -21,12 +21,12 @@ RoutesAreCells m = (e : ℕ) (r : RouteView) → table.get m e ≡ Some r → r.
 abbrev pub AreUnderTheirEntities : Map RealView → Type 0
 AreUnderTheirEntities m = (e : ℕ) (r : RealView) → table.get m e ≡ Some r → r.entity ≡ e
 
--- a cell's number is one of a cell, there is a base node, its tree is one, next places are cells, and reals are under their
--- entities' numbers
+-- a cell's number is one of a cell, there is a base node, its tree has at most as many cells as there may be, next places are cells, and
+-- reals are under their entities' numbers
 pub record IsCell (c : CellView) : Type 0 where
   pub me_in : c.here.me < cell_count
   pub bases : 1 ≤ c.here.settings.bases
-  pub tree : IsTree c.tree
+  pub cells : cells_of c.tree ≤ cell_count
   pub nexts : NextsAreCells c.nexts
   pub keys : AreUnderTheirEntities c.reals
 

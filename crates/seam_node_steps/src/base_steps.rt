@@ -1,17 +1,18 @@
 //! Single steps of a base node, exactly.
 
 ghost use Rattle.std.specs.Prelude.{◌≡◌, [], ◌∷◌, None};
-ghost use Rattle.seam_node_steps.specs.Prelude.{Task, From, BaseCall, Current, Tick, Reap, Update, Leave, base_steps, sends_none, call};
+ghost use Rattle.seam_node_steps.specs.Prelude.{Task, From, BaseCall, Current, Tick, Bounds, Reap, Update, Leave, base_steps};
+ghost use Rattle.seam_node_steps.specs.Prelude.{sends_none, call};
 ghost use Rattle.seam_node_steps.specs.Prelude.{hit, no, one, orders, order as in_order, of_first, has_first, promote, proxy, ranked};
 ghost use Rattle.seam_entity.specs.declared.message.Msg.TheVariants.{Call};
 ghost use Rattle.seam_call.specs.declared.order.Order.TheVariants as order;
 ghost use Rattle.seam_call.specs.declared.shown.ClientText.TheVariants as text;
 ghost use Rattle.seam_node_steps.specs.OneStep.{base_of, base_ordered, base_with, new_client, without_client, both};
-ghost use Rattle.seam_node_steps.specs.OneStep.{pay, part_of, line, update};
+ghost use Rattle.seam_node_steps.specs.OneStep.{one_with, pay, part_of, line, update};
 
-/// Cell order, base order, tick order and reap order: the first order is executed. A call goes to the route's cell, or to the entity's
-/// base node; a tick goes to every cell of the tree, in rising number; a reap goes to the route's cell, and the base part goes. A stray
-/// order stays first.
+/// Cell order, base order, tick order, bounds order and reap order: the first order is executed. A call goes to the route's cell, or to the
+/// entity's base node; a tick and boundaries go to every cell of the tree, in rising number; a reap goes to the route's cell, and the base
+/// part goes. A stray order stays first.
 pub fn orders_of_a_base_node()
     ensures cell { base_steps (base_ordered (order.Cell (call 1 1 (hit 1)) ∷ order.Tick ∷ [])
         new_client) Task ≡ record {
@@ -27,6 +28,12 @@ pub fn orders_of_a_base_node()
         ≡ record {
           state = base_of 16 [] (1, 2) no;
           sent = (0, Tick) ∷ (1, Tick) ∷ (2, Tick) ∷
+              [];
+        } }
+    ensures bounds { base_steps (base_of 16 (order.Bounds (one_with 1) ∷ []) (1, 2) no) Task
+        ≡ record {
+          state = base_of 16 [] (1, 2) no;
+          sent = (0, Bounds (one_with 1)) ∷ (1, Bounds (one_with 1)) ∷ (2, Bounds (one_with 1)) ∷
               [];
         } }
     ensures reap { base_steps (base_ordered (order.Reap 1 ∷ []) new_client) Task

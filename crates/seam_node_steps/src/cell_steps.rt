@@ -1,12 +1,15 @@
 //! Single steps of a cell, exactly: what each leaves and what it sends, in order.
 
 ghost use Rattle.std.specs.Prelude.{◌≡◌, ◌-◌, ◌^◌, [], ◌∷◌, None, Some};
+ghost use Rattle.std.specs.FinMap as table;
 ghost use Rattle.std.specs.FinSet as set;
-ghost use Rattle.seam_node_steps.specs.Prelude.{Task, From, Move, BaseCall, Hand, Current, GhostSet, GhostDrop, Tick, Reap, cell_steps};
+ghost use Rattle.seam_node_steps.specs.Prelude.{Task, From, Move, BaseCall, Hand, Current, GhostSet, GhostDrop, Tick, Reap, Bounds};
+ghost use Rattle.seam_node_steps.specs.Prelude.{cell_steps, one_cell};
 ghost use Rattle.seam_node_steps.specs.Prelude.{cell_rests, at, call, hit, copy_at, no, one, next_place, ghost, order, orders, real};
 ghost use Rattle.seam_node_steps.specs.Prelude.{has_first, of_first, promote};
 ghost use Rattle.seam_entity.specs.declared.message.Msg.TheVariants.{Call};
 ghost use Rattle.seam_node_steps.specs.OneStep.{cell_of, inland, home, home_listing, both, cells, second, far, note};
+ghost use Rattle.seam_node_steps.specs.OneStep.{one_with};
 
 /// Survey task: the first entity of the list is taken and settles; the cells that become haunts are told in rising number, under
 /// the next beat. Where nothing is sent the beat stays, and where the real is not here the entry alone goes.
@@ -51,7 +54,7 @@ pub fn calls_of_a_real()
           sent = (2, GhostSet 1 2 (copy_at 1 5410 4700)) ∷ (
             1,
             Hand (real 100 1 1 (at 5410 4700) (of_first (order 2 [])) (far ∷ [])
-                (cells (0 ∷ 2 ∷ [])) 2 1),
+                (cells (0 ∷ 2 ∷ [])) 2 1) None,
           ) ∷ [];
         } }
     ensures within_hysteresis { cell_steps
@@ -96,7 +99,7 @@ pub fn ready_calls()
             1,
             Hand (real 100 1 1 (at 6000 100) (orders (order 2 []) (has_first (call 2 1 (hit 1))))
                 (call 1 1 (Move (at 6000 100)) ∷ [])
-                set.empty 2 1),
+                set.empty 2 1) None,
           ) ∷ [];
         } }
     ensures told { cell_steps (home
@@ -147,7 +150,7 @@ pub fn hand_overs()
     ensures comes_back { cell_steps
         (cell_of 0 no (one (next_place 1 1)) (one (ghost 2 (Some (copy_at 1 5 5)))) (1 ∷ 2 ∷ [])
         (2 ∷ 1 ∷ []))
-        (From 1 (Hand (real 100 3 3 (at 4990 1000) no [] (cells (1 ∷ [])) 3 2)))
+        (From 1 (Hand (real 100 3 3 (at 4990 1000) no [] (cells (1 ∷ [])) 3 2) None))
         ≡ record {
           state = cell_of 0 (one (real 100 3 3 (at 4990 1000) no [] (cells (1 ∷ [])) 3 2)) no
               (one (ghost 3 None)) (1 ∷ 2 ∷ [])
@@ -155,24 +158,61 @@ pub fn hand_overs()
           sent = (16, Current 1 0 2) ∷ (17, Current 1 0 2) ∷ [];
         } }
     ensures greater_beat_stays { cell_steps (cell_of 0 no no (one (ghost 4 None)) [] [])
-        (From 1 (Hand (real 100 3 3 (at 4990 1000) no [] (cells (1 ∷ [])) 3 2)))
+        (From 1 (Hand (real 100 3 3 (at 4990 1000) no [] (cells (1 ∷ [])) 3 2) None))
         ≡ record {
           state = cell_of 0 (one (real 100 3 3 (at 4990 1000) no [] (cells (1 ∷ [])) 3 2)) no
               (one (ghost 4 None)) [] [];
           sent = (16, Current 1 0 2) ∷ (17, Current 1 0 2) ∷ [];
         } }
     ensures real_is_here { cell_steps (home inland) (From 1
-        (Hand (real 100 3 3 (at 4990 1000) no [] (cells (1 ∷ [])) 3 2)))
+        (Hand (real 100 3 3 (at 4990 1000) no [] (cells (1 ∷ [])) 3 2) None))
         ≡ cell_rests (home inland) }
     ensures cell_outside_tree { cell_steps (cell_of 3 no no no [] [])
-        (From 1 (Hand (real 100 3 3 (at 4990 1000) no [] (cells (1 ∷ [])) 3 2)))
+        (From 1 (Hand (real 100 3 3 (at 4990 1000) no [] (cells (1 ∷ [])) 3 2) None))
         ≡ cell_rests (cell_of 3 no no no [] []) }
     ensures haunt_outside_tree { cell_steps (cell_of 0 no no no [] [])
-        (From 1 (Hand (real 100 3 3 (at 4990 1000) no [] (cells (3 ∷ [])) 3 2)))
+        (From 1 (Hand (real 100 3 3 (at 4990 1000) no [] (cells (3 ∷ [])) 3 2) None))
         ≡ cell_rests (cell_of 0 no no no [] []) }
     ensures outside_space { cell_steps (cell_of 0 no no no [] [])
-        (From 1 (Hand (real 100 3 3 (at 10000 1000) no [] set.empty 3 2)))
+        (From 1 (Hand (real 100 3 3 (at 10000 1000) no [] set.empty 3 2) None))
         ≡ cell_rests (cell_of 0 no no no [] []) }
+{}
+
+/// Newer bounds: the cell goes by them, and all its reals are to settle, in rising number. Older ones, those that it has, and those of
+/// another space change nothing. A hand-over brings the boundaries of its sender: the cell goes by newer ones before the real comes, and
+/// where they are older ones the real is to settle, too.
+pub fn boundaries_that_come()
+    ensures newer { cell_steps (cell_of 0 (both inland (second inland)) no no [] (1 ∷ []))
+        (From 16 (Bounds (one_with 1)))
+        ≡ cell_rests (record (cell_of 0 (both inland (second inland)) no no (1 ∷ 2 ∷ []) (1 ∷ [])) {
+          tree = one_cell 10000;
+          number = 1;
+        }) }
+    ensures older { cell_steps (record (home inland) { number = 2 })
+        (From 16 (Bounds (one_with 1))) ≡ cell_rests (record (home inland) { number = 2 }) }
+    ensures the_same { cell_steps (record (home inland) { number = 2 })
+        (From 16 (Bounds (one_with 2))) ≡ cell_rests (record (home inland) { number = 2 }) }
+    ensures of_another_space { cell_steps (home inland)
+        (From 16 (Bounds (record { tree = one_cell 5000; number = 1 })))
+        ≡ cell_rests (home inland) }
+    ensures hand_newer { cell_steps (cell_of 0 (table.insert table.empty 2 (second inland)) no no
+        [] [])
+        (From 1 (Hand (real 100 3 3 (at 1000 1000) no [] set.empty 3 2) (Some (one_with 1))))
+        ≡ record {
+          state = record (cell_of 0 (both (real 100 3 3 (at 1000 1000) no [] set.empty 3 2)
+              (second inland)) no (one (ghost 3 None)) (2 ∷ []) []) {
+                tree = one_cell 10000;
+                number = 1;
+              };
+          sent = (16, Current 1 0 2) ∷ (17, Current 1 0 2) ∷ [];
+        } }
+    ensures hand_older { cell_steps (record (cell_of 0 no no no (2 ∷ []) []) { number = 1 })
+        (From 1 (Hand (real 100 3 3 (at 1000 1000) no [] set.empty 3 2) None))
+        ≡ record {
+          state = record (cell_of 0 (one (real 100 3 3 (at 1000 1000) no [] set.empty 3 2)) no
+              (one (ghost 3 None)) (1 ∷ 2 ∷ []) []) { number = 1 };
+          sent = (16, Current 1 0 2) ∷ (17, Current 1 0 2) ∷ [];
+        } }
 {}
 
 /// Ghost set and ghost drop: a message is ignored unless its beat is greater than any heard before. A set where the real is changes

@@ -2,7 +2,7 @@
 
 ghost use Rattle.std.specs.Prelude.{◌≡◌, ℕ, Bool, true, cond, List, ◌∷◌};
 ghost use Rattle.std.specs.Ordering.{nat_cmp, eq_by_cmp};
-ghost use Rattle.seam_node_steps.specs.Prelude.{Division, AllBelow, Input, From, Order, Msg, Here, Slot, SlotStep, rests, slot_after};
+ghost use Rattle.seam_node_steps.specs.Prelude.{Boundaries, AllBelow, Input, From, Order, Msg, Here, Slot, SlotStep, rests, slot_after};
 ghost use Rattle.seam_node_steps.specs.Prelude.{is_stray, slot_steps, CellView, slot_of, with_slot, stepped, BaseView, stray_order};
 ghost use Rattle.seam_node_steps.specs.Prelude.{base_steps, base_task, sends_none, NodeView, node_steps, node_peers, IsNode};
 ghost use Rattle.seam_node_steps.specs.BaseCases.{is_stray as is_stray_at_base};
@@ -20,8 +20,8 @@ pub fn steps_stay_in_the_net()
 /// At stray input nothing changes and nothing is sent.
 #[tactic(auto, using(crate::proofs::Stray::stray_laws))]
 pub fn stray_input_changes_nothing()
-    ensures cell { (h : Here) (t : Division) (s : Slot) (m : Msg) → is_stray h t s m ≡ true →
-        slot_steps h t s m ≡ rests }
+    ensures cell { (h : Here) (b : Boundaries) (s : Slot) (m : Msg) → is_stray h b.tree s m
+        ≡ true → slot_steps h b s m ≡ rests }
     ensures base { (b : BaseView) (a : ℕ) (m : Msg) → is_stray_at_base b m ≡ true →
         base_steps b (From a m) ≡ sends_none b }
     ensures order { (b : BaseView) (o : Order) (os : List Order) → stray_order b o ≡ true →

@@ -14,7 +14,7 @@ fn carries(message: &Msg, e: u32) -> bool
     ensures { (to : ℕ) → carried e to message.now ≡ if result then 1 else 0 }
 {
     match message {
-        Msg::Hand(parcel) => parcel.real.entity() == e,
+        Msg::Hand(parcel, _) => parcel.real.entity() == e,
         Msg::Call(_) => false,
         Msg::BaseCall(_) => false,
         Msg::Current(_, _, _) => false,
@@ -23,6 +23,7 @@ fn carries(message: &Msg, e: u32) -> bool
         Msg::Tick => false,
         Msg::Reap(_) => false,
         Msg::Update(_) => false,
+        Msg::Bounds(_) => false,
     }
 }
 

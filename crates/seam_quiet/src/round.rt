@@ -45,7 +45,7 @@ fn take_events<G: Gate + Sync, R: Threads + Wait + Sync>(
     if net.is_quiet() || workers.are_one() {
         return Ok((net, events));
     }
-    let (net, mut theirs) = workers.run(rt, alloc, net)?;
+    let (net, mut theirs) = workers.run(rt, net)?;
     events.append(&mut theirs)?;
     Ok((net, events))
 }
@@ -198,7 +198,7 @@ fn end_phases<G: Gate + Sync, R: Threads + Wait + Sync>(
         destroys,
     } = called;
     let (world, reaps) = run_phase(rt, alloc, world.load_reaps(destroys.as_slice())?, workers)?;
-    let (world, looks) = run_phase(rt, alloc, world.load_look()?, &workers.at_looks())?;
+    let (world, looks) = run_phase(rt, alloc, world.load_look()?, &workers.at_looks(alloc))?;
     let journal = Journal {
         calls: events,
         reaps,

@@ -24,12 +24,15 @@ use std::marker::Model;
 
 // The width of the strips of x in which the positions are ordered, and of the rows of z in each. An entity that moves within its row
 // of a strip keeps its key.
-const STRIP_WIDTH: u64 = 256;
+const STRIP_WIDTH: u64 = 512;
 
-const ROW_WIDTH: u64 = 256;
+const ROW_WIDTH: u64 = 512;
 
 // Where one in so many is near, a walk over all in rising number is quicker than to sort those that are.
 const MANY: usize = 4;
+
+// There is room from the start for twice as many as are expected, and for so many more.
+const SPARE: usize = 8;
 
 /// Where an entity is, and its version there.
 #[derive(Clone, Copy, Debug, PartialEq, Eq)]
@@ -53,12 +56,14 @@ struct Spot {
     rank: usize,
 }
 
-// What is looked for: locations at distance at most `d` from `p`, as long as they are no more than `most`.
+// What is looked for: locations at distance at most `d` from `p`, as long as they are no more than `most`. There is room for so many
+// from the start.
 #[derive(Clone, Copy)]
 struct Search {
     p: Pos,
     d: u32,
     most: usize,
+    room: usize,
 }
 
 /// Entities with their locations. Contracts see the location of each entity that was put.
@@ -181,7 +186,9 @@ impl RangeList {
         if self.locations.len() as u64 <= strips || expected > most {
             return self.near_by_entity(p, d);
         }
-        let Some(mut found) = self.near_by_strip(Search { p, d, most })? else {
+        let room = most.min(2 * expected + SPARE);
+        let search = Search { p, d, most, room };
+        let Some(mut found) = self.near_by_strip(search)? else {
             return self.near_by_entity(p, d);
         };
         found.sort_unstable_by_key(|(e, _)| *e);
@@ -209,7 +216,7 @@ impl RangeList {
             count_of q v.items ≡ one_if (is_within search.p search.d) (map.get self.now q))) }
         ensures locations { IfOk result (λ o. IfSome o (λ v. AreLocated self.now v.items)) }
     {
-        let mut found = Vec::new(self.alloc);
+        let mut found = Vec::with_capacity(self.alloc, search.room)?;
         for strip in strip_from(search.p, search.d)..strip_after(search.p, search.d) {
             if !self.push_near(strip, search, &mut found)? {
                 return Ok(None);
@@ -260,6 +267,8 @@ fn push_run(
 }
 
 // Appends the near entities of the bucket with these keys, unless there are too many with them; it answers whether it did.
+// Not inlined, so that all that its loop needs is in registers.
+#[inline(never)]
 fn push_bucket(
     spots: &Slab<Spot>,
     keys: &[usize],

@@ -1,8 +1,8 @@
 -- What a table has, by its index and its slots.
-use Rattle.std.proofs.Common.{◌≡◌, ◌≢◌, ◌⊎◌, inl, inr, ⊎_elim, ℕ, zero, suc, ◌+◌, Bool, true, false, not, cond, ◌||◌, ◌&&◌, List, [], ◌∷◌}
+use Rattle.std.proofs.Common.{◌≡◌, ◌≢◌, ◌⊎◌, inl, inr, ⊎_elim, ℕ, zero, suc, ◌+◌, Bool, true, false, not, cond, ◌&&◌, List, [], ◌∷◌}
 use Rattle.std.proofs.Common.{Option, None, Some, nat_eq, is_some, option_map, map as each, refl, sym, ap, subst, ◌∙◌, arith, true≢false}
 use Rattle.std.proofs.Common.{MutBor}
-use Rattle.std.specs.Prelude.{slice_index_or, unwrap_or}
+use Rattle.std.specs.Prelude.{slice_index_or, slice_get, unwrap_or}
 use Rattle.std.specs.Option.{option_flatten, IfSome}
 use Rattle.std.specs.Ordering.{nat_cmp, eq_by_cmp, is_eq}
 use Rattle.std.specs.Cmp.{nat_cmp_total}
@@ -16,7 +16,7 @@ use Rattle.std.proofs.lemmas.Cmp.{nat_eq_equiv}
 use Rattle.slab.specs.Slab.{Slab, get, Updates, RetainsFrom}
 use Rattle.seam_table.specs.Tables.{TableView, without_item, without_room}
 use Rattle.seam_table.specs.Entries.{table_of, Writes}
-use Rattle.seam_table.proofs.TableLemmas.{number_is, item-slot, room-slot, items-made}
+use Rattle.seam_table.proofs.TableLemmas.{number_is, item-slot, room-slot}
 use Rattle.seam_slab.specs.Slotted.{item_at, slotted, IsSlotted}
 
 pub no_some : {X : Type 0} (x : X) → None ≡ Some x → ⊥
@@ -200,7 +200,74 @@ module _ {T : Type 0} (s t : Slab (Option T)) (es fs : List (ℕ × ℕ)) (w : I
       by q true = ap (λ y. Some (option_flatten y)) u.changed
       by q false = others q (lookup (nat_eq q) es) refl
 
--- the entry of a number is taken away, if it had one
+-- the key that a number has in a slab with a vacant key: its own, or the vacant one
+module _ {T : Type 0} (s : Slab (Option T)) (es : List (ℕ × ℕ)) (n vacant k : ℕ) (is : k ≡ unwrap_or (lookup (nat_eq n) es) vacant) where
+  pub none_when_vacant : IsSlotted es s → get s vacant ≡ None → k ≡ vacant → lookup (nat_eq n) es ≡ None
+  none_when_vacant w free same = by (lookup (nat_eq n) es) refl is
+    where
+      by : (o : Option ℕ) → lookup (nat_eq n) es ≡ o → k ≡ unwrap_or o vacant → o ≡ None
+      by None found e = refl
+      by (Some j) found e =
+          absurd (true≢false (sym (w.kept n j found) ∙ ap is_some (ap (get s) (sym e ∙ same) ∙ free)))
+
+  pub found_when_another : k ≢ vacant → lookup (nat_eq n) es ≡ Some k
+  found_when_another apart = by (lookup (nat_eq n) es) is
+    where
+      by : (o : Option ℕ) → k ≡ unwrap_or o vacant → o ≡ Some k
+      by None e = absurd (apart e)
+      by (Some j) e = ap Some (sym e)
+
+-- the number had an entry, and each look-up answers as before
+module _ {T : Type 0} (s t : Slab (Option T)) (same : t.slots ≡ s.slots) (es fs : List (ℕ × ℕ)) (n : ℕ)
+    (there : is_some (lookup (nat_eq n) es) ≡ true) (h : (q : ℕ) → lookup (nat_eq q) fs ≡ lookup (nat_eq q) es) where
+  pub agree_as_before : IsSlotted es s → IsDistinct nat_eq (keys_of fs) → IsSlotted fs t
+  agree_as_before w d =
+      let v = agree_with_room s t same es w in
+      record {
+        distinct = d;
+        kept = λ q k found. v.kept q k (sym (h q) ∙ found);
+        apart = λ q m k a b. v.apart q m k (sym (h q) ∙ a) (sym (h m) ∙ b);
+      }
+
+  pub written_as_before : Writes n (unwrap_or (lookup (nat_eq n) (slotted s es)) None) (slotted s es) (slotted t fs)
+  written_as_before = λ q.
+      lookup_slotted t q fs
+      ∙ (ap (option_map (item_at t)) (h q)
+      ∙ (sym (lookup_slotted t q es)
+      ∙ (ap (lookup (nat_eq q)) (slotted_with_room s t same es) ∙ own q (nat_eq n q) refl)))
+    where
+      filled : (o : Option (Option T)) → is_some o ≡ true → o ≡ Some (unwrap_or o None)
+      filled None e = absurd (true≢false (sym e))
+      filled (Some x) e = refl
+
+      own : (q : ℕ) (b : Bool) → nat_eq n q ≡ b → lookup (nat_eq q) (slotted s es)
+          ≡ cond b (Some (unwrap_or (lookup (nat_eq n) (slotted s es)) None)) (lookup (nat_eq q) (slotted s es))
+      own q true is =
+          ap (λ m. lookup (nat_eq m) (slotted s es)) (number_is n q is)
+          ∙ filled (lookup (nat_eq n) (slotted s es))
+          (ap is_some (lookup_slotted s n es) ∙ (some_mapped (item_at s) (lookup (nat_eq n) es) ∙ there))
+      own q false is = refl
+
+-- an entry that is written as it was leaves each look-up
+pub found_as_before : (es fs : List (ℕ × ℕ)) (n k : ℕ) → lookup (nat_eq n) es ≡ Some k →
+    ((q : ℕ) → lookup (nat_eq q) fs ≡ cond (nat_eq n q) (Some k) (lookup (nat_eq q) es)) →
+    (q : ℕ) → lookup (nat_eq q) fs ≡ lookup (nat_eq q) es
+found_as_before es fs n k found h q = h q ∙ by (nat_eq n q) refl
+  where
+    by : (b : Bool) → nat_eq n q ≡ b → cond b (Some k) (lookup (nat_eq q) es) ≡ lookup (nat_eq q) es
+    by true is = sym found ∙ ap (λ m. lookup (nat_eq m) es) (sym (number_is n q is))
+    by false is = refl
+
+-- the entry that was taken away is that of the number whose place it is
+pub without_entry : (es fs : List (ℕ × ℕ)) (i n k : ℕ) {p : ℕ × ℕ} → slice_get es i ≡ Some (n, k) → Some p ≡ slice_get es i →
+    ((q : ℕ) → lookup (nat_eq q) fs ≡ cond (nat_eq p.0 q) None (lookup (nat_eq q) es)) →
+    (q : ℕ) → lookup (nat_eq q) fs ≡ cond (nat_eq n q) None (lookup (nat_eq q) es)
+without_entry es fs i n k {p} place at h q =
+    let same : Some p ≡ Some (n, k) = at ∙ place in
+    let number : p.0 ≡ n = ap (λ o. (unwrap_or o p).0) same in
+    h q ∙ ap (λ m. cond (nat_eq m q) None (lookup (nat_eq q) es)) number
+
+-- the entry of a number is taken away
 module _ (es fs : List (ℕ × ℕ)) (n : ℕ) (h : (q : ℕ) → lookup (nat_eq q) fs ≡ cond (nat_eq n q) None (lookup (nat_eq q) es)) where
   left_in : (q j : ℕ) → lookup (nat_eq q) fs ≡ Some j → (nat_eq n q ≡ false) × (lookup (nat_eq q) es ≡ Some j)
   left_in q j found = by (nat_eq n q) refl (sym (h q) ∙ found)
@@ -210,28 +277,7 @@ module _ (es fs : List (ℕ × ℕ)) (n : ℕ) (h : (q : ℕ) → lookup (nat_eq
       by true is e = absurd (no_some j e)
       by false is e = (is, e)
 
-  -- it had none
-  module _ {T : Type 0} (s : Slab (Option T)) where
-    pub agree_without : IsSlotted es s → IsDistinct nat_eq (keys_of fs) → IsSlotted fs s
-    agree_without w d =
-        record {
-          distinct = d;
-          kept = λ q j found. w.kept q j (left_in q j found).1;
-          apart = λ q m j a b. w.apart q m j (left_in q j a).1 (left_in m j b).1;
-        }
-
-    pub lookup_without : (q : ℕ) → lookup (nat_eq q) (slotted s fs) ≡ cond (nat_eq n q) None (lookup (nat_eq q) (slotted s es))
-    lookup_without q =
-        lookup_slotted s q fs
-        ∙ (ap (option_map (item_at s)) (h q)
-        ∙ (by (nat_eq n q) ∙ ap (cond (nat_eq n q) None) (sym (lookup_slotted s q es))))
-      where
-        by : (b : Bool) → option_map (item_at s) (cond b None (lookup (nat_eq q) es))
-            ≡ cond b None (option_map (item_at s) (lookup (nat_eq q) es))
-        by true = refl
-        by false = refl
-
-  -- it had one, and its slot is gone
+  -- and its slot is gone
   module _ {T : Type 0} (s t : Slab (Option T)) (w : IsSlotted es s) (k : ℕ) (at : Some k ≡ lookup (nat_eq n) es)
       (u : Updates s t k None) where
     pub agree_when_removed : IsDistinct nat_eq (keys_of fs) → IsSlotted fs t
@@ -259,26 +305,8 @@ module _ (es fs : List (ℕ × ℕ)) (n : ℕ) (h : (q : ℕ) → lookup (nat_eq
 same_turned : (q k : ℕ) → nat_eq k q ≡ is_eq (nat_cmp q k)
 same_turned q k = grind (arith, nat_tests)
 
-key_is : (e k : ℕ) → is_eq (nat_cmp e k) ≡ true → k ≡ e
-key_is e k t = grind (arith, nat_tests)
-
-or_same : (b r : Bool) → (b ≡ true → r ≡ true) → (b || r) ≡ r
-or_same true r h = sym (h refl)
-or_same false r h = refl
-
--- room that is there already
-pub room_again : (room : set.FinSet nat_cmp) (e : ℕ) → set.contains room e ≡ true → room ≡ set.insert room e
-room_again room e there =
-    set.same_set nat_cmp_total set.nat_cmp-IsAntisymmetric room (set.insert room e) (λ q.
-    sym (set.contains-insert nat_cmp_total room e q
-    ∙ or_same (eq_by_cmp nat_cmp q e) (set.contains room q) (λ t. ap (set.contains room) (sym (key_is q e t)) ∙ there)))
-
 module _ {T : Type 0} (old new : List (ℕ × Option T)) (n : ℕ) (d : IsDistinct nat_eq (keys_of old))
     (f : IsDistinct nat_eq (keys_of new)) where
-  -- an entry without an item, where there was none, leaves the items
-  pub items_when_made : lookup (nat_eq n) old ≡ None → Writes n None old new → (table_of new).items ≡ (table_of old).items
-  items_when_made none h = items-made old new d f n (subst (λ o. Writes n (unwrap_or o None) old new) (sym none) h)
-
   items_without :
       ((q : ℕ) → option_flatten (lookup (nat_eq q) new) ≡ cond (nat_eq n q) None (option_flatten (lookup (nat_eq q) old))) →
       (table_of new).items ≡ map.remove (table_of old).items n

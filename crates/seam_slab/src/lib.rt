@@ -10,11 +10,13 @@
 #![tactic(auto)]
 
 ghost use Rattle.std.specs.Prelude.{◌≡◌, ℕ, None, Some, nat_eq, is_some, option_map, option_copied, map as each, false, true};
-ghost use Rattle.std.specs.Prelude.{OnOk, OnErr, IfOk, IfSome};
+ghost use Rattle.std.specs.Prelude.{OnOk, OnErr, IfOk, IfSome, slice_get, unwrap_or};
 ghost use Rattle.std.specs.List.{filter};
 ghost use Rattle.std.specs.Map.{keys_of, lookup};
 ghost use Rattle.std.specs.FinMap as map;
 ghost use Rattle.std.specs.FinSet as set;
+ghost use Rattle.indexmap.specs.IndexMap.{IsUnique, IsUnchanged};
+ghost use Rattle.indexmap.specs.IndexMap as indexed;
 ghost use Rattle.slab.specs.Slab.{get, ContainsKey, Updates};
 ghost use Rattle.seam_table.specs.Tables.{with_item, without_item, without_room, with_each};
 ghost use Rattle.seam_table.specs.Entries.{Writes};
@@ -87,9 +89,6 @@ impl<T: Drop> SlabTable<T> {
         ensures err { OnErr result (self.new.room ≡ self.old.room) }
         ensures err_only_first { OnErr result (set.contains self.old.room n ≡ false) }
     {
-        if self.keys.contains_key(&n) {
-            return Ok(());
-        }
         // A new entry goes last.
         let place = self.keys.len();
         make_entry(&mut self.keys, &mut self.slots, n)?;
@@ -127,8 +126,11 @@ impl<T: Drop> SlabTable<T> {
         ensures item { result ≡ map.get self.old.items n }
         ensures after { self.new ≡ without_room self.old n }
     {
-        let Some(key) = self.keys.swap_remove(&n) else {
+        let Some(key) = find_key(&self.keys, &mut self.last, n) else {
             return None;
+        };
+        let Some(_) = self.keys.swap_remove_index(self.last) else {
+            unreachable!()
         };
         let Some(slot) = self.slots.try_remove(key) else {
             unreachable!()
@@ -156,10 +158,11 @@ impl<T: Drop> SlabTable<T> {
     }
 }
 
-// The key of the number's slot. It is sought only where `last` is not the number's entry: since this is tested each time, no value of
-// `last` makes an answer wrong.
+// The key of the number's slot; its entry is at `last` then. It is sought only where `last` is not the number's entry: since this is tested
+// each time, no value of `last` makes an answer wrong.
 fn find_key(keys: &IndexMap<u32, usize, HashKey>, last: &mut usize, n: u32) -> Option<usize>
-    ensures { result ≡ lookup (nat_eq n) keys.now.entries }
+    ensures key { result ≡ lookup (nat_eq n) keys.now.entries }
+    ensures place { IfSome result (λ k. slice_get keys.now.entries last.new ≡ Some (n, k)) }
 {
     if let Some((number, key)) = keys.get_index(*last) {
         if *number == n {
@@ -175,28 +178,49 @@ fn find_key(keys: &IndexMap<u32, usize, HashKey>, last: &mut usize, n: u32) -> O
     }
 }
 
-// Makes an entry with an open slot for the number, which has none.
+// The key in the number's entry. Where the number has none, an entry with the given key is made.
+fn entry_key(
+    keys: &mut IndexMap<u32, usize, HashKey>,
+    n: u32,
+    key: usize,
+) -> Result<usize, AllocError>
+    ensures value { IfOk result (λ k. k ≡ unwrap_or (lookup (nat_eq n) keys.old.entries) key) }
+    ensures after { IfOk result (λ k. indexed.Updates nat_eq keys.old keys.new n (Some k)) }
+    ensures err { OnErr result (IsUnchanged keys.old keys.new) }
+    ensures absent { OnErr result (lookup (nat_eq n) keys.old.entries ≡ None) }
+    ensures unique { IsUnique nat_eq keys.old → IsUnique nat_eq keys.new }
+{
+    Ok(*keys.entry(n)?.or_insert(key))
+}
+
+// Makes an entry with an open slot for the number, where it has none.
 fn make_entry<T: Drop>(
     keys: &mut IndexMap<u32, usize, HashKey>,
     slots: &mut Slab<Option<T>>,
     n: u32,
 ) -> Result<(), AllocError>
-    requires slotted { IsSlotted keys.old.entries slots.old }
-    requires none { lookup (nat_eq n) keys.old.entries ≡ None }
+    requires { IsSlotted keys.old.entries slots.old }
     ensures slotted { IsSlotted keys.new.entries slots.new }
-    ensures ok { OnOk result (Writes n None (slotted slots.old keys.old.entries)
+    ensures ok { OnOk result (let old = slotted slots.old keys.old.entries in
+        Writes n (unwrap_or (lookup (nat_eq n) old) None) old
         (slotted slots.new keys.new.entries)) }
     ensures err { OnErr result (slotted slots.new keys.new.entries
         ≡ slotted slots.old keys.old.entries) }
+    ensures absent { OnErr result (lookup (nat_eq n) keys.old.entries ≡ None) }
 {
     let Ok(()) = slots.reserve(1) else {
+        // Only a new entry needs a slot.
+        if keys.contains_key(&n) {
+            return Ok(());
+        }
         return Err(AllocError);
     };
-    let key = slots.vacant_key();
-    let Ok(_) = keys.insert(n, key) else {
-        return Err(AllocError);
-    };
-    slots.insert_reserved(None);
+    let vacant = slots.vacant_key();
+    let key = entry_key(keys, n, vacant)?;
+    // A key that was there before is not vacant.
+    if key == vacant {
+        slots.insert_reserved(None);
+    }
     Ok(())
 }
 

@@ -23,13 +23,16 @@ use Rattle.seam_law_all.specs.Records.{KeepsRecords}
 use Rattle.seam_core.specs.Loads.{HasSize, MayLoad}
 use Rattle.seam_core.proofs.Nodes.{IsUnseen}
 use Rattle.seam_core.proofs.Loading.{here_is}
+use Rattle.seam_core.proofs.Worlds.{goes_by}
 use Rattle.seam_test_core.specs.Firsts.{MayBeFirst}
 
 module _ (defs : List TypeDef) (clients : ℕ → ClientReplica)
     (keeps : KeepsRecords (first_frame defs standard) clients (opened defs standard))
     (k : ℕ) (s : NodeView) (at : slice_get (opened defs standard).nodes k ≡ Some s) where
   size_opened : HasSize 10000 s
-  size_opened = ap (λ h. h.settings.size) (here_is (first_frame defs standard) k s (keeps.reals.nodes.nodes k s at))
+  size_opened =
+      ap (λ h. h.settings.size)
+      (here_is defs standard k s (goes_by (first_frame defs standard) refl refl k s (keeps.reals.nodes.nodes k s at)).0)
 
   -- a node has nothing of any entity
   nothing : (e : ℕ) → has_of e s ≡ has_none

@@ -53,7 +53,7 @@ fn empty(alloc: Global) -> Result<Cell, AllocError>
     ensures tree { IfOk result (λ c. c.tree ≡ one_cell 10000) }
     ensures size { IfOk result (λ c. c.here.settings.size ≡ 10000) }
 {
-    Ok(Cell::new(alloc, 0, builtin(alloc)?, Settings::standard()))
+    Cell::new(alloc, 0, builtin(alloc)?, Settings::standard())
 }
 
 // A round begins in it, in a space of two cells, whose boundary is at x = 5000.

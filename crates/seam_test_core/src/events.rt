@@ -52,6 +52,15 @@ pub const EARLY_CALL: First = First {
             to: None,
         },
     ],
+    moved_to: None,
+};
+
+// Base node 16 tells the cells that the boundary is at x = 3000, so that the avatar is in cell 1.
+const MOVED: First = First {
+    is_cut_again: false,
+    at: Pos { x: 4900, z: 100 },
+    sent: &[],
+    moved_to: Some(3000),
 };
 
 const HELD: Seen = (true, (Some((1, 1)), Some((1, 1))), (None, None), true);
@@ -99,6 +108,7 @@ static ROWS: [Row; 2] = [
                     to: Some(Pos { x: 5100, z: 4000 }),
                 },
             ],
+            moved_to: None,
         },
         turns: &[
             (0, None, 1),
@@ -182,5 +192,34 @@ fn worlds_go_as_the_rows_say(rt: HostRuntime) -> Result<(), Fail> {
         let kept = play_row(rt.alloc(), row)?;
         assert_eq!(rt; kept, (true, true), "{}", row.name);
     }
+    Ok(())
+}
+
+// The number of the boundaries that the cell goes by.
+fn bounds_number(net: &Net<Node>, cell: u8) -> Option<u64> {
+    Some(net.node(cell)?.as_cell()?.bounds_number())
+}
+
+// The avatar is settled by the boundary at x = 5000 first, of which cell 1 has a copy. Then both cells hear of the other boundary, and it
+// settles again.
+const MOVES: &[Turn] = &[
+    (0, None, 1),
+    (1, Some(0), 1),
+    (16, None, 1),
+    (1, Some(16), 1),
+    (0, Some(16), 1),
+    (0, None, 1),
+    (1, Some(0), 1),
+    (16, Some(1), 1),
+    (17, Some(1), 1),
+];
+
+#[test]
+fn boundaries_are_heard_by_every_cell(rt: HostRuntime) -> Result<(), Fail> {
+    let mut world = first_world(rt.alloc(), &MOVED)?;
+    let well = play(rt.alloc(), &mut world, MOVES)?;
+    let numbers = (bounds_number(world.net(), 0), bounds_number(world.net(), 1));
+    let seen = (well, numbers, seen_in(world.net()));
+    assert_eq!(rt; seen, (true, (Some(1), Some(1)), HELD));
     Ok(())
 }

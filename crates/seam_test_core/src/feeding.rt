@@ -66,7 +66,7 @@ fn moved(makes: Makes<'_>, e: u32, beat: u64, generation: u64) -> Result<Real, A
 }
 
 fn hand(real: Real) -> Msg {
-    Msg::Hand(Parcel { real })
+    Msg::Hand(Parcel { real }, None)
 }
 
 fn watching(alloc: Global, mut real: Real) -> Result<Real, AllocError> {

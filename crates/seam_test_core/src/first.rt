@@ -7,12 +7,13 @@ ghost use Rattle.seam_core.specs.Loads.{MayLoad};
 ghost use Rattle.seam_test_core.specs.Firsts.{MayBeFirst};
 
 use crate::orders::{Sent, orders};
-use seam_call::{Batch, Create, Order};
+use seam_call::{Batch, Boundaries, Create, Order};
 use seam_core::World;
 use seam_defs::{Listed, Settings};
 use seam_geo::Pos;
+use seam_table::Shared;
 use seam_toml::builtin;
-use seam_tree::{Axis, Tree};
+use seam_tree::{Axis, MOST_CELLS, Tree};
 use std::alloc::{AllocError, Global};
 use std::test::Fail;
 
@@ -20,12 +21,13 @@ use std::test::Fail;
 const SIZE: u32 = 10_000;
 
 /// What a world is loaded with first: a space of two cells with the boundary at x = 5000, of which the second may be cut again, at
-/// z = 5000; where avatar 1 is made; and orders about it.
+/// z = 5000; where avatar 1 is made; orders about it; and an order of the first base node to tell that the boundary is at another x.
 #[derive(Clone, Copy)]
 pub struct First {
     pub is_cut_again: bool,
     pub at: Pos,
     pub sent: &'static [Sent],
+    pub moved_to: Option<u32>,
 }
 
 fn cut(is_cut_again: bool) -> Tree
@@ -37,6 +39,17 @@ fn cut(is_cut_again: bool) -> Tree
         let _ = tree.cut(1, Axis::Z, 5000);
     }
     tree
+}
+
+// The order to tell boundaries of number 1: those of two cells with the boundary at x.
+fn moved(alloc: Global, x: u32) -> Result<(u8, Order), AllocError> {
+    let mut tree = Tree::one(SIZE);
+    let _ = tree.cut(0, Axis::X, x);
+    let bounds = Boundaries {
+        tree: Shared::new(alloc, tree)?,
+        number: 1,
+    };
+    Ok((MOST_CELLS as u8, Order::Bounds(bounds)))
 }
 
 // An avatar is made in that space, and nobody has a client or dies.
@@ -82,7 +95,10 @@ pub fn first_world(alloc: Global, first: &First) -> Result<World, Fail> {
     if !tree.holds(first.at) {
         return Err("no such place")?;
     }
-    let orders = orders(alloc, first.sent)?;
+    let mut orders = orders(alloc, first.sent)?;
+    if let Some(x) = first.moved_to {
+        orders.push(moved(alloc, x)?)?;
+    }
     let batch = batch(alloc, tree, first.at, orders)?;
     Ok(loaded(alloc, batch)?)
 }

@@ -71,7 +71,7 @@ fn run<R: Threads + Wait + Sync>(rt: &R, alloc: Global) -> Result<(World, Journa
         workers: 2,
         turns: 100,
     };
-    let workers = Workers::new(crew, &OpenGate);
+    let workers = Workers::new(alloc, crew, &OpenGate);
     Ok(run_round(rt, alloc, world, batch(alloc)?, &workers)?)
 }
 

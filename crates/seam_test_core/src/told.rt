@@ -20,6 +20,8 @@ pub enum Told {
     Drop(u64, u32),
     Tick,
     Reap(u32),
+    // Boundaries of that number.
+    Bounds(u64),
     // The witness's update of that number: its own version, or who enters or has changed, at a version, or who leaves.
     Own(u64, u64),
     Enter(u64, u32, u64),
@@ -45,13 +47,14 @@ fn what_it_tells(message: &Msg) -> Told {
     match message {
         Msg::Call(call) => Told::Call(call.entity, call.number),
         Msg::BaseCall(call) => Told::BaseCall(call.entity, call.number),
-        Msg::Hand(parcel) => of_real(&parcel.real),
+        Msg::Hand(parcel, _) => of_real(&parcel.real),
         Msg::Current(e, cell, generation) => Told::Current(*e, *cell, *generation),
         Msg::GhostSet(e, beat, copy) => Told::Set(*beat, *e, copy.version),
         Msg::GhostDrop(e, beat) => Told::Drop(*beat, *e),
         Msg::Tick => Told::Tick,
         Msg::Reap(e) => Told::Reap(*e),
         Msg::Update(update) => of_update(update),
+        Msg::Bounds(bounds) => Told::Bounds(bounds.number),
     }
 }
 

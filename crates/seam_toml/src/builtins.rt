@@ -6,7 +6,8 @@ ghost use Rattle.seam_toml.specs.BuiltinRows.{type_of as type_of_row, is_short_r
 ghost use Rattle.seam_defs.specs.Builtin.{builtin as builtin_types};
 
 use seam_defs::{
-    Defs, Flag, Listed, Method, Operand, Operation, Part, Property, PropertyName, TypeDef,
+    Defs, Flag, Listed, Method, Operand, Operation, Part, Properties, Property, PropertyName,
+    TypeDef,
 };
 use seam_value::{ShortText, Value, ValueError, ValueType};
 use std::alloc::{AllocError, Global};
@@ -226,7 +227,7 @@ fn type_of(alloc: Global, row: &TypeRow) -> Result<TypeDef, AllocError>
 {
     Ok(TypeDef {
         name: text(alloc, row.name)?,
-        properties: Listed::of(properties(alloc, row.properties)?),
+        properties: Properties::of(properties(alloc, row.properties)?)?,
         methods: Listed::of(methods(alloc, row.methods)?),
     })
 }

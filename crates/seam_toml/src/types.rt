@@ -11,7 +11,7 @@ use crate::builtins::builtin;
 use crate::members::member;
 use crate::methods::methods_under;
 use crate::properties::{properties_under, short_text};
-use seam_defs::{Defs, Listed, MOST_PROPERTIES, MOST_TYPES, TypeDef, is_name};
+use seam_defs::{Defs, Listed, MOST_PROPERTIES, MOST_TYPES, Properties, TypeDef, is_name};
 use std::alloc::{AllocError, Global};
 use toml::{Table, Value};
 
@@ -35,7 +35,7 @@ fn type_of(alloc: Global, key: &str, table: &Table) -> Result<Option<TypeDef>, A
     match short_text(alloc, key)? {
         Some(name) if is_name(key.as_bytes()) => Ok(Some(TypeDef {
             name,
-            properties: Listed::of(properties),
+            properties: Properties::of(properties)?,
             methods: Listed::of(methods),
         })),
         _ => Ok(None),

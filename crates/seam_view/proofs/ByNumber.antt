@@ -202,7 +202,7 @@ module _ (f : ℕ → ℕ) (e : ℕ) where
   all_less (x ∷ xs) h =
       (less e (f x) (h 0 0 (omega arith) (omega arith)), all_less xs (λ k d low lt. h (suc k) d (omega arith) (omega (arith, lt))))
 
-  sorted_insert : (xs : List ℕ) (r : ℕ) → IsStrictlySortedBy nat_cmp (map f xs) → AllWithin (λ x. f x < e) xs 0 r →
+  pub sorted_insert : (xs : List ℕ) (r : ℕ) → IsStrictlySortedBy nat_cmp (map f xs) → AllWithin (λ x. f x < e) xs 0 r →
       AllWithin (λ x. e < f x) xs r (length xs) → IsStrictlySortedBy nat_cmp (insert (map f xs) r e)
   sorted_insert [] zero s below above = sorted_cons e [] tt s
   sorted_insert [] (suc r) s below above = sorted_cons e [] tt s

@@ -1,19 +1,14 @@
 -- The places of a view in enter order.
-use Rattle.std.proofs.Common.{◌≡◌, ◌<◌, ◌+◌, ℕ, zero, suc, true, false, cond, eqb, List, [], ◌∷◌, length, take, get_or, refl, ap, ◌∙◌, ◌||◌}
+use Rattle.std.proofs.Common.{◌≡◌, ◌<◌, ◌+◌, ℕ, zero, suc, true, false, cond, eqb, List, [], ◌∷◌, length, take, get_or, refl, ap, ◌∙◌}
 use Rattle.std.proofs.Common.{arith, None, Some, slice_get, sym, unwrap_or, Bool}
 use Rattle.std.specs.Map.{keys_of, lookup}
-use Rattle.std.specs.List.{IsDistinct, AllByRecursion, list_any}
+use Rattle.std.specs.List.{IsDistinct, AllByRecursion}
 use Rattle.std.proofs.lemmas.Map.Keys.{IsDistinct-head, IsDistinct-tail}
 use Rattle.std.proofs.lemmas.Bool.Decides.{nat_tests}
-use Rattle.indexmap.specs.IndexMap.{insert_entry}
 use Rattle.seam_view.specs.Replica.{placed}
 use Rattle.seam_view.proofs.Numbers.{same_again, differs_too, either_way}
 
-pub placed_of_insert : (e v : ℕ) (es : List (ℕ × ℕ)) → insert_entry eqb es e v ≡ placed e v es
-placed_of_insert e v [] = refl
-placed_of_insert e v (p ∷ es) = ap (λ rest. cond (eqb e p.0) ((p.0, v) ∷ es) (p ∷ rest)) (placed_of_insert e v es)
-
-key_at : (x : ℕ) (es : List (ℕ × ℕ)) (i : ℕ) (d : ℕ × ℕ) → AllByRecursion (λ y. eqb x y ≡ false) (keys_of es) → i < length es →
+pub key_at : (x : ℕ) (es : List (ℕ × ℕ)) (i : ℕ) (d : ℕ × ℕ) → AllByRecursion (λ y. eqb x y ≡ false) (keys_of es) → i < length es →
     eqb (get_or es i d).0 x ≡ false
 key_at x [] i d h lt = absurd (omega (arith, lt))
 key_at x (p ∷ es) zero d h lt = let e : eqb x p.0 ≡ false = h.0 in grind (arith, nat_tests)
@@ -66,19 +61,3 @@ looked_up_by e v q p es false false t u rest = ap (λ b. cond b (Some p.1) (look
 pub lookup_placed : (e v q : ℕ) (es : List (ℕ × ℕ)) → lookup (eqb q) (placed e v es) ≡ cond (eqb e q) (Some v) (lookup (eqb q) es)
 lookup_placed e v q [] = ap (λ b. cond b (Some v) None) (either_way q e)
 lookup_placed e v q (p ∷ es) = looked_up_by e v q p es (eqb e p.0) (eqb q p.0) refl refl (lookup_placed e v q es)
-
--- one more of the pairs that are asked
-pub any_next : (q : ℕ) (ps : List (ℕ × ℕ)) (k : ℕ) (d : ℕ × ℕ) → k < length ps →
-    list_any (eqb q) (keys_of (take (k + 1) ps)) ≡ (eqb q (get_or ps k d).0 || list_any (eqb q) (keys_of (take k ps)))
-any_next q [] k d lt = absurd (omega (arith, lt))
-any_next q (p ∷ ps) zero d lt = refl
-any_next q (p ∷ ps) (suc k) d lt =
-    let n : suc (k + 1) ≡ suc k + 1 = omega arith in
-    ap (λ m. list_any (eqb q) (keys_of (take m (p ∷ ps)))) (sym n)
-    ∙ (ap (λ b. eqb q p.0 || b) (any_next q ps k d (omega (arith, lt)))
-    ∙ swap (eqb q p.0) (eqb q (get_or ps k d).0) (list_any (eqb q) (keys_of (take k ps))))
-  where
-    swap : (a b c : Bool) → (a || (b || c)) ≡ (b || (a || c))
-    swap true true c = refl
-    swap true false c = refl
-    swap false b c = refl

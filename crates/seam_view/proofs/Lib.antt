@@ -8,10 +8,13 @@ pub mod Kept
 pub mod Falls
 pub mod PlainLooks
 pub mod Noted
-pub mod Apart
+pub mod OnceKept
 pub mod Room
 pub mod ByNumber
 pub mod Sent
 pub mod Closed
 pub mod Passing
 pub mod Run
+pub mod Zipped
+pub mod Leaving
+pub mod Placing

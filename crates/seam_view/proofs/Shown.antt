@@ -64,45 +64,38 @@ shown_of_insert old new e v found =
 
 -- ---- what a look changes
 
-module _ (es new ls left : List (ℕ × ℕ)) (e v : ℕ) where
-  entered_by : (q : ℕ) (b : Bool) → eqb e q ≡ b → lookup (eqb q) new ≡ cond b (Some v) (lookup (eqb q) es) →
-      (b ≡ false → lookup (eqb q) left ≡ lookup (eqb q) ls) →
-      option_or (lookup (eqb q) new) (lookup (eqb q) left) ≡ cond b (Some v) (option_or (lookup (eqb q) es) (lookup (eqb q) ls))
-  entered_by q true t h k = ap (λ o. option_or o (lookup (eqb q) left)) h
-  entered_by q false t h k = λ i. option_or (h i) (k refl i)
+module _ (es new ls : List (ℕ × ℕ)) (e v : ℕ) where
+  entered_by : (q : ℕ) (b : Bool) → lookup (eqb q) new ≡ cond b (Some v) (lookup (eqb q) es) →
+      option_or (lookup (eqb q) new) (lookup (eqb q) ls) ≡ cond b (Some v) (option_or (lookup (eqb q) es) (lookup (eqb q) ls))
+  entered_by q true h = ap (λ o. option_or o (lookup (eqb q) ls)) h
+  entered_by q false h = ap (λ o. option_or o (lookup (eqb q) ls)) h
 
   -- the entity is in view at this version, and of the others nothing is changed
   pub shown_when_entered : ((q : ℕ) → lookup (eqb q) new ≡ cond (eqb e q) (Some v) (lookup (eqb q) es)) →
-      ((q : ℕ) → eqb e q ≡ false → lookup (eqb q) left ≡ lookup (eqb q) ls) →
-      versions.from_entries {R = nat_cmp} (new ++ left) ≡ versions.insert (versions.from_entries (es ++ ls)) e v
-  shown_when_entered here others =
-      shown_of_insert (es ++ ls) (new ++ left) e v (λ q. sought q new left
-      ∙ (entered_by q (eqb e q) refl (here q) (others q)
-      ∙ ap (cond (eqb e q) (Some v)) (sym (sought q es ls))))
+      versions.from_entries {R = nat_cmp} (new ++ ls) ≡ versions.insert (versions.from_entries (es ++ ls)) e v
+  shown_when_entered here =
+      shown_of_insert (es ++ ls) (new ++ ls) e v (λ q. sought q new ls
+      ∙ (entered_by q (eqb e q) (here q) ∙ ap (cond (eqb e q) (Some v)) (sym (sought q es ls))))
 
 -- ---- pairs that are given
 
 given_by : (q : ℕ) (b : Bool) (p : ℕ × ℕ) (view shown : List (ℕ × ℕ)) → eqb q p.0 ≡ b →
     versions.get (versions.from_entries {R = nat_cmp} shown) p.0 ≡ Some p.1 →
-    option_or (lookup (eqb q) view) (cond (list_any (eqb q) (keys_of view)) None (lookup (eqb q) shown)) ≡ lookup (eqb q) shown →
-    option_or (cond b (Some p.1) (lookup (eqb q) view)) (cond (b || list_any (eqb q) (keys_of view)) None (lookup (eqb q) shown))
-    ≡ lookup (eqb q) shown
+    option_or (lookup (eqb q) view) (lookup (eqb q) shown) ≡ lookup (eqb q) shown →
+    option_or (cond b (Some p.1) (lookup (eqb q) view)) (lookup (eqb q) shown) ≡ lookup (eqb q) shown
 given_by q true p view shown t h rest =
     sym (shown_of_lookup shown q ∙ (ap (versions.get (versions.from_entries shown)) (number_is q p.0 t) ∙ h))
 given_by q false p view shown t h rest = rest
 
 shown_given : (q : ℕ) (view shown : List (ℕ × ℕ)) → AreShown (versions.from_entries shown) view →
-    option_or (lookup (eqb q) view) (cond (list_any (eqb q) (keys_of view)) None (lookup (eqb q) shown)) ≡ lookup (eqb q) shown
+    option_or (lookup (eqb q) view) (lookup (eqb q) shown) ≡ lookup (eqb q) shown
 shown_given q [] shown h = refl
 shown_given q (p ∷ view) shown h = given_by q (eqb q p.0) p view shown refl h.0 (shown_given q view shown h.1)
 
--- what was shown is what is in view, and what else was shown
-pub shown_of_lists : (view left shown : List (ℕ × ℕ)) → AreShown (versions.from_entries shown) view →
-    ((q : ℕ) → lookup (eqb q) left ≡ cond (list_any (eqb q) (keys_of view)) None (lookup (eqb q) shown)) →
-    versions.from_entries {R = nat_cmp} (view ++ left) ≡ versions.from_entries shown
-shown_of_lists view left shown are is =
-    same_shown shown (view ++ left) (λ q. sought q view left ∙ (ap (option_or (lookup (eqb q) view)) (is q)
-    ∙ shown_given q view shown are))
+-- what was shown is that, with what is in view of it
+pub shown_of_lists : (view shown : List (ℕ × ℕ)) → AreShown (versions.from_entries shown) view →
+    versions.from_entries {R = nat_cmp} (view ++ shown) ≡ versions.from_entries shown
+shown_of_lists view shown are = same_shown shown (view ++ shown) (λ q. sought q view shown ∙ shown_given q view shown are)
 
 -- ---- a view
 

@@ -8,13 +8,13 @@ use Rattle.std.specs.Map.{keys_of}
 use Rattle.std.specs.Coded.{Coded, code_by, coded×, coded_ℕ, coded_list}
 use Rattle.seam_view.specs.declared.numbered.Slot.{Slot}
 
--- the entities in enter order, each with the version last shown, and how many more enter without memory
-pub record EnteredValue : Type 0 where
+-- entities, each with a version, and how many more are kept without memory
+pub record KeptValue : Type 0 where
   pub entries : List (ℕ × ℕ)
   pub room : ℕ
 
-abbrev pub entered_code : Coded EnteredValue
-entered_code =
+abbrev pub kept_code : Coded KeptValue
+kept_code =
     code_by (List (ℕ × ℕ) × ℕ) (coded× (coded_list (coded× coded_ℕ coded_ℕ)) coded_ℕ) (λ v. (v.entries, v.room))
     (λ q. record { entries = q.0; room = q.1 }) (λ _. refl)
 

@@ -6,3 +6,4 @@ pub mod Together
 pub mod ByNumber
 pub mod Passing
 pub mod Run
+pub mod Departed

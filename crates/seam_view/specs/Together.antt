@@ -1,7 +1,5 @@
--- How leaves are taken out of a view in one pass over it, each in its turn, and kept apart from those in view.
-use Rattle.std.specs.Prelude.{ℕ, Bool, false, not, nat_eq, List, [], ◌∷◌, drop, Option, None, Some, ◌&&◌, if◌then◌else◌, ◌≡◌}
-use Rattle.std.specs.List.{AllByRecursion}
-use Rattle.std.specs.Map.{lookup}
+-- How leaves are taken out of a view in one pass over it, each in its turn.
+use Rattle.std.specs.Prelude.{ℕ, Bool, false, not, nat_eq, List, [], ◌∷◌, drop, Option, Some, ◌&&◌, if◌then◌else◌}
 use Rattle.seam_view.specs.declared.Look.{Look}
 use Rattle.seam_view.specs.declared.Look.TheVariants.{Leave, Set, Enter}
 
@@ -32,7 +30,3 @@ abbrev pub left_past_all : List Look → List (ℕ × ℕ) → (ℕ → Option �
 left_past_all looks [] left = left
 left_past_all looks (p ∷ es) left =
     left_past_all (looks_past p.0 looks) es (λ q. if leaves_next p.0 looks && nat_eq p.0 q then Some p.1 else left q)
-
--- none of those in view is among those that left
-abbrev pub AreApart : List (ℕ × ℕ) → List (ℕ × ℕ) → Type 0
-AreApart view left = AllByRecursion (λ p. lookup (nat_eq p.0) left ≡ None) view

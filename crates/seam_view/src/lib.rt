@@ -5,8 +5,8 @@
 //! An entity enters a view within a radius, and leaves it beyond the radius and a hysteresis. (After the area of interest of the BigWorld
 //! Server Overview.)
 //!
-//! Those in view lie in enter order, with their places in rising number beside them. Those that left and are not back are in a map by hash;
-//! so each version shown stands once.
+//! Those in view lie in enter order, with their places in rising number beside them. Beside them is kept at which version each that ever
+//! left did so last; it is asked only of those that are not in view.
 //!
 //! A plan goes through those in view by number beside those known, and notes in enter order what becomes of each; leaves and sets are read
 //! off the notes. Where the next one is looked for first is a guess, of which no clause speaks. A plan makes no place for a set: so looks
@@ -22,7 +22,6 @@ ghost use Rattle.std.specs.List.Sorted.{IsStrictlySortedBy};
 ghost use Rattle.std.specs.Prelude.{◌<◌, ◌+◌, ◌^◌, nat_eq};
 ghost use Rattle.std.specs.List.{AllWithin, IsDistinct, list_any};
 ghost use Rattle.std.specs.Map.{keys_of, lookup};
-ghost use Rattle.indexmap.specs.IndexMap.{spare};
 ghost use Rattle.seam_geo.specs.declared.pos.Pos.{Pos};
 ghost use Rattle.seam_view.specs.declared.Seen.{Seen};
 ghost use Rattle.seam_view.specs.declared.Look.{Look};
@@ -35,7 +34,7 @@ ghost use Rattle.seam_view.specs.ViewLooks.{is_far, in_view, not_older, enters, 
 ghost use Rattle.seam_view.specs.Notes.{note_of, notes_of, is_leave, is_change, noted};
 ghost use Rattle.seam_view.specs.Plain.{plain_look, AreNotOlder};
 
-use indexmap::IndexMap;
+use departed::Departed;
 use numbered::Entered;
 use seam_geo::{Pos, dist};
 use seam_hash::HashKey;
@@ -43,6 +42,7 @@ use seam_version::may_be_shown;
 use std::alloc::{AllocError, Global};
 use std::marker::Model;
 
+mod departed;
 mod numbered;
 
 /// What is known of an entity: its public version and its position.
@@ -78,7 +78,8 @@ enum Note {
     Changed,
 }
 
-/// The entities in view, in enter order, and those that left and are not back, each with the version last shown.
+/// The entities in view, in enter order, each with the version last shown, and those that ever left, each with the version at which it did
+/// last.
 ///
 /// Contracts see these as a replica of what the client was shown, and beside it how many more can enter, and how many leave, without
 /// memory.
@@ -88,12 +89,11 @@ pub struct View {
     radius: u32,
     hysteresis: u32,
     view: Entered,
-    left: IndexMap<u32, u64, HashKey>,
+    left: Departed,
 }
 
 impl Model for View {
     ghost use Rattle.seam_view.specs.Replica.{ViewValue, IsView, view_code};
-    ghost use Rattle.seam_view.specs.Together.{AreApart};
 
     ghost Value = { ViewValue };
 
@@ -101,7 +101,6 @@ impl Model for View {
 
     ghost use Rattle.std.specs.Prelude.{◌++◌};
     ghost use Rattle.std.specs.FinMap.{from_entries};
-    ghost use Rattle.indexmap.specs.IndexMap.{spare};
 
     ghost view = { λ v. record {
       core = record {
@@ -111,21 +110,20 @@ impl Model for View {
         shown = from_entries (v.view.entries ++ v.left.entries);
       };
       enters = v.view.room;
-      leaves = spare v.left;
+      leaves = v.left.room;
     } };
 
-    // No entity in view is among those that left.
     ghost invariant = { λ v. IsView (record {
       radius = v.radius;
       hysteresis = v.hysteresis;
       entries = v.view.entries;
       shown = from_entries (v.view.entries ++ v.left.entries);
-    }) × AreApart v.view.entries v.left.entries };
+    }) };
 }
 
 impl View {
     /// A view of no entity. It takes in what is within the radius, and leaves out what is beyond radius and hysteresis together.
-    /// It finds those that left by a hash with this key.
+    /// It finds those that left of late by a hash with this key.
     pub fn new(alloc: Global, key: HashKey, radius: u32, hysteresis: u32) -> View
         ensures { result.core ≡ record {
           radius = radius;
@@ -139,7 +137,7 @@ impl View {
             radius,
             hysteresis,
             view: Entered::new(alloc),
-            left: IndexMap::with_hasher(alloc, key),
+            left: Departed::new(alloc, key),
         }
     }
 
@@ -162,8 +160,7 @@ impl View {
           shown = versions.from_entries shown.now;
         }) }
     {
-        let mut left = map_of(alloc, shown)?;
-        take_out(&mut left, view);
+        let left = Departed::of_pairs(alloc, HashKey::new(0), shown)?;
         let view = Entered::of_pairs(alloc, view)?;
         Ok(View {
             alloc,
@@ -207,7 +204,7 @@ impl View {
         if self.left.is_empty() {
             return None;
         }
-        self.left.get(&e).copied()
+        self.left.get(e)
     }
 
     /// The radius and the hysteresis together: beyond it nothing matters that is not in view. None where a `u32` does not hold it.
@@ -400,9 +397,6 @@ impl View {
         ensures leaves { self.old.leaves ≤ self.new.leaves }
     {
         self.view.show(e, version, next);
-        if !self.left.is_empty() {
-            let _ = self.left.swap_remove(&e);
-        }
     }
 
     // Lets an entity enter as it is known.
@@ -481,7 +475,7 @@ impl View {
             ≡ after_looks known.now self.old.core looks.now }
         ensures room { HasRoom self.new result.now }
     {
-        self.view.show_rising(&mut self.left, known, looks)
+        self.view.show_rising(known, looks)
     }
 
     /// Keeps the looks that `plan` gave for what is known: they have been shown from now on. It takes no memory.
@@ -502,29 +496,6 @@ fn many_before_enters(looks: &[Look]) -> usize
     ensures { result ≤ length looks.now }
 {
     looks.partition_point(|look| !matches!(look, Look::Enter(_)))
-}
-
-// The pairs as a map, in this order.
-fn map_of(alloc: Global, pairs: &[(u32, u64)]) -> Result<IndexMap<u32, u64, HashKey>, AllocError>
-    requires { IsDistinct nat_eq (keys_of pairs.now) }
-    ensures { IfOk result (λ m. m.entries ≡ pairs.now) }
-{
-    let mut made = IndexMap::with_hasher(alloc, HashKey::new(0));
-    for (e, version) in pairs {
-        made.insert(*e, *version)?;
-    }
-    Ok(made)
-}
-
-// Takes the entities of these pairs out of the map.
-fn take_out(from: &mut IndexMap<u32, u64, HashKey>, pairs: &[(u32, u64)])
-    ensures { (q : ℕ) → lookup (nat_eq q) from.new.entries
-        ≡ if list_any (nat_eq q) (keys_of pairs.now) then None
-        else lookup (nat_eq q) from.old.entries }
-{
-    for (e, _) in pairs {
-        let _ = from.swap_remove(e);
-    }
 }
 
 // How many of those known have numbers below e.

@@ -8,19 +8,17 @@ ghost use Rattle.std.specs.Bool.{OnTrue, OnFalse};
 ghost use Rattle.std.specs.List.{AllWithin, IsDistinct, filter, insert, list_any};
 ghost use Rattle.std.specs.Map.{keys_of, lookup};
 ghost use Rattle.std.specs.Vec.{vec_len, vec_capacity};
-ghost use Rattle.indexmap.specs.IndexMap.{spare};
 ghost use Rattle.std.specs.Ordering.{nat_cmp};
 ghost use Rattle.std.specs.List.Sorted.{IsStrictlySortedBy};
 ghost use Rattle.seam_view.specs.declared.Look.TheVariants.{Enter};
 ghost use Rattle.seam_view.specs.Replica.{placed, enters_in, leaves_in, seen_of};
-ghost use Rattle.seam_view.specs.Together.{leaves_next, looks_past_all, left_past_all, kept_past_all, AreApart};
-ghost use Rattle.seam_view.specs.Run.{IsShown, AreKept};
+ghost use Rattle.seam_view.specs.Together.{leaves_next, looks_past_all, left_past_all, kept_past_all};
+ghost use Rattle.seam_view.specs.Run.{AreKept};
 ghost use Rattle.seam_view.specs.ByNumber.{IsByNumber, GoInOrder, entries_of, number_at, stays, nowhere};
 ghost use Rattle.seam_view.specs.Passing.{places_of, to_come, HasSlots};
 
+use super::departed::Departed;
 use super::{Look, Seen, find_seen};
-use indexmap::IndexMap;
-use seam_hash::HashKey;
 use std::alloc::{AllocError, Global};
 use std::marker::Model;
 use std::mem::replace;
@@ -61,11 +59,11 @@ pub struct Entered {
 }
 
 impl Model for Entered {
-    ghost use Rattle.seam_view.specs.ByNumber.{EnteredValue, entered_code, entries_of, IsByNumber};
+    ghost use Rattle.seam_view.specs.ByNumber.{KeptValue, kept_code, entries_of, IsByNumber};
 
-    ghost Value = { EnteredValue };
+    ghost Value = { KeptValue };
 
-    ghost coded = { entered_code };
+    ghost coded = { kept_code };
 
     ghost use Rattle.std.specs.Prelude.{◌-◌, min, length};
     ghost use Rattle.std.specs.Map.{keys_of};
@@ -209,19 +207,15 @@ impl Entered {
 
     // Takes the entities whose leaves come first among the looks, in enter order, out of those in view in one pass: they are now
     // among those that left. The looks past these leaves remain.
-    pub fn take_out<'a>(
-        &mut self,
-        left: &mut IndexMap<u32, u64, HashKey>,
-        looks: &'a [Look],
-    ) -> &'a [Look]
-        requires room { leaves_in looks.now ≤ spare left.old }
+    pub fn take_out<'a>(&mut self, left: &mut Departed, looks: &'a [Look]) -> &'a [Look]
+        requires room { leaves_in looks.now ≤ left.old.room }
         ensures rest { result.now ≡ looks_past_all looks.now self.old.entries }
         ensures kept { self.new.entries ≡ kept_past_all looks.now self.old.entries }
         ensures left { (q : ℕ) → lookup (nat_eq q) left.new.entries
             ≡ left_past_all looks.now self.old.entries (λ x. lookup (nat_eq x) left.old.entries) q }
         ensures room { self.old.room ≤ self.new.room }
-        ensures room_left { spare left.old + leaves_in result.now
-            ≤ spare left.new + leaves_in looks.now }
+        ensures room_left { left.old.room + leaves_in result.now
+            ≤ left.new.room + leaves_in looks.now }
     {
         let rest = send_off(&mut self.slots, left, looks);
         close_up(&mut self.slots, &mut self.by_number);
@@ -229,20 +223,13 @@ impl Entered {
     }
 
     // Shows those that enter by the first of the looks, as long as they are known and not in view and their numbers rise, where `reserve`
-    // made room for a merge. They are no longer among those that left. The looks past these remain.
-    pub fn show_rising<'a>(
-        &mut self,
-        left: &mut IndexMap<u32, u64, HashKey>,
-        known: &[Seen],
-        looks: &'a [Look],
-    ) -> &'a [Look]
+    // made room for a merge. The looks past these remain.
+    pub fn show_rising<'a>(&mut self, known: &[Seen], looks: &'a [Look]) -> &'a [Look]
         requires rising { IsStrictlySortedBy nat_cmp (map (λ s. s.entity) known.now) }
-        requires apart { AreApart self.old.entries left.old.entries }
         requires room { enters_in looks.now ≤ self.old.room }
-        ensures kept { AreKept known.now self.old.entries left.old.entries looks.now
-            self.new.entries left.new.entries result.now }
+        ensures kept { AreKept known.now self.old.entries looks.now self.new.entries
+            result.now }
         ensures room { enters_in result.now ≤ self.new.room }
-        ensures room_left { spare left.old ≤ spare left.new }
     {
         if self.merged.capacity() < self.by_number.capacity() {
             return looks;
@@ -256,7 +243,7 @@ impl Entered {
             all,
             next: 0,
         };
-        let rest = show_first(&mut self.slots, &mut passing, left, known, looks);
+        let rest = show_first(&mut self.slots, &mut passing, known, looks);
         self.by_number = passing.finish();
         rest
     }
@@ -327,13 +314,8 @@ fn entering<'a>(known: &'a [Seen], look: &Look, from: &mut usize) -> Option<&'a 
     }
 }
 
-// Shows one that is known, where it is not in view and comes by number after those passed. It is no longer among those that left.
-fn show_next(
-    slots: &mut Vec<Slot>,
-    passing: &mut Passing,
-    left: &mut IndexMap<u32, u64, HashKey>,
-    seen: &Seen,
-) -> bool
+// Shows one that is known, where it is not in view and comes by number after those passed.
+fn show_next(slots: &mut Vec<Slot>, passing: &mut Passing, seen: &Seen) -> bool
     requires by_number { IsByNumber (keys_of (entries_of slots.old.items)) (places_of passing.old) }
     requires within { passing.old.next ≤ length passing.old.all.items }
     requires few { vec_len slots.old < 0xffff_ffff }
@@ -342,16 +324,14 @@ fn show_next(
         < vec_capacity passing.old.passed) }
     ensures by_number { IsByNumber (keys_of (entries_of slots.new.items)) (places_of passing.new) }
     ensures within { passing.new.next ≤ length passing.new.all.items }
-    ensures shown { OnTrue result (IsShown seen.now.entity seen.now.version
-        (entries_of slots.old.items) left.old.entries (entries_of slots.new.items)
-        left.new.entries) }
-    ensures same { OnFalse result ((slots.new ≡ slots.old) × (left.new ≡ left.old)) }
+    ensures shown { OnTrue result (entries_of slots.new.items
+        ≡ placed seen.now.entity seen.now.version (entries_of slots.old.items)) }
+    ensures same { OnFalse result (slots.new ≡ slots.old) }
     ensures len { (vec_len slots.new ≡ vec_len slots.old + (if result then 1 else 0))
         × (vec_len passing.new.passed + length (to_come passing.new)
         ≡ vec_len passing.old.passed + length (to_come passing.old) + (if result then 1 else 0)) }
     ensures capacity { (vec_capacity slots.new ≡ vec_capacity slots.old)
         × (vec_capacity passing.new.passed ≡ vec_capacity passing.old.passed) }
-    ensures room_left { spare left.old ≤ spare left.new }
 {
     let e = seen.entity;
     if !is_last_below(slots, &passing.passed, e) || !passing.pass_below(slots, e) {
@@ -364,21 +344,7 @@ fn show_next(
         version: seen.version,
     });
     passing.passed.push_reserved(place);
-    take_back(left, e);
     true
-}
-
-// The entity is no longer among those that left. Mostly none has left, and then nothing is looked up.
-fn take_back(left: &mut IndexMap<u32, u64, HashKey>, e: u32)
-    ensures gone { lookup (nat_eq e) left.new.entries ≡ None }
-    ensures others { (q : ℕ) → nat_eq e q ≡ false → lookup (nat_eq q) left.new.entries
-        ≡ lookup (nat_eq q) left.old.entries }
-    ensures room { spare left.old ≤ spare left.new }
-{
-    if left.is_empty() {
-        return;
-    }
-    let _ = left.swap_remove(&e);
 }
 
 // Shows those that enter by the first of the looks, as long as they are known and not in view and their numbers rise. The looks past these
@@ -386,30 +352,27 @@ fn take_back(left: &mut IndexMap<u32, u64, HashKey>, e: u32)
 fn show_first<'a>(
     slots: &mut Vec<Slot>,
     passing: &mut Passing,
-    left: &mut IndexMap<u32, u64, HashKey>,
     known: &[Seen],
     looks: &'a [Look],
 ) -> &'a [Look]
     requires rising { IsStrictlySortedBy nat_cmp (map (λ s. s.entity) known.now) }
     requires by_number { IsByNumber (keys_of (entries_of slots.old.items)) (places_of passing.old) }
     requires within { passing.old.next ≤ length passing.old.all.items }
-    requires apart { AreApart (entries_of slots.old.items) left.old.entries }
     requires room { HasSlots (enters_in looks.now) (vec_len slots.old) (vec_capacity slots.old)
         passing.old }
     ensures by_number { IsByNumber (keys_of (entries_of slots.new.items)) (places_of passing.new) }
     ensures within { passing.new.next ≤ length passing.new.all.items }
-    ensures kept { AreKept known.now (entries_of slots.old.items) left.old.entries looks.now
-        (entries_of slots.new.items) left.new.entries result.now }
+    ensures kept { AreKept known.now (entries_of slots.old.items) looks.now
+        (entries_of slots.new.items) result.now }
     ensures room { HasSlots (enters_in result.now) (vec_len slots.new) (vec_capacity slots.new)
         passing.new }
-    ensures room_left { spare left.old ≤ spare left.new }
 {
     let mut from = 0;
     for i in 0..looks.len() {
         let Some(seen) = entering(known, &looks[i], &mut from) else {
             return &looks[i..];
         };
-        if !show_next(slots, passing, left, seen) {
+        if !show_next(slots, passing, seen) {
             return &looks[i..];
         }
     }
@@ -557,13 +520,9 @@ fn insert_at(places: &mut Vec<u32>, rank: usize, place: u32)
 
 // Finds out where each goes once the entities have left whose leaves come first among the looks, in enter order, and puts these
 // among those that left. The looks past these leaves remain.
-fn send_off<'a>(
-    slots: &mut [Slot],
-    left: &mut IndexMap<u32, u64, HashKey>,
-    looks: &'a [Look],
-) -> &'a [Look]
+fn send_off<'a>(slots: &mut [Slot], left: &mut Departed, looks: &'a [Look]) -> &'a [Look]
     requires few { length slots.old < 2 ^ 32 }
-    requires room { leaves_in looks.now ≤ spare left.old }
+    requires room { leaves_in looks.now ≤ left.old.room }
     ensures same { entries_of slots.new ≡ entries_of slots.old }
     ensures order { GoInOrder 0 slots.new }
     ensures kept { entries_of (filter stays slots.new) ≡ kept_past_all looks.now
@@ -572,16 +531,14 @@ fn send_off<'a>(
     ensures left { (q : ℕ) → lookup (nat_eq q) left.new.entries
         ≡ left_past_all looks.now (entries_of slots.old) (λ x. lookup (nat_eq x) left.old.entries)
         q }
-    ensures room { spare left.old + leaves_in result.now ≤ spare left.new + leaves_in looks.now }
+    ensures room { left.old.room + leaves_in result.now ≤ left.new.room + leaves_in looks.now }
 {
     let mut rest = looks;
     let mut place = 0;
     for slot in slots.iter_mut() {
         match past_leave(rest, slot.entity) {
             Some(more) => {
-                let Ok(_) = left.insert(slot.entity, slot.version) else {
-                    unreachable!()
-                };
+                left.put(slot.entity, slot.version);
                 slot.to = NOWHERE;
                 rest = more;
             }

@@ -120,7 +120,11 @@ fn after_quoted(bytes: &[u8]) -> Result<&[u8], WordsError>
 fn closes_word(bytes: &[u8]) -> bool
     ensures { IsTrue result ↔ ClosesWord bytes.now }
 {
-    matches!(bytes, [b'"'] | [b'"', b' ' | b'\t', ..])
+    match bytes {
+        [b'"', next, ..] => is_blank(*next),
+        [b'"'] => true,
+        _ => false,
+    }
 }
 
 // What follows the pieces of a quoted word: nothing, or a quote.

@@ -1,10 +1,11 @@
 -- From the nodes that were taken apart to the run of their net.
 use Rattle.std.proofs.Common.{◌≡◌, ℕ, zero, suc, ◌+◌, ◌*◌, ◌<◌, ◌≤◌, Bool, true, false, List, [], ◌∷◌, ◌++◌, length, Option, None, Some}
-use Rattle.std.proofs.Common.{get_or, drop, map, refl, sym, ap, ◌∙◌, subst, arith, inl, inr}
+use Rattle.std.proofs.Common.{get_or, drop, map, refl, sym, ap, ◌∙◌, subst, arith, inl, inr, append_assoc}
 use Rattle.std.specs.Prelude.{slice_get, IfOk, Result, Ok, Err}
 use Rattle.std.proofs.lemmas.Bool.{cases_eq}
 use Rattle.std.proofs.lemmas.Bool.Decides.{leb_tells}
 use Rattle.std.proofs.lemmas.List.{length-map, append-nil, get_or_past}
+use Rattle.std.proofs.Math.Seq.{drop-append_seam}
 use Rattle.std.proofs.lemmas.Option.{slice_get_within, slice_get-get_or, get_or_from_slice_get}
 use Rattle.seam_machine.specs.Views.{Stepped, NetView, PartsView}
 use Rattle.seam_machine.specs.Nets.{link, ArePeers, AreParts, LeadsTo, IsQuiet, enabled, is_ready}
@@ -23,7 +24,7 @@ use Rattle.seam_stamp.specs.Joined.{Did, Joined, IsRebuilt, left_of}
 use Rattle.seam_stamp.proofs.Whole.{logs_are_run}
 use Rattle.seam_logged.proofs.Replay.{no_acts}
 use Rattle.seam_logged.specs.Logs.{LoggedView, EndsView, Root, taken, put, in_rings, out_rings}
-use Rattle.seam_logged.specs.Mesh.{AreFull, AreLinked, ArePaired, IsNew, IsCell, at_start}
+use Rattle.seam_logged.specs.Mesh.{AreFull, AreLinked, ArePaired, IsFilled, IsCell, at_start}
 use Rattle.seam_workers.specs.Seats.{IsRun, AreRuns, roots_of, HasEnds}
 use Rattle.seam_workers.specs.Rejoined.{IsRejoined, HasEventOf}
 use Rattle.seam_workers.proofs.Lists.{all_get}
@@ -222,19 +223,29 @@ module _ {N M H : Type 0} (has_work : N → Bool) (steps : N → Input M → Ste
     abbrev first : ℕ → ℕ → List (Letter M)
     first a b = at_start (link w.rows a b)
 
+    -- what the link from a to b gave before the run
+    abbrev before : ℕ → ℕ → List (Letter M)
+    before a b = taken (get_or ends b no_ends).ins a
+
+    abbrev taken_all : ℕ → ℕ → List (Letter M)
+    taken_all b a = taken (ends_of b).ins a
+
+    abbrev put_all : ℕ → ℕ → List (Letter M)
+    put_all a b = put (ends_of a).outs b
+
     abbrev taken_from : ℕ → ℕ → List (Letter M)
-    taken_from b a = taken (ends_of b).ins a
+    taken_from b a = drop (length (before a b)) (taken_all b a)
 
     abbrev put_to : ℕ → ℕ → List (Letter M)
-    put_to a b = put (ends_of a).outs b
+    put_to a b = drop (length (before a b)) (put_all a b)
 
     abbrev met : ℕ → ℕ → List (Letter M)
-    met a b = drop (length (taken_from b a)) (put_to a b)
+    met a b = drop (length (taken_all b a)) (put_all a b)
 
     -- a link at the start
     new_link : (a b : ℕ) (la : a < n) (lb : b < n) → (o : OutView (Letter M) H) × (i : InView (Letter M) H)
         × (slice_get (known a la).run.replay.root.first.outs b ≡ Some o) × (slice_get (known b lb).run.replay.root.first.ins a ≡ Some i)
-        × IsNew (get_or p.links (a * n + b) []) o i
+        × IsFilled (get_or p.links (a * n + b) []) o i
     new_link a b la lb =
         let ka = known a la in
         let kb = known b lb in
@@ -249,6 +260,49 @@ module _ {N M H : Type 0} (has_work : N → Bool) (steps : N → Input M → Ste
         ap (λ (m : ℕ). get_or p.links (a * m + b) []) (sym count)
         ∙ parts_place p w a b parts (omega (arith, la, count)) (omega (arith, lb, count))
 
+    first_ends : (k : ℕ) (h : NodeGivenBack k) → get_or ends k no_ends ≡ h.run.replay.root.first
+    first_ends k h = get_or_from_slice_get ends k h.run.replay.root.first no_ends h.first
+
+    -- what a link gave: first what it gave before, and then what was received or is in hand
+    taken_parts : (k a : ℕ) (lt : k < n) →
+        taken_all k a ≡ before a k ++ (received a (known k lt).run.replay.acts ++ items_to a (hand k))
+    taken_parts k a lt =
+        let h = known k lt in
+        let r = h.run.replay in
+        let u = h.node in
+        ap (λ (e : EndsView M H). taken e.ins a) (map_read (λ (v : LoggedView N M H). v.ends) done k u no_ends h.at)
+        ∙ (r.taken_is a ∙ (ap (λ (e : EndsView M H). taken e.ins a ++ received a r.acts ++ items_to a u.hand) (sym (first_ends k h))
+        ∙ (append_assoc (before a k) (received a r.acts) (items_to a u.hand)
+        ∙ ap (λ x. before a k ++ (received a r.acts ++ items_to a x))
+        (sym (map_read (λ (v : LoggedView N M H). v.hand) done k u [] h.at)))))
+
+    -- what was put into a link: first what it gave before, then what was there at the start, and then what was sent
+    put_parts : (k b : ℕ) (lt : k < n) (lb : b < n) →
+        put_all k b ≡ before k b ++ (first k b ++ items_to b (sends steps (start k) (known k lt).run.replay.acts))
+    put_parts k b lt lb =
+        let h = known k lt in
+        let r = h.run.replay in
+        let u = h.node in
+        let l = new_link k b lt lb in
+        let start_is : start k ≡ r.root.start = get_or_from_slice_get p.nodes k r.root.start d h.starts in
+        let gave : l.1.taken ≡ before k b =
+        sym (taken_at (known b lb).run.replay.root.first.ins k l.1 l.3)
+        ∙ ap (λ (e : EndsView M H). taken e.ins k) (sym (first_ends b (known b lb))) in
+        let old : put r.root.first.outs b ≡ before k b ++ first k b =
+        put_at r.root.first.outs b l.0 l.2 ∙ (l.4.put ∙ (ap (λ t. t ++ at_start (get_or p.links (k * n + b) [])) gave
+        ∙ ap (λ t. before k b ++ at_start t) (place_is k b lt lb))) in
+        let all : put u.ends.outs b ≡ put r.root.first.outs b ++ items_to b (sends steps r.root.start r.acts) =
+        sym (append-nil (put u.ends.outs b)) ∙ (ap (λ x. put u.ends.outs b ++ items_to b x) (sym h.run.unsent) ∙ r.put_is b) in
+        ap (λ (e : EndsView M H). put e.outs b) (map_read (λ (v : LoggedView N M H). v.ends) done k u no_ends h.at)
+        ∙ (all ∙ (ap (λ t. t ++ items_to b (sends steps r.root.start r.acts)) old
+        ∙ (append_assoc (before k b) (first k b) (items_to b (sends steps r.root.start r.acts))
+        ∙ ap (λ s. before k b ++ (first k b ++ items_to b (sends steps s r.acts))) (sym start_is))))
+
+    taken_now : (k a : ℕ) (lt : k < n) → taken_from k a ≡ received a (known k lt).run.replay.acts ++ items_to a (hand k)
+    taken_now k a lt =
+        ap (drop (length (before a k))) (taken_parts k a lt)
+        ∙ drop-append_seam (before a k) (received a (known k lt).run.replay.acts ++ items_to a (hand k))
+
     did : (k : ℕ) → k < n → (ds : List (Act M))
         × Did has_work steps n k (start k) (first k) (get_or (map (λ (v : LoggedView N M H). v.log) done) k []) (now k) (hand k)
         (taken_from k) (put_to k) ds
@@ -256,9 +310,7 @@ module _ {N M H : Type 0} (has_work : N → Bool) (steps : N → Input M → Ste
         let h = known k lt in
         let r = h.run.replay in
         let u = h.node in
-        let start_is : start k ≡ r.root.start = get_or_from_slice_get p.nodes k r.root.start d h.starts in
-        let ends_are : ends_of k ≡ u.ends = map_read (λ (v : LoggedView N M H). v.ends) done k u no_ends h.at in
-        let hand_is : hand k ≡ u.hand = map_read (λ (v : LoggedView N M H). v.hand) done k u [] h.at in (
+        let start_is : start k ≡ r.root.start = get_or_from_slice_get p.nodes k r.root.start d h.starts in (
           r.acts,
           record {
             log_is =
@@ -269,21 +321,9 @@ module _ {N M H : Type 0} (has_work : N → Bool) (steps : N → Input M → Ste
             legal =
                 subst (λ s. Legal has_work steps n 0 s r.acts) (sym start_is)
                 (subst (λ (m : ℕ). Legal has_work steps m 0 r.root.start r.acts) (peers_are k u h.at) r.legal);
-            taken_is = λ a la.
-                let l = new_link a k la lt in
-                let none : taken r.root.first.ins a ≡ [] = taken_at r.root.first.ins a l.1 l.3 ∙ l.4.taken in
-                ap (λ (e : EndsView M H). taken e.ins a) ends_are
-                ∙ (r.taken_is a ∙ (ap (λ t. t ++ received a r.acts ++ items_to a u.hand) none
-                ∙ ap (λ x. received a r.acts ++ items_to a x) (sym hand_is)));
-            put_is = λ b lb.
-                let l = new_link k b lt lb in
-                let old : put r.root.first.outs b ≡ first k b =
-                put_at r.root.first.outs b l.0 l.2 ∙ (l.4.put ∙ ap at_start (place_is k b lt lb)) in
-                let all : put u.ends.outs b ≡ put r.root.first.outs b ++ items_to b (sends steps r.root.start r.acts) =
-                sym (append-nil (put u.ends.outs b)) ∙ (ap (λ x. put u.ends.outs b ++ items_to b x) (sym h.run.unsent) ∙ r.put_is b) in
-                ap (λ (e : EndsView M H). put e.outs b) ends_are
-                ∙ (all ∙ (ap (λ t. t ++ items_to b (sends steps r.root.start r.acts)) old
-                ∙ ap (λ s. first k b ++ items_to b (sends steps s r.acts)) (sym start_is)));
+            taken_is = λ a la. taken_now k a lt;
+            put_is = λ b lb. ap (drop (length (before k b))) (put_parts k b lt lb)
+                ∙ drop-append_seam (before k b) (first k b ++ items_to b (sends steps (start k) r.acts));
           },
         )
 
@@ -291,17 +331,27 @@ module _ {N M H : Type 0} (has_work : N → Bool) (steps : N → Input M → Ste
         b (link v.rows a b)
     cell a b la lb = rejoined.cells a b (omega (arith, la, many)) (omega (arith, lb, many))
 
-    put_is : (a b : ℕ) (la : a < n) (lb : b < n) → put_to a b ≡ (cell a b la lb).out.put
+    put_is : (a b : ℕ) (la : a < n) (lb : b < n) → put_all a b ≡ (cell a b la lb).out.put
     put_is a b la lb =
         let o = (cell a b la lb).is_out in
         ap (λ (e : EndsView M H). put e.outs b) (get_or_from_slice_get (map (λ (v : LoggedView N M H). v.ends) done) a o.0 no_ends o.1)
         ∙ put_at o.0.outs b (cell a b la lb).out o.2
 
-    taken_is : (a b : ℕ) (la : a < n) (lb : b < n) → taken_from b a ≡ (cell a b la lb).end.taken
+    taken_is : (a b : ℕ) (la : a < n) (lb : b < n) → taken_all b a ≡ (cell a b la lb).end.taken
     taken_is a b la lb =
         let i = (cell a b la lb).is_in in
         ap (λ (e : EndsView M H). taken e.ins a) (get_or_from_slice_get (map (λ (v : LoggedView N M H). v.ends) done) b i.0 no_ends i.1)
         ∙ taken_at i.0.ins a (cell a b la lb).end i.2
+
+    -- what was taken in the run and what was not is what was put in it
+    meet_now : (a b : ℕ) (la : a < n) (lb : b < n) → taken_from b a ++ met a b ≡ put_to a b
+    meet_now a b la lb =
+        let took = received a (known b lb).run.replay.acts ++ items_to a (hand b) in
+        let whole : taken_all b a ++ met a b ≡ put_all a b = rw (put_is a b la lb, taken_is a b la lb) (cell a b la lb).met in
+        ap (λ t. t ++ met a b) (taken_now b a lb)
+        ∙ (sym (drop-append_seam (before a b) (took ++ met a b))
+        ∙ (ap (drop (length (before a b))) (sym (append_assoc (before a b) took (met a b))
+        ∙ (ap (λ t. t ++ met a b) (sym (taken_parts b a lb)) ∙ whole))))
 
     nodes_are : length w.nodes ≡ n
     nodes_are = ap length (sym parts.nodes) ∙ count
@@ -314,7 +364,7 @@ module _ {N M H : Type 0} (has_work : N → Bool) (steps : N → Input M → Ste
       links = λ a b la lb. sym (items_at_start (link w.rows a b));
       few = omega (arith, many, length-map done (λ (v : LoggedView N M H). v.log));
       did = did;
-      meet = λ a b la lb. rw (put_is a b la lb, taken_is a b la lb) (cell a b la lb).met;
+      meet = meet_now;
     }
 
     rebuilt : IsRebuilt n now (left_of hand met) v

@@ -3,7 +3,7 @@
 ghost use Rattle.std.specs.Prelude.{◌≡◌, ◌<◌, length, map, IfOk};
 ghost use Rattle.seam_workers.specs.Rejoined.{CanRejoin, IsRejoined};
 
-use seam_logged::{Apart, Ends, left};
+use seam_logged::{Apart, Ends, FreeLinks, left};
 use seam_machine::{Event, Machine, Net, NetParts};
 use seam_stamp::{Letter, Stamped, merge};
 use std::alloc::{AllocError, Global};
@@ -54,22 +54,23 @@ fn in_columns<M: Machine>(alloc: Global, done: Vec<Apart<M>>) -> Result<Columns<
     })
 }
 
-/// Puts a net together: its links meet, and its logs are merged.
+/// Puts a net together: its links meet and are free then, and its logs are merged.
 pub fn rejoin<M: Machine>(
-    alloc: Global,
+    free: &mut FreeLinks<M::Msg>,
     done: Vec<Apart<M>>,
 ) -> Result<(Net<M>, Vec<Event>), AllocError>
     requires few { length done.items < 256 }
     requires can { CanRejoin done.items }
     ensures { IfOk result (λ r. IsRejoined done.items r.0 r.1.items) }
 {
+    let alloc = free.allocator();
     let Columns {
         nodes,
         logs,
         hands,
         ends,
     } = in_columns(alloc, done)?;
-    let links = left(alloc, ends, hands)?;
+    let links = left(free, ends, hands)?;
     let net = Net::of_parts(alloc, NetParts { nodes, links })?;
     let events = merge(alloc, logs)?;
     Ok((net, events))

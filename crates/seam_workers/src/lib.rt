@@ -36,6 +36,7 @@ use crate::alone::alone;
 use crate::joins::rejoin;
 use crate::shifts::{Shift, visit};
 use crossbeam_utils::CachePadded;
+pub use seam_logged::FreeLinks;
 use seam_logged::{Apart, Ends, Logged, Naming, Try, linked};
 use seam_machine::{Event, Machine, Net, NetParts};
 use std::alloc::{AllocError, Global};
@@ -466,7 +467,7 @@ where
 // Runs the net by workers in threads. Each node that has a task makes a step.
 fn run_crew<M: Machine + Send, G: Gate + Sync, R: Threads + Wait + Sync>(
     rt: &R,
-    alloc: Global,
+    free: &mut FreeLinks<M::Msg>,
     net: Net<M>,
     crew: Crew,
     gate: &G,
@@ -477,11 +478,12 @@ where
     ensures { IfOk result (λ r. IsOutcome M.has_work M.steps M.peer_count net r.1.items r.0) }
 {
     let n = net.node_count();
+    let alloc = free.allocator();
     if net.is_quiet() {
         return Ok((net, Vec::new(alloc)));
     }
     let NetParts { nodes, links } = net.apart(alloc)?;
-    let ends = linked(alloc, n, links)?;
+    let ends = linked(free, n, links)?;
     let claims = new_claims(alloc, n)?;
     let start = Start {
         nodes,
@@ -489,13 +491,40 @@ where
         claims,
     };
     let done = run_nodes(rt, alloc, start, crew, gate)?;
-    rejoin(alloc, done)
+    rejoin(free, done)
 }
 
 /// Runs the net by workers in threads. Each node that has a task makes a step.
 ///
 /// While one node alone has something to do, events happen on the net itself, in at most `turns` visits. No thread is started and no
 /// link is made where nothing is left then. If allocation fails, nothing is given back.
+///
+/// The links are those that are free, and others where these are too few. All are free then.
+pub fn run_workers_over<M: Machine + Send, G: Gate + Sync, R: Threads + Wait + Sync>(
+    rt: &R,
+    free: &mut FreeLinks<M::Msg>,
+    net: Net<M>,
+    crew: Crew,
+    gate: &G,
+) -> Result<(Net<M>, Vec<Event>), AllocError>
+where
+    M::Msg: Send,
+    requires workers { (1 ≤ crew.workers) × (crew.workers ≤ 16) }
+    requires turns { 1 ≤ crew.turns }
+    requires peers { ArePeers M.peer_count net }
+    ensures run { IfOk result (λ r. LeadsTo M.has_work M.steps net r.1.items r.0) }
+    ensures tasks { IfOk result (λ r. (k : ℕ) (s : M) → slice_get net.nodes k ≡ Some s →
+        M.has_work s ≡ true → HasEventOf k r.1.items) }
+    ensures peers { IfOk result (λ r. ArePeers M.peer_count r.0) }
+{
+    let mut net = net;
+    let mut events = alone(rt, free.allocator(), &mut net, crew.turns, gate)?;
+    let (net, mut more) = run_crew(rt, free, net, crew, gate)?;
+    events.append(&mut more)?;
+    Ok((net, events))
+}
+
+/// The same with links of its own.
 pub fn run_workers<M: Machine + Send, G: Gate + Sync, R: Threads + Wait + Sync>(
     rt: &R,
     alloc: Global,
@@ -513,9 +542,6 @@ where
         M.has_work s ≡ true → HasEventOf k r.1.items) }
     ensures peers { IfOk result (λ r. ArePeers M.peer_count r.0) }
 {
-    let mut net = net;
-    let mut events = alone(rt, alloc, &mut net, crew.turns, gate)?;
-    let (net, mut more) = run_crew(rt, alloc, net, crew, gate)?;
-    events.append(&mut more)?;
-    Ok((net, events))
+    let mut free = FreeLinks::new(alloc);
+    run_workers_over(rt, &mut free, net, crew, gate)
 }

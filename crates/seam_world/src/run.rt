@@ -167,6 +167,7 @@ fn run_asked<S: Source, K: Sink, G: Gate + Sync, W: Watch, R: Threads + Wait + S
         ((K.state out.old).faults ≤ (K.state out.new).faults) }
 {
     let workers = Workers::new(
+        alloc,
         Crew {
             workers: options.workers,
             turns: options.turns,

@@ -26,8 +26,8 @@ use seam_tree::Tree;
 use seam_watch::Journal;
 use seam_workers::Gate;
 use seam_world_text::{
-    Farewells, PrintedRound, Residents, count_did, count_shown, positions, sum_hp, write_calls,
-    write_ends, write_farewells,
+    Farewells, PrintedRound, Residents, Writers, count_did, count_shown, positions, sum_hp,
+    write_calls, write_ends, write_farewells,
 };
 use std::alloc::{AllocError, Global};
 use std::sync::Wait;
@@ -86,7 +86,8 @@ struct Taken {
     did: u64,
 }
 
-fn take_calls(
+fn take_calls<R: Threads + Sync>(
+    writers: &Writers<R>,
     alloc: Global,
     output: Output,
     round: &PrintedRound,
@@ -101,24 +102,30 @@ fn take_calls(
             text: Vec::new(alloc),
             did: count_did(round.present, called)?,
         }),
-        Output::Rounds => take_text(alloc, round, called),
-        Output::TracedRounds => take_text(alloc, round, called),
+        Output::Rounds => take_text(writers, alloc, round, called),
+        Output::TracedRounds => take_text(writers, alloc, round, called),
     }
 }
 
-fn take_text(alloc: Global, round: &PrintedRound, called: &World) -> Result<Taken, AllocError>
+fn take_text<R: Threads + Sync>(
+    writers: &Writers<R>,
+    alloc: Global,
+    round: &PrintedRound,
+    called: &World,
+) -> Result<Taken, AllocError>
     ensures { IfOk result (λ taken. (h : Headers) (s : Standing) (t : Division) (w v : AnyWorld)
         (p : IsPlayed h s t w v) (bounds : Option Division) → p.round.called ≡ called.now →
         IsOpenRound h s round.now → taken.text.items
         ≡ calls_text h.defs (data_of h s t w v p bounds)) }
 {
     let mut text = Vec::new(alloc);
-    write_calls(&mut text, round, called)?;
+    write_calls(writers, &mut text, round, called)?;
     Ok(Taken { text, did: 0 })
 }
 
 // Appends the text of a round that has ended.
-fn write_text(
+fn write_text<R: Threads + Sync>(
+    writers: &Writers<R>,
     out: &mut Vec<u8>,
     traced: bool,
     round: &PrintedRound,
@@ -137,7 +144,7 @@ fn write_text(
     seam_world_text::a_rounds_text_has_two_parts();
     write_start(out, round.number, traced, &ended.journal)?;
     out.extend_from_slice(calls)?;
-    write_ends(out, round, kept, &ended.world, bounds)
+    write_ends(writers, out, round, kept, &ended.world, bounds)
 }
 
 // What is summed up of a round that has ended, in which cell parts executed so many calls.
@@ -161,7 +168,8 @@ fn sum_up(
 }
 
 // Gives of a round that has ended what the run gives: appends its text, or sums it up.
-fn give_round(
+fn give_round<R: Threads + Sync>(
+    writers: &Writers<R>,
     out: &mut Vec<u8>,
     output: Output,
     round: &PrintedRound,
@@ -181,11 +189,11 @@ fn give_round(
     match output {
         Output::Sums => Ok(Some(sum_up(round.present, taken.did, kept, &ended.world)?)),
         Output::Rounds => {
-            write_text(out, false, round, &taken.text, kept, ended, bounds)?;
+            write_text(writers, out, false, round, &taken.text, kept, ended, bounds)?;
             Ok(None)
         }
         Output::TracedRounds => {
-            write_text(out, true, round, &taken.text, kept, ended, bounds)?;
+            write_text(writers, out, true, round, &taken.text, kept, ended, bounds)?;
             Ok(None)
         }
     }
@@ -245,12 +253,25 @@ pub fn play<G: Gate + Sync, R: Threads + Wait + Sync>(
         defs: &header.defs,
         present: residents,
     };
-    let taken = take_calls(alloc, playing.output, &round, &called.world)?;
+    let writers = Writers {
+        rt,
+        threads: playing.workers.count(),
+    };
+    let taken = take_calls(&writers, alloc, playing.output, &round, &called.world)?;
     let kept = write_farewells(alloc, &round, called.destroys.as_slice(), &called.world)?;
     let ended = run_ends(rt, alloc, called, &playing.workers)?;
     let shift = header.settings.balance_shift;
     let bounds = balanced(alloc, asked, &tree, round.present, &ended.world, shift)?;
-    let sums = give_round(out, playing.output, &round, &taken, &kept, &ended, &bounds)?;
+    let sums = give_round(
+        &writers,
+        out,
+        playing.output,
+        &round,
+        &taken,
+        &kept,
+        &ended,
+        &bounds,
+    )?;
     residents.end(ended.destroys.as_slice());
     Ok(Played {
         world: ended.world,

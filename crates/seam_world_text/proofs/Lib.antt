@@ -10,3 +10,4 @@ mod Idle
 mod Played
 mod Pieces
 mod Kept
+mod Joining

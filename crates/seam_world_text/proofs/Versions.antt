@@ -1,10 +1,10 @@
 -- What the clients of a round are shown is one copy of each entity and version.
-use Rattle.std.proofs.Common.{◌≡◌, ℕ, Bool, true, false, cond, List, [], ◌∷◌, map, None, Some, refl, sym, subst, ap, ◌∙◌}
+use Rattle.std.proofs.Common.{◌≡◌, ℕ, Bool, true, false, cond, List, [], ◌∷◌, None, Some, refl, sym, subst, ap, ◌∙◌}
 use Rattle.std.specs.Prelude.{Contains, slice_index_or}
 use Rattle.std.specs.List.{All, AllByRecursion, list_any, cons_option}
 use Rattle.std.specs.Option.{option_map}
 use Rattle.std.specs.FinMap as table
-use Rattle.std.proofs.lemmas.List.Elements.{All-nil, All-cons, All-head, All-tail, All-contains_itself}
+use Rattle.std.proofs.lemmas.List.Elements.{All-nil, All-cons, All-contains_itself}
 use Rattle.seam_defs.specs.declared.flags.Part.TheVariants as part
 use Rattle.seam_node_steps.specs.Prelude.{TypeDef, Create, GhostCopy, Line, Own, Enter, Set, Leave, ClientText, Map, World}
 use Rattle.seam_rule_rounds.specs.Prelude.{Header, Book, created_as, destroys, is_shown, was_dead, shown_by, shown_by_lines, ShowsTruth}
@@ -78,9 +78,3 @@ module _ (vs : Versions) (b : Book) (rs : List Resident) (present : ArePresent b
       let there = (present.listed.exact r.made).0 (mapped (λ (x : Resident). x.made) rs r has) in
       subst (λ x. ShowOf vs (cond x (unless_kept (table.get kept r.made.entity) (lines_found v r.made.entity)) []))
       (sym (present.clients r has)) (of_client r.made there (is_shown b r.made.entity) refl)
-
--- what holds of each resident holds of each entry of a map of them
-pub of_entries : (P : Resident → Type 0) (es : List (ℕ × Resident)) → All P (map (λ e. e.1) es) → All (λ e. P e.1) es
-of_entries P [] all = All-nil (λ e. P e.1)
-of_entries P (e ∷ es) all =
-    All-cons (λ x. P x.1) e es (All-head P e.1 (map (λ x. x.1) es) all) (of_entries P es (All-tail P e.1 (map (λ x. x.1) es) all))

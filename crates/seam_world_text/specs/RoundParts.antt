@@ -1,7 +1,8 @@
 -- The two parts of a round's text after its number line: its calls, and what it leaves; and what of them is written of each resident.
-use Rattle.std.specs.Prelude.{ℕ, List, [], ◌++◌, map, codes, Option, None, Some, if◌then◌else◌}
+use Rattle.std.specs.Prelude.{◌≡◌, ℕ, List, [], ◌++◌, map, codes, Option, None, Some, if◌then◌else◌}
 use Rattle.std.specs.List.{flat_map}
 use Rattle.std.specs.FinMap as table
+use Rattle.seam_defs.specs.declared.flags.Part.TheVariants as part
 use Rattle.seam_node_steps.specs.Prelude.{Part, TypeDef, Call, Create, Line, Map, World}
 use Rattle.seam_rule_rounds.specs.Prelude.{DoneLine, number_text, done_text, home_text, base_text, RoundData, ghost_text, client_text}
 use Rattle.seam_rule_rounds.specs.Prelude.{bounds_text}
@@ -9,6 +10,7 @@ use Rattle.seam_law_transcript.specs.Prelude.{client_lines}
 use Rattle.seam_world_text.specs.Finding.{done_found, homes_found, bases_found, ghosts_found, lines_found}
 use Rattle.seam_world_text.specs.declared.farewells.Farewell.{Farewell}
 use Rattle.seam_world_text.specs.declared.residents.Resident.{Resident}
+use Rattle.seam_world_text.specs.declared.chunks.Texts.{Texts}
 
 -- ---- a round
 
@@ -58,3 +60,19 @@ kept_text (Some kept) text = kept.text
 abbrev pub shown_of : List TypeDef → Map Farewell → World → Resident → List ℕ
 shown_of defs farewells w r =
     if r.client then kept_text (table.get farewells r.made.entity) (shown_so_far defs w r.made) else []
+
+-- ---- of many residents
+
+-- the calls that their parts executed: those of cell parts, and then those of base parts
+abbrev pub all_done_of : List TypeDef → World → List Resident → List ℕ
+all_done_of defs w rs = flat_map (done_of (codes "did ") defs part.Cell w) rs ++ flat_map (done_of (codes "dob ") defs part.Base w) rs
+
+-- what they left: homes, base parts, ghosts, and what their clients were shown
+abbrev pub left_of : List TypeDef → Map Farewell → World → List Resident → List ℕ
+left_of defs farewells w rs =
+    flat_map (home_of defs w) rs ++ (flat_map (base_of defs w) rs ++ (flat_map (ghosts_of w) rs ++ flat_map (shown_of defs farewells w) rs))
+
+-- the first texts, one after the other, are what f gives of each resident, and the second ones what g gives
+pub record AreTextsOf (f g : Resident → List ℕ) (rs : List Resident) (texts : List Texts) : Type 0 where
+  pub first : flat_map (λ t. t.first.items) texts ≡ flat_map f rs
+  pub second : flat_map (λ t. t.second.items) texts ≡ flat_map g rs

@@ -1,6 +1,6 @@
 //! The calls of a round.
 
-ghost use Rattle.std.specs.Prelude.{◌≡◌, ◌++◌, codes, Option, OnOk};
+ghost use Rattle.std.specs.Prelude.{◌≡◌, ◌++◌, ◌<◌, codes, Option, OnOk, IfOk};
 ghost use Rattle.std.specs.List.{flat_map};
 ghost use Rattle.seam_node_steps.specs.Prelude.{Division, World as AnyWorld};
 ghost use Rattle.seam_rule_rounds.specs.Prelude.{Header, done_text, Standing};
@@ -8,8 +8,9 @@ ghost use Rattle.seam_law_transcript.specs.Prelude.{IsPlayed, data_of};
 ghost use Rattle.seam_defs.specs.declared.flags.Part.TheVariants as part;
 ghost use Rattle.seam_world_text.specs.Finding.{RoutesLeadHome};
 ghost use Rattle.seam_world_text.specs.Printing.{IsOpenRound};
-ghost use Rattle.seam_world_text.specs.RoundParts.{calls_text, done_of, done_of_type};
+ghost use Rattle.seam_world_text.specs.RoundParts.{calls_text, done_of, all_done_of, done_of_type, AreTextsOf};
 
+use crate::chunks::{Texts, Writers, all_written, chunk_size, push_first, push_second};
 use crate::finding::{home, near_after, part};
 use crate::laws::what_is_found_is_printed;
 use crate::residents::Resident;
@@ -18,14 +19,17 @@ use seam_call::Call;
 use seam_core::World;
 use seam_defs::Defs;
 use seam_report::{DoneLine, push_done};
-use std::alloc::AllocError;
-use std::collections::BTreeMap;
+use std::alloc::{AllocError, Global};
+use std::thread;
+use std::thread::Threads;
 
 /// Appends the calls that each part executed in a round, where its calls have ended, each kind in rising number of the entities. The
-/// round's number line stands before them, and is the caller's to write.
+/// round's number line stands before them, and is the caller's to write. The text of many entities is written by so many threads as there
+/// are writers.
 ///
 /// If allocation fails, the text has no use.
-pub fn write_calls(
+pub fn write_calls<R: Threads + Sync>(
+    writers: &Writers<R>,
     out: &mut Vec<u8>,
     round: &PrintedRound,
     called: &World,
@@ -36,9 +40,91 @@ pub fn write_calls(
         ++ calls_text h.defs (data_of h s tree w v p bounds)) }
 {
     what_is_found_is_printed();
-    let residents = round.present.by_number();
-    push_did(out, round.defs, residents, called)?;
-    push_dob(out, round.defs, residents, called)
+    let residents = round.present.listed(*out.allocator())?;
+    write_done(writers, out, round.defs, residents.as_slice(), called)
+}
+
+// Appends the calls of these residents: those of cell parts, and then those of base parts.
+fn write_done<R: Threads + Sync>(
+    writers: &Writers<R>,
+    out: &mut Vec<u8>,
+    defs: &Defs,
+    residents: &[Resident],
+    world: &World,
+) -> Result<(), AllocError>
+    ensures { OnOk result (RoutesLeadHome world.now →
+        out.new.items ≡ out.old.items ++ all_done_of defs.now world.now residents.now) }
+{
+    let Some(size) = chunk_size(residents.len(), writers.threads) else {
+        return write_done_alone(out, defs, residents, world);
+    };
+    let texts = done_in_chunks(writers.rt, *out.allocator(), size, defs, residents, world)?;
+    push_first(out, &texts)?;
+    push_second(out, texts)
+}
+
+// As `write_done`, by the caller alone.
+fn write_done_alone(
+    out: &mut Vec<u8>,
+    defs: &Defs,
+    residents: &[Resident],
+    world: &World,
+) -> Result<(), AllocError>
+    ensures { OnOk result (RoutesLeadHome world.now →
+        out.new.items ≡ out.old.items ++ all_done_of defs.now world.now residents.now) }
+{
+    push_did(out, defs, residents, world)?;
+    push_dob(out, defs, residents, world)
+}
+
+// The calls of cell parts and of base parts of each chunk of so many residents, one of whose threads is the caller's.
+fn done_in_chunks<R: Threads + Sync>(
+    rt: &R,
+    alloc: Global,
+    size: usize,
+    defs: &Defs,
+    residents: &[Resident],
+    world: &World,
+) -> Result<Vec<Texts>, AllocError>
+    requires { 0 < size }
+    ensures { IfOk result (λ ts. RoutesLeadHome world.now →
+        AreTextsOf (done_of (codes "did ") defs.now part.Cell world.now)
+        (done_of (codes "dob ") defs.now part.Base world.now) residents.now ts.items) }
+{
+    let chunks = thread::map_chunks(
+        rt,
+        alloc,
+        residents,
+        size,
+        &|_start: usize, chunk: &[Resident]| -> Result<Texts, AllocError>
+            ensures { IfOk result (λ t. RoutesLeadHome world.entry.now →
+                (t.first.items ≡ flat_map
+                (done_of (codes "did ") defs.entry.now part.Cell world.entry.now) chunk.now)
+                × (t.second.items ≡ flat_map
+                (done_of (codes "dob ") defs.entry.now part.Base world.entry.now) chunk.now)) }
+        { done_texts(alloc, defs, chunk, world) },
+    )?;
+    all_written(alloc, chunks)
+}
+
+// Those of some residents.
+fn done_texts(
+    alloc: Global,
+    defs: &Defs,
+    residents: &[Resident],
+    world: &World,
+) -> Result<Texts, AllocError>
+    ensures { IfOk result (λ t. RoutesLeadHome world.now →
+        (t.first.items
+        ≡ flat_map (done_of (codes "did ") defs.now part.Cell world.now) residents.now)
+        × (t.second.items
+        ≡ flat_map (done_of (codes "dob ") defs.now part.Base world.now) residents.now)) }
+{
+    let mut first = Vec::new(alloc);
+    let mut second = Vec::new(alloc);
+    push_did(&mut first, defs, residents, world)?;
+    push_dob(&mut second, defs, residents, world)?;
+    Ok(Texts { first, second })
 }
 
 // The lines of calls that a part of an entity of this type executed.
@@ -79,15 +165,15 @@ fn push_did_of(
 fn push_did(
     out: &mut Vec<u8>,
     defs: &Defs,
-    residents: &BTreeMap<u32, Resident>,
+    residents: &[Resident],
     world: &World,
 ) -> Result<(), AllocError>
-    ensures { OnOk result (RoutesLeadHome world.now → out.new.items ≡ out.old.items
-        ++ flat_map (λ e. done_of (codes "did ") defs.now part.Cell world.now e.1)
-        residents.now.entries) }
+    ensures { OnOk result (RoutesLeadHome world.now →
+        out.new.items ≡ out.old.items
+        ++ flat_map (done_of (codes "did ") defs.now part.Cell world.now) residents.now) }
 {
     let mut near = Some(0);
-    for (_, resident) in residents {
+    for resident in residents {
         near = push_did_of(out, defs, near, resident, world)?;
     }
     Ok(())
@@ -112,14 +198,13 @@ fn push_dob_of(
 fn push_dob(
     out: &mut Vec<u8>,
     defs: &Defs,
-    residents: &BTreeMap<u32, Resident>,
+    residents: &[Resident],
     world: &World,
 ) -> Result<(), AllocError>
     ensures { OnOk result (out.new.items ≡ out.old.items
-        ++ flat_map (λ e. done_of (codes "dob ") defs.now part.Base world.now e.1)
-        residents.now.entries) }
+        ++ flat_map (done_of (codes "dob ") defs.now part.Base world.now) residents.now) }
 {
-    for (_, resident) in residents {
+    for resident in residents {
         push_dob_of(out, defs, resident, world)?;
     }
     Ok(())

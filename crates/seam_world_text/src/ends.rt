@@ -1,6 +1,6 @@
 //! What a round leaves, and what clients were shown in it.
 
-ghost use Rattle.std.specs.Prelude.{◌≡◌, ◌++◌, ◌∷◌, [], if◌then◌else◌, map, OnOk, IfOk, Option};
+ghost use Rattle.std.specs.Prelude.{◌≡◌, ◌++◌, ◌<◌, ◌∷◌, [], if◌then◌else◌, map, OnOk, IfOk, Option};
 ghost use Rattle.std.specs.List.{flat_map, All};
 ghost use Rattle.std.specs.FinSet as set;
 ghost use Rattle.seam_node_steps.specs.Prelude.{Division, RealView, World as AnyWorld, cell_numbers};
@@ -11,9 +11,11 @@ ghost use Rattle.seam_world_text.specs.Finding.{RoutesLeadHome, ghost_line, haun
 ghost use Rattle.seam_world_text.specs.Farewells.{AreFarewells};
 ghost use Rattle.seam_world_text.specs.Printing.{IsOpenRound};
 ghost use Rattle.seam_report.specs.Spelled.{Versions, GoesBy};
-ghost use Rattle.seam_world_text.specs.RoundParts.{ends_text, home_of, base_of, ghosts_of, lines_text, shown_so_far, shown_of};
+ghost use Rattle.seam_world_text.specs.RoundParts.{ends_text, home_of, base_of, ghosts_of, left_of, AreTextsOf};
+ghost use Rattle.seam_world_text.specs.RoundParts.{lines_text, shown_so_far, shown_of};
 ghost use Rattle.seam_world_text.specs.Told.{ShowOf, told_by};
 
+use crate::chunks::{Texts, Writers, all_written, chunk_size, push_first, push_second};
 use crate::farewells::Farewells;
 use crate::finding::{home, near_after, part};
 use crate::laws::what_is_found_is_printed;
@@ -31,13 +33,17 @@ use seam_report::{
 use seam_tree::{CellSet, MOST_CELLS, Tree};
 use std::alloc::{AllocError, Global};
 use std::collections::BTreeMap;
+use std::thread;
+use std::thread::Threads;
 
 /// Appends the last part of a round's text, where the round has ended: the homes, the base parts, the ghosts, and what clients were
 /// shown, each kind in rising number of the entities; the boundaries, if they were balanced; and the round's number again. What was kept
-/// of clients where the calls had ended is the lines of those whose entities died.
+/// of clients where the calls had ended is the lines of those whose entities died. So many threads as there are writers write the text of
+/// many entities.
 ///
 /// If allocation fails, the text has no use.
-pub fn write_ends(
+pub fn write_ends<R: Threads + Sync>(
+    writers: &Writers<R>,
     out: &mut Vec<u8>,
     round: &PrintedRound,
     kept: &Farewells,
@@ -51,14 +57,151 @@ pub fn write_ends(
         (data_of h s tree w ended.now p bounds.now)) }
 {
     what_is_found_is_printed();
-    let residents = round.present.by_number();
-    let mut ghosts = Vec::new(*out.allocator());
-    push_homes(out, &mut ghosts, round.defs, residents, ended)?;
-    push_bases(out, round.defs, residents, ended)?;
-    out.extend_from_slice(&ghosts)?;
-    push_clients(out, round.defs, residents, kept, ended)?;
+    let residents = round.present.listed(*out.allocator())?;
+    write_left(writers, out, round.defs, residents.as_slice(), kept, ended)?;
     push_tree(out, bounds)?;
     push_number_line(out, b"end ", round.number)
+}
+
+// Appends what these residents left: the homes, the base parts, the ghosts, and what their clients were shown.
+fn write_left<R: Threads + Sync>(
+    writers: &Writers<R>,
+    out: &mut Vec<u8>,
+    defs: &Defs,
+    residents: &[Resident],
+    kept: &Farewells,
+    world: &World,
+) -> Result<(), AllocError>
+    ensures { OnOk result (RoutesLeadHome world.now → (vs : Versions) →
+        All (λ r. ShowOf vs (told_by kept.now world.now r)) residents.now →
+        out.new.items ≡ out.old.items ++ left_of defs.now kept.now world.now residents.now) }
+{
+    let Some(size) = chunk_size(residents.len(), writers.threads) else {
+        return write_left_alone(out, defs, residents, kept, world);
+    };
+    let alloc = *out.allocator();
+    let homes = homes_in_chunks(writers.rt, alloc, size, defs, residents, world)?;
+    let told = told_in_chunks(writers.rt, alloc, size, defs, residents, kept, world)?;
+    push_first(out, &homes)?;
+    push_first(out, &told)?;
+    push_second(out, homes)?;
+    push_second(out, told)
+}
+
+// As `write_left`, by the caller alone.
+fn write_left_alone(
+    out: &mut Vec<u8>,
+    defs: &Defs,
+    residents: &[Resident],
+    kept: &Farewells,
+    world: &World,
+) -> Result<(), AllocError>
+    ensures { OnOk result (RoutesLeadHome world.now → (vs : Versions) →
+        All (λ r. ShowOf vs (told_by kept.now world.now r)) residents.now →
+        out.new.items ≡ out.old.items ++ left_of defs.now kept.now world.now residents.now) }
+{
+    let mut ghosts = Vec::new(*out.allocator());
+    push_homes(out, &mut ghosts, defs, residents, world)?;
+    push_bases(out, defs, residents, world)?;
+    out.extend_from_slice(&ghosts)?;
+    push_clients(out, defs, residents, kept, world)
+}
+
+// The homes and the ghosts of each chunk of so many residents.
+fn homes_in_chunks<R: Threads + Sync>(
+    rt: &R,
+    alloc: Global,
+    size: usize,
+    defs: &Defs,
+    residents: &[Resident],
+    world: &World,
+) -> Result<Vec<Texts>, AllocError>
+    requires { 0 < size }
+    ensures { IfOk result (λ ts. RoutesLeadHome world.now →
+        AreTextsOf (home_of defs.now world.now) (ghosts_of world.now)
+        residents.now ts.items) }
+{
+    let chunks = thread::map_chunks(
+        rt,
+        alloc,
+        residents,
+        size,
+        &|_start: usize, chunk: &[Resident]| -> Result<Texts, AllocError>
+            ensures { IfOk result (λ t. RoutesLeadHome world.entry.now →
+                (t.first.items ≡ flat_map (home_of defs.entry.now world.entry.now) chunk.now)
+                × (t.second.items ≡ flat_map (ghosts_of world.entry.now) chunk.now)) }
+        { home_texts(alloc, defs, chunk, world) },
+    )?;
+    all_written(alloc, chunks)
+}
+
+// Those of some residents.
+fn home_texts(
+    alloc: Global,
+    defs: &Defs,
+    residents: &[Resident],
+    world: &World,
+) -> Result<Texts, AllocError>
+    ensures { IfOk result (λ t. RoutesLeadHome world.now →
+        (t.first.items ≡ flat_map (home_of defs.now world.now) residents.now)
+        × (t.second.items ≡ flat_map (ghosts_of world.now) residents.now)) }
+{
+    let mut first = Vec::new(alloc);
+    let mut second = Vec::new(alloc);
+    push_homes(&mut first, &mut second, defs, residents, world)?;
+    Ok(Texts { first, second })
+}
+
+// The base parts of each chunk of so many residents, and what their clients were shown.
+fn told_in_chunks<R: Threads + Sync>(
+    rt: &R,
+    alloc: Global,
+    size: usize,
+    defs: &Defs,
+    residents: &[Resident],
+    kept: &Farewells,
+    world: &World,
+) -> Result<Vec<Texts>, AllocError>
+    requires { 0 < size }
+    ensures { IfOk result (λ ts. (vs : Versions) →
+        All (λ r. ShowOf vs (told_by kept.now world.now r)) residents.now →
+        AreTextsOf (base_of defs.now world.now) (shown_of defs.now kept.now world.now)
+        residents.now ts.items) }
+{
+    let chunks = thread::map_chunks(
+        rt,
+        alloc,
+        residents,
+        size,
+        &|_start: usize, chunk: &[Resident]| -> Result<Texts, AllocError>
+            ensures { IfOk result (λ t. (vs : Versions) →
+                All (λ r. ShowOf vs (told_by kept.entry.now world.entry.now r)) chunk.now →
+                (t.first.items ≡ flat_map (base_of defs.entry.now world.entry.now) chunk.now)
+                × (t.second.items
+                ≡ flat_map (shown_of defs.entry.now kept.entry.now world.entry.now) chunk.now)) }
+        { told_texts(alloc, defs, chunk, kept, world) },
+    )?;
+    all_written(alloc, chunks)
+}
+
+// Those of some residents.
+fn told_texts(
+    alloc: Global,
+    defs: &Defs,
+    residents: &[Resident],
+    kept: &Farewells,
+    world: &World,
+) -> Result<Texts, AllocError>
+    ensures { IfOk result (λ t. (vs : Versions) →
+        All (λ r. ShowOf vs (told_by kept.now world.now r)) residents.now →
+        (t.first.items ≡ flat_map (base_of defs.now world.now) residents.now)
+        × (t.second.items ≡ flat_map (shown_of defs.now kept.now world.now) residents.now)) }
+{
+    let mut first = Vec::new(alloc);
+    let mut second = Vec::new(alloc);
+    push_bases(&mut first, defs, residents, world)?;
+    push_clients(&mut second, defs, residents, kept, world)?;
+    Ok(Texts { first, second })
 }
 
 /// Where the homes are that a round left, in the order of their lines.
@@ -128,18 +271,16 @@ fn push_homes(
     out: &mut Vec<u8>,
     ghosts: &mut Vec<u8>,
     defs: &Defs,
-    residents: &BTreeMap<u32, Resident>,
+    residents: &[Resident],
     world: &World,
 ) -> Result<(), AllocError>
     ensures homes { OnOk result (RoutesLeadHome world.now →
-        out.new.items ≡ out.old.items ++ flat_map (λ e. home_of defs.now world.now e.1)
-        residents.now.entries) }
+        out.new.items ≡ out.old.items ++ flat_map (home_of defs.now world.now) residents.now) }
     ensures ghosts { OnOk result (RoutesLeadHome world.now →
-        ghosts.new.items ≡ ghosts.old.items ++ flat_map (λ e. ghosts_of world.now e.1)
-        residents.now.entries) }
+        ghosts.new.items ≡ ghosts.old.items ++ flat_map (ghosts_of world.now) residents.now) }
 {
     let mut near = Some(0);
-    for (_, resident) in residents {
+    for resident in residents {
         near = push_home_of(out, ghosts, defs, near, resident, world)?;
     }
     Ok(())
@@ -205,13 +346,13 @@ fn push_base_of(
 fn push_bases(
     out: &mut Vec<u8>,
     defs: &Defs,
-    residents: &BTreeMap<u32, Resident>,
+    residents: &[Resident],
     world: &World,
 ) -> Result<(), AllocError>
-    ensures { OnOk result (out.new.items ≡ out.old.items
-        ++ flat_map (λ e. base_of defs.now world.now e.1) residents.now.entries) }
+    ensures { OnOk result (out.new.items
+        ≡ out.old.items ++ flat_map (base_of defs.now world.now) residents.now) }
 {
-    for (_, resident) in residents {
+    for resident in residents {
         push_base_of(out, defs, resident, world)?;
     }
     Ok(())
@@ -287,16 +428,16 @@ fn push_client_of<'a>(
 fn push_clients(
     out: &mut Vec<u8>,
     defs: &Defs,
-    residents: &BTreeMap<u32, Resident>,
+    residents: &[Resident],
     kept: &Farewells,
     world: &World,
 ) -> Result<(), AllocError>
-    ensures { (vs : Versions) → All (λ e. ShowOf vs (told_by kept.now world.now e.1))
-        residents.now.entries → OnOk result (out.new.items ≡ out.old.items
-        ++ flat_map (λ e. shown_of defs.now kept.now world.now e.1) residents.now.entries) }
+    ensures { OnOk result ((vs : Versions) →
+        All (λ r. ShowOf vs (told_by kept.now world.now r)) residents.now → out.new.items
+        ≡ out.old.items ++ flat_map (shown_of defs.now kept.now world.now) residents.now) }
 {
     let mut spellings = Spellings::new(*out.allocator(), defs);
-    for (_, resident) in residents {
+    for resident in residents {
         push_client_of(out, &mut spellings, resident, kept, world)?;
     }
     Ok(())

@@ -9,9 +9,12 @@
 //!
 //! The module `laws` has that this is what a played round prints (*data_of* of `seam_law_transcript`), so the contracts of `write_calls`
 //! and `write_ends` speak of that alone. Who prints a round needs no scan of cells.
+//!
+//! Several threads write the text of many residents, each that of some of them (`chunks`); the texts are put one after the other.
 #![tactic(auto)]
 
 mod calls;
+mod chunks;
 mod ends;
 mod farewells;
 mod finding;
@@ -21,6 +24,7 @@ mod round;
 mod sums;
 
 pub use calls::write_calls;
+pub use chunks::Writers;
 pub use ends::{positions, write_ends};
 pub use farewells::{Farewell, Farewells, write_farewells};
 pub use laws::{

@@ -1,6 +1,6 @@
 //! Who lives, and who has a client, from round to round.
 
-ghost use Rattle.std.specs.Prelude.{◌≡◌, ℕ, ◌∷◌, [], OnOk};
+ghost use Rattle.std.specs.Prelude.{◌≡◌, ℕ, ◌∷◌, [], OnOk, IfOk};
 ghost use Rattle.std.specs.BTreeMap.{values};
 ghost use Rattle.seam_node_steps.specs.Prelude.{Division, AreLegal};
 ghost use Rattle.seam_rule_rounds.specs.Prelude.{Header, Book, empty_book, with_round_ended, with_tree};
@@ -81,6 +81,23 @@ impl Residents {
     {
         &self.by_number
     }
+
+    // The list of them.
+    pub(crate) fn listed(&self, alloc: Global) -> Result<Vec<Resident>, AllocError>
+        ensures { IfOk result (λ v. v.items ≡ self.now) }
+    {
+        list_of(alloc, &self.by_number)
+    }
+}
+
+fn list_of(alloc: Global, residents: &BTreeMap<u32, Resident>) -> Result<Vec<Resident>, AllocError>
+    ensures { IfOk result (λ v. v.items ≡ values residents.now) }
+{
+    let mut list = Vec::with_capacity(alloc, residents.len())?;
+    for (_, resident) in residents {
+        list.push(*resident)?;
+    }
+    Ok(list)
 }
 
 // Adds an entity, where nobody has its number.

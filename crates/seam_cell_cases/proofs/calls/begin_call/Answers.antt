@@ -10,8 +10,8 @@ use Rattle.seam_cell_cases.proofs.calls.begin_call.Goals as goal
 pub begin-requires-clause-inside : goal.begin-requires-clause-inside
 begin-requires-clause-inside c =
     let k = c.args.known.now in
-    let there = executed_there (here_in k) k.tree c.requires.size c.args.real.now.core c.args.call.now c.requires.may c.requires.there in
-    subst (λ s. IsInSpace k.tree s.pos) (sym (c.in_ok-after.ensures.state k.me k.settings)) there.inside
+    let there = executed_there (here_in k) k.bounds c.requires.size c.args.real.now.core c.args.call.now c.requires.may c.requires.there in
+    subst (λ s. IsInSpace k.bounds.tree s.pos) (sym (c.in_ok-after.ensures.state k.me k.settings)) there.inside
 
 pub returns-clause-state : goal.returns-clause-state
 returns-clause-state c = c.in_ok-after.ensures.state c.args.known.now.me c.args.known.now.settings
@@ -31,7 +31,7 @@ returns-clause-begun c =
     let props = c.props_over.ensures ∙ ap (λ s. unwrap_or of.props s.props) (c.state.ensures ∙ ap (λ x. x.state) same) in
     let before = parts_of c.args.remotes.now c.args.out.now in
     let after = parts_of c.begin.new.remotes c.begin.new.out in
-    subst (λ b. HasBegun (here_in k) k.tree (executed (here_in k) r call) b before after c.in_ok-begun.begun) changed
+    subst (λ b. HasBegun (here_in k) k.bounds (executed (here_in k) r call) b before after c.in_ok-begun.begun) changed
     (c.in_ok-begun.ensures.begun (executed (here_in k) r call) (executed_later (here_in k) r c.prepare.new.self.core call same)
     (sym (c.ty.ensures ∙ ap (λ x. x.ty) same))
     (sym

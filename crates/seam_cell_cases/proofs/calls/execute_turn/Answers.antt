@@ -45,7 +45,7 @@ settle_real-requires-clause-entity c = ap (λ x. x.entity) (c.in-Ok.ensures.begu
 pub returns-clause-done : goal.returns-clause-done
 returns-clause-done c =
     let h = here_in c.args.known.now in
-    let t = c.args.known.now.tree in
+    let t = c.args.known.now.bounds in
     let r = c.args.turn.real.core in
     let k = c.args.turn.call in
     let left = option_map core_of c.settle_real.result in

@@ -13,8 +13,8 @@ begin-requires-clause-inside c =
     let k = c.args.known.now in
     let r = c.args.real.now.core in
     let task = readied r c.requires.ready in
-    let there = ready_there (here_in k) k.tree c.requires.size r task.order task.call task.is.order task.is.call c.requires.there in
-    subst (λ s. IsInSpace k.tree s.pos) (sym (c.in_ok-after.ensures.state k.me k.settings task.order task.call task.is)) there.inside
+    let there = ready_there (here_in k) k.bounds c.requires.size r task.order task.call task.is.order task.is.call c.requires.there in
+    subst (λ s. IsInSpace k.bounds.tree s.pos) (sym (c.in_ok-after.ensures.state k.me k.settings task.order task.call task.is)) there.inside
 
 pub returns-clause-state : goal.returns-clause-state
 returns-clause-state c = c.in_ok-after.ensures.state c.args.known.now.me c.args.known.now.settings
@@ -34,7 +34,7 @@ returns-clause-begun c o call is =
     let props = c.props_over.ensures ∙ ap (λ s. unwrap_or of.props s.props) (c.state.ensures ∙ ap (λ x. x.state) same) in
     let before = parts_of c.args.remotes.now c.args.out.now in
     let after = parts_of c.begin.new.remotes c.begin.new.out in
-    subst (λ b. HasBegun (here_in k) k.tree (executed_ready (here_in k) r o call) b before after c.in_ok-begun.begun) changed
+    subst (λ b. HasBegun (here_in k) k.bounds (executed_ready (here_in k) r o call) b before after c.in_ok-begun.begun) changed
     (c.in_ok-begun.ensures.begun (executed_ready (here_in k) r o call) (ready_later (here_in k) r q o call same)
     (sym (c.ty.ensures ∙ ap (λ x. x.ty) same))
     (sym (c.version_after.ensures call ∙ ap (λ x. x.public) (after_is (here_in k) r q c.in_ok-after.after call same state changed)))

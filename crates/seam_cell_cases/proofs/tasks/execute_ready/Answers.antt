@@ -40,7 +40,7 @@ settle_real-requires-clause-entity c = c.in-Ok.ensures.entity ∙ ap (λ x. x.en
 pub returns-clause-done : goal.returns-clause-done
 returns-clause-done c =
     let h = here_in c.args.known.now in
-    let t = c.args.known.now.tree in
+    let t = c.args.known.now.bounds in
     let r = c.args.real.core in
     let q = c.begin_ready.new.real.core in
     let task = readied r c.requires.ready in

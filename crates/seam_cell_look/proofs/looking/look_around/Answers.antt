@@ -31,7 +31,8 @@ pub returns-clause-err : goal.returns-clause-err
 returns-clause-err c =
     let d : CellView = record {
       here = here_in c.args.known.now;
-      tree = c.args.known.now.tree;
+      tree = c.args.known.now.bounds.tree;
+      number = c.args.known.now.bounds.number;
       reals = c.args.reals.now.items.items;
       nexts = table.empty;
       ghosts = c.args.copies.now.ghosts;

@@ -8,9 +8,9 @@ use Rattle.seam_cell_parts.proofs.settle.tell_from.Goals as goal
 pub returns : goal.returns
 returns c =
     let k = c.args.known.now in
-    let j = home_after (here_in k) k.tree c.args.pos in
-    told_from (here_in k) k.tree c.args.real.now.core c.args.pos c.args.changed _ refl (c.make_plan-plan.ensures.home k.defs)
+    let j = home_after (here_in k) k.bounds.tree c.args.pos in
+    told_from (here_in k) k.bounds.tree c.args.real.now.core c.args.pos c.args.changed _ refl c.plan_here-plan.ensures.home
     c.haunts-old.ensures
-    (c.make_plan-plan.ensures.haunts k.defs
-    ∙ ap (λ o. haunts_at (here_in k) k.tree c.args.pos j (former k.me j o)) c.haunts-old.ensures)
+    (c.plan_here-plan.ensures.haunts
+    ∙ ap (λ o. haunts_at (here_in k) k.bounds.tree c.args.pos j (former k.me j o)) c.haunts-old.ensures)
     refl c.entity.ensures (ap (λ n. n + 1) c.beat.ensures)

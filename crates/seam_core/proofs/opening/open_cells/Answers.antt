@@ -8,4 +8,4 @@ loop-k-preserved c =
     one_opened (empty_cell c.args.defs.now c.args.settings) 0 c.loop-k.k c.loop-k.k c.loop-k.nodes.items c.push.new.self.items
     c.of_cell.result
     c.in_ok-push.ensures.items c.loop-k.invariant
-    (c.of_cell.ensures ∙ (c.new-cell.ensures ∙ ap (λ d. empty_cell d c.args.settings c.loop-k.k) c.in_ok-copy.ensures)) (omega arith)
+    (c.of_cell.ensures ∙ (c.in_ok-cell.ensures ∙ ap (λ d. empty_cell d c.args.settings c.loop-k.k) c.in_ok-copy.ensures)) (omega arith)

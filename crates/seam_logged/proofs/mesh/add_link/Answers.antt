@@ -3,7 +3,7 @@ use Rattle.std.specs.Prelude.{slice_get}
 use Rattle.std.proofs.lemmas.List.{length-set}
 use Rattle.std.proofs.lemmas.Option.{slice_get_read}
 use Rattle.seam_logged.specs.Logs.{EndsView}
-use Rattle.seam_logged.specs.Mesh.{IsNew, at_start}
+use Rattle.seam_logged.specs.Mesh.{IsFilled, at_start}
 use Rattle.seam_logged.proofs.LinkPlaces.{reached_more, linked_more}
 use Rattle.seam_logged.proofs.mesh.add_link.Goals as goal
 
@@ -48,10 +48,9 @@ returns-clause-linked g c = λ links here are.
     (sym (length-set ends from (record { ins = ea.ins; outs = c.push.new.self.items }))) c.requires.to c.index_mut-2.ensures.value
     ∙ ap Some (sym c.behind-ends-2.view_is) in
     let is_b = subst (λ l. slice_get (set ends from (record { ins = ea.ins; outs = l })) to ≡ Some eb) c.in_ok-push.ensures.items is_mid in
-    let new : IsNew (get_or links (from * n + to) []) o i = record {
+    let filled : IsFilled (get_or links (from * n + to) []) o i = record {
       ring = c.in_ok-fill.ensures.ring ∙ c.in_ok-out.ensures.one;
-      taken = c.in_ok-out.ensures.empty.1;
-      put = rw here (c.in_ok-fill.ensures.put ∙ ap (λ l. l ++ at_start c.args.letters.items) c.in_ok-out.ensures.empty.0);
+      put = rw here (c.in_ok-fill.ensures.put ∙ ap (λ l. l ++ at_start c.args.letters.items) c.in_ok-out.ensures.empty);
     } in
     rw (c.in_ok-push.ensures.items, c.in_ok-push-2.ensures.items)
-    (linked_more n from to ends ea eb o i c.requires.reached c.requires.from c.requires.to is_a is_b links new are)
+    (linked_more n from to ends ea eb o i c.requires.reached c.requires.from c.requires.to is_a is_b links filled are)

@@ -14,6 +14,9 @@ returns-clause-base_here c = simp computing
 pub returns-clause-tick : goal.returns-clause-tick
 returns-clause-tick c = refl
 
+pub returns-clause-bounds : goal.returns-clause-bounds
+returns-clause-bounds c = refl
+
 pub returns-clause-reap : goal.returns-clause-reap
 returns-clause-reap c = simp computing
 

@@ -5,24 +5,17 @@ use Rattle.std.specs.Option.{option_or}
 use Rattle.seam_view.specs.declared.Look.{Look}
 use Rattle.seam_view.specs.declared.Look.TheVariants.{Leave}
 use Rattle.seam_view.specs.Replica.{without}
-use Rattle.seam_view.specs.Together.{AreApart}
 use Rattle.seam_view.proofs.Shown.{sought, same_shown, view_of_lists}
 use Rattle.seam_view.proofs.Together.{kept_alone, shown_together}
-use Rattle.seam_view.proofs.Apart.{apart_together, once_kept}
+use Rattle.seam_view.proofs.OnceKept.{once_kept}
 use Rattle.seam_view.proofs.View.leave.Goals as goal
 
 pub invariant_of-self : goal.invariant_of-self
 invariant_of-self c =
-    let es = c.self.inside.view.entries in
-    let left = c.take_out.new.left.entries in
     let looks : List Look = Leave c.args.e ∷ [] in
-    let once = c.self.invariant.0.once in
-    let kept = c.take_out.ensures.kept in (
-      view_of_lists c.self.inside.radius c.self.inside.hysteresis c.take_out.new.self.entries left
-          (subst (λ xs. IsDistinct eqb (keys_of xs)) (sym kept) (once_kept looks es once)),
-      subst (λ xs. AreApart xs left) (sym kept)
-          (apart_together looks es c.self.inside.left.entries left once c.take_out.ensures.left c.self.invariant.1),
-    )
+    view_of_lists c.self.inside.radius c.self.inside.hysteresis c.take_out.new.self.entries c.take_out.new.left.entries
+    (subst (λ xs. IsDistinct eqb (keys_of xs)) (sym c.take_out.ensures.kept)
+    (once_kept looks c.self.inside.view.entries c.self.invariant.once))
 
 pub returns-clause-core : goal.returns-clause-core
 returns-clause-core c =
@@ -36,6 +29,6 @@ returns-clause-core c =
     let shown =
     same_shown (es ++ ls) (new ++ left) (λ q. sought q new left
     ∙ ((λ i. option_or (lookup (eqb q) (kept i)) (c.take_out.ensures.left q i))
-    ∙ (shown_together q looks es (λ x. lookup (eqb x) ls) c.self.invariant.0.once ∙ sym (sought q es ls)))) in
+    ∙ (shown_together q looks es (λ x. lookup (eqb x) ls) c.self.invariant.once ∙ sym (sought q es ls)))) in
     (λ i. record { radius = c.self.inside.radius; hysteresis = c.self.inside.hysteresis; entries = alone i; shown = shown i })
     ∙ ap (λ w. record w.core { entries = without c.args.e w.core.entries }) c.self.view_is

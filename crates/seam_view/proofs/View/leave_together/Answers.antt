@@ -4,11 +4,11 @@ use Rattle.std.specs.Map.{keys_of, lookup}
 use Rattle.std.specs.Option.{option_or}
 use Rattle.std.specs.FinMap as versions
 use Rattle.seam_view.specs.Replica.{after_looks, SetsAreIn, enters_in, leaves_in}
-use Rattle.seam_view.specs.Together.{looks_past_all, AreApart}
+use Rattle.seam_view.specs.Together.{looks_past_all}
 use Rattle.seam_view.proofs.Room.{enters_past_all, sets_past_all}
 use Rattle.seam_view.proofs.Shown.{sought, same_shown, view_of_lists}
 use Rattle.seam_view.proofs.Together.{same_together, shown_together}
-use Rattle.seam_view.proofs.Apart.{apart_together, once_kept}
+use Rattle.seam_view.proofs.OnceKept.{once_kept}
 use Rattle.seam_view.proofs.View.leave_together.Goals as goal
 
 pub returns-clause-same_after : goal.returns-clause-same_after
@@ -18,7 +18,7 @@ returns-clause-same_after c = λ known.
     let new = c.take_out.new.self.entries in
     let left = c.take_out.new.left.entries in
     let looks = c.args.looks.now in
-    let once = c.self.invariant.0.once in
+    let once = c.self.invariant.once in
     let kept = c.take_out.ensures.kept in
     let shown =
     same_shown (es ++ ls) (new ++ left) (λ q. sought q new left
@@ -63,13 +63,6 @@ returns-clause-room c =
 
 pub invariant_of-self : goal.invariant_of-self
 invariant_of-self c =
-    let es = c.self.inside.view.entries in
-    let ls = c.self.inside.left.entries in
-    let new = c.take_out.new.self.entries in
-    let left = c.take_out.new.left.entries in
-    let kept = c.take_out.ensures.kept in (
-      view_of_lists c.self.inside.radius c.self.inside.hysteresis new left
-          (subst (λ xs. IsDistinct eqb (keys_of xs)) (sym kept) (once_kept c.args.looks.now es c.self.invariant.0.once)),
-      subst (λ l. AreApart l left) (sym kept)
-          (apart_together c.args.looks.now es ls left c.self.invariant.0.once c.take_out.ensures.left c.self.invariant.1),
-    )
+    view_of_lists c.self.inside.radius c.self.inside.hysteresis c.take_out.new.self.entries c.take_out.new.left.entries
+    (subst (λ xs. IsDistinct eqb (keys_of xs)) (sym c.take_out.ensures.kept)
+    (once_kept c.args.looks.now c.self.inside.view.entries c.self.invariant.once))

@@ -41,7 +41,7 @@ loop-seen-preserved c =
     let e = (get_or known k d).entity in
     elim c.match-place_in_view.branch [
       | in-Some w ↦
-          let once = subst (λ v. IsDistinct eqb (keys_of v.core.entries)) c.self.view_is c.self.invariant.0.once in
+          let once = subst (λ v. IsDistinct eqb (keys_of v.core.entries)) c.self.view_is c.self.invariant.once in
           let written : c.match-place_in_view.notes.items ≡ slice_set c.loop-seen.notes.items w.in-Some.i w.note.result =
           ap (λ v. v.items) w.notes-is in
           record {

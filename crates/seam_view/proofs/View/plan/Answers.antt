@@ -41,7 +41,7 @@ returns-clause-room c =
     ∙ changes_noted r c.args.own known r.entries) in
     let first = c.in_ok-append.ensures.items ∙ (λ i. left i ++ set i) in
     let looks = c.in_ok-append-2.ensures.items ∙ (λ i. first i ++ c.in_ok-notes.ensures.enters i) in
-    let once = subst (λ v. IsDistinct nat_eq (keys_of v.core.entries)) c.self.view_is c.self.invariant.0.once in
+    let once = subst (λ v. IsDistinct nat_eq (keys_of v.core.entries)) c.self.view_is c.self.invariant.once in
     let entered = ap length c.in_ok-notes.ensures.enters in
     let gone = ap length left in
     let some = c.len.ensures in

@@ -14,7 +14,7 @@ pub returns-in-Some : goal.returns-in-Some
 returns-in-Some c =
     let view = c.self.inside.view.entries in
     let left = c.self.inside.left.entries in
-    let found = lookup_at view c.in-Some.field-0-0 c.args.e c.in-Some.version c.self.invariant.0.once c.in-Some.ensures.there in
+    let found = lookup_at view c.in-Some.field-0-0 c.args.e c.in-Some.version c.self.invariant.once c.in-Some.ensures.there in
     ap (λ o. option_or o (lookup (eqb c.args.e) left)) (sym found)
     ∙ (sym (sought c.args.e view left) ∙ (shown_of_lookup (view ++ left) c.args.e
     ∙ ap (λ w. versions.get w.core.shown c.args.e) c.self.view_is))

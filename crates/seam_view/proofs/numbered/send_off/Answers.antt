@@ -5,18 +5,17 @@ use Rattle.std.specs.List.{filter}
 use Rattle.std.specs.Map.{lookup}
 use Rattle.seam_view.specs.declared.numbered.Slot.{Slot}
 use Rattle.seam_view.specs.ByNumber.{GoInOrder, entries_of, stays, nowhere}
-use Rattle.indexmap.specs.IndexMap.{spare}
 use Rattle.seam_view.specs.Replica.{leaves_in}
 use Rattle.seam_view.specs.Together.{leaves_next, looks_past_all, left_past_all}
 use Rattle.seam_view.proofs.Sent.{sent_all, same_entries, go_in_order, kept_when_sent, sent_next, past_next, left_next, none_past, all_sent}
 use Rattle.seam_view.proofs.Sent.{one_left}
 use Rattle.seam_view.proofs.numbered.send_off.Goals as goal
-use Rattle.seam_view.proofs.numbered.send_off.Goals.{in-Some+in-Ok, in-None}
+use Rattle.seam_view.proofs.numbered.send_off.Goals.{in-Some, in-None}
 
 pub loop-slot-preserved : goal.loop-slot-preserved
 loop-slot-preserved c =
     elim c.match-past_leave.branch [
-      | in-Some+in-Ok w ↦
+      | in-Some w ↦
           let looks = c.loop-slot.rest.now in
           let n = c.loop-slot.place in
           let i = c.loop-slot.slot-index in
@@ -33,12 +32,12 @@ loop-slot-preserved c =
           let others = ap (drop (i + 1)) w.slots-is ∙ drop-set-lt (i + 1) slots i _ (omega arith) in
           let found : (x : ℕ) → lookup (eqb x) c.match-past_leave.left.entries
           ≡ cond (leaves_next s.entity looks && eqb s.entity x) (Some s.version) (lookup (eqb x) c.loop-slot.left.entries) =
-          λ x. ap (λ m. lookup (eqb x) m.entries) w.left-is ∙ (w.in-Ok.ensures.updates.0 x
+          λ x. ap (λ m. lookup (eqb x) m.entries) w.left-is ∙ (w.put.ensures.put x
           ∙ ap (λ b. cond (b && eqb s.entity x) (Some s.version) (lookup (eqb x) c.loop-slot.left.entries)) (sym leave)) in
           let fewer = one_left s.entity looks leave in
           let past = ap leaves_in (ap (λ r. r.now) w.rest-is ∙ w.in-Some.ensures.past) in
-          let spared = w.insert.ensures.spare in
-          let is = ap spare w.left-is in
+          let spared = w.put.ensures.room in
+          let is = ap (λ m. m.room) w.left-is in
           let room = inv.room in
           let used = inv.used in
           record {
@@ -71,7 +70,7 @@ loop-slot-preserved c =
           λ x. ap (λ m. lookup (eqb x) m.entries) w.left-is
           ∙ ap (λ b. cond (b && eqb s.entity x) (Some s.version) (lookup (eqb x) c.loop-slot.left.entries)) (sym stays) in
           let same = ap (λ r. leaves_in r.now) w.rest-is in
-          let is = ap spare w.left-is in
+          let is = ap (λ m. m.room) w.left-is in
           let room = inv.room in
           let used = inv.used in
           record {

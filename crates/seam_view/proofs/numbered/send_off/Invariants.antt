@@ -1,6 +1,5 @@
 use Rattle.std.proofs.Common.{◌≡◌, ◌≤◌, ◌+◌, ◌++◌, ℕ, eqb, take, drop}
 use Rattle.std.specs.Map.{lookup}
-use Rattle.indexmap.specs.IndexMap.{spare}
 use Rattle.seam_view.specs.ByNumber.{entries_of}
 use Rattle.seam_view.specs.Replica.{leaves_in}
 use Rattle.seam_view.specs.Together.{looks_past_all, left_past_all}
@@ -14,6 +13,6 @@ invariant-loop-slot l = record {
   rest : looks_past_all l.rest (entries_of (drop l.slot-index l.slots)) ≡ looks_past_all l.looks (entries_of l.initial.slots);
   left : (q : ℕ) → left_past_all l.rest (entries_of (drop l.slot-index l.slots)) (λ x. lookup (eqb x) l.left.entries) q
       ≡ left_past_all l.looks (entries_of l.initial.slots) (λ x. lookup (eqb x) l.initial.left.entries) q;
-  room : leaves_in l.rest ≤ spare l.left;
-  used : spare l.initial.left + leaves_in l.rest ≤ spare l.left + leaves_in l.looks;
+  room : leaves_in l.rest ≤ l.left.room;
+  used : l.initial.left.room + leaves_in l.rest ≤ l.left.room + leaves_in l.looks;
 }

@@ -32,14 +32,12 @@ loop-i-preserved c =
       by_number = shown.by_number;
       within = shown.within;
       kept =
-          one_more_kept known (entries_of c.loop-i.slots.items) c.loop-i.left.entries (entries_of is.slots.items) is.left.entries seen
-          c.in-Some.ensures.1 shown.shown (entries_of c.args.slots.now.items) c.args.left.now.entries looks (drop (i + 1) looks)
-          (subst (AreKept known (entries_of c.args.slots.now.items) c.args.left.now.entries looks (entries_of c.loop-i.slots.items)
-          c.loop-i.left.entries) parted was.kept);
+          one_more_kept known (entries_of c.loop-i.slots.items) (entries_of is.slots.items) seen c.in-Some.ensures.1 shown.shown
+          (entries_of c.args.slots.now.items) looks (drop (i + 1) looks)
+          (subst (AreKept known (entries_of c.args.slots.now.items) looks (entries_of c.loop-i.slots.items)) parted was.kept);
       room = record {
         few = omega (arith, one, few, len);
         slots = omega (arith, one, slots, len, capacity);
         places = omega (arith, one, places, len, capacity);
       };
-      room_left = search rules;
     }

@@ -55,10 +55,5 @@ returns-clause-shown c =
     let next : mid.next < length mid.all.items → e < f slots (get_or mid.all.items mid.next 0) = search rules in
     let held = subst (IsByNumber (keys_of (entries_of slots))) (sym c.pass_below.ensures.same) c.requires.by_number in
     let none = not_in_slots slots e mid.passed.items mid.all.items mid.next held below next in
-    record {
-      entries =
-          ap entries_of c.push_reserved.ensures.items
-          ∙ (entries_with_last slots _ ∙ sym (placed_last e c.args.seen.now.version (entries_of slots) none));
-      gone = c.take_back.ensures.gone;
-      others = c.take_back.ensures.others;
-    }
+    ap entries_of c.push_reserved.ensures.items
+    ∙ (entries_with_last slots _ ∙ sym (placed_last e c.args.seen.now.version (entries_of slots) none))

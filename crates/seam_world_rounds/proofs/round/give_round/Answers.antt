@@ -6,7 +6,7 @@ use Rattle.seam_world_rounds.specs.declared.round.Output.TheVariants as output
 use Rattle.seam_world_rounds.proofs.round.give_round.Goals as goal
 
 pub returns-in_ok-sum_up-in-Sums : goal.returns-in_ok-sum_up-in-Sums
-returns-in_ok-sum_up-in-Sums c = λ h s t w p round kept taken.
+returns-in_ok-sum_up-in-Sums g c = λ h s t w p round kept taken.
     let r = data_of h s t w c.args.ended.now.world p c.args.bounds.now in
     let out = c.args.out.now.items in
     let is = c.in-Sums.is in
@@ -17,7 +17,7 @@ returns-in_ok-sum_up-in-Sums c = λ h s t w p round kept taken.
     )
 
 pub returns-in_ok-write_text-in-Rounds : goal.returns-in_ok-write_text-in-Rounds
-returns-in_ok-write_text-in-Rounds c = λ h s t w p round kept taken.
+returns-in_ok-write_text-in-Rounds g c = λ h s t w p round kept taken.
     let r = data_of h s t w c.args.ended.now.world p c.args.bounds.now in
     let out = c.args.out.now.items in
     let is = c.in-Rounds.is in
@@ -27,7 +27,7 @@ returns-in_ok-write_text-in-Rounds c = λ h s t w p round kept taken.
     (refl, c.in_ok-write_text-in-Rounds.ensures h s t w p round kept (c.deref.ensures.value ∙ taken.0 texts))
 
 pub returns-in_ok-write_text-in-TracedRounds : goal.returns-in_ok-write_text-in-TracedRounds
-returns-in_ok-write_text-in-TracedRounds c = λ h s t w p round kept taken.
+returns-in_ok-write_text-in-TracedRounds g c = λ h s t w p round kept taken.
     let r = data_of h s t w c.args.ended.now.world p c.args.bounds.now in
     let out = c.args.out.now.items in
     let is = c.in-TracedRounds.is in

@@ -11,13 +11,13 @@ sums_are_no_trace : (o : Output) → o ≡ output.TracedRounds → o ≢ output.
 sums_are_no_trace o is summed = let clash = sym is ∙ summed in cc
 
 pub returns-in_ok-count_did-in-Sums : goal.returns-in_ok-count_did-in-Sums
-returns-in_ok-count_did-in-Sums c = λ h s t w v p bounds called round. (
+returns-in_ok-count_did-in-Sums g c = λ h s t w v p bounds called round. (
   λ other. absurd (other c.in-Sums.is),
   λ summed. c.in_ok-count_did-in-Sums.ensures h s t w v p bounds called round.present,
 )
 
 pub returns-in-Rounds : goal.returns-in-Rounds
-returns-in-Rounds c = if_ok c.take_text.result
+returns-in-Rounds g c = if_ok c.take_text.result
     (λ taken has h s t w v p bounds called round. (
       λ other. has h s t w v p bounds called round,
       λ summed. absurd (sums_are_no_text c.args.output c.in-Rounds.is summed),
@@ -25,7 +25,7 @@ returns-in-Rounds c = if_ok c.take_text.result
     c.take_text.ensures
 
 pub returns-in-TracedRounds : goal.returns-in-TracedRounds
-returns-in-TracedRounds c = if_ok c.take_text-in-TracedRounds.result
+returns-in-TracedRounds g c = if_ok c.take_text-in-TracedRounds.result
     (λ taken has h s t w v p bounds called round. (
       λ other. has h s t w v p bounds called round,
       λ summed. absurd (sums_are_no_trace c.args.output c.in-TracedRounds.is summed),

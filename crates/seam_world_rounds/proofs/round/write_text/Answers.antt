@@ -7,7 +7,7 @@ use Rattle.seam_world_rounds.proofs.Results.{on_ok}
 use Rattle.seam_world_rounds.proofs.round.write_text.Goals as goal
 
 pub returns : goal.returns
-returns c = on_ok c.write_ends.result
+returns g c = on_ok c.write_ends.result
     (λ ends h s t w p round kept calls.
     let r = data_of h s t w c.args.ended.now.world p c.args.bounds.now in
     let out = c.args.out.now.items in

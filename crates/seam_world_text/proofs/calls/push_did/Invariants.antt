@@ -1,4 +1,4 @@
-use Rattle.std.proofs.Common.{◌≡◌, ◌++◌}
+use Rattle.std.proofs.Common.{◌≡◌, ◌++◌, take}
 use Rattle.std.specs.List.{flat_map}
 use Rattle.std.specs.Prelude.{codes}
 use Rattle.seam_defs.specs.declared.flags.Part.TheVariants as part
@@ -9,5 +9,4 @@ use Rattle.seam_world_text.proofs.calls.push_did.Given as goal
 abbrev pub invariant-loop-resident : goal.invariant-loop-resident
 invariant-loop-resident l =
     RoutesLeadHome l.world →
-    l.out.items ++ flat_map (λ e. done_of (codes "did ") l.defs part.Cell l.world e.1) l.resident-iterator
-    ≡ l.initial.out.items ++ flat_map (λ e. done_of (codes "did ") l.defs part.Cell l.world e.1) l.residents.entries
+    l.out.items ≡ l.initial.out.items ++ flat_map (done_of (codes "did ") l.defs part.Cell l.world) (take l.resident-index l.residents)

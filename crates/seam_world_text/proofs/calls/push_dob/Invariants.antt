@@ -1,4 +1,4 @@
-use Rattle.std.proofs.Common.{◌≡◌, ◌++◌}
+use Rattle.std.proofs.Common.{◌≡◌, ◌++◌, take}
 use Rattle.std.specs.List.{flat_map}
 use Rattle.std.specs.Prelude.{codes}
 use Rattle.seam_defs.specs.declared.flags.Part.TheVariants as part
@@ -7,5 +7,4 @@ use Rattle.seam_world_text.proofs.calls.push_dob.Given as goal
 
 abbrev pub invariant-loop-resident : goal.invariant-loop-resident
 invariant-loop-resident l =
-    l.out.items ++ flat_map (λ e. done_of (codes "dob ") l.defs part.Base l.world e.1) l.resident-iterator
-    ≡ l.initial.out.items ++ flat_map (λ e. done_of (codes "dob ") l.defs part.Base l.world e.1) l.residents.entries
+    l.out.items ≡ l.initial.out.items ++ flat_map (done_of (codes "dob ") l.defs part.Base l.world) (take l.resident-index l.residents)

@@ -5,26 +5,31 @@ use Rattle.seam_defs.specs.declared.flags.Part.TheVariants as part
 use Rattle.seam_node_steps.specs.Prelude.{TypeDef, World}
 use Rattle.seam_law_transcript.specs.Prelude.{data_of}
 use Rattle.seam_world_text.specs.Finding.{RoutesLeadHome, done_found}
-use Rattle.seam_world_text.specs.RoundParts.{calls_text, done_of_type}
+use Rattle.seam_world_text.specs.RoundParts.{calls_text, done_of_type, all_done_of}
+use Rattle.seam_world_text.specs.declared.residents.Resident.{Resident}
 use Rattle.seam_world_text.proofs.Pieces.{calls_written}
 use Rattle.seam_world_text.proofs.calls.write_calls.Goals as goal
 
 pub returns : goal.returns
-returns c =
+returns g c =
     let round = c.args.round.now in
     let rs = round.present.now in
+    let defs = round.defs.now in
+    let at = c.args.called.now in
     let first = c.args.out.now.items in
-    on_ok_weaker c.push_dob.result
-    (λ last h s tree w v p bounds called is.
+    let listed = c.as_slice.ensures.value ∙ c.in_ok-residents.ensures in
+    on_ok_weaker c.write_done.result
+    (λ done h s tree w v p bounds called is.
     let d = data_of h s tree w v p bounds in
+    let law = c.what_is_found_is_printed.ensures in
     let did = subst
     (λ (u : World). flat_map (λ r. done_of_type r.made.ty (done_found part.Cell u r.made.entity)) rs ≡ d.did) called
-    (c.what_is_found_is_printed.ensures.did h s tree w v p bounds rs is.present) in
+    (law.did h s tree w v p bounds rs is.present) in
     let dob = subst
     (λ (u : World). flat_map (λ r. done_of_type r.made.ty (done_found part.Base u r.made.entity)) rs ≡ d.dob) called
-    (c.what_is_found_is_printed.ensures.dob h s tree w v p bounds rs is.present) in
-    let routes = subst RoutesLeadHome called (c.what_is_found_is_printed.ensures.routes h s tree w v p).0 in
-    calls_written c.by_number-residents.result.now rs c.by_number-residents.ensures.list round.defs.now d first c.args.called.now
-    did dob c.push_did.new.out.items c.push_dob.new.out.items (c.in_ok-push_did.ensures routes) last
+    (law.dob h s tree w v p bounds rs is.present) in
+    done (subst RoutesLeadHome called (law.routes h s tree w v p).0)
+    ∙ ap (λ (l : List Resident). first ++ all_done_of defs at l) listed
+    ∙ ap (λ l. first ++ l) (calls_written rs defs d at did dob)
     ∙ ap (λ (ds : List TypeDef). first ++ calls_text ds d) is.defs)
-    c.push_dob.ensures
+    c.write_done.ensures

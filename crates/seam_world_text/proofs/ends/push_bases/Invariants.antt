@@ -1,9 +1,8 @@
-use Rattle.std.proofs.Common.{◌≡◌, ◌++◌}
+use Rattle.std.proofs.Common.{◌≡◌, ◌++◌, take}
 use Rattle.std.specs.List.{flat_map}
 use Rattle.seam_world_text.specs.RoundParts.{base_of}
 use Rattle.seam_world_text.proofs.ends.push_bases.Given as goal
 
 abbrev pub invariant-loop-resident : goal.invariant-loop-resident
 invariant-loop-resident l =
-    l.out.items ++ flat_map (λ e. base_of l.defs l.world e.1) l.resident-iterator
-    ≡ l.initial.out.items ++ flat_map (λ e. base_of l.defs l.world e.1) l.residents.entries
+    l.out.items ≡ l.initial.out.items ++ flat_map (base_of l.defs l.world) (take l.resident-index l.residents)

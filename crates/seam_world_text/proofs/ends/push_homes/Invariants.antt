@@ -1,4 +1,4 @@
-use Rattle.std.proofs.Common.{◌≡◌, ◌++◌}
+use Rattle.std.proofs.Common.{◌≡◌, ◌++◌, take}
 use Rattle.std.specs.List.{flat_map}
 use Rattle.seam_world_text.specs.Finding.{RoutesLeadHome}
 use Rattle.seam_world_text.specs.RoundParts.{home_of, ghosts_of}
@@ -7,9 +7,7 @@ use Rattle.seam_world_text.proofs.ends.push_homes.Given as goal
 abbrev pub invariant-loop-resident : goal.invariant-loop-resident
 invariant-loop-resident l = record {
   homes : RoutesLeadHome l.world →
-      l.out.items ++ flat_map (λ e. home_of l.defs l.world e.1) l.resident-iterator
-      ≡ l.initial.out.items ++ flat_map (λ e. home_of l.defs l.world e.1) l.residents.entries;
+      l.out.items ≡ l.initial.out.items ++ flat_map (home_of l.defs l.world) (take l.resident-index l.residents);
   ghosts : RoutesLeadHome l.world →
-      l.ghosts.items ++ flat_map (λ e. ghosts_of l.world e.1) l.resident-iterator
-      ≡ l.initial.ghosts.items ++ flat_map (λ e. ghosts_of l.world e.1) l.residents.entries;
+      l.ghosts.items ≡ l.initial.ghosts.items ++ flat_map (ghosts_of l.world) (take l.resident-index l.residents);
 }

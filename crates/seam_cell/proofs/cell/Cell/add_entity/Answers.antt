@@ -12,7 +12,7 @@ invariant_of-self c =
     let h = here_in old.known in (
       whole_or old.known old.reals c.make_real.new.reals old.remotes old.lists made.entity (Some (created h made.entity made.ty made.pos))
           c.make_real.result c.self.invariant.0 c.make_real.ensures.kept c.make_real.ensures.after c.make_real.ensures.err
-          (created_fits h old.known.tree made.entity made.ty made.pos
+          (created_fits h old.known.bounds.tree made.entity made.ty made.pos
           (subst (λ v. IsInSpace v.tree made.pos) (sym c.self.view_is) c.requires.inside)),
       none_told _ c.clear.new.self c.clear.ensures,
     )

@@ -14,7 +14,7 @@ invariant_of-self c =
     let was = table.get old.reals.items.items e in (
       whole_or old.known old.reals c.give_witness.new.reals old.remotes old.lists e (option_map (with_witness h) was) c.give_witness.result
           c.self.invariant.0 c.give_witness.ensures.kept c.give_witness.ensures.after c.give_witness.ensures.err
-          (witness_fits h old.known.tree e was
+          (witness_fits h old.known.bounds.tree e was
           (λ r at. (c.self.invariant.0.cell.cell.keys e r at, c.self.invariant.0.cell.there e r at))),
       none_told _ c.clear.new.self c.clear.ensures,
     )

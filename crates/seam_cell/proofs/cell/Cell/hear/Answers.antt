@@ -7,7 +7,10 @@ pub take_call-requires : goal.take_call-requires
 take_call-requires c = (c.in-Call.field-0, c.in-Call.is)
 
 pub take_hand-requires : goal.take_hand-requires
-take_hand-requires c = (c.in-Hand.field-0, c.in-Hand.is)
+take_hand-requires c = (c.in-Hand.field-0, c.in-Hand.field-1, c.in-Hand.is)
+
+pub take_bounds-requires : goal.take_bounds-requires
+take_bounds-requires c = (c.in-Bounds.field-0, c.in-Bounds.is)
 
 pub take_ghost_set-requires : goal.take_ghost_set-requires
 take_ghost_set-requires c = (c.in-GhostSet.field-0, c.in-GhostSet.field-1, c.in-GhostSet.field-2, c.in-GhostSet.is)

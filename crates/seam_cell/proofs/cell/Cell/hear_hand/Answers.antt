@@ -1,28 +1,24 @@
-use Rattle.std.proofs.Common.{◌++◌, ap, ◌∙◌}
-use Rattle.std.proofs.lemmas.Result.{on_ok_weaker, on_err_weaker}
+use Rattle.std.proofs.Common.{◌++◌, refl, sym, ap, ◌∙◌}
+use Rattle.std.proofs.lemmas.Result.{on_ok_weaker}
 use Rattle.seam_node_steps.specs.Prelude.{From, Hand, cell_steps}
-use Rattle.seam_cell_cases.proofs.StepLemmas.{whole_either}
-use Rattle.seam_cell_told.proofs.ToldAgain.{none_told}
 use Rattle.seam_cell.proofs.cell.Cell.hear_hand.Goals as goal
 
-pub invariant_of-self : goal.invariant_of-self
-invariant_of-self c =
-    let old = c.self.inside in (
-      whole_either old.known old.reals c.arrive.new.reals old.remotes c.arrive.new.remotes old.lists old.lists (From 0 (Hand c.args.parcel))
-          c.arrive.result c.self.invariant.0 c.arrive.ensures.marks (c.arrive.ensures.state old.lists 0) (c.arrive.ensures.err old.lists),
-      none_told _ c.clear.new.self c.clear.ensures,
-    )
+pub hear_newer-requires : goal.hear_newer-requires
+hear_newer-requires c = c.in-Some.ensures.some.1
 
-pub returns-clause-state : goal.returns-clause-state
-returns-clause-state c from =
-    on_ok_weaker c.arrive.result (λ e. e ∙ ap (λ v. (cell_steps v (From from (Hand c.args.parcel))).state) c.self.view_is)
-    (c.arrive.ensures.state c.self.inside.lists from)
+pub hear_known-requires : goal.hear_known-requires
+hear_known-requires c = c.in-None.ensures.none refl
 
-pub returns-clause-sent : goal.returns-clause-sent
-returns-clause-sent c from =
-    on_ok_weaker c.arrive.result
-    (λ e. e ∙ ap (λ v. c.args.out.now.items ++ (cell_steps v (From from (Hand c.args.parcel))).sent) c.self.view_is)
-    (c.arrive.ensures.sent c.self.inside.lists from)
+pub returns-in-Some-clause-state : goal.returns-in-Some-clause-state
+returns-in-Some-clause-state c from =
+    on_ok_weaker c.hear_newer.result
+    (λ e. e ∙ ap (λ o. (cell_steps c.args.self.now (From from (Hand c.args.parcel o))).state) (sym c.in-Some.ensures.some.0))
+    (c.hear_newer.ensures.state from)
 
-pub returns-clause-err : goal.returns-clause-err
-returns-clause-err c = on_err_weaker c.arrive.result (λ e. e ∙ c.self.view_is) (c.arrive.ensures.err c.self.inside.lists)
+pub returns-in-Some-clause-sent : goal.returns-in-Some-clause-sent
+returns-in-Some-clause-sent c from =
+    on_ok_weaker c.hear_newer.result
+    (λ e. e
+    ∙ ap (λ o. c.args.out.now.items ++ (cell_steps c.args.self.now (From from (Hand c.args.parcel o))).sent)
+    (sym c.in-Some.ensures.some.0))
+    (c.hear_newer.ensures.sent from)

@@ -62,7 +62,8 @@ pub returns-clause-room : goal.returns-clause-room
 returns-clause-room c =
     let d : CellView = record {
       here = here_in c.args.self.now.known.now;
-      tree = c.args.self.now.known.now.tree;
+      tree = c.args.self.now.known.now.bounds.tree;
+      number = c.args.self.now.known.now.bounds.number;
       reals = c.args.self.now.reals.now.items;
       nexts = table.empty;
       ghosts = c.args.self.now.copies.now.ghosts;

@@ -16,7 +16,8 @@ pub returns-clause-rising : goal.returns-clause-rising
 returns-clause-rising c =
     let d : CellView = record {
       here = here_in c.args.self.now.known.now;
-      tree = c.args.self.now.known.now.tree;
+      tree = c.args.self.now.known.now.bounds.tree;
+      number = c.args.self.now.known.now.bounds.number;
       reals = c.args.self.now.reals.now.items;
       nexts = table.empty;
       ghosts = c.args.self.now.copies.now.ghosts;
@@ -39,7 +40,8 @@ pub returns-in_default-clause-rising : goal.returns-in_default-clause-rising
 returns-in_default-clause-rising c =
     let d : CellView = record {
       here = here_in c.args.self.now.known.now;
-      tree = c.args.self.now.known.now.tree;
+      tree = c.args.self.now.known.now.bounds.tree;
+      number = c.args.self.now.known.now.bounds.number;
       reals = c.args.self.now.reals.now.items;
       nexts = table.empty;
       ghosts = c.args.self.now.copies.now.ghosts;

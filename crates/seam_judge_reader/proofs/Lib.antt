@@ -1,0 +1,9 @@
+mod Adding
+mod Deeds
+mod EntityTypes
+mod Feeds
+mod Forms
+mod PieceSteps
+mod Prefixes
+mod RoundSteps
+mod ScriptSteps

@@ -1,0 +1,6 @@
+use Rattle.std.proofs.Common.{◌≡◌, ◌++◌}
+use Rattle.std.specs.List.{flat_map}
+use Rattle.seam_world_text.proofs.chunks.push_second.Given as goal
+
+abbrev pub invariant-loop-text : goal.invariant-loop-text
+invariant-loop-text l = l.out.items ≡ l.initial.out.items ++ flat_map (λ t. t.second.items) l.yielded
