@@ -13,8 +13,8 @@ use Rattle.seam_rule_lines.specs.Book.{count_of_clients, with_entry}
 use Rattle.seam_rule_lines.specs.declared.verdict.Entry.{Entry}
 use Rattle.seam_rule_lines.specs.declared.verdict.Entry.TheVariants as entry
 use Rattle.seam_rule_lines.proofs.BookEntries.{creates_with_entry, created_other, differ}
-use Rattle.seam_accept.specs.Entities.{IsUnknown, ClientsRefine, is_client}
-use Rattle.seam_accept.proofs.NamedEntities.{no_client_there}
+use Rattle.seam_accept.specs.Entities.{IsUnknown, ClientsRefine, is_in}
+use Rattle.seam_accept.proofs.NamedEntities.{SetsNumber, no_client_there}
 use Rattle.seam_accept.proofs.Books.{created_with, any_with, or_none, or_false}
 
 -- one where it is so
@@ -171,24 +171,19 @@ clients_with_new b c clients was unknown = record {
   each = λ e. was.each e ∙ sym (same_with_new b c unknown e);
 }
 
--- the number is one of the new clients or is not, and the others stay
-pub record SetsClient (old new : List ℕ) (e : ℕ) (is : Bool) : Type 0 where
-  pub here : is_client new e ≡ is
-  pub others : (d : ℕ) → d ≢ e → is_client new d ≡ is_client old d
-
 -- they are those of the book after an entry about one entity
-clients_set : (b : Book) (x : Entry) (e : ℕ) (is : Bool) (old new : List ℕ) → ClientsRefine b old → SetsClient old new e is →
+clients_set : (b : Book) (x : Entry) (e : ℕ) (is : Bool) (old new : List ℕ) → ClientsRefine b old → SetsNumber old new e is →
     length new ≡ count_of_clients (with_entry b x) → has_client (with_entry b x) e ≡ is →
     ((d : ℕ) → d ≢ e → has_client (with_entry b x) d ≡ has_client b d) → ClientsRefine (with_entry b x) new
 clients_set b x e is old new was sets count here others = record {
   count = count;
   each = λ d. elim (eqb_tells e d) [
-    | inl same ↦ subst (λ (n : ℕ). is_client new n ≡ has_client (with_entry b x) n) same.1 (sets.here ∙ sym here)
+    | inl same ↦ subst (λ (n : ℕ). is_in new n ≡ has_client (with_entry b x) n) same.1 (sets.here ∙ sym here)
     | inr ne ↦ (let apart : d ≢ e = λ s. ne.1 (sym s) in sets.others d apart ∙ was.each d ∙ sym (others d apart))
   ];
 }
 
-pub clients_with_one : (b : Book) (e : ℕ) (made : Create) (old new : List ℕ) → ClientsRefine b old → SetsClient old new e true →
+pub clients_with_one : (b : Book) (e : ℕ) (made : Create) (old new : List ℕ) → ClientsRefine b old → SetsNumber old new e true →
     length new ≡ length old + 1 → IsDistinct eqb (map (λ c. c.entity) (creates_of (entries b))) → created_as b e ≡ Some made →
     has_client b e ≡ false → has_client (with_entry b (entry.Joined e)) e ≡ true → ClientsRefine (with_entry b (entry.Joined e)) new
 clients_with_one b e made old new was sets count distinct is clientless joined =
@@ -196,8 +191,8 @@ clients_with_one b e made old new was sets count distinct is clientless joined =
     (count ∙ ap (λ (n : ℕ). n + 1) was.count ∙ sym (one_more b e made distinct is clientless joined)) joined
     (λ d ne. client_same b (entry.Joined e) d (created_stays b (entry.Joined e) d refl) refl (differ e d (λ s. ne (sym s))))
 
-pub clients_without_one : (b : Book) (e : ℕ) (made : Create) (old new : List ℕ) → ClientsRefine b old → SetsClient old new e false →
-    length new + cond (is_client old e) 1 0 ≡ length old → IsDistinct eqb (map (λ c. c.entity) (creates_of (entries b))) →
+pub clients_without_one : (b : Book) (e : ℕ) (made : Create) (old new : List ℕ) → ClientsRefine b old → SetsNumber old new e false →
+    length new + cond (is_in old e) 1 0 ≡ length old → IsDistinct eqb (map (λ c. c.entity) (creates_of (entries b))) →
     created_as b e ≡ Some made → has_client (with_entry b (entry.Destroyed e)) e ≡ false →
     ClientsRefine (with_entry b (entry.Destroyed e)) new
 clients_without_one b e made old new was sets count distinct is dead =

@@ -1,16 +1,16 @@
 -- Lines by the commands that they spell.
 use Rattle.std.proofs.Common.{◌≡◌, ℕ, List, sym, ◌∙◌, ap, subst}
+use Rattle.std.specs.Prelude.{is_some}
 use Rattle.seam_io.specs.Lines.{Content}
 use Rattle.seam_defs.specs.declared.states.Deed.{Deed}
 use Rattle.seam_defs.specs.declared.types.TypeDef.{TypeDef}
 use Rattle.seam_call.specs.declared.call.Call.{Call}
 use Rattle.seam_rule_lines.specs.Language as language
 use Rattle.seam_toml.specs.declared.header.Header.{Header}
-use Rattle.seam_rule_lines.specs.Book.{Book, created_as}
+use Rattle.seam_rule_lines.specs.Book.{Book, live_as}
 use Rattle.seam_rule_lines.specs.Judging.{NamesCall}
 use Rattle.seam_rule_lines.specs.declared.verdict.Entry.{Entry}
 use Rattle.seam_rule_lines.specs.declared.verdict.Entry.TheVariants as entry
-use Rattle.seam_rule_lines.proofs.BookEntries.{live_is_created}
 use Rattle.seam_rule_lines.proofs.Verdicts.{command_is_refused, command_is_accepted}
 use Rattle.seam_accept.specs.Commands.{call_of, asked_of}
 use Rattle.seam_accept.specs.Entities.{IsNextCall}
@@ -53,11 +53,7 @@ same_call call d is = ap (call_in call) is
 named_is_next : (h : Header) (b : Book) (s e : List ℕ) (Asks : TypeDef → Deed → Type 0) (d : Call) → NamesCall h b s e Asks d →
     IsNextCall b d
 named_is_next h b s e Asks d names =
-    record {
-      made = names.made;
-      is = ap (created_as b) names.entity_ ∙ live_is_created b names.made.entity names.made names.live.lives;
-      next = names.next;
-    }
+    record { lives = ap is_some (ap (live_as b) names.entity_ ∙ names.live.lives); next = names.next }
 
 asked_is_next : (h : Header) (b : Book) (s e : List ℕ) (w : DeedWords) (call : Call) → Accepts h b (asked_of s e w) (entry.Called call) →
     IsNextCall b call

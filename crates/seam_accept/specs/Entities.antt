@@ -1,6 +1,6 @@
 -- What is kept of entities, beside the book of a transcript.
-use Rattle.std.specs.Prelude.{◌≡◌, ◌≢◌, ⊤, ℕ, ◌+◌, Bool, true, false, not, cond, ◌&&◌, eqb, map, List, [], length, slice_get}
-use Rattle.std.specs.Prelude.{Option, None, Some, MatchOption, IfSome, IsSome}
+use Rattle.std.specs.Prelude.{◌≡◌, ◌≢◌, ⊤, ℕ, ◌+◌, Bool, true, false, cond, ◌&&◌, eqb, map, List, [], length, slice_get}
+use Rattle.std.specs.Prelude.{Option, None, Some, IfSome, IsSome}
 use Rattle.std.specs.Borrow.{Bor}
 use Rattle.std.specs.Map.{lookup}
 use Rattle.std.specs.Ordering.{nat_cmp}
@@ -29,18 +29,23 @@ last_of part.Base v = v.base
 -- an entity with the number of a sender's last call to a part: the numbers of its other calls stay
 pub record Remembers (p : Part) (s : Sender) (number : ℕ) (old new : Entity) : Type 0 where
   pub ty : new.ty ≡ old.ty
-  pub live : new.live ≡ old.live
   pub last : (q : Part) (t : Sender) → IsSender t →
       number_of (last_of q new) t ≡ cond (same_part p q && same_sender s t) number (number_of (last_of q old) t)
 
--- an entity of the book: its type, whether it was destroyed, and where it lives how many calls each sender made to its parts
+-- a live entity of the book: its type, and how many calls each sender made to its parts
 pub record EntityRefines (b : Book) (e : ℕ) (v : Entity) : Type 0 where
   pub made : Create
   pub is : created_as b e ≡ Some made
+  pub undestroyed : list_any (destroys e) (entries b) ≡ false
   pub whole : IsWhole e
   pub ty : v.ty ≡ made.ty
-  pub live : v.live ≡ not (list_any (destroys e) (entries b))
-  pub last : v.live ≡ true → (p : Part) (s : Sender) → IsSender s → number_of (last_of p v) s ≡ length (accepted b p e s)
+  pub last : (p : Part) (s : Sender) → IsSender s → number_of (last_of p v) s ≡ length (accepted b p e s)
+
+-- an entity of the book was destroyed
+pub record IsGone (b : Book) (e : ℕ) : Type 0 where
+  pub made : Create
+  pub is : created_as b e ≡ Some made
+  pub destroyed : list_any (destroys e) (entries b) ≡ true
 
 -- the book has no entity of this number, and nothing was accepted for one
 pub record IsUnknown (b : Book) (e : ℕ) : Type 0 where
@@ -58,25 +63,32 @@ pub record IsIndexOf (entities : List (ℕ × Entity)) (e place : ℕ) : Type 0 
   pub entity : Entity
   pub at : slice_get entities place ≡ Some (e, entity)
 
--- the entities are those of the book
-pub record EntitiesRefine (b : Book) (entities : List (ℕ × Entity)) : Type 0 where
-  pub count : length entities ≡ length (creates_of (entries b))
-  pub each : (e : ℕ) → MatchOption (entity_at entities e) (IsUnknown b e) (EntityRefines b e)
-  pub once : IsDistinct eqb (map (λ c. c.entity) (creates_of (entries b)))
+-- whether a number is one of a set
+abbrev pub is_in : List ℕ → ℕ → Bool
+is_in numbers e = list_any (is_at (nat_cmp e)) numbers
 
--- whether a number is one of the clients
-abbrev pub is_client : List ℕ → ℕ → Bool
-is_client clients e = list_any (is_at (nat_cmp e)) clients
+-- What is kept of a number, by the entity that it has, if any, and whether it is one of the dead: a live entity is kept, of a dead one its
+-- number alone, and of one that was never made nothing.
+abbrev pub IsKept : Book → ℕ → Option Entity → Bool → Type 0
+IsKept b e None false = IsUnknown b e
+IsKept b e None true = IsGone b e
+IsKept b e (Some v) false = EntityRefines b e v
+IsKept b e (Some v) true = ⊥
+
+-- the entities are the live ones of the book, and the dead the numbers of the others
+pub record EntitiesRefine (b : Book) (entities : List (ℕ × Entity)) (dead : List ℕ) : Type 0 where
+  pub count : length entities + length dead ≡ length (creates_of (entries b))
+  pub each : (e : ℕ) → IsKept b e (entity_at entities e) (is_in dead e)
+  pub once : IsDistinct eqb (map (λ c. c.entity) (creates_of (entries b)))
 
 -- the clients are those of the live entities that have one
 pub record ClientsRefine (b : Book) (clients : List ℕ) : Type 0 where
   pub count : length clients ≡ count_of_clients b
-  pub each : (e : ℕ) → is_client clients e ≡ has_client b e
+  pub each : (e : ℕ) → is_in clients e ≡ has_client b e
 
 -- an entity lives, and is kept so
 pub record IsLive (b : Book) (e : ℕ) (v : Bor Entity) : Type 0 where
   pub refines : EntityRefines b e v.now
-  pub marked : v.now.live ≡ true
   pub lives : live_as b e ≡ Some refines.made
 
 -- an entity lives without a client
@@ -84,13 +96,12 @@ pub record LivesWithoutClient (b : Book) (e : ℕ) : Type 0 where
   pub lives : IsSome (live_as b e)
   pub clientless : has_client b e ≡ false
 
--- a call that comes next: its entity is one of the book, and it has its sender's next number
+-- a call that comes next: its entity lives, and it has its sender's next number
 pub record IsNextCall (b : Book) (c : Call) : Type 0 where
-  pub made : Create
-  pub is : created_as b c.entity ≡ Some made
+  pub lives : IsSome (live_as b c.entity)
   pub next : c.number ≡ length (accepted b c.part c.entity c.sender) + 1
 
--- an entry that may come next: it makes an entity whose number is new, calls one of the book, or is about a live one
+-- an entry that may come next: it makes an entity whose number is new, or is about a live one
 abbrev pub IsNext : Book → Entry → Type 0
 IsNext b (entry.Created c) = created_as b c.entity ≡ None
 IsNext b (entry.Called c) = IsNextCall b c
@@ -103,10 +114,6 @@ pub record ChangesOne (old new : List (ℕ × Entity)) (e : ℕ) (Changes : Enti
   pub count : length new ≡ length old
   pub here : IfSome (entity_at old e) (λ v. (w : Entity) × (entity_at new e ≡ Some w) × Changes v w)
   pub others : (other : ℕ) → other ≢ e → entity_at new other ≡ entity_at old other
-
--- an entity is destroyed: of its calls nothing is kept
-abbrev pub Dies : Entity → Entity → Type 0
-Dies v w = (w.ty ≡ v.ty) × (w.live ≡ false)
 
 -- an entity remembers a call as its sender's last one
 abbrev pub KeepsLast : List (ℕ × Entity) → List (ℕ × Entity) → Call → Type 0

@@ -21,7 +21,7 @@ use Rattle.seam_accept.specs.BookView.{BookView, counted}
 pub record Refines (h : Header) (b : Book) (book : BookView) : Type 0 where
   pub header : book.header ≡ h
   pub tree : book.tree ≡ tree_of b
-  pub entities : EntitiesRefine b book.entities
+  pub entities : EntitiesRefine b book.entities book.dead
   pub clients : ClientsRefine b book.clients
   pub count : book.count ≡ length b.current
   pub creates : book.creates ≡ creates_of b.current

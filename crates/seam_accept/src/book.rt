@@ -16,7 +16,7 @@ ghost use Rattle.seam_accept.specs.Refines.{Refines, LineAccepted, LineRefused, 
 use crate::answers::{Accepted, Refusal};
 use crate::command::{Command, Form, read_line};
 use crate::count::next_len;
-use crate::entity::{Entity, keep_destroyed, keep_last};
+use crate::entity::{Entity, keep_last};
 use crate::judging::{judge_call, judge_client, judge_create, judge_destroy, make_cut, make_shift};
 use indexmap::IndexMap;
 use seam_call::{Batch, Call, Create, Order, Sender, base_node_of};
@@ -32,13 +32,16 @@ use std::marker::Model;
 
 /// The book of what was accepted. It takes the lines after a header, one after another, and gives what a round brings as a batch.
 ///
-/// A line costs two look-ups in a hashed map at most, and of a client a logarithm of the clients; nothing for each entity.
+/// A line costs two look-ups in a hashed map at most, of a client a logarithm of the clients, of a `create` or a `destroy` one of the dead;
+/// nothing for each entity.
 #[derive(Drop)]
 pub struct Book {
     alloc: Global,
     header: Header,
     tree: Tree,
+    // the live ones, and of the dead that their numbers are used
     entities: IndexMap<u32, Entity, HashKey>,
+    dead: BTreeSet<u32>,
     // the live entities that have a client
     clients: BTreeSet<u32>,
     // how many lines of the open round were kept, and what it brings
@@ -62,6 +65,7 @@ impl Model for Book {
       header = b.header;
       tree = b.tree;
       entities = b.entities.entries;
+      dead = b.dead.keys;
       clients = b.clients.keys;
       count = b.count;
       creates = b.creates.items;
@@ -86,6 +90,7 @@ impl Book {
             header: Header { settings, defs },
             tree: Tree::one(settings.size),
             entities: IndexMap::with_hasher(alloc, key),
+            dead: BTreeSet::new(alloc),
             clients: BTreeSet::new(alloc),
             count: 0,
             creates: Vec::new(alloc),
@@ -145,7 +150,7 @@ impl Book {
     {
         match form {
             Form::Create(words) => {
-                let create = judge_create(&self.header, &self.entities, words)?;
+                let create = judge_create(&self.header, &self.entities, &self.dead, words)?;
                 self.add_create(create)?;
             }
             Form::Call(words) => {
@@ -221,16 +226,18 @@ impl Book {
         Ok(())
     }
 
-    // Keeps that a live entity is destroyed, and its client with it.
+    // Keeps that a live entity is destroyed, and its client with it: of the entity its number alone.
     fn add_death(&mut self, entity: u32) -> Result<(), AllocError>
         ensures kept { OnOk result ((h : Headers) (b : Books) → Refines h b self.old →
             IsSome (live_as b entity) → Refines h (with_entry b (Entry.Destroyed entity))
             (counted self.new)) }
         ensures unchanged { OnErr result (self.new ≡ self.old) }
     {
-        self.destroyed.push(entity)?;
+        self.destroyed.reserve(1)?;
+        self.dead.insert(entity)?;
         self.clients.remove(&entity);
-        keep_destroyed(&mut self.entities, entity);
+        self.entities.swap_remove(&entity);
+        self.destroyed.push_reserved(entity);
         Ok(())
     }
 

@@ -1,10 +1,10 @@
 // What is kept of an entity.
-ghost use Rattle.std.specs.Prelude.{◌≡◌, ◌+◌, ℕ, true, IfOk, OnOk, OnErr};
+ghost use Rattle.std.specs.Prelude.{◌≡◌, ◌+◌, ℕ, IfOk, OnOk, OnErr};
 ghost use Rattle.seam_call.specs.Senders.{IsSender};
 ghost use Rattle.seam_call.specs.declared.sender.Sender.{Sender as Senders};
 ghost use Rattle.seam_defs.specs.declared.flags.Part.{Part as Parts};
 ghost use Rattle.seam_accept.specs.Last.{number_of};
-ghost use Rattle.seam_accept.specs.Entities.{last_of, IsIndexOf, Remembers, ChangesOne, Dies, KeepsLast};
+ghost use Rattle.seam_accept.specs.Entities.{last_of, IsIndexOf, Remembers, KeepsLast};
 
 use crate::count::next_count;
 use crate::last::LastCalls;
@@ -14,25 +14,22 @@ use seam_defs::Part;
 use seam_table::HashKey;
 use std::alloc::{AllocError, Global};
 
-/// An entity: its type, whether it lives, and then for each part and sender the number of the last call.
+/// A live entity: its type, and for each part and sender the number of the last call.
 #[derive(Drop)]
 pub struct Entity {
     pub ty: u16,
-    pub live: bool,
     cell: LastCalls,
     base: LastCalls,
 }
 
 impl Entity {
-    /// A live entity that no call was accepted for.
+    /// An entity that no call was accepted for.
     pub fn new(ty: u16) -> Self
         ensures ty { result.ty ≡ ty }
-        ensures live { result.live ≡ true }
         ensures last { (p : Parts) (s : Senders) → IsSender s → number_of (last_of p result) s ≡ 0 }
     {
         Entity {
             ty,
-            live: true,
             cell: LastCalls::new(),
             base: LastCalls::new(),
         }
@@ -64,18 +61,6 @@ impl Entity {
             Part::Base => self.base.keep(alloc, sender, number),
         }
     }
-}
-
-/// Keeps that an entity is destroyed. The numbers of its calls are forgotten, since none is accepted for it any more.
-pub fn keep_destroyed(entities: &mut IndexMap<u32, Entity, HashKey>, entity: u32)
-    ensures { ChangesOne entities.old.entries entities.new.entries entity Dies }
-{
-    let Some(found) = entities.get_mut(&entity) else {
-        return;
-    };
-    found.live = false;
-    found.cell = LastCalls::new();
-    found.base = LastCalls::new();
 }
 
 /// Keeps the number of a call to the entity at a place as that of its sender's last one.

@@ -1,5 +1,5 @@
 // The judging of commands: the first cause that holds against one, or what it adds.
-ghost use Rattle.std.specs.Prelude.{◌≡◌, Some, IfOk, IfErr, OnOk, OnErr};
+ghost use Rattle.std.specs.Prelude.{◌≡◌, ℕ, List, Some, IfOk, IfErr, OnOk, OnErr};
 ghost use Rattle.seam_toml.specs.declared.header.Header.{Header as Headers};
 ghost use Rattle.seam_rule_lines.specs.Language.{Client, Destroy};
 ghost use Rattle.seam_rule_lines.specs.Book.{Book, tree_of};
@@ -12,7 +12,7 @@ use crate::answers::Refusal;
 use crate::command::{CallWords, CreateWords, CutWords, ShiftWords};
 use crate::deeds::deed_named;
 use crate::entity::Entity;
-use crate::naming::{axis_named, live_entity, sender_named, type_named};
+use crate::naming::{axis_named, is_used, live_entity, sender_named, type_named};
 use indexmap::IndexMap;
 use seam_call::{Call, Create};
 use seam_geo::Pos;
@@ -27,12 +27,15 @@ use std::collections::BTreeSet;
 pub fn judge_create(
     header: &Header,
     entities: &IndexMap<u32, Entity, HashKey>,
+    dead: &BTreeSet<u32>,
     words: &CreateWords,
 ) -> Result<Create, Cause>
-    ensures judged { IfOk result (λ c. (b : Book) → EntitiesRefine b entities.now.entries
-        → Judged header.now b (create_of words.now) (Some (Entry.Created c))) }
-    ensures refused { IfErr result (λ k. (b : Book) → EntitiesRefine b entities.now.entries
-        → IsFirst (HoldsAgainst header.now b (create_of words.now)) k) }
+    ensures judged { IfOk result (λ c. (b : Book) →
+        EntitiesRefine b entities.now.entries dead.now.keys →
+        Judged header.now b (create_of words.now) (Some (Entry.Created c))) }
+    ensures refused { IfErr result (λ k. (b : Book) →
+        EntitiesRefine b entities.now.entries dead.now.keys →
+        IsFirst (HoldsAgainst header.now b (create_of words.now)) k) }
 {
     let Some(entity) = positive_number(words.entity) else {
         return Err(Cause::BadNumber);
@@ -43,7 +46,7 @@ pub fn judge_create(
     let Some(z) = whole_number(words.place.z) else {
         return Err(Cause::BadNumber);
     };
-    if entities.contains_key(&entity) {
+    if is_used(entities, dead, entity) {
         return Err(Cause::Exists);
     }
     let Some(ty) = type_named(&header.defs, words.type_name) else {
@@ -53,7 +56,7 @@ pub fn judge_create(
     if size <= x || size <= z {
         return Err(Cause::Outside);
     }
-    if MOST_ENTITIES <= entities.len() {
+    if MOST_ENTITIES <= entities.len() + dead.len() {
         return Err(Cause::Full);
     }
     let pos = Pos { x, z };
@@ -66,11 +69,11 @@ pub fn judge_client(
     clients: &BTreeSet<u32>,
     word: &[u8],
 ) -> Result<u32, Cause>
-    ensures judged { IfOk result (λ e. (h : Headers) (b : Book) →
-        EntitiesRefine b entities.now.entries → ClientsRefine b clients.now.keys →
+    ensures judged { IfOk result (λ e. (h : Headers) (b : Book) (dead : List ℕ) →
+        EntitiesRefine b entities.now.entries dead → ClientsRefine b clients.now.keys →
         Judged h b (Client word.now) (Some (Entry.Joined e))) }
-    ensures refused { IfErr result (λ k. (h : Headers) (b : Book) →
-        EntitiesRefine b entities.now.entries → ClientsRefine b clients.now.keys →
+    ensures refused { IfErr result (λ k. (h : Headers) (b : Book) (dead : List ℕ) →
+        EntitiesRefine b entities.now.entries dead → ClientsRefine b clients.now.keys →
         IsFirst (HoldsAgainst h b (Client word.now)) k) }
 {
     let Some(entity) = positive_number(word) else {
@@ -90,12 +93,12 @@ pub fn judge_client(
 
 /// The entity that a `destroy` destroys.
 pub fn judge_destroy(entities: &IndexMap<u32, Entity, HashKey>, word: &[u8]) -> Result<u32, Cause>
-    ensures judged { IfOk result (λ e. (h : Headers) (b : Book) →
-        EntitiesRefine b entities.now.entries → Judged h b (Destroy word.now)
+    ensures judged { IfOk result (λ e. (h : Headers) (b : Book) (dead : List ℕ) →
+        EntitiesRefine b entities.now.entries dead → Judged h b (Destroy word.now)
         (Some (Entry.Destroyed e))) }
-    ensures refused { IfErr result (λ k. (h : Headers) (b : Book) →
-        EntitiesRefine b entities.now.entries → IsFirst (HoldsAgainst h b (Destroy word.now))
-        k) }
+    ensures refused { IfErr result (λ k. (h : Headers) (b : Book) (dead : List ℕ) →
+        EntitiesRefine b entities.now.entries dead →
+        IsFirst (HoldsAgainst h b (Destroy word.now)) k) }
 {
     let Some(entity) = positive_number(word) else {
         return Err(Cause::BadNumber);
@@ -157,12 +160,13 @@ pub fn judge_call(
     clients: &BTreeSet<u32>,
     words: &CallWords,
 ) -> Result<(usize, Call), Refusal>
-    ensures judged { IfOk result (λ r. (b : Book) → EntitiesRefine b entities.now.entries →
-        ClientsRefine b clients.now.keys → Judged header.now b (call_of words.now)
-        (Some (Entry.Called r.1))) }
+    ensures judged { IfOk result (λ r. (b : Book) (dead : List ℕ) →
+        EntitiesRefine b entities.now.entries dead → ClientsRefine b clients.now.keys →
+        Judged header.now b (call_of words.now) (Some (Entry.Called r.1))) }
     ensures place { IfOk result (λ r. IsIndexOf entities.now.entries r.1.entity r.0) }
-    ensures refused { IfErr result (λ r. (b : Book) → EntitiesRefine b entities.now.entries →
-        ClientsRefine b clients.now.keys → Refuses header.now b (call_of words.now) r) }
+    ensures refused { IfErr result (λ r. (b : Book) (dead : List ℕ) →
+        EntitiesRefine b entities.now.entries dead → ClientsRefine b clients.now.keys →
+        Refuses header.now b (call_of words.now) r) }
 {
     let Some(entity) = positive_number(words.entity) else {
         return Err(Refusal::Cause(Cause::BadNumber));

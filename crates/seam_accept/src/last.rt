@@ -13,7 +13,7 @@ use std::marker::Model;
 /// For each sender the number of its last call to a part, 0 where there was none.
 #[derive(Drop)]
 pub struct LastCalls {
-    // Made at the first call, since most parts of most entities have none, and the dead are forgotten.
+    // Made at the first call, since most parts of most entities have none.
     kept: Option<Box<Kept>>,
 }
 

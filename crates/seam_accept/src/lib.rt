@@ -5,7 +5,8 @@
 //!
 //! A command holds words until it is judged. The book looks up what they name, so that a line that names no type, sender or method is
 //! refused by the book and not for its form. The live entities that have a client are a set, whose size is how many there are: so nothing
-//! is counted down. A call's arguments are a part of the caller's table of words.
+//! is counted down. Of the dead the numbers alone are kept, as a set too: scripts choose them up to 2^32, so a row of bits would not do.
+//! A call's arguments are a part of the caller's table of words.
 //!
 //! For callers, of `proofs/`: `Books` (what a book holds with one more entry).
 #![tactic(auto)]

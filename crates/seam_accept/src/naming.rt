@@ -1,5 +1,5 @@
 // What words name.
-ghost use Rattle.std.specs.Prelude.{◌≡◌, ◌≢◌, ◌<◌, ◌≤◌, ◌↔◌, ℕ, List, IsTrue, None, Some, IfSome, MatchOption};
+ghost use Rattle.std.specs.Prelude.{◌≡◌, ◌≢◌, ◌<◌, ◌≤◌, ◌↔◌, ℕ, List, IsTrue, None, Some, is_some, IfSome, MatchOption};
 ghost use Rattle.seam_value.specs.NumberWords.{SpellsNumber};
 ghost use Rattle.seam_geo.specs.declared.pos.Pos.{Pos as Positions};
 ghost use Rattle.seam_defs.specs.Types.{IsType};
@@ -7,7 +7,7 @@ ghost use Rattle.seam_call.specs.BaseNodes.{IsBaseNodeOf};
 ghost use Rattle.seam_rule_lines.specs.Language.{sender_text, axis_text};
 ghost use Rattle.seam_tree.specs.declared.boundary.Axis.{Axis as Axes};
 ghost use Rattle.seam_call.specs.declared.sender.Sender.{Sender as Senders};
-ghost use Rattle.seam_rule_lines.specs.Book.{Book, has_client, live_as};
+ghost use Rattle.seam_rule_lines.specs.Book.{Book, created_as, has_client, live_as};
 ghost use Rattle.seam_accept.specs.Entities.{EntitiesRefine, ClientsRefine, IsLive, IsIndexOf};
 ghost use Rattle.seam_rule_lines.specs.Judging.{NamesSender, NamesType, NamesMethod, SpellsPosition};
 
@@ -46,9 +46,10 @@ pub fn base_named(name: &[u8], bases: u32) -> Option<BaseNode>
 
 /// The sender of this name: a base node of the header's, or the client of a live entity.
 pub fn sender_named(header: &Header, clients: &BTreeSet<u32>, name: &[u8]) -> Option<Sender>
-    ensures { (b : Book) (entities : List (ℕ × Entity)) → EntitiesRefine b entities →
-        ClientsRefine b clients.now.keys → MatchOption result ((s : Senders) →
-        ¬ (NamesSender header.now b name.now s)) (NamesSender header.now b name.now) }
+    ensures { (b : Book) (entities : List (ℕ × Entity)) (dead : List ℕ) →
+        EntitiesRefine b entities dead → ClientsRefine b clients.now.keys → MatchOption result
+        ((s : Senders) → ¬ (NamesSender header.now b name.now s))
+        (NamesSender header.now b name.now) }
 {
     match base_named(name, header.settings.bases) {
         Some(node) => Some(Sender::Base(node)),
@@ -58,10 +59,10 @@ pub fn sender_named(header: &Header, clients: &BTreeSet<u32>, name: &[u8]) -> Op
 
 // The live entity with a client of this name: `c`, and the number of the entity.
 fn client_named(clients: &BTreeSet<u32>, name: &[u8]) -> Option<u32>
-    ensures { (b : Book) (entities : List (ℕ × Entity)) → EntitiesRefine b entities →
-        ClientsRefine b clients.now.keys → MatchOption result ((e : ℕ) → IsTrue (has_client b e) →
-        sender_text (Sender.Client e) ≢ name.now) (λ e. IsTrue (has_client b e) ×
-        (sender_text (Sender.Client e) ≡ name.now)) }
+    ensures { (b : Book) (entities : List (ℕ × Entity)) (dead : List ℕ) →
+        EntitiesRefine b entities dead → ClientsRefine b clients.now.keys → MatchOption result
+        ((e : ℕ) → IsTrue (has_client b e) → sender_text (Sender.Client e) ≢ name.now)
+        (λ e. IsTrue (has_client b e) × (sender_text (Sender.Client e) ≡ name.now)) }
 {
     match name {
         [b'c', number @ ..] => {
@@ -83,20 +84,22 @@ pub fn live_entity(
     entities: &IndexMap<u32, Entity, HashKey>,
     entity: u32,
 ) -> Option<(usize, &Entity)>
-    ensures live { (b : Book) → EntitiesRefine b entities.now.entries →
+    ensures live { (b : Book) (dead : List ℕ) → EntitiesRefine b entities.now.entries dead →
         MatchOption result (live_as b entity ≡ None) (λ found. IsLive b entity found.1) }
     ensures place { IfSome result (λ found. IsIndexOf entities.now.entries entity found.0) }
 {
     match entities.get_full(&entity) {
-        Some((place, _, found)) => {
-            if found.live {
-                Some((place, found))
-            } else {
-                None
-            }
-        }
+        Some((place, _, found)) => Some((place, found)),
         None => None,
     }
+}
+
+/// Whether an entity of this number was created, dead or live.
+pub fn is_used(entities: &IndexMap<u32, Entity, HashKey>, dead: &BTreeSet<u32>, entity: u32) -> bool
+    ensures { (b : Book) → EntitiesRefine b entities.now.entries dead.now.keys →
+        result ≡ is_some (created_as b entity) }
+{
+    entities.contains_key(&entity) || dead.contains(&entity)
 }
 
 // Whether the number is that of one of so many base nodes.

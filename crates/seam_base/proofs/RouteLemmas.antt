@@ -1,12 +1,13 @@
 -- Routes go to cells.
-use Rattle.std.proofs.Common.{◌≡◌, ℕ, ◌<◌, Bool, true, false, not, cond, ◌&&◌, Option, None, Some, refl, sym, ap, ◌∙◌, arith}
+use Rattle.std.proofs.Common.{◌≡◌, ℕ, ◌<◌, Bool, true, false, not, cond, ◌&&◌, List, Option, None, Some, refl, sym, ap, ◌∙◌, arith}
 use Rattle.std.specs.Prelude.{nat_lt, if◌then◌else◌}
 use Rattle.std.specs.Ordering.{nat_cmp, eq_by_cmp}
 use Rattle.std.specs.Cmp.{nat_cmp_total}
 use Rattle.std.specs.FinMap as table
 use Rattle.std.proofs.lemmas.Bool.Decides.{nat_tests}
 use Rattle.seam_node_steps.specs.Prelude.{cell_count, is_small, Map, BaseView, RouteView, current, newer_route, sends_none, stray_current}
-use Rattle.seam_node_steps.specs.Prelude.{RoutesAreCells}
+use Rattle.seam_node_steps.specs.Prelude.{RoutesAreCells, routes_without}
+use Rattle.seam_node_steps.proofs.Gone.{left_without}
 use Rattle.seam_node_steps.specs.BaseCases.{unless_stray}
 use Rattle.seam_base.specs.Routes.{gives_way}
 
@@ -22,6 +23,10 @@ pub route_put : (m : Map RouteView) (e : ℕ) (new : RouteView) → new.cell < c
     RoutesAreCells (table.insert m e new)
 route_put m e new lt are q r is =
     route_in (eq_by_cmp nat_cmp q e) new r (table.get m q) (sym (table.get-insert nat_cmp_total m e new q) ∙ is) lt (are q r)
+
+-- routes that are left go to cells
+pub left_are_cells : (es : List ℕ) (m : Map RouteView) → RoutesAreCells m → RoutesAreCells (routes_without es m)
+left_are_cells es m are e r at = are e r (left_without e es m r at)
 
 -- a route gives way to one to a cell alone
 pub new_is_cell : (o : Option RouteView) (new : RouteView) → gives_way o new ≡ true → new.cell < cell_count

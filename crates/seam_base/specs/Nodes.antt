@@ -10,7 +10,14 @@ here_in k = record { me = k.me; defs = k.defs; settings = k.settings }
 
 -- the node with these orders, routes and parts
 abbrev pub node_of : BaseContext → List Order → Map RouteView → Map PartView → BaseView
-node_of k orders routes parts = record { here = here_in k; cells = k.cells; orders = orders; routes = routes; parts = parts }
+node_of k orders routes parts = record {
+  here = here_in k;
+  cells = k.cells;
+  orders = orders;
+  routes = routes;
+  parts = parts;
+  gone = k.gone.items;
+}
 
 -- the part has a ready call
 abbrev pub has_call : PartView → Bool

@@ -6,13 +6,14 @@ ghost use Rattle.seam_base.specs.Nodes.{here_in};
 
 use seam_defs::{Defs, MOST_BASE_NODES, Settings};
 
-/// The node's number, how many cells the tree has, the definitions and the settings.
+/// The node's number, how many cells the tree has, the definitions, the settings, and who was reaped since the round began.
 #[derive(Drop)]
 pub struct BaseContext {
     pub me: u8,
     pub cells: u8,
     pub defs: Defs,
     pub settings: Settings,
+    pub gone: Vec<u32>,
 }
 
 impl BaseContext {

@@ -7,7 +7,7 @@ ghost use Rattle.seam_node_steps.specs.Prelude.{Pos as AnyPos, Call as AnyCall, 
 ghost use Rattle.seam_node_steps.specs.Prelude.{attached, Base as BaseNodeView, IsBase, sends_none, stray_current, current, stray_update};
 ghost use Rattle.seam_node_steps.specs.Prelude.{update as update_case, stray_base_call, case_of, ready_part, task_without_orders};
 ghost use Rattle.seam_node_steps.specs.Prelude.{base_task, base_steps, base_has_work, is_base_node_of};
-ghost use Rattle.seam_node_steps.specs.Loads.{base_begins};
+ghost use Rattle.seam_node_steps.specs.Loads.{base_begins, noting};
 ghost use Rattle.seam_node_steps.specs.BaseCases.{unless_stray};
 ghost use Rattle.seam_node_steps.specs.BaseCases.{base_call, is_stray};
 ghost use Rattle.seam_base.specs.Nodes.{has_call, has_update, has_client};
@@ -18,7 +18,7 @@ use crate::context::BaseContext;
 use crate::orders::execute;
 use crate::part::BasePart;
 use crate::parts::Parts;
-use crate::routes::{CELLS, Route, renew};
+use crate::routes::{CELLS, Route, forget, renew};
 use seam_call::{Call, Order, Update};
 use seam_defs::{Defs, MOST_BASE_NODES, Settings};
 use seam_entity::Msg;
@@ -66,6 +66,7 @@ impl Base {
                 cells: 1,
                 defs,
                 settings,
+                gone: Vec::new(alloc),
             },
             orders: VecDeque::new(alloc),
             routes: Table::new(alloc, key),
@@ -127,13 +128,27 @@ impl Base {
         self.parts.attach(alloc, &self.known.defs, e)
     }
 
-    /// Load, point 3: begins a round with a tree of `cells` cells. Nothing was done and no line was shown in it yet.
-    pub fn start_round(&mut self, cells: u8)
+    /// Load, point 3: begins a round with a tree of `cells` cells. Nothing was done and no line was shown in it yet, and the routes of
+    /// those who were reaped are forgotten.
+    pub fn start_round(&mut self, alloc: Global, cells: u8)
         requires { cells ≤ CELLS }
         ensures { self.new ≡ base_begins cells self.old }
     {
         self.known.cells = cells;
+        forget(&mut self.routes, self.known.gone.as_slice());
+        self.known.gone = Vec::new(alloc);
         self.parts.start_round();
+    }
+
+    /// The load of reaps: the entity is reaped, so its route is forgotten as the next round begins.
+    pub fn note_reaped(&mut self, e: u32) -> Result<(), AllocError>
+        ensures after { OnOk result (self.new ≡ noting e self.old) }
+        ensures err { OnErr result (self.new ≡ self.old) }
+    {
+        match self.known.gone.push(e) {
+            Ok(()) => Ok(()),
+            Err(_) => Err(AllocError),
+        }
     }
 
     /// Load, point 4: appends an order to the node's list.

@@ -1,9 +1,11 @@
 //! The routes of a base node: the cell where each entity's real was when it had that generation.
 
 ghost use Rattle.std.specs.Prelude.{◌≡◌, Some, if◌then◌else◌};
+ghost use Rattle.seam_node_steps.specs.Loads.{routes_without};
 ghost use Rattle.seam_base.specs.Routes.{gives_way as route_gives_way};
 
 use seam_entity::is_small;
+use seam_table::Table;
 use std::marker::Model;
 
 /// How many nodes may be cells.
@@ -39,5 +41,14 @@ pub fn renew(route: &mut Route, new: Route)
 {
     if gives_way(route, new) {
         *route = new;
+    }
+}
+
+/// Forgets the routes to these entities.
+pub fn forget(routes: &mut Table<Route>, gone: &[u32])
+    ensures { routes.new.items ≡ routes_without gone.now routes.old.items }
+{
+    for e in gone {
+        routes.remove(*e);
     }
 }

@@ -144,7 +144,7 @@ impl Cell {
     }
 
     /// Load, point 3: begins a round with that tree. No real has done anything in it yet, all reals are to settle, and the cell forgets
-    /// where reals went.
+    /// where reals went, and the beats of entities that it has no copy of.
     pub fn start_round(&mut self, alloc: Global, tree: Tree) -> Result<(), AllocError>
         requires { tree.size ≡ self.old.here.settings.size }
         ensures after { OnOk result (self.new ≡ cell_begins tree self.old) }
@@ -156,7 +156,9 @@ impl Cell {
         let bounds = at_start(alloc, tree)?;
         begin_round(alloc, &mut self.reals, &mut self.lists.survey)?;
         self.known.bounds = bounds;
-        self.remotes.nexts = Table::new(alloc, self.known.defs.hash_key());
+        let key = self.known.defs.hash_key();
+        self.remotes.nexts = Table::new(alloc, key);
+        self.remotes.copies.forget_dropped(alloc, key);
         Ok(())
     }
 

@@ -20,7 +20,8 @@ use Rattle.seam_range.specs.Locations.{Locations}
 use Rattle.seam_node_steps.specs.Prelude.{Ghost, BookView, copy_in, copied, beat_of, with_ghost, after_message, GhostCopy, RealView}
 use Rattle.seam_node_steps.specs.Prelude.{real_begins, Map, set_at, or_else}
 use Rattle.seam_ghosts.specs.declared.Kept.TheVariants.{Taken, Ignored}
-use Rattle.seam_ghosts.specs.Book.{answer}
+use Rattle.seam_ghosts.specs.Book.{answer, with_copies}
+use Rattle.seam_ghosts.proofs.Forgotten.{get_with_copies}
 use Rattle.seam_node_steps.proofs.Slots.{get-set_at}
 use Rattle.seam_node_steps.proofs.Sorted.{first, second, find_append, find_mapped, sorted_mapped}
 use Rattle.seam_node_steps.proofs.Knowing.{find_copied, copies_rise}
@@ -136,6 +137,16 @@ copy_changed w e g is q =
         ≡ cond b (option_map location_of_copy g.copy) (copy_locations w.ghosts q)
     at true = refl
     at false = refl
+
+-- where beats of entities without a copy are forgotten, all copies are where they were
+pub copies_stay_noted : (m : Map (Ghost GhostCopy)) → copy_locations (with_copies m) ≡ copy_locations m
+copies_stay_noted m = λ i q. (ap (λ o. option_map location_of_copy (copy_in o)) (get_with_copies m q)
+    ∙ by (map.get m q) (copy_in (map.get m q)) refl) i
+  where
+    by : (o : Option (Ghost GhostCopy)) (c : Option GhostCopy) → copy_in o ≡ c →
+        option_map location_of_copy (copy_in (cond (is_some c) o None)) ≡ option_map location_of_copy (copy_in o)
+    by o (Some c) is = refl
+    by o None is = sym (ap (option_map location_of_copy) is)
 
 -- and after one that is ignored
 pub copies_kept : (w : BookView GhostCopy) (e : ℕ) (g : Ghost GhostCopy) → Ignored ≡ answer (beat_of w e) g.beat → after_message w e g ≡ w

@@ -3,7 +3,7 @@
 ghost use Rattle.std.specs.Prelude.{◌≡◌, Some, None, OnOk, OnErr, IfOk, IfErr, IfSome};
 ghost use Rattle.std.specs.Prelude.{option_copied};
 ghost use Rattle.std.specs.FinMap as map;
-ghost use Rattle.seam_ghosts.specs.Book.{copy_of, ghost_after};
+ghost use Rattle.seam_ghosts.specs.Book.{copy_of, ghost_after, with_copies};
 ghost use Rattle.seam_node_steps.specs.Maps.{set_at};
 ghost use Rattle.seam_cell_parts.specs.Spots.{AreNoted, AreKeptNoted, location_of_copy, copy_locations, located_copies};
 
@@ -135,6 +135,13 @@ impl CopyBook {
             Ok(Kept::Ignored) => Ok(()),
             Err(refused) => Err(refused),
         }
+    }
+
+    /// Forgets the beats of entities that have no copy.
+    pub fn forget_dropped(&mut self, alloc: Global, key: HashKey)
+        ensures { self.new ≡ record { ghosts = with_copies self.old.ghosts } }
+    {
+        self.book.forget_dropped(alloc, key);
     }
 
     /// Where the copies are, in rising number.

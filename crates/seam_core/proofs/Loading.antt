@@ -23,6 +23,7 @@ use Rattle.seam_core.specs.Loads.{MayLoad, IsNumbered, HasBases, HasSize}
 use Rattle.seam_core.specs.Begun.{begun, HasSpace, NodeMayBegin}
 use Rattle.seam_core.specs.Worlds.{GoesBy, IsWorld}
 use Rattle.seam_core.proofs.Worlds.{goes_by}
+use Rattle.seam_node_steps.specs.Prelude.{noted, noting}
 
 -- ---- lists
 
@@ -120,7 +121,11 @@ here_ordered o (Base n) = order_keeps (eqb o.0 n.here.me) n o.1
 
 here_reaped : (e : ℕ) (s : NodeView) → here_in (reap_ordered_at e s) ≡ here_in s
 here_reaped e (Cell c) = refl
-here_reaped e (Base n) = order_keeps (eqb (base_of n.here e) n.here.me) n (order.Reap e)
+here_reaped e (Base n) = order_keeps (eqb (base_of n.here e) n.here.me) (noting e n) (order.Reap e)
+
+here_noted : (e : ℕ) (s : NodeView) → here_in (noted e s) ≡ here_in s
+here_noted e (Cell c) = refl
+here_noted e (Base n) = refl
 
 -- and so what is true of it stays true
 module _ (P : ℕ → Here → Type 0) where
@@ -136,20 +141,24 @@ module _ (P : ℕ → Here → Type 0) where
   known_ordered w [] all = all
   known_ordered w (o ∷ os) all = known_ordered (with_order w o) os (known_more (ordered_at o) (here_ordered o) w all)
 
+  pub known_noted : (w : World) (e : ℕ) → All w → All (with_nodes w (noted e))
+  known_noted w e = known_more (noted e) (here_noted e) w
+
   pub known_reaped : (w : World) (es : List ℕ) → All w → All (reaps_loaded w es)
   known_reaped w [] all = all
   known_reaped w (e ∷ es) all = known_reaped (with_reap w e) es (known_more (reap_ordered_at e) (here_reaped e) w all)
 
--- a reap is an order for the entity's base node
+-- a reap is noted by each base node, and is an order for the entity's
 pub reap_is_order : (w : World) (n e : ℕ) → EachNode (λ k s. HasBases n s) w.nodes →
-    with_order w (cell_count + (e % n), order.Reap e) ≡ with_reap w e
+    with_order (with_nodes w (noted e)) (cell_count + (e % n), order.Reap e) ≡ with_reap w e
 reap_is_order w n e bases =
-    ap (nodes_by w) (maps_agree (ordered_at (cell_count + (e % n), order.Reap e)) (reap_ordered_at e) w.nodes
+    ap (nodes_by w) (map-map (ordered_at (cell_count + (e % n), order.Reap e)) (noted e) w.nodes
+    ∙ maps_agree (λ s. ordered_at (cell_count + (e % n), order.Reap e) (noted e s)) (reap_ordered_at e) w.nodes
     (λ k s at. same s (bases k s at)))
   where
-    same : (s : NodeView) → HasBases n s → ordered_at (cell_count + (e % n), order.Reap e) s ≡ reap_ordered_at e s
+    same : (s : NodeView) → HasBases n s → ordered_at (cell_count + (e % n), order.Reap e) (noted e s) ≡ reap_ordered_at e s
     same (Cell c) h = refl
-    same (Base b) h = ap (λ m. Base (order_if (eqb (cell_count + (e % m)) b.here.me) b (order.Reap e))) (sym h)
+    same (Base b) h = ap (λ m. Base (order_if (eqb (cell_count + (e % m)) b.here.me) (noting e b) (order.Reap e))) (sym h)
 
 -- ---- a batch
 
@@ -199,7 +208,9 @@ module _ (defs : List TypeDef) (settings : Settings) where
 
     reaped_by : (e : ℕ) (s : NodeView) → Any e → IsNode s × By k s → IsNode (reap_ordered_at e s) × By k (reap_ordered_at e s)
     reaped_by e (Cell c) any is = is
-    reaped_by e (Base n) any is = given_by (eqb (base_of n.here e) n.here.me) n (order.Reap e) is
+    reaped_by e (Base n) any is =
+        given_by (eqb (base_of n.here e) n.here.me) (noting e n) (order.Reap e)
+        (record { bases = is.0.bases; cells = is.0.cells; routes = is.0.routes }, ((is.1.0.0, is.1.0.1), is.1.1))
 
     pub all_reaped_by : (es : List ℕ) (s : NodeView) → IsNode s × By k s →
         IsNode (each reap_ordered_at es s) × By k (each reap_ordered_at es s)

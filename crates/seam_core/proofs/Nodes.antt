@@ -154,7 +154,7 @@ pub new_at : (t : Division) (xs : List Create) (s : NodeView) → AllByRecursion
 new_at t xs s new once i d lt =
     let e = (get_or xs i d).entity in
     kept_none (real_in (has_of e s)) (real_in (has_of e (each (created_at t) (take i xs) s)))
-    (creates_stay e t (take i xs) (distinct_before created_entity xs once i d lt) (has_of e s) s (stays_as (has_of e s))).real
+    (creates_stay e t (take i xs) (distinct_before created_entity xs once i d lt) (Unit {0}) (has_of e s) s (stays_as (has_of e s))).real
     (all_at (λ x. real_in (has_of x.entity s) ≡ None) xs new i d lt)
 
 -- the reals are those that were there, as base nodes begin the round

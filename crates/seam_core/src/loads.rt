@@ -9,7 +9,7 @@ ghost use Rattle.seam_law_calls.specs.Prelude.{has_of, real_in};
 ghost use Rattle.seam_law_rounds.specs.Prelude.{created_entity, each};
 ghost use Rattle.seam_base.specs.Nodes.{has_client};
 ghost use Rattle.seam_base.specs.Marks.{passes};
-ghost use Rattle.seam_node_steps.specs.Loads.{with_order};
+ghost use Rattle.seam_node_steps.specs.Loads.{noted, with_order};
 ghost use Rattle.seam_core.specs.Loads.{IsNumbered, HasBases};
 ghost use Rattle.seam_core.specs.Begun.{begun, HasSpace, IsSpare, NodeMayBegin};
 
@@ -114,13 +114,13 @@ impl Node {
     }
 
     // A base node begins a round with so many cells.
-    fn begin_base(&mut self, cells: u8)
+    fn begin_base(&mut self, alloc: Global, cells: u8)
         requires { cells ≤ 16 }
         ensures { self.new ≡ base_round cells self.old }
     {
         match &mut self.kind {
             Kind::Cell(_) => {}
-            Kind::Base(base) => base.start_round(cells),
+            Kind::Base(base) => base.start_round(alloc, cells),
         }
     }
 
@@ -140,7 +140,7 @@ impl Node {
         requires { NodeMayBegin batch.now me self.old }
         ensures { OnOk result (self.new ≡ begun batch.now self.old) }
     {
-        self.begin_base(batch.tree.cells());
+        self.begin_base(alloc, batch.tree.cells());
         self.make_all(alloc, me, &batch.tree, batch.creates.as_slice())?;
         self.attach_all(alloc, batch.clients.as_slice())?;
         self.begin_cell(alloc, batch.tree)
@@ -154,6 +154,16 @@ impl Node {
         match &mut self.kind {
             Kind::Cell(_) => Ok(()),
             Kind::Base(base) => give_in(base, order),
+        }
+    }
+
+    // A base node is told that the entity is reaped.
+    fn note(&mut self, e: u32) -> Result<(), AllocError>
+        ensures { OnOk result (self.new ≡ noted e self.old) }
+    {
+        match &mut self.kind {
+            Kind::Cell(_) => Ok(()),
+            Kind::Base(base) => base.note_reaped(e),
         }
     }
 }
@@ -215,7 +225,29 @@ pub(crate) fn give_all(net: &mut Net<Node>, orders: Vec<(u8, Order)>) -> Result<
     Ok(())
 }
 
-// Gives the entity's reap to its base node.
+// Node k, if it is a base node, is told that the entity is reaped.
+fn note_at(net: &mut Net<Node>, k: u8, e: u32) -> Result<(), AllocError>
+    requires { k < length net.old.nodes }
+    ensures { (s : NodeView) → slice_get net.old.nodes k ≡ Some s →
+        OnOk result (net.new ≡ with_node net.old k (noted e s)) }
+{
+    let Some(node) = net.node_mut(k) else {
+        unreachable!()
+    };
+    node.note(e)
+}
+
+// Each base node is told that the entity is reaped.
+fn note_all(net: &mut Net<Node>, e: u32) -> Result<(), AllocError>
+    ensures { OnOk result (net.new ≡ with_nodes net.old (noted e)) }
+{
+    for k in 0..net.node_count() {
+        note_at(net, k as u8, e)?;
+    }
+    Ok(())
+}
+
+// Tells each base node that the entity is reaped, and gives its reap to its own.
 fn give_reap(net: &mut Net<Node>, bases: u32, e: u32) -> Result<(), AllocError>
     requires numbered { EachNode IsNumbered net.old.nodes }
     requires bases { EachNode (λ k s. HasBases bases s) net.old.nodes }
@@ -223,11 +255,12 @@ fn give_reap(net: &mut Net<Node>, bases: u32, e: u32) -> Result<(), AllocError>
     requires few { bases ≤ 239 }
     ensures { OnOk result (net.new ≡ with_reap net.old e) }
 {
+    note_all(net, e)?;
     let to = base_node_of(e, bases);
     give(net, to, Order::Reap(e))
 }
 
-/// Gives the reap of each entity to its base node, one of `bases`.
+/// Tells each base node of each entity that is reaped, and gives its reap to its base node, one of `bases`.
 pub(crate) fn reap_all(net: &mut Net<Node>, bases: u32, es: &[u32]) -> Result<(), AllocError>
     requires numbered { EachNode IsNumbered net.old.nodes }
     requires bases { EachNode (λ k s. HasBases bases s) net.old.nodes }

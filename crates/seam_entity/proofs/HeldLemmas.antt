@@ -126,7 +126,8 @@ module _ (test : Call → Bool) where
   pub same_value : (a b : ℕ) (o : OrderView Call) → order_passes test (a, o) ≡ order_passes test (b, o)
   same_value a b o = refl
 
-  order_at : (os : Orders) (k : ℕ) (o : Option (OrderView Call)) → all_held test os ≡ true → table.get os k ≡ o → passes (order_or o).held
+  pub order_at : (os : Orders) (k : ℕ) (o : Option (OrderView Call)) → all_held test os ≡ true → table.get os k ≡ o →
+      passes (order_or o).held
   order_at os k None h at = refl
   order_at os k (Some o) h at = got_passes (order_passes test) same_value os k o h at
 

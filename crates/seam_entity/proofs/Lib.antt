@@ -3,3 +3,4 @@ pub mod RealLemmas
 pub mod ReadyLemmas
 pub mod FitLemmas
 pub mod HeldLemmas
+pub mod CoverLemmas

@@ -9,3 +9,4 @@ pub mod SenderPlaces
 pub mod Preparing
 pub mod WitnessLooks
 pub mod Witnesses
+pub mod Covers

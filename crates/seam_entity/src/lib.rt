@@ -17,6 +17,7 @@
 //! orders and senders have entries).
 #![tactic(auto)]
 
+mod cover;
 mod fitting;
 mod message;
 mod numbers;

@@ -1,7 +1,7 @@
 //! The calls of several senders, each sender's in the order of their numbers.
 
 ghost use Rattle.std.specs.Prelude.{◌≡◌, ◌<◌, ◌≤◌, ◌^◌, [], true, false, is_some, IfOk, IfErr, OnOk, OnErr, length, map};
-ghost use Rattle.std.specs.Prelude.{option_copied, IfSome, IfNone, ℕ};
+ghost use Rattle.std.specs.Prelude.{option_copied, IfSome, IfNone, ℕ, Bool, ◌||◌};
 ghost use Rattle.std.specs.List.{AllWithin};
 ghost use Rattle.std.specs.List.Sorted.{IsStrictlySortedBy};
 ghost use Rattle.std.specs.Ordering.{nat_cmp};
@@ -15,11 +15,15 @@ ghost use Rattle.seam_entity.specs.Executing.{fits_cell_part as call_fits};
 ghost use Rattle.seam_entity.specs.Preparing.{node_with};
 ghost use Rattle.seam_entity.specs.ReadyCalls.{has_ready, ready_call, after_ready, all_held};
 ghost use Rattle.seam_entity.specs.SenderPlaces.{AreOrdered, IsAt, IsGap, NoneReady, IsFirstReady};
+ghost use Rattle.seam_entity.specs.Covers.{AreCovered, is_covered as is_covered_in, is_not_held as is_offer_not_held};
+ghost use Rattle.seam_entity.specs.Orders.{Orders as AllOrders};
+ghost use Rattle.seam_call.specs.declared.call.Call.{Call as CallData};
 
+use crate::cover::Cover;
 use crate::fitting::holds_fitting;
 use crate::room::insert;
 use seam_call::{Call, Sender};
-use seam_defs::{Defs, Settings};
+use seam_defs::{Deed, Defs, Settings, TypeDef};
 use seam_order::{InOrder, Offer};
 use seam_table::NoMemoryFor;
 use std::alloc::{AllocError, Global};
@@ -33,6 +37,8 @@ use std::marker::Model;
 pub struct Orders {
     // In the order of the senders.
     entries: Vec<(Sender, InOrder<Call>)>,
+    // What is known of all calls that are held, if anything is. In a box, since most parts hold none.
+    cover: Option<Box<Cover>>,
 }
 
 impl Model for Orders {
@@ -50,10 +56,12 @@ impl Model for Orders {
     ghost use Rattle.std.specs.Prelude.{map};
     ghost use Rattle.seam_call.specs.Senders.{rank_of};
     ghost use Rattle.seam_entity.specs.Orders.{view_of};
+    ghost use Rattle.seam_entity.specs.Covers.{AreCovered};
 
     ghost view = { λ o. view_of o.entries.items };
 
-    ghost invariant = { λ o. IsStrictlySortedBy nat_cmp (map (λ p. rank_of p.0) o.entries.items) };
+    ghost invariant = { λ o. IsStrictlySortedBy nat_cmp (map (λ p. rank_of p.0) o.entries.items)
+        × AreCovered o.cover (view_of o.entries.items).orders };
 }
 
 // How many of the senders come before that rank.
@@ -206,6 +214,122 @@ fn all_fit(
     true
 }
 
+// Whether the order holds nothing.
+fn is_empty(order: &InOrder<Call>) -> bool
+    ensures { result ≡ true → order.now.held ≡ [] }
+{
+    match order.held_at(0) {
+        Some(_) => false,
+        None => true,
+    }
+}
+
+// Whether nothing is held.
+fn holds_none(entries: &[(Sender, InOrder<Call>)]) -> bool
+    requires { AreOrdered entries.now }
+    ensures { result ≡ true → (test : CallData → Bool) → all_held test (view_of entries.now).orders
+        ≡ true }
+{
+    for entry in entries {
+        if !is_empty(&entry.1) {
+            return false;
+        }
+    }
+    true
+}
+
+// Whether the call is covered, where there is a cover.
+fn is_covered(cover: &Option<Box<Cover>>, call: &Call) -> bool
+    ensures { result ≡ is_covered_in cover.now call.now }
+{
+    match cover {
+        Some(cover) => cover.covers(call),
+        None => true,
+    }
+}
+
+// Whether the offered call is not held.
+fn is_not_held(answer: &Result<Offer<Call>, NoMemoryFor<Call>>) -> bool
+    ensures { result ≡ is_offer_not_held answer.now }
+{
+    match answer {
+        Ok(Offer::Held) => false,
+        _ => true,
+    }
+}
+
+// Whether what is held is still covered after an offer of a call that was covered or not.
+fn stays_covered(covered: bool, answer: &Result<Offer<Call>, NoMemoryFor<Call>>) -> bool
+    ensures { result ≡ (covered || is_offer_not_held answer.now) }
+{
+    covered || is_not_held(answer)
+}
+
+// Keeps the cover where it holds.
+fn keep_if(cover: &mut Option<Box<Cover>>, holds: bool)
+    ensures { (orders : AllOrders) → (holds ≡ true → AreCovered cover.old orders) →
+        AreCovered cover.new orders }
+{
+    if !holds {
+        *cover = None;
+    }
+}
+
+// A cover of the calls of that entity, unless allocation fails.
+fn new_cover(alloc: Global, entity: u32) -> Option<Box<Cover>> {
+    match Box::new(alloc, Cover::new(alloc, entity)) {
+        Ok(cover) => Some(cover),
+        Err(_) => None,
+    }
+}
+
+// Begins a cover of the calls of that entity, where there is none and nothing is held.
+fn begin_cover(
+    cover: &mut Option<Box<Cover>>,
+    alloc: Global,
+    entries: &[(Sender, InOrder<Call>)],
+    entity: u32,
+)
+    requires ordered { AreOrdered entries.now }
+    requires covered { AreCovered cover.old (view_of entries.now).orders }
+    ensures { AreCovered cover.new (view_of entries.now).orders }
+{
+    if cover.is_some() {
+        return;
+    }
+    if !holds_none(entries) {
+        return;
+    }
+    *cover = new_cover(alloc, entity);
+}
+
+// Covers the deed too, where there is a cover and the deed is one of the type.
+fn widen(cover: &mut Option<Box<Cover>>, t: &TypeDef, deed: &Deed)
+    ensures { (orders : AllOrders) → AreCovered cover.old orders → AreCovered cover.new orders }
+{
+    let Some(cover) = cover else {
+        return;
+    };
+    let _refused = cover.widen(t, deed);
+}
+
+// Whether all that is covered fits.
+fn fits_all(
+    cover: &Option<Box<Cover>>,
+    defs: &Defs,
+    settings: &Settings,
+    entity: u32,
+    ty: u16,
+) -> bool
+    ensures { result ≡ true → (me : ℕ) (orders : AllOrders) → AreCovered cover.now orders →
+        all_held (call_fits (node_with defs.now me settings.now) entity ty) orders ≡ true }
+{
+    match cover {
+        Some(cover) => cover.fits(defs, settings, entity, ty),
+        None => false,
+    }
+}
+
 // The place of the first sender that has a ready call.
 fn first_ready(entries: &[(Sender, InOrder<Call>)]) -> Option<usize>
     ensures some { IfSome result (IsFirstReady entries.now) }
@@ -262,6 +386,7 @@ impl Orders {
     {
         Orders {
             entries: Vec::new(alloc),
+            cover: None,
         }
     }
 
@@ -287,6 +412,22 @@ impl Orders {
         make_place(&mut self.entries, sender)
     }
 
+    /// Covers a call with that deed, which is to be held, so that `all_fit` need not look at each call. If allocation fails, it does.
+    pub(crate) fn cover_deed(&mut self, defs: &Defs, entity: u32, ty: u16, deed: &Deed)
+        ensures { self.new ≡ self.old }
+    {
+        let alloc = *self.entries.allocator();
+        begin_cover(&mut self.cover, alloc, &self.entries, entity);
+        widen(&mut self.cover, defs.type_at(ty), deed);
+    }
+
+    /// Gives back what it keeps of held calls beside them.
+    pub(crate) fn uncover(&mut self)
+        ensures { self.new ≡ self.old }
+    {
+        self.cover = None;
+    }
+
     /// Offers the call to its sender's order, which has a place. Only a call that is to be held takes memory.
     #[inline(always)]
     pub fn offer(&mut self, call: Call) -> Result<Offer<Call>, NoMemoryFor<Call>>
@@ -307,7 +448,10 @@ impl Orders {
         ensures err_only_above { OnErr result ((order_of self.old.orders call.sender).next
             < call.number) }
     {
-        offer_in(&mut self.entries, call)
+        let covered = is_covered(&self.cover, &call);
+        let answer = offer_in(&mut self.entries, call);
+        keep_if(&mut self.cover, stays_covered(covered, &answer));
+        answer
     }
 
     /// Whether each call that is held is one for the cell part of that entity and fits that type.
@@ -315,6 +459,9 @@ impl Orders {
         ensures { (me : ℕ) → result ≡ all_held (call_fits (node_with defs.now me settings.now)
             entity ty) self.now.orders }
     {
+        if fits_all(&self.cover, defs, settings, entity, ty) {
+            return true;
+        }
         all_fit(&self.entries, defs, settings, entity, ty)
     }
 

@@ -258,6 +258,7 @@ impl Real {
         ensures { self.new.core ≡ real_begins self.old.core }
     {
         self.body.done.clear();
+        self.body.orders.uncover();
     }
 
     /// What its ghosts are told of it.
@@ -447,7 +448,7 @@ impl Real {
         if self.is_turn(&call) {
             return self.execute_turn(defs, call);
         }
-        self.put_off(call)
+        self.put_off(defs, call)
     }
 
     // Executes a call whose turn it is.
@@ -484,7 +485,7 @@ impl Real {
     }
 
     // Holds a call that came early, and gives back one that came late.
-    fn put_off(&mut self, call: Call) -> Result<Did, NoMemoryFor<Call>>
+    fn put_off(&mut self, defs: &Defs, call: Call) -> Result<Did, NoMemoryFor<Call>>
         requires from_one { 1 ≤ call.number }
         requires small { call.number < 2 ^ 62 }
         requires not_held { is_some (item_at call.number
@@ -502,11 +503,20 @@ impl Real {
         if self.body.orders.reserve(&call.sender).is_err() {
             return Err(NoMemoryFor { item: call });
         }
+        self.cover_deed(defs, &call.deed);
         match self.body.orders.offer(call) {
             Ok(Offer::Held) => Ok(Did::Held),
             Ok(_) => unreachable!(),
             Err(refused) => Err(refused),
         }
+    }
+
+    // Covers a deed that is to be held.
+    fn cover_deed(&mut self, defs: &Defs, deed: &Deed)
+        ensures { self.new ≡ self.old }
+    {
+        let (entity, ty) = (self.body.entity, self.body.ty);
+        self.body.orders.cover_deed(defs, entity, ty, deed);
     }
 
     /// Whether it holds a call whose turn it is.

@@ -1,16 +1,17 @@
 -- The copies of a book, as the entries of their table.
-use Rattle.std.proofs.Common.{◌≡◌, ℕ, Bool, true, false, cond, ◌&&◌, T, List, [], ◌∷◌, Option, None, Some, refl, sym, ap, ◌∙◌, arith}
+use Rattle.std.proofs.Common.{◌≡◌, ℕ, Bool, true, false, cond, ◌&&◌, T, List, [], ◌∷◌, Option, None, Some, refl, sym, ap, ◌∙◌, subst, arith}
+use Rattle.std.specs.Prelude.{map as each}
+use Rattle.std.specs.Map.{keys_of}
 use Rattle.std.specs.Ordering.{nat_cmp, eq_by_cmp, is_lt}
 use Rattle.std.specs.Cmp.{nat_cmp_total}
 use Rattle.std.specs.FinMap as map
 use Rattle.std.specs.FinMap.Entries.{is_sorted, below_all}
 use Rattle.std.proofs.lemmas.Bool.Decides.{nat_tests}
-use Rattle.seam_table.specs.Tables.{TableView}
 use Rattle.seam_ghosts.specs.declared.Ghost.{Ghost}
 use Rattle.seam_ghosts.specs.Book.{copy_in, with_copy, copied}
-use Rattle.seam_ghosts.specs.declared.Heard.{Heard}
-use Rattle.seam_ghosts.specs.Joined.{joined, IsBook}
-use Rattle.seam_ghosts.proofs.Joins.{copy_joined}
+use Rattle.seam_ghosts.specs.declared.Held.{Held}
+use Rattle.seam_ghosts.specs.Joined.{joined}
+use Rattle.seam_ghosts.proofs.Joins.{copy_held, copy_joined}
 
 both : (a b : Bool) → T a → T b → T (a && b)
 both true b p q = q
@@ -26,6 +27,10 @@ second false b p = absurd p
 
 not_tied : (q k : ℕ) → T (is_lt (nat_cmp q k)) → eq_by_cmp nat_cmp q k ≡ false
 not_tied q k below = grind (arith, nat_tests)
+
+-- the copy that an entry holds
+abbrev held_copy : {P : Type 0} → ℕ × Held P → ℕ × P
+held_copy h = (h.0, h.1.copy)
 
 module _ {P : Type 0} where
   copied_below : (k : ℕ) (x : ℕ) (c : Option P) (es : List (ℕ × P)) → T (is_lt (nat_cmp k x)) → T (below_all nat_cmp k es) →
@@ -84,7 +89,40 @@ module _ {P : Type 0} where
       ∙ has q) in
       sym (map.entries-from_sorted nat_cmp (copied gs) sorted) ∙ ap map.entries same
 
-  pub copies_joined : (beats : TableView Heard) (copies : TableView P) → IsBook beats copies →
-      copied (map.entries (joined beats.items copies.items)) ≡ map.entries copies.items
-  copies_joined beats copies book =
-      entries_copied (joined beats.items copies.items) copies.items (λ q. copy_joined beats copies q book)
+  -- ---- the copies of a table
+
+  below_held : (k : ℕ) (hs : List (ℕ × Held P)) → below_all nat_cmp k (each held_copy hs) ≡ below_all nat_cmp k hs
+  below_held k [] = refl
+  below_held k (h ∷ hs) = ap (λ b. is_lt (nat_cmp k h.0) && b) (below_held k hs)
+
+  sorted_held : (hs : List (ℕ × Held P)) → is_sorted nat_cmp (each held_copy hs) ≡ is_sorted nat_cmp hs
+  sorted_held [] = refl
+  sorted_held (h ∷ hs) = λ i. below_held h.0 hs i && sorted_held hs i
+
+  find_held : (q : ℕ) (hs : List (ℕ × Held P)) → map.find nat_cmp q (each held_copy hs) ≡ copy_held (map.find nat_cmp q hs)
+  find_held q [] = refl
+  find_held q (h ∷ hs) = by (eq_by_cmp nat_cmp q h.0) (find_held q hs)
+    where
+      by : (t : Bool) → map.find nat_cmp q (each held_copy hs) ≡ copy_held (map.find nat_cmp q hs) →
+          cond t (Some h.1.copy) (map.find nat_cmp q (each held_copy hs)) ≡ copy_held (cond t (Some h.1) (map.find nat_cmp q hs))
+      by true is = refl
+      by false is = is
+
+  keys_held : (hs : List (ℕ × Held P)) → keys_of (each held_copy hs) ≡ keys_of hs
+  keys_held [] = refl
+  keys_held (h ∷ hs) = ap (λ ks. h.0 ∷ ks) (keys_held hs)
+
+  -- the entities of the book that have copies are those of the table
+  pub copies_joined : (copies : map.FinMap nat_cmp (Held P)) (dropped : map.FinMap nat_cmp ℕ) →
+      keys_of (copied (map.entries (joined copies dropped))) ≡ map.keys copies
+  copies_joined copies dropped =
+      let hs = map.entries copies in
+      let sorted : T (is_sorted nat_cmp (each held_copy hs)) = subst T (sym (sorted_held hs)) (map.entries_sorted copies) in
+      let c : map.FinMap nat_cmp P = map.from_sorted (each held_copy hs) in
+      ap keys_of (entries_copied (joined copies dropped) c (λ q.
+      copy_joined copies dropped q
+      ∙ ap copy_held (map.get-entries copies q)
+      ∙ sym (find_held q hs)
+      ∙ sym (map.get-from_sorted nat_cmp (each held_copy hs) q sorted)))
+      ∙ ap keys_of (map.entries-from_sorted nat_cmp (each held_copy hs) sorted)
+      ∙ keys_held hs

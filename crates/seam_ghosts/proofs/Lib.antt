@@ -1,3 +1,4 @@
 mod Messages
 mod Joins
 mod Copies
+pub mod Forgotten

@@ -1,5 +1,5 @@
 -- What a cell knows of ghosts: for each entity the greatest beat that it saw and, perhaps, a copy.
-use Rattle.std.specs.Prelude.{ℕ, nat_lt, List, [], ◌∷◌, Option, None, Some, if◌then◌else◌}
+use Rattle.std.specs.Prelude.{ℕ, nat_lt, List, [], ◌∷◌, Option, None, Some, is_some, if◌then◌else◌}
 use Rattle.std.specs.Ordering.{nat_cmp}
 use Rattle.std.specs.FinMap as map
 use Rattle.std.specs.Coded.{Coded, code_by, coded×, coded_ℕ, coded_option}
@@ -47,6 +47,10 @@ copied (g ∷ gs) = with_copy g.0 g.1.copy (copied gs)
 -- the entities that have copies, each with its copy, in rising number
 abbrev pub copies : {P : Type 0} → BookView P → List (ℕ × P)
 copies w = copied (map.entries w.ghosts)
+
+-- of the ghosts those that have a copy
+unfoldable pub with_copies : {P : Type 0} → map.FinMap nat_cmp (Ghost P) → map.FinMap nat_cmp (Ghost P)
+with_copies m = map.retain_keys m (λ e. is_some (copy_in (map.get m e)))
 
 -- what a message of this beat meets, where the other one is known
 abbrev pub answer : ℕ → ℕ → Kept

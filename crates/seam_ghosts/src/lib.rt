@@ -7,14 +7,13 @@
 //! ghosts of the BigWorld Server Overview; the beats are of the kind of Lamport's clocks, 1978.)
 #![tactic(auto)]
 
-ghost use Rattle.std.specs.Prelude.{true, false, max, nat_lt, if◌then◌else◌, ◌≡◌, ◌≤◌, ◌≢◌, ℕ, IfOk, IfErr, OnOk, OnErr};
+ghost use Rattle.std.specs.Prelude.{max, nat_lt, if◌then◌else◌, ◌≡◌, ◌≤◌, ◌≢◌, ℕ, IfOk, IfErr, OnOk, OnErr};
 ghost use Rattle.std.specs.Prelude.{option_copied, Some, None};
 ghost use Rattle.std.specs.Map.{keys_of};
 ghost use Rattle.std.specs.FinMap as map;
-ghost use Rattle.seam_table.specs.Tables.{with_item};
 ghost use Rattle.seam_ghosts.specs.declared.Ghost.{Ghost};
-ghost use Rattle.seam_ghosts.specs.Joined.{book_of, noted, IsBook};
-ghost use Rattle.seam_ghosts.specs.Book.{BookView, beat_of, copy_of, copies, answer, after_message, ghost_after};
+ghost use Rattle.seam_ghosts.specs.Joined.{book_of};
+ghost use Rattle.seam_ghosts.specs.Book.{BookView, beat_of, copy_of, copies, answer, after_message, ghost_after, with_copies};
 
 pub use seam_table::NoMemoryFor;
 use seam_table::{HashKey, Table};
@@ -37,11 +36,11 @@ pub struct Ghost<P> {
     pub copy: Option<P>,
 }
 
-/// What is known of an entity beside its copy: the greatest beat that came for it, and whether there is a copy.
-#[derive(Clone, Copy, Debug, PartialEq, Eq)]
-pub struct Heard {
+/// A copy of an entity, and the beat at which it came.
+#[derive(Drop)]
+pub struct Held<P> {
     beat: u64,
-    has_copy: bool,
+    copy: P,
 }
 
 /// The copies of entities, each under the greatest beat that came for it.
@@ -49,23 +48,21 @@ pub struct Heard {
 /// Contracts see the ghost of each entity.
 #[derive(Drop)]
 pub struct GhostBook<P> {
-    // What is known of each entity that a message came for. A copy is sought only where there is one.
-    beats: Table<Heard>,
-    // The copies that are there, in a table of their own, so that a list of them does not pass entities that have only a beat.
-    copies: Table<P>,
+    copies: Table<Held<P>>,
+    // The beats at which copies were dropped, in a table of their own, so that they are forgotten at once. One of an entity that has a
+    // copy again means nothing.
+    dropped: Table<u64>,
 }
 
 impl<P> Model for GhostBook<P> {
-    ghost use Rattle.seam_ghosts.specs.Joined.{book_of, IsBook};
+    ghost use Rattle.seam_ghosts.specs.Joined.{book_of};
     ghost use Rattle.seam_ghosts.specs.Book.{BookView, book_code};
 
     ghost Value = { BookView P };
 
     ghost coded = { book_code P.code };
 
-    ghost view = { λ b. book_of b.beats b.copies };
-
-    ghost invariant = { λ b. IsBook b.beats b.copies };
+    ghost view = { λ b. book_of b.copies b.dropped };
 }
 
 impl<P: Drop> GhostBook<P> {
@@ -74,8 +71,8 @@ impl<P: Drop> GhostBook<P> {
         ensures { result ≡ record { ghosts = map.empty } }
     {
         GhostBook {
-            beats: Table::new(alloc, key),
             copies: Table::new(alloc, key),
+            dropped: Table::new(alloc, key),
         }
     }
 
@@ -83,17 +80,14 @@ impl<P: Drop> GhostBook<P> {
     pub fn beat(&self, e: u32) -> u64
         ensures { result ≡ beat_of self.now e }
     {
-        match self.beats.get(e) {
-            Some(known) => known.beat,
-            None => 0,
-        }
+        known_beat(&self.copies, &self.dropped, e)
     }
 
     /// The entity's copy, if there is one.
     pub fn get(&self, e: u32) -> Option<&P>
         ensures { option_copied result ≡ copy_of self.now e }
     {
-        self.copies.get(e)
+        copy_here(&self.copies, &self.dropped, e)
     }
 
     /// Takes the entity's copy as it is at this beat. It is ignored exactly where the beat is not greater than `beat(e)`.
@@ -108,7 +102,7 @@ impl<P: Drop> GhostBook<P> {
         ensures err { OnErr result (self.new ≡ self.old) }
         ensures err_item { IfErr result (λ r. r.item ≡ copy) }
     {
-        set_copy(&mut self.beats, &mut self.copies, e, beat, copy)
+        set_copy(&mut self.copies, &self.dropped, e, beat, copy)
     }
 
     /// Drops the entity's copy at this beat, which is known from then on. It is ignored exactly where the beat is not
@@ -123,7 +117,14 @@ impl<P: Drop> GhostBook<P> {
         // Without memory nothing has changed.
         ensures err { OnErr result (self.new ≡ self.old) }
     {
-        drop_at(&mut self.beats, &mut self.copies, e, beat)
+        drop_at(&mut self.copies, &mut self.dropped, e, beat)
+    }
+
+    /// Forgets the beats of entities that have no copy.
+    pub fn forget_dropped(&mut self, alloc: Global, key: HashKey)
+        ensures { self.new ≡ record { ghosts = with_copies self.old.ghosts } }
+    {
+        self.dropped = Table::new(alloc, key);
     }
 
     /// The entities that have copies, in rising number.
@@ -134,153 +135,83 @@ impl<P: Drop> GhostBook<P> {
     }
 }
 
-// Writes the copy and its beat over the beat that is known, where that is lower.
-fn write_over<P: Drop>(
-    known: &mut Heard,
-    copies: &mut Table<P>,
-    e: u32,
-    beat: u64,
-    copy: P,
-) -> Result<Kept, NoMemoryFor<P>>
-    ensures answer { IfOk result (λ k. k ≡ answer known.old.beat beat) }
-    ensures known { OnOk result (known.new ≡ (if nat_lt known.old.beat beat then noted beat true
-        else known.old)) }
-    ensures after { OnOk result (copies.new ≡ (if nat_lt known.old.beat beat
-        then with_item copies.old e copy else copies.old)) }
-    ensures err { OnErr result ((known.new ≡ known.old) × (copies.new ≡ copies.old)) }
-    ensures err_item { IfErr result (λ r. r.item ≡ copy) }
+// The greatest beat that came for the entity, or 0.
+fn known_beat<P: Drop>(copies: &Table<Held<P>>, dropped: &Table<u64>, e: u32) -> u64
+    ensures { result ≡ beat_of (book_of copies.now dropped.now) e }
 {
-    if beat <= known.beat {
-        return Ok(Kept::Ignored);
+    match copies.get(e) {
+        Some(held) => held.beat,
+        None => match dropped.get(e) {
+            Some(beat) => *beat,
+            None => 0,
+        },
     }
-    copies.put(e, copy)?;
-    *known = Heard {
-        beat,
-        has_copy: true,
-    };
-    Ok(Kept::Taken)
 }
 
-// Writes the copy and its beat where no beat is known.
-fn write_first<P: Drop>(
-    beats: &mut Table<Heard>,
-    copies: &mut Table<P>,
-    e: u32,
-    beat: u64,
-    copy: P,
-) -> Result<Kept, NoMemoryFor<P>>
-    requires book { IsBook beats.old copies.old }
-    requires first { map.get beats.old.items e ≡ None }
-    ensures answer { IfOk result (λ k. k ≡ answer 0 beat) }
-    ensures after { OnOk result (book_of beats.new copies.new
-        ≡ after_message (book_of beats.old copies.old) e (record {
-          beat = beat;
-          copy = Some copy;
-        })) }
-    ensures book { IsBook beats.new copies.new }
-    ensures err { OnErr result (book_of beats.new copies.new ≡ book_of beats.old copies.old) }
-    ensures err_item { IfErr result (λ r. r.item ≡ copy) }
+// The entity's copy, if there is one.
+fn copy_here<'a, P: Drop>(copies: &'a Table<Held<P>>, dropped: &Table<u64>, e: u32) -> Option<&'a P>
+    ensures { option_copied result ≡ copy_of (book_of copies.now dropped.now) e }
 {
-    if beat == 0 {
-        return Ok(Kept::Ignored);
+    match copies.get(e) {
+        Some(held) => Some(&held.copy),
+        None => None,
     }
-    let Ok(()) = beats.reserve(e) else {
-        return Err(NoMemoryFor { item: copy });
-    };
-    copies.put(e, copy)?;
-    let known = Heard {
-        beat,
-        has_copy: true,
-    };
-    let _ = beats.put_reserved(e, known);
-    Ok(Kept::Taken)
 }
 
-// Writes the copy and its beat, where a lower beat is known or none. A beat that is known is found and written by one search.
+// Puts the copy and its beat, where a lower beat is known or none.
 fn set_copy<P: Drop>(
-    beats: &mut Table<Heard>,
-    copies: &mut Table<P>,
+    copies: &mut Table<Held<P>>,
+    dropped: &Table<u64>,
     e: u32,
     beat: u64,
     copy: P,
 ) -> Result<Kept, NoMemoryFor<P>>
-    requires { IsBook beats.old copies.old }
-    ensures answer { IfOk result (λ k. k ≡ answer (beat_of (book_of beats.old copies.old) e) beat) }
-    ensures after { OnOk result (book_of beats.new copies.new
-        ≡ after_message (book_of beats.old copies.old) e (record {
+    ensures answer { IfOk result (λ k. k
+        ≡ answer (beat_of (book_of copies.old dropped.now) e) beat) }
+    ensures after { OnOk result (book_of copies.new dropped.now
+        ≡ after_message (book_of copies.old dropped.now) e (record {
           beat = beat;
           copy = Some copy;
         })) }
-    ensures book { IsBook beats.new copies.new }
-    ensures err { OnErr result (book_of beats.new copies.new ≡ book_of beats.old copies.old) }
+    ensures err { OnErr result (copies.new ≡ copies.old) }
     ensures err_item { IfErr result (λ r. r.item ≡ copy) }
 {
-    match beats.get_mut(e) {
-        Some(known) => write_over(known, copies, e, beat, copy),
-        None => write_first(beats, copies, e, beat, copy),
-    }
-}
-
-// Drops the copy and writes its beat over the beat that is known, where that is lower.
-fn drop_over<P: Drop>(known: &mut Heard, copies: &mut Table<P>, e: u32, beat: u64) -> Kept
-    requires { map.contains_key copies.old.items e ≡ known.old.has_copy }
-    ensures answer { result ≡ answer known.old.beat beat }
-    ensures known { known.new ≡ (if nat_lt known.old.beat beat then noted beat false
-        else known.old) }
-    ensures after { copies.new.items ≡ (if nat_lt known.old.beat beat
-        then map.remove copies.old.items e else copies.old.items) }
-{
-    if known.beat >= beat {
-        return Kept::Ignored;
-    }
-    if known.has_copy {
-        let _ = copies.remove(e);
-    }
-    *known = Heard {
-        beat,
-        has_copy: false,
-    };
-    Kept::Taken
-}
-
-// Notes the beat where none is known, so that there is no copy.
-fn note_first(beats: &mut Table<Heard>, e: u32, beat: u64) -> Result<Kept, AllocError>
-    ensures answer { IfOk result (λ k. k ≡ answer 0 beat) }
-    ensures after { OnOk result (beats.new ≡ (if nat_lt 0 beat
-        then with_item beats.old e (noted beat false) else beats.old)) }
-    ensures err { OnErr result (beats.new ≡ beats.old) }
-{
-    if beat == 0 {
+    if beat <= known_beat(copies, dropped, e) {
         return Ok(Kept::Ignored);
     }
-    let known = Heard {
-        beat,
-        has_copy: false,
-    };
-    let Ok(_) = beats.put(e, known) else {
-        return Err(AllocError);
-    };
-    Ok(Kept::Taken)
+    match copies.put(e, Held { beat, copy }) {
+        Ok(_) => return Ok(Kept::Taken),
+        Err(refused) => {
+            return Err(NoMemoryFor {
+                item: refused.item.copy,
+            });
+        }
+    }
 }
 
-// Drops the copy at its beat, where a lower beat is known or none. A beat that is known is found and written by one search.
+// Notes the beat and takes the copy out, where a lower beat is known or none.
 fn drop_at<P: Drop>(
-    beats: &mut Table<Heard>,
-    copies: &mut Table<P>,
+    copies: &mut Table<Held<P>>,
+    dropped: &mut Table<u64>,
     e: u32,
     beat: u64,
 ) -> Result<Kept, AllocError>
-    requires { IsBook beats.old copies.old }
-    ensures answer { IfOk result (λ k. k ≡ answer (beat_of (book_of beats.old copies.old) e) beat) }
-    ensures after { OnOk result (book_of beats.new copies.new
-        ≡ after_message (book_of beats.old copies.old) e (record { beat = beat; copy = None })) }
-    ensures book { IsBook beats.new copies.new }
-    ensures err { OnErr result (book_of beats.new copies.new ≡ book_of beats.old copies.old) }
+    ensures answer { IfOk result (λ k. k
+        ≡ answer (beat_of (book_of copies.old dropped.old) e) beat) }
+    ensures after { OnOk result (book_of copies.new dropped.new
+        ≡ after_message (book_of copies.old dropped.old) e (record { beat = beat; copy = None })) }
+    ensures err { OnErr result (book_of copies.new dropped.new
+        ≡ book_of copies.old dropped.old) }
 {
-    match beats.get_mut(e) {
-        Some(known) => Ok(drop_over(known, copies, e, beat)),
-        None => note_first(beats, e, beat),
+    let known = known_beat(copies, dropped, e);
+    if known >= beat {
+        return Ok(Kept::Ignored);
     }
+    let Ok(_) = dropped.put(e, beat) else {
+        return Err(AllocError);
+    };
+    let _ = copies.remove(e);
+    Ok(Kept::Taken)
 }
 
 /// The beat of an entity never falls: after a message it is the greater of the message's beat and the one known, and where the

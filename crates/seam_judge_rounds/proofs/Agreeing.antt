@@ -1,16 +1,13 @@
--- Calls that agree at each call agree for each sender, and so executed orders are full.
+-- What holds of one element more, and when executed orders are full.
 use Rattle.std.proofs.Common.{◌≡◌, ◌<◌, ◌+◌, ℕ, Bool, true, false, cond, List, [], ◌∷◌, ◌++◌, length, get_or, nat_lt, refl, sym, ◌∙◌, ap}
 use Rattle.std.proofs.Common.{subst, arith, IsTrue, ◌↔◌}
-use Rattle.std.specs.Prelude.{filter, ◌==◌, ◌&&◌, Contains}
-use Rattle.std.specs.List.{All}
+use Rattle.std.specs.Prelude.{filter, ◌&&◌}
 use Rattle.std.proofs.lemmas.Bool.Decides.{nat_tests}
 use Rattle.std.proofs.lemmas.List.{get_or_default, append_cancel_left}
-use Rattle.std.proofs.lemmas.List.Elements.{All-contains, filter-append}
-use Rattle.seam_rule_rounds.specs.Prelude.{Part, is_for, is_from, same_part, same_sender, Sender, Base, Client, Call, Create, Book, entries}
+use Rattle.std.proofs.lemmas.List.Elements.{filter-append}
+use Rattle.seam_rule_rounds.specs.Prelude.{Part, is_for, is_from, same_sender, Sender, Call, Create, Book, entries}
 use Rattle.seam_rule_rounds.specs.Prelude.{calls_of, created_as, DoneLine, Lists, ExtendsOrders, done_lines}
-use Rattle.seam_rule_lines.proofs.Lists.{contains_first, listed_is_one}
-use Rattle.seam_judge_expected.proofs.ListedLemmas.{in_filter}
-use Rattle.seam_judge_rounds.specs.CallAgreement.{AgreesAt}
+use Rattle.seam_rule_lines.proofs.Lists.{listed_is_one}
 
 -- ---- walks
 
@@ -24,49 +21,6 @@ all_more {X} P xs i x within here before k d below = by (nat_lt k i) refl
     by false is =
         let last : i ≡ k = grind (arith, nat_tests, is, below) in
         subst P (get_or_default xs i x d within ∙ ap (λ (n : ℕ). get_or xs n d) last) here
-
--- ---- senders
-
-and_true : (b c : Bool) → (b && c) ≡ true → (b ≡ true) × (c ≡ true)
-and_true true c is = (refl, is)
-and_true false c is = absurd (cc)
-
-sender_is : (s t : Sender) → same_sender s t ≡ true → s ≡ t
-sender_is (Base m) (Base n) is = let same : m ≡ n = grind (arith, is) in ap Base same
-sender_is (Client d) (Client e) is = let same : d ≡ e = grind (arith, is) in ap Client same
-sender_is (Base m) (Client e) is = absurd (cc)
-sender_is (Client d) (Base n) is = absurd (cc)
-
-is_from_them : (p : Part) (e : ℕ) (s : Sender) (x : Call) → is_from p e s x ≡ true → (x.entity ≡ e) × (x.sender ≡ s)
-is_from_them p e s x is =
-    let parts = and_true ((x.entity == e) && same_part x.part p) (same_sender x.sender s) is in
-    let entity = (and_true (x.entity == e) (same_part x.part p) parts.0).0 in
-    (grind (arith, entity), sender_is x.sender s parts.1)
-
-module _ (p : Part) (accepted executed : List Call) where
-  Agree : ℕ → Sender → Type 0
-  Agree e s = filter (is_from p e s) executed ≡ filter (is_from p e s) accepted
-
-  by_one : (calls : List Call) → All (AgreesAt p accepted executed) calls → (e : ℕ) (s : Sender) (x : Call) (xs : List Call) →
-      filter (is_from p e s) calls ≡ x ∷ xs → filter (is_from p e s) executed ≡ filter (is_from p e s) accepted
-  by_one calls all e s x xs is =
-      let found = in_filter (is_from p e s) calls x
-      (subst (λ (ys : List Call). Contains ys x) (sym is) (contains_first x xs)) in
-      let them = is_from_them p e s x found.1 in
-      let here = All-contains (AgreesAt p accepted executed) calls x all found.0 in
-      subst (λ (t : Sender). filter (is_from p e t) executed ≡ filter (is_from p e t) accepted) them.1
-      (subst (λ (n : ℕ). filter (is_from p n x.sender) executed ≡ filter (is_from p n x.sender) accepted) them.0 here)
-
-  -- calls that agree at each of them agree for each sender
-  pub all_agree : All (AgreesAt p accepted executed) accepted → All (AgreesAt p accepted executed) executed → (e : ℕ) (s : Sender) →
-      filter (is_from p e s) executed ≡ filter (is_from p e s) accepted
-  all_agree of_accepted of_executed e s = by (filter (is_from p e s) executed) (filter (is_from p e s) accepted) refl refl
-    where
-      by : (xs ys : List Call) → filter (is_from p e s) executed ≡ xs → filter (is_from p e s) accepted ≡ ys →
-          filter (is_from p e s) executed ≡ filter (is_from p e s) accepted
-      by [] [] is at = is ∙ sym at
-      by (x ∷ xs) ys is at = by_one executed of_executed e s x xs is
-      by [] (y ∷ ys) is at = by_one accepted of_accepted e s y ys at
 
 -- ---- orders
 

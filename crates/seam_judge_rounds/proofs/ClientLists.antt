@@ -9,7 +9,8 @@ use Rattle.seam_rule_rounds.specs.Prelude.{Create, Book, entries, creates_of, cr
 use Rattle.seam_rule_lines.proofs.Lists.{contains_first}
 use Rattle.seam_rule_lines.proofs.InOrderLemmas.{found_entity}
 use Rattle.seam_judge_expected.proofs.ListedLemmas.{lists_living, in_filter}
-use Rattle.seam_judge_rounds.specs.RoundClients.{client_as}
+use Rattle.seam_judge_rounds.specs.RoundClients.{client_as, is_known}
+use Rattle.seam_judge_rounds.proofs.Grouping.{kept_alike}
 
 flipped : (x : Bool) (o : Option Create) → cond (not x) None o ≡ cond x o None
 flipped true o = refl
@@ -24,6 +25,16 @@ lists_shown b made listed =
     subst (λ (p : (ℕ → Option Create) × (ℕ → Bool)). Lists p.0 (filter (λ (c : Create). p.1 c.entity) made))
     (λ i. ((λ e. flipped (is_shown b e) (created_as b e) i), (λ e. twice (is_shown b e) i)))
     (lists_living (created_as b) (λ (e : ℕ). not (is_shown b e)) made listed)
+
+-- of those that were created
+pub lists_known : (b : Book) (made : List Create) → Lists (created_as b) made → Lists (client_as b) (filter (λ c. is_known b c.entity) made)
+lists_known b made listed =
+    subst (Lists (client_as b)) (kept_alike (λ (c : Create). is_shown b c.entity) (λ (c : Create). is_known b c.entity)
+    (λ (c : Create). is_some (created_as b c.entity) ≡ true) made
+    (λ c some. ap (λ (x : Bool). x && list_any (joins c.entity) (entries b) && not (was_dead b c.entity)) some)
+    (λ k d within. ap is_some ((listed.exact (get_or made k d)).0
+    (k, within, get_or_default made k (get_or made k d) d within))))
+    (lists_shown b made listed)
 
 -- ---- what holds of each client
 

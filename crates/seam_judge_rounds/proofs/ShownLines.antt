@@ -12,7 +12,8 @@ use Rattle.seam_call.specs.declared.shown.Line.{Line}
 use Rattle.seam_call.specs.declared.shown.ClientText.TheVariants as text
 use Rattle.seam_judge_data.specs.Standings.{standing_of}
 use Rattle.seam_judge_data.specs.declared.standing.Standing as plain
-use Rattle.seam_judge_rounds.specs.RoundClients.{client_as, AddsLines}
+use Rattle.seam_judge_rounds.specs.After.{after_round}
+use Rattle.seam_judge_rounds.specs.RoundClients.{client_as, AddsLines, ShowsLines}
 use Rattle.seam_judge_rounds.proofs.ClientLists.{each_client, told_each}
 use Rattle.seam_judge_rounds.proofs.Told.{all_now}
 
@@ -128,27 +129,43 @@ module _ (s t : plain.Standing) (r : RoundData) (before after shown : List Clien
       (λ each. at_v.1 (at_x.1 (λ k d within. each _), at_w.1 (at_y.1 (λ k d within. each _), at_z.1 (λ k d within. each _)))),
     )
 
-module _ (h : Header) (s : Standing) (r : RoundData) (t : Standing) (clients : List Create) (listed : Lists (client_as s.book) clients)
-  where
-    pub shown_decided : (rise only each told first second all : Bool) → (IsTrue rise ↔ IsNonDecreasing (map (λ l. l.entity) r.shown)) →
-        (IsTrue only ↔ All (λ (l : ClientLine). IsTrue (is_shown s.book l.entity)) r.shown) →
-        (IsTrue each ↔ All (ShowsClient h s r t) clients) → (IsTrue told ↔ ((e : ℕ) → AddsLines s r t e)) →
-        (IsTrue first ↔ (IsTrue rise × IsTrue only)) → (IsTrue second ↔ (IsTrue each × IsTrue told)) →
-        (IsTrue all ↔ (IsTrue first × IsTrue second)) → (IsTrue all ↔ HasShown h s r t)
-    shown_decided rise only each told first second all at_rise at_only at_each at_told at_first at_second at_all = (
-      (λ so.
-          let two = at_all.0 so in
-          let one = at_first.0 two.0 in
-          let other = at_second.0 two.1 in record {
-            rising = at_rise.0 one.0;
-            only = at_only.0 one.1;
-            each = (each_client s.book clients listed (ShowsClient h s r t)).0 (at_each.0 other.0);
-            told = at_told.0 other.1;
-          }),
-      (λ shown. at_all.1 (
-        at_first.1 (at_rise.1 shown.rising, at_only.1 shown.only),
-        at_second.1 (at_each.1 ((each_client s.book clients listed (ShowsClient h s r t)).1 shown.each), at_told.1 shown.told),
-      )),
+module _ (h : Header) (s : Standing) (r : RoundData) (t : Standing) (clients : List Create) where
+  pub lines_decided : (rise only each first all : Bool) → (IsTrue rise ↔ IsNonDecreasing (map (λ l. l.entity) r.shown)) →
+      (IsTrue only ↔ All (λ (l : ClientLine). IsTrue (is_shown s.book l.entity)) r.shown) →
+      (IsTrue each ↔ All (ShowsClient h s r t) clients) → (IsTrue first ↔ (IsTrue rise × IsTrue only)) →
+      (IsTrue all ↔ (IsTrue first × IsTrue each)) → (IsTrue all ↔ ShowsLines h s r t clients)
+  lines_decided rise only each first all at_rise at_only at_each at_first at_all = (
+    (λ so.
+        let two = at_all.0 so in
+        let one = at_first.0 two.0 in
+        (at_rise.0 one.0, at_only.0 one.1, at_each.0 two.1)),
+    (λ shows. at_all.1 (at_first.1 (at_rise.1 shows.0, at_only.1 shows.1), at_each.1 shows.2)),
+  )
+
+  module _ (listed : Lists (client_as s.book) clients) where
+    shown_from : ShowsLines h s r t clients → ((e : ℕ) → AddsLines s r t e) → HasShown h s r t
+    shown_from lines told = record {
+      rising = lines.0;
+      only = lines.1;
+      each = (each_client s.book clients listed (ShowsClient h s r t)).0 lines.2;
+      told = told;
+    }
+
+    lines_from : HasShown h s r t → ShowsLines h s r t clients
+    lines_from shown = (shown.rising, shown.only, (each_client s.book clients listed (ShowsClient h s r t)).1 shown.each)
+
+    pub shown_decided : (rightly told all : Bool) → (IsTrue rightly ↔ ShowsLines h s r t clients) →
+        (IsTrue told ↔ ((e : ℕ) → AddsLines s r t e)) → (IsTrue all ↔ (IsTrue rightly × IsTrue told)) → (IsTrue all ↔ HasShown h s r t)
+    shown_decided rightly told all at_rightly at_told at_all = (
+      (λ so. let two = at_all.0 so in shown_from (at_rightly.0 two.0) (at_told.0 two.1)),
+      (λ shown. at_all.1 (at_rightly.1 (lines_from shown), at_told.1 shown.told)),
+    )
+
+    -- where the standing after the round is the one that its lines show
+    pub shown_after : t ≡ after_round s r → (b : Bool) → (IsTrue b ↔ ShowsLines h s r t clients) → (IsTrue b ↔ HasShown h s r t)
+    shown_after after b decides = (
+      (λ so. shown_from (decides.0 so) (λ e. ap (λ (x : Standing). x.told e) after)),
+      (λ shown. decides.1 (lines_from shown)),
     )
 
 -- ---- looks

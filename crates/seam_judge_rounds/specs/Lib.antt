@@ -1,4 +1,4 @@
-pub mod CallAgreement
+pub mod Origins
 pub mod HeldPlaces
 pub mod Bounds
 pub mod RoundClients

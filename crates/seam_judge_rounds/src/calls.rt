@@ -1,13 +1,12 @@
 // Whether the parts of entities executed what was accepted for them.
 ghost use Rattle.std.specs.Prelude.{◌≡◌, ◌↔◌, ◌++◌, ℕ, IsTrue, IfOk, filter};
-ghost use Rattle.std.specs.List.{All};
 ghost use Rattle.seam_rule_rounds.specs.Prelude.{is_for, is_from, Sender as Senders, calls_of, created_as, entries, ExtendsOrders, Lists};
 ghost use Rattle.seam_judge_data.specs.Standings.{standing_of};
-ghost use Rattle.seam_judge_rounds.specs.CallAgreement.{AgreesAt};
 
-use seam_call::{Call, Create, Sender};
+use crate::origins::{are_same_calls, grouped};
+use seam_call::{Call, Create};
 use seam_defs::Part;
-use seam_judge_data::{Copied, DoneLine, Standing, are_same, copies_of};
+use seam_judge_data::{DoneLine, Standing, are_same, copies_of};
 use seam_judge_expected::{calls_of, done_lines_of};
 use std::alloc::{AllocError, Global};
 
@@ -32,64 +31,10 @@ fn executed_with(alloc: Global, standing: &Standing, done: &[Call]) -> Result<Ve
     Ok(calls)
 }
 
-// Those of the calls that are for a part of an entity, and from a sender.
-fn from_sender(
-    alloc: Global,
-    calls: &[Call],
-    part: Part,
-    entity: u32,
-    sender: Sender,
-) -> Result<Vec<Call>, AllocError>
-    ensures { IfOk result (λ own. own.items ≡ filter (is_from part entity sender) calls.now) }
-{
-    let mut own = Vec::new(alloc);
-    for call in calls {
-        if call.is_from(part, entity, sender) {
-            own.push(call.copied()?)?;
-        }
-    }
-    Ok(own)
-}
-
 pub(crate) fn both(a: bool, b: bool) -> bool
     ensures { IsTrue result ↔ (IsTrue a × IsTrue b) }
 {
     a && b
-}
-
-// Whether the entity of a call executed of its sender what was accepted.
-fn agrees_at(
-    alloc: Global,
-    part: Part,
-    accepted: &[Call],
-    executed: &[Call],
-    call: &Call,
-) -> Result<bool, AllocError>
-    ensures { IfOk result (λ r. IsTrue r ↔ AgreesAt part accepted.now executed.now call.now) }
-{
-    let given = from_sender(alloc, accepted, part, call.entity, call.sender)?;
-    let done = from_sender(alloc, executed, part, call.entity, call.sender)?;
-    Ok(are_same(&done, &given))
-}
-
-// Whether that is so at each of the calls.
-fn agree_at_each(
-    alloc: Global,
-    part: Part,
-    accepted: &[Call],
-    executed: &[Call],
-    calls: &[Call],
-) -> Result<bool, AllocError>
-    ensures { IfOk result (λ r. IsTrue r ↔ All (AgreesAt part accepted.now executed.now)
-        calls.now) }
-{
-    for call in calls {
-        let agrees = agrees_at(alloc, part, accepted, executed, call)?;
-        if !agrees {
-            return Ok(false);
-        }
-    }
-    Ok(true)
 }
 
 // Whether each part of this kind executed of each sender what was accepted, in order and once.
@@ -102,9 +47,9 @@ fn is_full(
     ensures { IfOk result (λ r. IsTrue r ↔ ((e : ℕ) (s : Senders) →
         filter (is_from part e s) executed.now ≡ filter (is_from part e s) accepted.now)) }
 {
-    let of_accepted = agree_at_each(alloc, part, accepted, executed, accepted)?;
-    let of_executed = agree_at_each(alloc, part, accepted, executed, executed)?;
-    Ok(both(of_accepted, of_executed))
+    let given = grouped(alloc, part, accepted)?;
+    let done = grouped(alloc, part, executed)?;
+    Ok(are_same_calls(&done, &given))
 }
 
 /// Whether the lines are those of `done`, with which after `before` the part of each entity has executed all that was accepted for it.

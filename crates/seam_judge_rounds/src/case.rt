@@ -1,14 +1,19 @@
 // A round to be judged, and its clients.
-ghost use Rattle.std.specs.Prelude.{◌≡◌, ◌==◌, IfOk, find, filter, map, option_copied};
-ghost use Rattle.seam_rule_rounds.specs.Prelude.{created_as, is_shown, Lists, lines_to};
+ghost use Rattle.std.specs.Prelude.{◌≡◌, ◌==◌, ℕ, IfOk, find, filter, map, option_copied};
+ghost use Rattle.std.specs.List.{list_any};
+ghost use Rattle.std.specs.Ordering.{nat_cmp};
+ghost use Rattle.std.specs.BTreeSet as set;
+ghost use Rattle.seam_rule_rounds.specs.Prelude.{created_as, destroys, is_shown, joins, Lists, lines_to};
 ghost use Rattle.seam_judge_data.specs.Standings.{standing_of};
-ghost use Rattle.seam_judge_rounds.specs.RoundClients.{client_as};
+ghost use Rattle.seam_judge_rounds.specs.RoundClients.{client_as, is_known};
 
+use crate::numbers::{died_in, joined_in};
 use seam_call::{ClientText, Create, Line};
 use seam_judge_data::{ClientLine, Copied, Round, Standing};
 use seam_judge_expected::{created_in, has_died, has_joined};
 use seam_rule_lines::Header;
 use std::alloc::{AllocError, Global};
+use std::collections::BTreeSet;
 
 /// A round to be judged: the header, the standings before and after it, and what it prints.
 #[derive(Clone, Copy)]
@@ -60,18 +65,42 @@ pub fn clients_among(
     shown_among(alloc, standing, made)
 }
 
+// Whether an entity, if it was created, has a client at some time of the open round.
+fn is_known(
+    standing: &Standing,
+    before: &BTreeSet<u32>,
+    now: &BTreeSet<u32>,
+    dead: &BTreeSet<u32>,
+    entity: u32,
+) -> bool
+    requires before { (e : ℕ) → set.contains nat_cmp before.now e
+        ≡ list_any (joins e) standing.now.past.items }
+    requires now { (e : ℕ) → set.contains nat_cmp now.now e
+        ≡ list_any (joins e) standing.now.current.items }
+    requires dead { (e : ℕ) → set.contains nat_cmp dead.now e
+        ≡ list_any (destroys e) standing.now.past.items }
+    ensures { result ≡ is_known (standing_of standing.now).book entity }
+{
+    let joined = before.contains(&entity) || now.contains(&entity);
+    joined && !dead.contains(&entity)
+}
+
+// Those of them that were given a client, and were not dead before.
 fn shown_among(
     alloc: Global,
     standing: &Standing,
     made: &[Create],
 ) -> Result<Vec<Create>, AllocError>
     ensures { IfOk result (λ clients. clients.items ≡ filter
-        (λ c. is_shown (standing_of standing.now).book c.entity) made.now) }
+        (λ c. is_known (standing_of standing.now).book c.entity) made.now) }
 {
+    let before = joined_in(alloc, &standing.past)?;
+    let now = joined_in(alloc, &standing.current)?;
+    let dead = died_in(alloc, &standing.past)?;
     let mut clients = Vec::new(alloc);
     for create in made {
-        let shown = is_shown(alloc, standing, create.entity)?;
-        if shown {
+        let known = is_known(standing, &before, &now, &dead, create.entity);
+        if known {
             clients.push(*create)?;
         }
     }

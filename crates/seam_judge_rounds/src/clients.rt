@@ -4,7 +4,8 @@ ghost use Rattle.std.specs.List.{All, range_with_len};
 ghost use Rattle.std.specs.List.Sorted.{IsNonDecreasing};
 ghost use Rattle.seam_rule_rounds.specs.Prelude.{is_shown, Lists, is_base, base_shown, base_versions, ShowsClient, HasShown};
 ghost use Rattle.seam_judge_data.specs.Standings.{standing_of};
-ghost use Rattle.seam_judge_rounds.specs.RoundClients.{client_as, AddsLines};
+ghost use Rattle.seam_judge_rounds.specs.After.{after_round};
+ghost use Rattle.seam_judge_rounds.specs.RoundClients.{client_as, AddsLines, ShowsLines};
 
 use crate::calls::both;
 use crate::case::{Case, is_shown, lines_to, texts_of, told_by};
@@ -241,6 +242,20 @@ fn is_each_told(alloc: Global, case: &Case<'_>) -> Result<bool, AllocError>
     Ok(both(of_former, both(of_later, of_round)))
 }
 
+// Whether exactly the clients of the round are shown lines, in rising number of their entities, each rightly.
+fn are_shown_rightly(alloc: Global, case: &Case<'_>, clients: &[Create]) -> Result<bool, AllocError>
+    ensures { IfOk result (λ r. IsTrue r ↔ ShowsLines case.now.header.now
+        (standing_of case.now.before.now) case.now.round.now (standing_of case.now.after.now)
+        clients.now) }
+{
+    let round = case.round;
+    let entities = entities_of(alloc, &round.shown)?;
+    let rise = do_rise(&entities);
+    let only = are_of_clients(alloc, case.before, &round.shown)?;
+    let each = show_each(alloc, case, clients)?;
+    Ok(both(both(rise, only), each))
+}
+
 /// Whether exactly the clients of the round are shown lines, in rising number of their entities, each rightly, and whether these are added
 /// to what each was told. `clients` are those of the round.
 pub fn has_shown(alloc: Global, case: &Case<'_>, clients: &[Create]) -> Result<bool, AllocError>
@@ -248,11 +263,22 @@ pub fn has_shown(alloc: Global, case: &Case<'_>, clients: &[Create]) -> Result<b
     ensures { IfOk result (λ r. IsTrue r ↔ HasShown case.now.header.now
         (standing_of case.now.before.now) case.now.round.now (standing_of case.now.after.now)) }
 {
-    let round = case.round;
-    let entities = entities_of(alloc, &round.shown)?;
-    let rise = do_rise(&entities);
-    let only = are_of_clients(alloc, case.before, &round.shown)?;
-    let each = show_each(alloc, case, clients)?;
+    let rightly = are_shown_rightly(alloc, case, clients)?;
     let told = is_each_told(alloc, case)?;
-    Ok(both(both(rise, only), both(each, told)))
+    Ok(both(rightly, told))
+}
+
+/// The same where the standing after the round is the one that its lines show: what each client was told is known then.
+pub(crate) fn has_shown_lines(
+    alloc: Global,
+    case: &Case<'_>,
+    clients: &[Create],
+) -> Result<bool, AllocError>
+    requires listed { Lists (client_as (standing_of case.now.before.now).book) clients.now }
+    requires after { standing_of case.now.after.now ≡ after_round (standing_of case.now.before.now)
+        case.now.round.now }
+    ensures { IfOk result (λ r. IsTrue r ↔ HasShown case.now.header.now
+        (standing_of case.now.before.now) case.now.round.now (standing_of case.now.after.now)) }
+{
+    are_shown_rightly(alloc, case, clients)
 }

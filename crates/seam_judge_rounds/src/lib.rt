@@ -16,6 +16,8 @@ mod case;
 mod clients;
 mod laws;
 mod looked;
+mod numbers;
+mod origins;
 mod places;
 mod points;
 mod shown;

@@ -81,58 +81,65 @@ fn path_from(
     Ok(path)
 }
 
+// The standing before a round, and the tree of the round.
+#[derive(Clone, Copy)]
+struct Begun<'a> {
+    before: &'a Standing,
+    tree: &'a Tree,
+}
+
 // Whether an entity may have the place that it is left in.
 fn has_place(
     alloc: Global,
     header: &Header,
-    before: &Standing,
+    begun: Begun<'_>,
     after: &Standing,
     create: Create,
 ) -> Result<bool, AllocError>
-    requires homes { HaveHomes (standing_of before.now) }
+    requires homes { HaveHomes (standing_of begun.before.now) }
     requires range { AreInRange header.now.settings }
-    ensures { IfOk result (λ r. IsTrue r ↔ HasPlace header.now (standing_of before.now)
-        (standing_of after.now) create) }
+    requires tree { begun.tree.now ≡ tree_of (standing_of begun.before.now).book }
+    ensures { IfOk result (λ r. IsTrue r ↔ HasPlace header.now
+        (standing_of begun.entry.before.now) (standing_of after.now) create) }
 {
     let order = after.order_of(alloc, Part::Cell, create.entity)?;
-    let former = before.order_of(alloc, Part::Cell, create.entity)?;
+    let former = begun.before.order_of(alloc, Part::Cell, create.entity)?;
     let began = former.as_slice().len();
     let path = path_from(alloc, header, create, &order, began)?;
-    let tree = tree_in(before);
-    let was = place_before(before, create);
+    let was = place_before(begun.before, create);
     let held = after.place_of(create.entity);
-    Ok(is_place_after(&header.settings, &tree, was, &path, held))
+    Ok(is_place_after(&header.settings, begun.tree, was, &path, held))
 }
 
 // Whether an entity may have its home in the cell in which it is left.
 fn has_cell(
     alloc: Global,
     header: &Header,
-    before: &Standing,
+    begun: Begun<'_>,
     after: &Standing,
     create: Create,
 ) -> Result<bool, AllocError>
-    requires homes { HaveHomes (standing_of before.now) }
+    requires homes { HaveHomes (standing_of begun.before.now) }
     requires range { AreInRange header.now.settings }
-    ensures { IfOk result (λ r. IsTrue r ↔ HasCell header.now (standing_of before.now)
-        (standing_of after.now) create) }
+    requires tree { begun.tree.now ≡ tree_of (standing_of begun.before.now).book }
+    ensures { IfOk result (λ r. IsTrue r ↔ HasCell header.now
+        (standing_of begun.entry.before.now) (standing_of after.now) create) }
 {
     let order = after.order_of(alloc, Part::Cell, create.entity)?;
-    let former = before.order_of(alloc, Part::Cell, create.entity)?;
+    let former = begun.before.order_of(alloc, Part::Cell, create.entity)?;
     let began = former.as_slice().len();
     let path = path_from(alloc, header, create, &order, began)?;
-    let tree = tree_in(before);
-    let was = place_before(before, create);
+    let was = place_before(begun.before, create);
     let held = after.place_of(create.entity);
-    Ok(is_cell_after(&header.settings, &tree, was, &path, held))
+    Ok(is_cell_after(&header.settings, begun.tree, was, &path, held))
 }
 
 // Whether an entity has its home in a cell of the open round's tree.
-fn has_home(before: &Standing, entity: u32) -> bool
+fn has_home(before: &Standing, tree: &Tree, entity: u32) -> bool
+    requires { tree.now ≡ tree_of (standing_of before.now).book }
     ensures { IsTrue result ↔ (((standing_of before.now).places entity).home
         < cells_of (tree_of (standing_of before.now).book)) }
 {
-    let tree = tree_in(before);
     before.place_of(entity).home < tree.cells()
 }
 
@@ -140,8 +147,9 @@ fn has_home(before: &Standing, entity: u32) -> bool
 pub fn have_homes(before: &Standing) -> bool
     ensures { IsTrue result ↔ HaveHomes (standing_of before.now) }
 {
+    let tree = tree_in(before);
     for held in &before.places {
-        if !has_home(before, held.entity) {
+        if !has_home(before, &tree, held.entity) {
             return false;
         }
     }
@@ -161,8 +169,13 @@ pub fn have_places(
     ensures { IfOk result (λ r. IsTrue r ↔ All (HasPlace header.now (standing_of before.now)
         (standing_of after.now)) live.now) }
 {
+    let tree = tree_in(before);
+    let begun = Begun {
+        before,
+        tree: &tree,
+    };
     for create in live {
-        let may_be = has_place(alloc, header, before, after, *create)?;
+        let may_be = has_place(alloc, header, begun, after, *create)?;
         if !may_be {
             return Ok(false);
         }
@@ -183,8 +196,13 @@ pub fn have_cells(
     ensures { IfOk result (λ r. IsTrue r ↔ All (HasCell header.now (standing_of before.now)
         (standing_of after.now)) live.now) }
 {
+    let tree = tree_in(before);
+    let begun = Begun {
+        before,
+        tree: &tree,
+    };
     for create in live {
-        let may_be = has_cell(alloc, header, before, after, *create)?;
+        let may_be = has_cell(alloc, header, begun, after, *create)?;
         if !may_be {
             return Ok(false);
         }

@@ -11,7 +11,7 @@ ghost use Rattle.seam_judge_rounds.specs.declared.verdict.Point.{Point as Points
 use crate::after::{calls_done, standing_after};
 use crate::calls::extends_orders;
 use crate::case::{Case, clients_among};
-use crate::clients::has_shown;
+use crate::clients::has_shown_lines;
 use crate::looked::has_looked;
 use crate::places::{have_cells, have_places};
 use crate::points::{are_bases, are_bounds, are_ghosts, are_homes, is_numbered};
@@ -113,7 +113,7 @@ fn judge_case(
     let bases = are_bases(alloc, header, after, live, &round.bases)?;
     let places = have_places(alloc, header, before, after, live)?;
     let ghosts = are_ghosts(alloc, header, before, after, live, &round.ghosts)?;
-    let shown = has_shown(alloc, case, &clients)?;
+    let shown = has_shown_lines(alloc, case, &clients)?;
     let looked = has_looked(alloc, case, &clients, live)?;
     let bounds = are_printed(alloc, case)?;
     let from_bounds = unless(bounds, Point::Bounds, None);

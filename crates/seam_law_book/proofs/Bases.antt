@@ -1,11 +1,11 @@
 -- What a base part became over a list of events in which its entity is not reaped, with or without a client.
-use Rattle.seam_law_book.proofs.Prelude.{◌≡◌, ℕ, ◌+◌, true, List, [], ◌∷◌, ◌++◌, length, Option, Some, refl, sym, ap, ◌∙◌, subst, arith}
-use Rattle.seam_law_book.proofs.Prelude.{append-nil, append_assoc, length-append, fold-append, happens, enabled, Event, after_taking}
-use Rattle.seam_law_book.proofs.Prelude.{Call as CallData, Order, Msg, Here, PartView, with_order, World, node_steps, node_has_work, comes}
-use Rattle.seam_law_book.proofs.Prelude.{Frame, here_at, IsInFrame, AtBase, entity_flow, IsSpared, Offered, now, early, late, PartMoves}
-use Rattle.seam_law_book.proofs.Prelude.{rests, refuses, offers, sends, serves, executes, misses, updates, shows, RunsTo, state_with}
-use Rattle.seam_law_book.proofs.Prelude.{state_after, occurs, leads_keeps, slots_kept, executed, with_offer, event_moves, frame_happens}
-use Rattle.seam_law_book.proofs.Prelude.{spared_happens, part_moves, unordered}
+use Rattle.seam_law_book.proofs.Prelude.{◌≡◌, ℕ, ◌+◌, List, [], ◌∷◌, ◌++◌, length, Option, Some, refl, sym, ap, ◌∙◌, subst, arith}
+use Rattle.seam_law_book.proofs.Prelude.{append-nil, append_assoc, length-append, fold-append, happens, Event, after_taking}
+use Rattle.seam_law_book.proofs.Prelude.{Call as CallData, Order, Msg, Here, PartView, with_order, World, node_steps, comes, Frame, here_at}
+use Rattle.seam_law_book.proofs.Prelude.{IsInFrame, AtBase, entity_flow, IsSpared, Offered, now, early, late, PartMoves, rests, refuses}
+use Rattle.seam_law_book.proofs.Prelude.{offers, sends, serves, executes, misses, updates, shows, RunsTo, state_with, state_after}
+use Rattle.seam_law_book.proofs.Prelude.{slots_kept, executed, with_offer, event_moves, frame_happens, spared_happens, part_moves}
+use Rattle.seam_law_book.proofs.Prelude.{unordered, EachKeeps, runs_keep}
 use Rattle.seam_law_calls.specs.Prelude.{ends}
 use Rattle.seam_call.specs.declared.order.Order.TheVariants as order
 
@@ -99,9 +99,8 @@ module _ (f : Frame) (e : ℕ) (w : World) where
     parts : (k : ℕ) (p : PartView) → ((entity_flow e w).slot k).base.part ≡ Some p →
         Became (here_at f k) p ((entity_flow e v).slot k).base.part
 
-  become_more : (v : World) (o : Event) → HaveBecome v → enabled node_has_work v o ≡ true → HaveBecome (happens node_steps v o)
-  become_more v o s on =
-      let occur = occurs node_has_work v o on in
+  become_happens : EachKeeps HaveBecome
+  become_happens v o occur s =
       let g = event_moves f v o occur s.frame e in
       let from = (entity_flow e v).slot g.k in
       let to = (entity_flow e (happens node_steps v o)).slot g.k in
@@ -121,7 +120,7 @@ module _ (f : Frame) (e : ℕ) (w : World) where
   pub part_leads : (v : World) (es : List Event) → IsInFrame f w → IsSpared e w → RunsTo w es v → (k : ℕ)
       (p : PartView) → ((entity_flow e w).slot k).base.part ≡ Some p → Became (here_at f k) p ((entity_flow e v).slot k).base.part
   part_leads v es frame spared run =
-      (leads_keeps node_has_work node_steps HaveBecome become_more w v es (record {
+      (runs_keep HaveBecome become_happens w v es (record {
         frame = frame;
         spared = spared;
         parts = λ k p at. same_part (here_at f k) p p _ at refl refl refl refl;

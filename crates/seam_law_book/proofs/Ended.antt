@@ -1,8 +1,8 @@
 -- Where a world went through the round of a book's open lines, the book with its round ended goes with it.
-use Rattle.seam_law_book.proofs.Prelude.{◌≡◌, ℕ, ◌+◌, ◌≤◌, Bool, true, false, cond, eqb, List, [], ◌∷◌, length, Some, None, refl, sym, ap}
-use Rattle.seam_law_book.proofs.Prelude.{◌∙◌, subst, arith, inl, inr, append-nil, ◌⊎◌, is_some, ◌==◌, ◌||◌, ◌&&◌, AllByRecursion, list_any}
-use Rattle.seam_law_book.proofs.Prelude.{filter_map, option_or, eq-eqb, eqb-true, none-some, IsQuiet, Division, Part, Create, Batch}
-use Rattle.seam_law_book.proofs.Prelude.{RealView, PartView, holders, World, node_has_work, loaded, reaps_loaded, look_loaded}
+use Rattle.seam_law_book.proofs.Prelude.{◌≡◌, ℕ, ◌+◌, ◌≤◌, Bool, true, false, cond, eqb, List, [], ◌∷◌, length, Option, Some, None, refl}
+use Rattle.seam_law_book.proofs.Prelude.{sym, ap, ◌∙◌, subst, arith, inl, inr, append-nil, ◌⊎◌, is_some, ◌==◌, ◌||◌, ◌&&◌, AllByRecursion}
+use Rattle.seam_law_book.proofs.Prelude.{list_any, filter_map, option_or, eq-eqb, eqb-true, none-some, IsQuiet, Division, Part, Create}
+use Rattle.seam_law_book.proofs.Prelude.{Batch, RealView, PartView, holders, World, node_has_work, loaded, reaps_loaded, look_loaded}
 use Rattle.seam_law_book.proofs.Prelude.{reap_ordered_at, Header, Book, entries, creates_of, calls_of, created_as, live_as, destroys, joins}
 use Rattle.seam_law_book.proofs.Prelude.{has_client, with_round_ended, Entry, ClientReplica, IsInFrame, order_about, entity_flow, real_in}
 use Rattle.seam_law_book.proofs.Prelude.{real_at, IsNew, next_from, HasSettledPart, next_to, GoesThroughRound, KeepsRecords, MayBeGiven}
@@ -12,6 +12,7 @@ use Rattle.seam_law_book.proofs.Prelude.{destroyed, counted_none, nodes_after, i
 use Rattle.seam_law_book.proofs.Prelude.{Somewhere, Nowhere, search_real, part_stays_gone}
 use Rattle.seam_defs.specs.declared.flags.Part.TheVariants as part
 use Rattle.seam_rule_lines.specs.declared.verdict.Entry.TheVariants as entry
+use Rattle.seam_law_rounds.specs.Prelude.{NeverShown}
 use Rattle.seam_law_book.proofs.Adding.{all_turn, counted}
 use Rattle.seam_law_book.proofs.Present.{any_split, any_begun, created_split, created_begun, live_is_present, uncreated, undestroyed, alive}
 use Rattle.seam_law_book.proofs.Present.{undestroyed_apart}
@@ -76,7 +77,8 @@ module _ (h : Header) (some : 1 ≤ h.settings.bases) (b : Book) (t : Division) 
     (R : HasFitRound h b) (untouched : (e : ℕ) → created_as (as_begun b) e ≡ None → IsUntouched (as_begun b) e) (few : HasRoomForCalls b)
     (present : (e : ℕ) (c : Create) → IsPresent b e c → holders (loaded w (batch_of h b)) e ≡ 1) (v : World)
     (round : GoesThroughRound w (batch_of h b) v) (dies : round.gone ≡ (batch_of h b).destroys)
-    (laws : Obeyed (frame_of h t) clients w (batch_of h b) v round) (ends : IsQuiet node_has_work v) where
+    (laws : Obeyed (frame_of h t) clients w (batch_of h b) v round) (ends : IsQuiet node_has_work v)
+    (unshown : (x : ℕ) → NeverShown w x → Nowhere x (loaded w (batch_of h b)) → NeverShown v x) where
   abbrev B : Batch
   B = batch_of h b
 
@@ -90,6 +92,15 @@ module _ (h : Header) (some : 1 ≤ h.settings.bases) (b : Book) (t : Division) 
     absent_by k r (was others q x at is) = let z = sym (ap real_in (new_before k)) ∙ at in cc
     absent_by k r (made x i ty orders) =
         none-some x (sym (uncreated b e none).1 ∙ made_now h some b t clients w keeps may goes R untouched few present e x i)
+
+    nowhere_by : (k : ℕ) (o : Option RealView) → real_at e (loaded w B) k ≡ o → real_at e (loaded w B) k ≡ None
+    nowhere_by k None at = at
+    nowhere_by k (Some r) at =
+        absurd (absent_by k r (real_comes h some b t clients w keeps may goes R untouched few present e k r at))
+
+    unshown_ended : NeverShown v e
+    unshown_ended =
+        unshown e (goes.unshown e (uncreated b e none).0) (λ k. nowhere_by k (real_at e (loaded w B) k) refl)
 
     absent : holders (loaded w B) e ≡ 1 → ⊥
     absent one =
@@ -300,6 +311,7 @@ module _ (h : Header) (some : 1 ≤ h.settings.bases) (b : Book) (t : Division) 
   goes_again = record {
     cells = omega arith;
     known = λ e none. new_ended e (sym (created_ended b e) ∙ none);
+    unshown = λ e none. unshown_ended e (sym (created_ended b e) ∙ none);
     live = λ e c lives. is_held e c (sym (live_ended b e) ∙ lives);
     reals = real_lives;
     parts = λ e k p at.

@@ -1,29 +1,24 @@
 -- What the open round of a book brings may be given to a world that goes with the book as the round began.
-use Rattle.seam_law_book.proofs.Prelude.{◌≡◌, ℕ, ◌+◌, ◌<◌, Bool, true, false, cond, List, [], ◌∷◌, ◌++◌, length, Option, Some, None, refl}
-use Rattle.seam_law_book.proofs.Prelude.{sym, ap, ◌∙◌, subst, arith, inl, inr, ◌&&◌, nat_lt, is_some, AllByRecursion, nat_cmp, cases_eq}
-use Rattle.seam_law_book.proofs.Prelude.{eq-eqb, nat_tests, none-some, Division, Pos, FitsDeed, part_of_deed, method_of, fits_deed}
-use Rattle.seam_law_book.proofs.Prelude.{fit_values, Part, TypeDef, Deed, same_part, Create, order_or, RealView, is_inside, stays_inside}
-use Rattle.seam_law_book.proofs.Prelude.{can_do, PartView, World, Header, Book, creates_of, created_as, live_as, has_client, entity_flow}
-use Rattle.seam_law_book.proofs.Prelude.{real_at, next_from, IsBetweenRounds, MayBeMade, next_to, as_begun, made_among, IsPresent, IsInside}
-use Rattle.seam_law_book.proofs.Prelude.{IsNewEntity, StaysInside, last_number, HasFitRound, IsUntouched, frame_of, base_node, IsHeld}
-use Rattle.seam_law_book.proofs.Prelude.{GoesWith, fit-Decides, live_is_created, differ, AreOthers, middle}
+use Rattle.seam_law_book.proofs.Prelude.{◌≡◌, ℕ, ◌+◌, true, false, cond, List, [], ◌∷◌, ◌++◌, length, Option, Some, None, refl, sym, ap}
+use Rattle.seam_law_book.proofs.Prelude.{◌∙◌, subst, inl, inr, ◌&&◌, nat_lt, is_some, AllByRecursion, nat_cmp, cases_eq, eq-eqb, none-some}
+use Rattle.seam_law_book.proofs.Prelude.{Division, Pos, FitsDeed, part_of_deed, method_of, fits_deed, fit_values, Part, TypeDef, Deed}
+use Rattle.seam_law_book.proofs.Prelude.{same_part, Create, order_or, RealView, is_inside, stays_inside, can_do, PartView, World, Header}
+use Rattle.seam_law_book.proofs.Prelude.{Book, creates_of, created_as, live_as, has_client, entity_flow, real_at, next_from}
+use Rattle.seam_law_book.proofs.Prelude.{IsBetweenRounds, MayBeMade, next_to, as_begun, made_among, IsPresent, IsInside, IsNewEntity}
+use Rattle.seam_law_book.proofs.Prelude.{StaysInside, last_number, HasFitRound, IsUntouched, frame_of, base_node, IsHeld, GoesWith}
+use Rattle.seam_law_book.proofs.Prelude.{fit-Decides, live_is_created, differ, AreOthers, middle}
 use Rattle.std.specs.FinMap as table
 use Rattle.seam_defs.specs.declared.flags.Part.TheVariants as part
 use Rattle.seam_defs.specs.declared.states.Deed.TheVariants as deed
 use Rattle.seam_law_book.proofs.Origins.{IsCreate, RealFrom, was, made, PartFrom, had, comes}
+use Rattle.seam_law_calls.proofs.Holds.{below_is, all_two}
 
 -- ---- tests
 
-below_test : (m n : ℕ) → m < n → nat_lt m n ≡ true
-below_test m n lt = grind (arith, nat_tests, lt)
-
-pub both_true : (x y : Bool) → x ≡ true → y ≡ true → (x && y) ≡ true
-both_true x y a b = ap (λ z. z && y) a ∙ b
-
 pub inside_test : (h : Header) (p : Pos) → IsInside h p → is_inside h.settings.size p ≡ true
 inside_test h p i =
-    both_true (nat_lt p.x h.settings.size) (nat_lt p.z h.settings.size) (below_test p.x h.settings.size i.x)
-    (below_test p.z h.settings.size i.z)
+    all_two (nat_lt p.x h.settings.size) (nat_lt p.z h.settings.size) (below_is p.x h.settings.size i.x)
+    (below_is p.z h.settings.size i.z)
 
 pub same_self : (p : Part) → same_part p p ≡ true
 same_self part.Cell = refl
@@ -32,7 +27,7 @@ same_self part.Base = refl
 deed_test : (t : TypeDef) (d : Deed) → FitsDeed t d → fits_deed t d ≡ true
 deed_test t (deed.Move p) fits = refl
 deed_test t (deed.Method m args) fits =
-    both_true (nat_lt m (length t.methods)) (fit_values (method_of t m).args args) (below_test m (length t.methods) fits.0)
+    all_two (nat_lt m (length t.methods)) (fit_values (method_of t m).args args) (below_is m (length t.methods) fits.0)
     ((fit-Decides (method_of t m).args args).1 fits.1)
 
 stays_test : (h : Header) (d : Deed) → StaysInside h d → stays_inside h.settings.size d ≡ true
@@ -42,9 +37,9 @@ stays_test h (deed.Method m args) i = refl
 pub can_test : (h : Header) (t : TypeDef) (p : Part) (d : Deed) → FitsDeed t d → p ≡ part_of_deed t d → StaysInside h d →
     can_do h.settings.size t p d ≡ true
 can_test h t p d fits is inside =
-    both_true (same_part (part_of_deed t d) p) (fits_deed t d && stays_inside h.settings.size d)
+    all_two (same_part (part_of_deed t d) p) (fits_deed t d && stays_inside h.settings.size d)
     (ap (same_part (part_of_deed t d)) is ∙ same_self (part_of_deed t d))
-    (both_true (fits_deed t d) (stays_inside h.settings.size d) (deed_test t d fits) (stays_test h d inside))
+    (all_two (fits_deed t d) (stays_inside h.settings.size d) (deed_test t d fits) (stays_test h d inside))
 
 -- ---- who is made
 
@@ -70,7 +65,12 @@ module _ (h : Header) (b : Book) (t : Division) (w : World) (between : IsBetween
     (goes : GoesWith h (as_begun b) t w)
     (R : HasFitRound h b) (untouched : (e : ℕ) → created_as (as_begun b) e ≡ None → IsUntouched (as_begun b) e) where
   pub may_be_made : (x : Create) → IsNewEntity h b x → MayBeMade (frame_of h t) w x
-  may_be_made x n = record { new = goes.known x.entity n.new; type = n.type; inside = inside_test h x.pos n.inside }
+  may_be_made x n = record {
+    new = goes.known x.entity n.new;
+    unshown = goes.unshown x.entity n.new;
+    type = n.type;
+    inside = inside_test h x.pos n.inside;
+  }
 
   -- a create of the round is of a new number
   pub new_number : (e : ℕ) (x : Create) → IsCreate e (creates_of b.current) x → created_as (as_begun b) e ≡ None

@@ -17,8 +17,9 @@ use Rattle.seam_law_book.proofs.Adding.{all_turn}
 use Rattle.seam_law_book.proofs.Holding.{same_holders}
 use Rattle.seam_law_book.proofs.Origins.{RealFrom, real_from, part_from}
 use Rattle.seam_law_book.proofs.Numbering.{cell_numbered, base_numbered}
-use Rattle.seam_law_book.proofs.Fitting.{both_true, same_self, can_test, may_be_made, type_by, next_by, part_type_by, next_to_by, unseen_by}
+use Rattle.seam_law_book.proofs.Fitting.{same_self, can_test, may_be_made, type_by, next_by, part_type_by, next_to_by, unseen_by}
 use Rattle.seam_node_steps.specs.Prelude.{TellsNone}
+use Rattle.seam_law_calls.proofs.Holds.{all_two}
 
 -- ---- orders of entries
 
@@ -149,8 +150,8 @@ module _ (h : Header) (some : 1 ≤ h.settings.bases) (b : Book) (t : Division) 
   fits_there : (ty : ℕ) (p : Part) (c : CallData) → p ≡ c.part → (fit : IsFitCall h b c) → ty ≡ fit.made.ty → (e : ℕ) → c.entity ≡ e →
       (is_for p e c && can_do h.settings.size (type_of h.defs ty) p c.deed) ≡ true
   fits_there ty p c is fit same_type e at =
-      both_true (is_for p e c) (can_do h.settings.size (type_of h.defs ty) p c.deed)
-      (both_true (c.entity == e) (same_part c.part p) (eq-eqb c.entity e at) (ap (λ q. same_part q p) (sym is) ∙ same_self p))
+      all_two (is_for p e c) (can_do h.settings.size (type_of h.defs ty) p c.deed)
+      (all_two (c.entity == e) (same_part c.part p) (eq-eqb c.entity e at) (ap (λ q. same_part q p) (sym is) ∙ same_self p))
       (ap (λ y. can_do h.settings.size (type_of h.defs y) p c.deed) same_type
       ∙ can_test h (type_of h.defs fit.made.ty) p c.deed fit.deed (is ∙ fit.part) fit.inside)
 

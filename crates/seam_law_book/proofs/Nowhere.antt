@@ -13,10 +13,14 @@ use Rattle.seam_law_book.proofs.Prelude.{Moves, at_a_cell, at_a_base, RunsTo, Is
 use Rattle.seam_law_book.proofs.Prelude.{all_append, get-set_at, slots, each_keeps, Any, any, nodes_after, loaded_is, get-each_value}
 use Rattle.seam_law_book.proofs.Prelude.{neither, none_left, other_set, AreOthers, all_lead}
 use Rattle.std.specs.FinMap as table
+use Rattle.seam_node_steps.specs.Prelude.{Ghost, GhostCopy, copy_in}
+use Rattle.seam_ghosts.proofs.Forgotten.{get_with_copies}
 use Rattle.seam_call.specs.declared.order.Order.TheVariants as order
 use Rattle.seam_entity.specs.declared.message.Msg.TheVariants.{Call}
 use Rattle.seam_law_calls.specs.CellMoves as move
 use Rattle.seam_law_calls.specs.BaseMoves as base_move
+use Rattle.seam_node_steps.specs.Prelude.{noting}
+use Rattle.seam_node_steps.proofs.Gone.{none_without}
 
 -- ---- nothing but ticks
 
@@ -134,8 +138,8 @@ module _ (f : Frame) (e : ℕ) where
   nowhere_leads : (w v : World) (es : List Event) → IsInFrame f w → IsNowhere e w → RunsTo w es v → IsNowhere e v
   nowhere_leads w v es frame here run =
       let all = all_lead f e (λ k s. IsBare s) (λ a k m. IsTick m)
-      (λ k s i t sent here come m. stays_bare f e k s i t sent here (λ x is. (come x is).1) m) w v es frame run
-      (record { slots = here.nodes; letters = here.letters }) in
+      (λ k s i t sent here come m. stays_bare f e k s i t sent here (λ x is. (come x is).1) m) w v es frame
+      (record { slots = here.nodes; letters = here.letters }) run in
       record { nodes = all.slots; letters = all.letters }
 
   -- where the world is quiet again, no node has anything of it
@@ -188,7 +192,7 @@ module _ (e : ℕ) where
   base_begun n (Cell c) b = b
   base_begun n (Base m) b = record {
     slot = refl;
-    route = b.route;
+    route = none_without e m.gone m.routes b.route;
     part = get-each_value part_begins m.parts e ∙ no_value part_begins (table.get m.parts e) b.part;
     orders = b.orders;
   }
@@ -232,12 +236,15 @@ module _ (e : ℕ) where
   joined q (Base n) u b =
       record { slot = refl; route = b.route; part = changed (with_proxy n.here) n.parts q b.part; orders = b.orders }
 
+  no_copy : (o : Option (Ghost GhostCopy)) → o ≡ None → cond (is_some (copy_in o)) o None ≡ None
+  no_copy o is = ap (λ p. cond (is_some (copy_in p)) p None) is
+
   begun : (t : Division) (s : NodeView) → Bare s → Bare (cell_round t s)
   begun t (Cell c) b = record {
     slot = λ i. record {
       real = (get-each_value real_begins c.reals e ∙ no_value real_begins (table.get c.reals e) (ap (λ s. s.real) b.slot)) i;
       next = (table.get-empty nat_cmp e) i;
-      ghost = (b.slot i).ghost;
+      ghost = (get_with_copies c.ghosts e ∙ no_copy (table.get c.ghosts e) (ap (λ s. s.ghost) b.slot)) i;
     };
     route = refl;
     part = refl;
@@ -274,7 +281,8 @@ module _ (e : ℕ) where
   reap_given : (q : ℕ) (s : NodeView) → IsOther q → Bare s → Bare (reap_ordered_at q s)
   reap_given q (Cell c) other b = b
   reap_given q (Base n) other b =
-      given_by n (order.Reap q) (eqb (base_of n.here q) n.here.me) (λ is. other (let z = is in cc)) b
+      given_by (noting q n) (order.Reap q) (eqb (base_of n.here q) n.here.me) (λ is. other (let z = is in cc))
+      (record { slot = b.slot; route = b.route; part = b.part; orders = b.orders })
 
   node_bare : (b : Batch) → AreOthers e b.creates → AllByRecursion (λ o. IsNotAbout o.1) b.orders → (s : NodeView) → Bare s →
       Bare (node_loaded b s)

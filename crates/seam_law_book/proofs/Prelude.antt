@@ -16,6 +16,7 @@ pub use Rattle.seam_law_book.specs.Prelude.{IsSenderOf, IsUntouched, Lives, Stay
 pub use Rattle.seam_law_book.specs.Prelude.{done_by_part, done_by_real, done_in, empty, ends, entity_of, frame_of, ghost_read, ghosts_read}
 pub use Rattle.seam_law_book.specs.Prelude.{last_number, made_among, real_here, with_done}
 pub use Rattle.seam_law_calls.proofs.Prelude.{Slot, carried, fit-Decides, fit_values, fits_deed, held_at, method_of, one_if_real, ◌==◌}
+pub use Rattle.seam_law_calls.proofs.Keeping.{EachKeeps, FramedKeep, runs_keep}
 pub use Rattle.seam_law_calls.proofs.Reaped.{part_stays_gone}
 pub use Rattle.seam_law_clients.proofs.OneLook.{row_nowhere, row_there}
 pub use Rattle.seam_law_clients.proofs.Prelude.{Account, AllByRecursion, Any, AreBaseNumbered, AreFor, AreNumbered, AtBase, AtCell, Base}

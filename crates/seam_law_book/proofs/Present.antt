@@ -6,6 +6,7 @@ use Rattle.seam_law_book.proofs.Prelude.{live_as, destroys, joins, has_client, w
 use Rattle.seam_law_book.proofs.Prelude.{IsPresent, joined, destroyed}
 use Rattle.std.proofs.lemmas.List.Folds.{find-append, list_any-append}
 use Rattle.seam_rule_rounds.specs.Prelude.{created}
+use Rattle.seam_law_calls.proofs.Holds.{neither}
 use Rattle.seam_rule_lines.specs.declared.verdict.Entry.TheVariants as entry
 
 -- ---- options and tests
@@ -13,10 +14,6 @@ use Rattle.seam_rule_lines.specs.declared.verdict.Entry.TheVariants as entry
 pub both_none : {X : Type 0} (o p : Option X) → option_or o p ≡ None → (o ≡ None) × (p ≡ None)
 both_none None p h = (refl, h)
 both_none (Some x) p h = absurd (let z = h in cc)
-
-pub neither : (x y : Bool) → (x || y) ≡ false → (x ≡ false) × (y ≡ false)
-neither true y h = absurd (let z = h in cc)
-neither false y h = (refl, h)
 
 -- ---- the round and what was before it
 

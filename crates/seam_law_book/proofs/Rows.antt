@@ -1,6 +1,6 @@
 -- The flat table of a world is that of the rules.
 use Rattle.seam_law_book.proofs.Prelude.{◌≡◌, ℕ, zero, suc, ◌-◌, ◌⊎◌, Bool, true, false, cond, eqb, T, List, [], ◌∷◌, map, length, Some}
-use Rattle.seam_law_book.proofs.Prelude.{None, refl, sym, ap, ◌∙◌, subst, arith, inl, inr, Contains, not, ◌&&◌, AllByRecursion, flat_map}
+use Rattle.seam_law_book.proofs.Prelude.{None, refl, sym, ap, ◌∙◌, subst, arith, inl, inr, Contains, ◌&&◌, AllByRecursion, flat_map}
 use Rattle.seam_law_book.proofs.Prelude.{nat_cmp, eq_by_cmp, nat_cmp_total, Less, is_sorted, below_all, same_entries, nat_tests, Division}
 use Rattle.seam_law_book.proofs.Prelude.{Value, Number, Text, ghost_of, other_of, own_of, same_value, same_values, same_state, same_shown}
 use Rattle.seam_law_book.proofs.Prelude.{State, Call as CallData, Create, RealView, World, Header, Book, entries, creates_of, live_as, flat}
@@ -19,13 +19,10 @@ use Rattle.seam_defs.specs.declared.flags.Part.TheVariants as part
 use Rattle.seam_rule_lines.proofs.InOrderLemmas.{found_entity}
 use Rattle.seam_rule_lines.proofs.Lists.{contains_first, contains_later, contains_cases}
 use Rattle.seam_node_steps.proofs.Sorted.{both}
+use Rattle.seam_law_calls.proofs.Holds.{not_false}
 use Rattle.seam_law_clients.specs.Tables as world
 
 -- ---- what others may see, at the public version
-
-not_false : (b : Bool) → not b ≡ false → b ≡ true
-not_false true is = refl
-not_false false is = cc
 
 value-Decides : (a b : Value) → Decides (same_value a b) (a ≡ b)
 value-Decides (Number a) (Number b) = let d = Decides-int_eq a b in ((λ t. ap Number (d.0 t)), (λ e. d.1 (let h : a ≡ b = cc in h)))

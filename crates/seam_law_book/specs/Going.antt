@@ -3,7 +3,7 @@ use Rattle.std.specs.Prelude.{◌≡◌, ℕ, ◌+◌, ◌%◌, ◌^◌, ◌<◌
 use Rattle.seam_node_steps.specs.Prelude.{Division, cells_of, Create, cell_count, RealView, PartView, World}
 use Rattle.seam_rule_rounds.specs.Prelude.{Header, Book, entries, open_lines, created_as, live_as, has_client, tree_of, MOST_LINES}
 use Rattle.seam_law_calls.specs.Prelude.{Frame, entity_flow, real_at}
-use Rattle.seam_law_rounds.specs.Prelude.{next_from, numbers_of, IsNew, next_to, lines_of}
+use Rattle.seam_law_rounds.specs.Prelude.{next_from, numbers_of, IsNew, NeverShown, next_to, lines_of}
 use Rattle.seam_defs.specs.declared.flags.Part.TheVariants as part
 use Rattle.seam_law_book.specs.Bringing.{last_number}
 
@@ -42,6 +42,8 @@ pub record GoesWith (h : Header) (b : Book) (t : Division) (w : World) : Type 0 
   pub cells : cells_of t ≤ cells_of (tree_of b)
   -- no node has anything of a number that was not created
   pub known : (e : ℕ) → created_as b e ≡ None → IsNew w e
+  -- nor was any client shown one
+  pub unshown : (e : ℕ) → created_as b e ≡ None → NeverShown w e
   -- each entity that lives in the book is there
   pub live : (e : ℕ) (made : Create) → live_as b e ≡ Some made → IsHeld h b w e made
   -- and no other has a real or a base part

@@ -77,6 +77,7 @@ pub fn a_book_goes_with_the_world_after_its_round()
     crate::lines_bring_what_fits();
     crate::uncreated_numbers_are_untouched();
     seam_law_rounds::a_base_part_of_a_loaded_world_is_ready();
+    seam_law_clients::who_is_not_there_is_not_shown();
     seam_law_all::calls_obey_the_laws();
     seam_law_all::reaps_obey_the_laws();
     seam_law_all::looks_obey_the_laws();

@@ -1,15 +1,14 @@
 -- Over every list of events cells know, and witnesses view, no other entities than those at the start.
 use Rattle.seam_law_bounds.proofs.Prelude.{◌≡◌, ℕ, Bool, true, false, cond, List, [], ◌∷◌, drop, Option, None, Some, refl, sym, subst}
 use Rattle.seam_law_bounds.proofs.Prelude.{arith, not, slice_get, AllByRecursion, range_with_len, nat_cmp, eq_by_cmp, nat_tests, Stepped}
-use Rattle.seam_law_bounds.proofs.Prelude.{link, letter, input_from, happens, enabled, Occurs, EachNode, Input, Task, From, Event}
-use Rattle.seam_law_bounds.proofs.Prelude.{Call as CallData, Order, Msg, Reap, Slot, SlotStep, slot_after, about, slot_steps, stray_survey}
-use Rattle.seam_law_bounds.proofs.Prelude.{stray_ready_call, stray_look, CellView, slot_of, stepped, known_to, surveys, calls_ready}
-use Rattle.seam_law_bounds.proofs.Prelude.{looks_around, ready_entity, look_next, ready_next, cell_task, cell_steps, BaseView}
-use Rattle.seam_law_bounds.proofs.Prelude.{PartView, RouteView, on_route, base_order, is_base_node_of, tick_to, order_of_node, stray_order}
-use Rattle.seam_law_bounds.proofs.Prelude.{ready_part, ready_proxy, proxy_task, task_without_orders, base_task, base_steps, may_show}
-use Rattle.seam_law_bounds.proofs.Prelude.{NodeView, World, node_steps, node_has_work, Cell, Base, IsCell, IsNode, Frame, IsInFrame}
-use Rattle.seam_law_bounds.proofs.Prelude.{LooksAmong, Always, occurs, each_node, each_link, leads_keeps, all_append, unless_stray}
-use Rattle.seam_law_bounds.proofs.Prelude.{slot_stepped, frame_happens}
+use Rattle.seam_law_bounds.proofs.Prelude.{link, letter, input_from, EachNode, Input, Task, From, Call as CallData, Order, Msg, Reap, Slot}
+use Rattle.seam_law_bounds.proofs.Prelude.{SlotStep, slot_after, about, slot_steps, stray_survey, stray_ready_call, stray_look, CellView}
+use Rattle.seam_law_bounds.proofs.Prelude.{slot_of, stepped, known_to, surveys, calls_ready, looks_around, ready_entity, look_next}
+use Rattle.seam_law_bounds.proofs.Prelude.{ready_next, cell_task, cell_steps, BaseView, PartView, RouteView, on_route, base_order}
+use Rattle.seam_law_bounds.proofs.Prelude.{is_base_node_of, tick_to, order_of_node, stray_order, ready_part, ready_proxy, proxy_task}
+use Rattle.seam_law_bounds.proofs.Prelude.{task_without_orders, base_task, base_steps, may_show, NodeView, World, node_steps, Cell, Base}
+use Rattle.seam_law_bounds.proofs.Prelude.{IsCell, IsNode, Frame, IsInFrame, LooksAmong, Always, each_node, each_link, all_append}
+use Rattle.seam_law_bounds.proofs.Prelude.{unless_stray, slot_stepped, frame_happens, EachKeeps, runs_keep}
 use Rattle.std.specs.FinMap as table
 use Rattle.seam_machine.specs.Events.{EachLink}
 use Rattle.seam_net_runs.specs.Kept.{StaysTrue}
@@ -175,9 +174,8 @@ module _ (us ws : List ℕ) where
       nodes : EachNode (λ k s. NodeOk s) w.nodes
       links : EachLink LinkOk w.rows
 
-    ok_more : (w : World) (x : Event) → IsOk w → enabled node_has_work w x ≡ true → IsOk (happens node_steps w x)
-    ok_more w x h on =
-        let o : Occurs w x = occurs node_has_work w x on in
+    ok_happens : EachKeeps IsOk
+    ok_happens w x o h =
         let valid = h.frame.sound.states x.node o.node o.is_node in
         let node = h.nodes x.node o.node o.is_node in
         let first = plain_at f x.node o.node (h.frame.nodes x.node o.node o.is_node) in
@@ -213,7 +211,7 @@ module _ (us ws : List ℕ) where
           nodes = λ k s at. start_node w h k s at;
           links = λ a b. subst (AllByRecursion (λ m. LetterOk us ws m)) (sym (empty a b)) tt;
         } in
-        let then = leads_keeps node_has_work node_steps IsOk ok_more w v es start run in
+        let then = runs_keep IsOk ok_happens w v es start run in
         record {
           reals = λ k c at e r there. ((then.nodes k (Cell c) at e).real r there).named;
           copies = λ k c at e x there. (then.nodes k (Cell c) at e).copy x there;

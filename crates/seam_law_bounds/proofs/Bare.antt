@@ -1,17 +1,16 @@
 -- Without looks, and without calls to an entity's base part, nothing comes to it: a part that holds nothing never holds anything.
-use Rattle.seam_law_bounds.proofs.Prelude.{◌≡◌, ℕ, true, List, [], ◌∷◌, Option, None, Some, refl, sym, ap, ◌∙◌, subst, arith}
-use Rattle.seam_law_bounds.proofs.Prelude.{AllByRecursion, happens, enabled, Event, Msg, Tick, Here, PartView, World, node_steps}
-use Rattle.seam_law_bounds.proofs.Prelude.{node_has_work, comes, IsSilent, carried_in, Frame, here_at, IsInFrame, Has, AtBase, entity_flow}
-use Rattle.seam_law_bounds.proofs.Prelude.{Moves, at_a_cell, at_a_base, held_in, real_in, base_call_in, update_in, calls_ordered, called}
-use Rattle.seam_law_bounds.proofs.Prelude.{PartMoves, WitnessMoves, HasNoBaseCalls, HasToldAtMost, HasNoLooks, RunsTo, part_weight, occurs}
-use Rattle.seam_law_bounds.proofs.Prelude.{weight_or, leads_by_one, leads_keeps, all_append, slots_kept, letters_kept, came, event_moves}
-use Rattle.seam_law_bounds.proofs.Prelude.{frame_happens, taken_counts, items_all, IsTickTo, IsUnknown, only_ticks, unknown_leads}
-use Rattle.seam_law_bounds.proofs.Prelude.{looks_lead, part_moves}
+use Rattle.seam_law_bounds.proofs.Prelude.{◌≡◌, ℕ, List, [], Option, None, Some, refl, sym, ap, ◌∙◌, subst, arith, AllByRecursion, happens}
+use Rattle.seam_law_bounds.proofs.Prelude.{Msg, Tick, Here, PartView, World, node_steps, comes, IsSilent, carried_in, Frame, here_at}
+use Rattle.seam_law_bounds.proofs.Prelude.{IsInFrame, Has, AtBase, entity_flow, Moves, at_a_cell, at_a_base, held_in, real_in, base_call_in}
+use Rattle.seam_law_bounds.proofs.Prelude.{update_in, calls_ordered, called, PartMoves, WitnessMoves, HasNoBaseCalls, HasToldAtMost}
+use Rattle.seam_law_bounds.proofs.Prelude.{HasNoLooks, part_weight, weight_or, all_append, slots_kept, came, event_moves, frame_happens}
+use Rattle.seam_law_bounds.proofs.Prelude.{taken_counts, IsTickTo, IsUnknown, only_ticks, part_moves, EachKeeps, RunsKeep, runs_keep}
+use Rattle.seam_law_bounds.proofs.Prelude.{sent_kept, unknown_happens, looks_happen}
 use Rattle.seam_law_calls.specs.Prelude.{told}
 use Rattle.seam_law_calls.specs.PartMoves as part
 use Rattle.seam_law_calls.specs.WitnessMoves as witness
 use Rattle.seam_law_calls.proofs.BaseSilent.{sees_no_update, base_silent}
-use Rattle.seam_law_calls.proofs.Reaped.{no_call_comes}
+use Rattle.seam_law_calls.proofs.Reaped.{no_call_happens}
 use Rattle.seam_law_calls.proofs.WitnessSteps.{witness_moves}
 use Rattle.seam_law_bounds.proofs.BaseWeights.{showing_weighs}
 
@@ -74,25 +73,20 @@ module _ (f : Frame) (e n : ℕ) where
   none_by mine None h = refl
   none_by mine (Some m) h = h m refl
 
-  bare_more : (w : World) (v : Event) → IsBare w → enabled node_has_work w v ≡ true → IsBare (happens node_steps w v)
-  bare_more w v h on =
-      let o = occurs node_has_work w v on in
-      let then = happens node_steps w v in
-      let one = leads_by_one node_has_work node_steps w v on in
-      let still = looks_lead f e n w then (v ∷ []) h.frame h.looks h.told one in
+  bare_happens : EachKeeps IsBare
+  bare_happens w v o h =
+      let still = looks_happen f e n w v o (record { frame = h.frame; looks = h.looks; told = h.told }) in
       let g = event_moves f w v o h.frame e in
       let s = (entity_flow e w).slot g.k in
-      let t = (entity_flow e then).slot g.k in
+      let t = (entity_flow e (happens node_steps w v)).slot g.k in
       record {
-        frame = frame_happens f w v o h.frame;
+        frame = still.frame;
         looks = still.looks;
         told = still.told;
-        calls = no_call_comes f e w then (v ∷ []) h.frame h.calls one;
+        calls = no_call_happens f e w v o h.frame h.calls;
         updates =
-            letters_kept (λ a k m. update_in m ≡ None) g h.updates (λ j.
-            subst (AllByRecursion (λ m. update_in m ≡ None)) (sym (g.moves.items j))
-            (items_all (λ m. update_in m ≡ None) j g.moves.sent
-            (update_silent f e g.k s (comes g.input) t g.moves.sent (h.looks.cells g.k) g.moves.moves)));
+            sent_kept (λ a k m. update_in m ≡ None) g g.moves.sent g.moves.items h.updates
+            (update_silent f e g.k s (comes g.input) t g.moves.sent (h.looks.cells g.k) g.moves.moves);
         parts =
             slots_kept (λ k x. HoldsNone x.base) g h.parts
             (part_bare (here_at f g.k) e s.base (comes g.input) t.base g.moves.sent (h.parts g.k)
@@ -101,8 +95,8 @@ module _ (f : Frame) (e n : ℕ) where
             (part_moves f e g.k s (comes g.input) t g.moves.sent g.moves.moves));
       }
 
-  pub bare_leads : (w v : World) (es : List Event) → IsBare w → RunsTo w es v → IsBare v
-  bare_leads w v es h run = leads_keeps node_has_work node_steps IsBare bare_more w v es h run
+  pub bare_leads : RunsKeep IsBare
+  bare_leads = runs_keep IsBare bare_happens
 
 -- ---- a part that holds no call, whatever its client does
 
@@ -133,17 +127,14 @@ module _ (f : Frame) (e : ℕ) where
     pub calls : HasNoBaseCalls e w
     pub parts : (k : ℕ) → HoldsNoCall ((entity_flow e w).slot k).base
 
-  uncalled_more : (w : World) (v : Event) → IsUncalled w → enabled node_has_work w v ≡ true → IsUncalled (happens node_steps w v)
-  uncalled_more w v h on =
-      let o = occurs node_has_work w v on in
-      let then = happens node_steps w v in
-      let one = leads_by_one node_has_work node_steps w v on in
+  uncalled_happens : EachKeeps IsUncalled
+  uncalled_happens w v o h =
       let g = event_moves f w v o h.frame e in
       let s = (entity_flow e w).slot g.k in
-      let t = (entity_flow e then).slot g.k in
+      let t = (entity_flow e (happens node_steps w v)).slot g.k in
       record {
         frame = frame_happens f w v o h.frame;
-        calls = no_call_comes f e w then (v ∷ []) h.frame h.calls one;
+        calls = no_call_happens f e w v o h.frame h.calls;
         parts =
             slots_kept (λ k x. HoldsNoCall x.base) g h.parts
             (call_bare (here_at f g.k) e s.base (comes g.input) t.base g.moves.sent (h.parts g.k)
@@ -151,8 +142,8 @@ module _ (f : Frame) (e : ℕ) where
             (h.calls.orders g.k) (part_moves f e g.k s (comes g.input) t g.moves.sent g.moves.moves));
       }
 
-  pub uncalled_leads : (w v : World) (es : List Event) → IsUncalled w → RunsTo w es v → IsUncalled v
-  uncalled_leads w v es h run = leads_keeps node_has_work node_steps IsUncalled uncalled_more w v es h run
+  pub uncalled_leads : RunsKeep IsUncalled
+  uncalled_leads = runs_keep IsUncalled uncalled_happens
 
 -- ---- an entity that is nowhere
 
@@ -170,16 +161,14 @@ module _ (f : Frame) (e : ℕ) where
     pub unknown : IsUnknown f e w
     pub parts : (k : ℕ) → HoldsNone ((entity_flow e w).slot k).base
 
-  idle_more : (w : World) (v : Event) → IsIdle w → enabled node_has_work w v ≡ true → IsIdle (happens node_steps w v)
-  idle_more w v h on =
-      let o = occurs node_has_work w v on in
-      let then = happens node_steps w v in
+  idle_happens : EachKeeps IsIdle
+  idle_happens w v o h =
       let u = h.unknown in
       let g = event_moves f w v o u.frame e in
       let s = (entity_flow e w).slot g.k in
-      let t = (entity_flow e then).slot g.k in
+      let t = (entity_flow e (happens node_steps w v)).slot g.k in
       record {
-        unknown = unknown_leads f e w then (v ∷ []) u (leads_by_one node_has_work node_steps w v on);
+        unknown = unknown_happens f e w v o u;
         parts =
             slots_kept (λ k x. HoldsNone x.base) g h.parts
             (part_bare (here_at f g.k) e s.base (comes g.input) t.base g.moves.sent (h.parts g.k)
@@ -188,5 +177,5 @@ module _ (f : Frame) (e : ℕ) where
             (only_ticks s.base.orders (u.slots g.k).orders) (part_moves f e g.k s (comes g.input) t g.moves.sent g.moves.moves));
       }
 
-  pub idle_leads : (w v : World) (es : List Event) → IsIdle w → RunsTo w es v → IsIdle v
-  idle_leads w v es h run = leads_keeps node_has_work node_steps IsIdle idle_more w v es h run
+  pub idle_leads : RunsKeep IsIdle
+  idle_leads = runs_keep IsIdle idle_happens

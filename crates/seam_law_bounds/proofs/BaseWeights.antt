@@ -1,26 +1,25 @@
 -- A step of a base node lowers the weight.
-use Rattle.seam_law_bounds.proofs.Prelude.{sent_of_range_bounds}
-use Rattle.seam_law_bounds.proofs.Prelude.{◌≡◌, ℕ, ◌+◌, ◌≤◌, Bool, true, false, List, [], ◌∷◌, Option, None, Some, refl, sym, ap, ◌∙◌}
-use Rattle.seam_law_bounds.proofs.Prelude.{arith, not, ◌||◌, is_some, option_map, nat_cmp, Ordering, Less, Equal, Greater, Stepped, total}
-use Rattle.seam_law_bounds.proofs.Prelude.{Input, Task, From, OrderView, next_item, Call as CallData, Order, Shown, ClientText, rank_of}
-use Rattle.seam_law_bounds.proofs.Prelude.{order_of, Msg, BaseCall, Current, Tick, Reap, Update, Here, cell_count, ready_order}
-use Rattle.seam_law_bounds.proofs.Prelude.{order_is_ready, has_any, BaseView, PartView, ProxyView, RouteView, with_part, line_if}
-use Rattle.seam_law_bounds.proofs.Prelude.{sends_none, may_show, part_called, on_route, base_order, is_base_node_of, order_of_node}
+use Rattle.seam_law_bounds.proofs.Prelude.{sent_of_range_bounds, ◌≡◌, ℕ, ◌+◌, ◌≤◌, Bool, true, false, List, [], ◌∷◌, Option, None, Some}
+use Rattle.seam_law_bounds.proofs.Prelude.{refl, sym, ap, ◌∙◌, arith, not, ◌||◌, is_some, option_map, nat_cmp, Ordering, Less, Equal}
+use Rattle.seam_law_bounds.proofs.Prelude.{Greater, Stepped, total, Input, Task, From, OrderView, next_item, Call as CallData, Order, Shown}
+use Rattle.seam_law_bounds.proofs.Prelude.{ClientText, rank_of, order_of, Msg, BaseCall, Current, Tick, Reap, Update, Here, cell_count}
+use Rattle.seam_law_bounds.proofs.Prelude.{ready_order, order_is_ready, has_any, BaseView, PartView, ProxyView, RouteView, with_part}
+use Rattle.seam_law_bounds.proofs.Prelude.{line_if, sends_none, may_show, part_called, on_route, base_order, is_base_node_of, order_of_node}
 use Rattle.seam_law_bounds.proofs.Prelude.{stray_order, part_is_ready, ready_part, after_ready, proxy_is_ready, client_is_ready}
 use Rattle.seam_law_bounds.proofs.Prelude.{ready_proxy, shows_next, proxy_task, task_without_orders, base_task, newer_route, current}
 use Rattle.seam_law_bounds.proofs.Prelude.{offered_update, updated_proxy, update, case_of, base_steps, base_has_work, Sizes, settle_weight}
-use Rattle.seam_law_bounds.proofs.Prelude.{tick_weight, proxy_weight, part_weight, order_weight, letter_weight, BaseCan, weight_or}
-use Rattle.seam_law_bounds.proofs.Prelude.{sent_weight, input_weight, total_of_insert, total_of_remove, sent_of_range, range_bounds, found}
-use Rattle.seam_law_bounds.proofs.Prelude.{unless_stray, turn_counts, early_counts, taken_counts, equal_of, greater_of, base_weight}
+use Rattle.seam_law_bounds.proofs.Prelude.{tick_weight, proxy_weight, part_weight, order_weight, BaseCan, weight_or, sent_weight}
+use Rattle.seam_law_bounds.proofs.Prelude.{input_weight, total_of_insert, total_of_remove, sent_of_range, range_bounds, found, unless_stray}
+use Rattle.seam_law_bounds.proofs.Prelude.{turn_counts, early_counts, taken_counts, equal_of, greater_of, base_weight}
+use Rattle.seam_law_bounds.specs.Weights.{moving_letter_weight}
 use Rattle.std.specs.FinMap as table
-use Rattle.seam_node_steps.specs.Prelude.{offered}
-use Rattle.seam_node_steps.specs.Prelude.{after_showing}
+use Rattle.seam_node_steps.specs.Prelude.{offered, after_showing, Bounds}
 use Rattle.seam_call.specs.declared.order.Order.TheVariants as order
 use Rattle.seam_call.specs.declared.shown.Update.{Update as UpdateData}
 use Rattle.seam_entity.specs.declared.message.Msg.TheVariants.{Call}
 use Rattle.seam_node_steps.specs.BaseCases.{may_execute, executed, executes_ready, is_stray}
 use Rattle.seam_law_bounds.proofs.Counts.{offer_adds, taking_removes}
-use Rattle.seam_node_steps.specs.Prelude.{Bounds}
+use Rattle.seam_law_calls.proofs.Holds.{denied}
 
 -- ---- parts
 
@@ -77,9 +76,10 @@ showing_weighs p (Some x) is some =
     let two = ap (weight_or proxy_weight) is in
     omega (arith, one, two)
 
-module _ (z : Sizes) where
+-- the last boundaries of the round have that number
+module _ (z : Sizes) (last : ℕ) where
   abbrev g : ℕ → Msg → ℕ
-  g = letter_weight z
+  g = moving_letter_weight z last
 
   -- the base node with another part
   part_weighs : (b : BaseView) (e : ℕ) (p q : PartView) → table.get b.parts e ≡ Some p →
@@ -184,10 +184,6 @@ module _ (z : Sizes) where
       omega (arith, one, two, three)
 
   -- ---- the task without orders
-
-  denied : (d : Bool) → d ≡ true → not d ≡ false
-  denied true is = refl
-  denied false is = cc
 
   proxy_task_weighs : (b : BaseView) (o : Option (ℕ × PartView)) → BaseCan b → ready_proxy b ≡ o → (o ≡ None → ⊥) →
       all_of (proxy_task b o) + 1 ≤ base_weight z b

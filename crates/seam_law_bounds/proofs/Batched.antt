@@ -1,18 +1,15 @@
 -- Each call to a cell part that is on its way in a round was ordered.
 use Rattle.seam_law_bounds.proofs.Prelude.{◌≡◌, ℕ, Bool, true, false, cond, List, [], ◌∷◌, Option, None, Some, refl, sym, ap, subst}
-use Rattle.seam_law_bounds.proofs.Prelude.{slice_get, AllByRecursion, Division, link, happens, enabled, EachNode, Event, Call as CallData}
-use Rattle.seam_law_bounds.proofs.Prelude.{Order, Msg, base_numbers, base_of, haunts_at, ghost_messages, current_to, NodeView, World}
-use Rattle.seam_law_bounds.proofs.Prelude.{node_steps, node_has_work, Cell, Base, comes, slot_at, letters_of, IsSilent, Frame, here_at}
+use Rattle.seam_law_bounds.proofs.Prelude.{slice_get, AllByRecursion, Division, link, happens, EachNode, Event, Call as CallData, Order}
+use Rattle.seam_law_bounds.proofs.Prelude.{Msg, NodeView, World, node_steps, Cell, Base, comes, slot_at, letters_of, Frame, here_at}
 use Rattle.seam_law_bounds.proofs.Prelude.{IsInFrame, Has, mine, order_concerns, orders_of, has_of, has_none, entity_flow, CellMoves}
-use Rattle.seam_law_bounds.proofs.Prelude.{BaseMoves, Moves, at_a_cell, at_a_base, RunsTo, occurs, leads_by_one, leads_keeps, all_append}
-use Rattle.seam_law_bounds.proofs.Prelude.{letters_kept, came, event_moves, frame_happens, SeesNoGhost, ghosts_silent, drops_silent}
-use Rattle.seam_law_bounds.proofs.Prelude.{mapped_silent, numbered_silent, items_all, call_in, base_keeps}
-use Rattle.std.specs.FinSet as set
+use Rattle.seam_law_bounds.proofs.Prelude.{BaseMoves, Moves, at_a_cell, at_a_base, RunsTo, came, event_moves, frame_happens, base_keeps}
+use Rattle.seam_law_bounds.proofs.Prelude.{EachKeeps, runs_keep, sent_kept}
 use Rattle.seam_call.specs.declared.order.Order.TheVariants as order
 use Rattle.seam_entity.specs.declared.message.Msg.TheVariants.{Call}
 use Rattle.seam_law_calls.proofs.CellDeeds.{cell_deeds, cell_says}
 use Rattle.seam_law_ghosts.proofs.Strays.{seen_first}
-use Rattle.seam_law_bounds.proofs.Ordered.{OrdersAre, orders_lead}
+use Rattle.seam_law_bounds.proofs.Ordered.{OrdersAre, orders_happen}
 
 -- P is true of each call to a cell part
 module _ (P : CallData → Type 0) where
@@ -74,21 +71,17 @@ module _ (P : CallData → Type 0) where
     slot_orders w h k None at = tt
     slot_orders w h k (Some s) at = node_orders e s (h.orders k s at)
 
-    batched_more : (w : World) (v : Event) → AreBatched w → enabled node_has_work w v ≡ true → AreBatched (happens node_steps w v)
-    batched_more w v h on =
-        let o = occurs node_has_work w v on in
-        let then = happens node_steps w v in
+    batched_happens : EachKeeps AreBatched
+    batched_happens w v o h =
         let g = event_moves f w v o h.frame e in
         record {
           frame = frame_happens f w v o h.frame;
-          orders = orders_lead OrderIs w then (v ∷ []) h.orders (leads_by_one node_has_work node_steps w v on);
+          orders = orders_happen OrderIs w v o h.orders;
           letters =
-              letters_kept (λ a k m. MessageIs m) g h.letters (λ j.
-              subst (AllByRecursion MessageIs) (sym (g.moves.items j))
-              (items_all MessageIs j g.moves.sent
-              (sends_are f e g.k ((entity_flow e w).slot g.k) (comes g.input) ((entity_flow e then).slot g.k) g.moves.sent
-              (slot_orders w h g.k (slice_get w.nodes g.k) refl) (λ m is. (came (λ a k x. MessageIs x) g m is h.letters).1)
-              g.moves.moves)));
+              sent_kept (λ a k m. MessageIs m) g g.moves.sent g.moves.items h.letters
+              (sends_are f e g.k ((entity_flow e w).slot g.k) (comes g.input) ((entity_flow e (happens node_steps w v)).slot g.k)
+              g.moves.sent (slot_orders w h g.k (slice_get w.nodes g.k) refl)
+              (λ m is. (came (λ a k x. MessageIs x) g m is h.letters).1) g.moves.moves);
         }
 
   -- over every list of events, P is true of each call that is the first of its link, where it is of each that is ordered and none is on
@@ -101,5 +94,5 @@ module _ (P : CallData → Type 0) where
         orders = orders;
         letters = λ x y. subst (AllByRecursion MessageIs) (sym (ap (letters_of (mine c.entity)) (empty x y))) tt;
       } in
-      let then = leads_keeps node_has_work node_steps (AreBatched f c.entity) (batched_more f c.entity) w v es start run in
+      let then = runs_keep (AreBatched f c.entity) (batched_happens f c.entity) w v es start run in
       (subst (AllByRecursion MessageIs) (seen_first c.entity v a k (Call c) ms at refl) (then.letters a k)).0

@@ -3,6 +3,7 @@ use Rattle.seam_law_bounds.proofs.Prelude.{◌≡◌, ℕ, ◌+◌, ◌≤◌, t
 use Rattle.seam_law_bounds.proofs.Prelude.{happens, enabled, Event, Batch, RealView, Msg, NextPlace, World, node_steps, node_has_work}
 use Rattle.seam_law_bounds.proofs.Prelude.{loaded, Flow, Frame, Has, entity_flow, real_in, RunsTo, real_at, framed, MayBegin, ComesTo}
 use Rattle.seam_law_bounds.proofs.Prelude.{AreRanked, Climbs, frame_loaded, settled_loaded, its, one_loaded, spared_loaded, routed_loaded}
+use Rattle.seam_law_bounds.proofs.Prelude.{occurs}
 use Rattle.seam_law_bounds.specs.Prelude.{rank_of}
 use Rattle.seam_law_bounds.proofs.Ranking.{rank_real, rank_next, rank_none, Ranked, ranked_leads, climbs}
 
@@ -49,6 +50,6 @@ module _ (f : Frame) (w : World) (b : Batch) (begin : MayBegin f w b) (e home : 
     pub each_event_climbs : (x : Event) → enabled node_has_work v x ≡ true → Climbs e v (happens node_steps v x)
     each_event_climbs x on =
         climbs (framed f b) (frame_loaded f w b begin) e r.ty (settled_loaded f w b begin e home r here).type v x
+        (occurs node_has_work v x on)
         (ranked_leads (framed f b) (frame_loaded f w b begin) e r.ty (settled_loaded f w b begin e home r here).type
-        (loaded w b) v
-        es ranked_loaded run) on
+        (loaded w b) v es ranked_loaded run)

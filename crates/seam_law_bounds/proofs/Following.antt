@@ -3,20 +3,12 @@ use Rattle.seam_law_bounds.proofs.Prelude.{◌≡◌, ℕ, ◌≤◌, ◌⊎◌,
 use Rattle.seam_law_bounds.proofs.Prelude.{AllByRecursion, nat_tests, Call as CallData, Msg, Hand, Flow, Has, is_hand_from, has_hand_from}
 use Rattle.seam_law_bounds.proofs.Prelude.{ComesTo}
 use Rattle.seam_entity.specs.declared.message.Msg.TheVariants.{Call}
-use Rattle.seam_law_bounds.proofs.Ranking.{either}
+use Rattle.seam_law_calls.proofs.Holds.{or_right, or_left, either}
 
 -- a hand-over of at least so great a generation is one of at least a smaller one
 hand_less : (n m : ℕ) (l : Msg) → n ≤ m → is_hand_from m l ≡ true → is_hand_from n l ≡ true
 hand_less n m (Hand r bs) low h = grind (arith, nat_tests, low, h)
 hand_less n m _ low h = cc
-
-or_left : (a b : Bool) → a ≡ true → (a || b) ≡ true
-or_left true b h = refl
-or_left false b h = cc
-
-or_right : (a b : Bool) → b ≡ true → (a || b) ≡ true
-or_right true b h = refl
-or_right false b h = h
 
 has_less : (n m : ℕ) (ls : List Msg) → n ≤ m → has_hand_from m ls ≡ true → has_hand_from n ls ≡ true
 has_less n m [] low h = cc

@@ -7,6 +7,7 @@ use Rattle.seam_law_calls.specs.Frames.{Knows}
 use Rattle.seam_law_bounds.proofs.Prelude.{Sizes, order_weight, node_weight, world_weight, total-push, with_order}
 use Rattle.seam_law_bounds.proofs.Prelude.{node_there}
 use Rattle.seam_call.specs.declared.order.Order.TheVariants as order
+use Rattle.seam_node_steps.specs.Prelude.{noting}
 
 -- where g is at most h at each node, but at most a more at the node `home`, so is the sum
 module _ {N : Type 0} (g h : N → ℕ) (home a : ℕ) where
@@ -81,7 +82,7 @@ module _ (f : Frame) where
 
   reap_stays : (k e : ℕ) (s : NodeView) → Knows f.defs f.settings k s → Knows f.defs f.settings k (reap_ordered_at e s)
   reap_stays k e (Cell c) at = at
-  reap_stays k e (Base b) at = base_stays k (eqb (base_of b.here e) b.here.me) b (order.Reap e) at
+  reap_stays k e (Base b) at = base_stays k (eqb (base_of b.here e) b.here.me) (noting e b) (order.Reap e) at
 
   pub nodes_stay : (turn : NodeView → NodeView) → ((k : ℕ) (s : NodeView) → Knows f.defs f.settings k s → Knows f.defs f.settings k
       (turn s)) → (w : World) → AreAt w →
@@ -110,7 +111,7 @@ module _ (z : Sizes) (f : Frame) where
       node_weight z (reap_ordered_at e s) ≤ node_weight z s + cond {A = ℕ} (eqb k (base_of (here_at f 0) e)) 18 0
   reap_adds k e (Cell c) at = omega arith
   reap_adds k e (Base b) at =
-      let one = base_adds (eqb (base_of b.here e) b.here.me) b (order.Reap e) in
+      let one = base_adds (eqb (base_of b.here e) b.here.me) (noting e b) (order.Reap e) in
       let same =
       ap (λ d. cond {A = ℕ} d 18 0) (ap (λ h. eqb (base_of h e) h.me) at.1 ∙ turned (base_of (here_at f 0) e) k) in
       omega (arith, one, same)

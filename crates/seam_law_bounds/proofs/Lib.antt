@@ -11,6 +11,7 @@ mod SlotWeights
 mod CellWeights
 mod BaseWeights
 pub mod NetWeights
+mod Moving
 mod Bare
 pub mod Ordered
 mod Starts

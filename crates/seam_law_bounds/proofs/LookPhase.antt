@@ -1,14 +1,14 @@
 -- The phase of looks ends.
 use Rattle.seam_law_bounds.proofs.Prelude.{◌≡◌, ℕ, zero, suc, ◌+◌, ◌*◌, ◌≤◌, Bool, true, false, cond, List, [], ◌∷◌, length, Option, None}
-use Rattle.seam_law_bounds.proofs.Prelude.{Some, refl, sym, ap, ◌∙◌, subst, arith, not, slice_get, AllByRecursion, range_with_len}
-use Rattle.seam_law_bounds.proofs.Prelude.{slice_get-map, link, EachNode, total, Event, Call as CallData, Order, RealView, has_ready}
-use Rattle.seam_law_bounds.proofs.Prelude.{may_execute, cell_count, Msg, CellView, BaseView, PartView, stray_order, NodeView, World}
-use Rattle.seam_law_bounds.proofs.Prelude.{node_has_work, Cell, Base, ordered_at, look_loaded, slot_at, letters_of, more_letter, Frame}
-use Rattle.seam_law_bounds.proofs.Prelude.{IsInFrame, mine, order_concerns, orders_of, has_of, has_none, entity_flow, base_call_in}
-use Rattle.seam_law_bounds.proofs.Prelude.{base_call_of, calls_ordered, RunsTo, IsBetweenRounds, Sizes, look_weight, tick_weight}
-use Rattle.seam_law_bounds.proofs.Prelude.{part_weight, world_weight, BaseCan, AllCan, is_pass, LooksFit, ClientsKeepRoom, Always}
-use Rattle.seam_law_bounds.proofs.Prelude.{HoldsNothing, events_of_looks, quiet_tasks, weight_or, node_there, look_framed, tick}
-use Rattle.seam_law_bounds.proofs.Prelude.{frame_leads, look_tasks, IsTickOrder, all_weaker}
+use Rattle.seam_law_bounds.proofs.Prelude.{Some, refl, sym, ap, ◌∙◌, subst, arith, slice_get, AllByRecursion, range_with_len, slice_get-map}
+use Rattle.seam_law_bounds.proofs.Prelude.{link, EachNode, total, Event, Call as CallData, Order, RealView, has_ready, may_execute}
+use Rattle.seam_law_bounds.proofs.Prelude.{cell_count, Msg, CellView, BaseView, PartView, stray_order, NodeView, World, node_has_work, Cell}
+use Rattle.seam_law_bounds.proofs.Prelude.{Base, ordered_at, look_loaded, slot_at, letters_of, more_letter, Frame, IsInFrame, mine}
+use Rattle.seam_law_bounds.proofs.Prelude.{order_concerns, orders_of, has_of, has_none, entity_flow, base_call_in, base_call_of}
+use Rattle.seam_law_bounds.proofs.Prelude.{calls_ordered, RunsTo, IsBetweenRounds, Sizes, look_weight, tick_weight, part_weight}
+use Rattle.seam_law_bounds.proofs.Prelude.{world_weight, BaseCan, AllCan, is_pass, LooksFit, ClientsKeepRoom, Always, HoldsNothing}
+use Rattle.seam_law_bounds.proofs.Prelude.{events_of_looks, quiet_tasks, weight_or, node_there, look_framed, tick, frame_leads, look_tasks}
+use Rattle.seam_law_bounds.proofs.Prelude.{IsTickOrder, all_weaker}
 use Rattle.std.specs.FinMap as table
 use Rattle.seam_call.specs.declared.order.Order.TheVariants as order
 use Rattle.seam_entity.specs.declared.message.Msg.TheVariants.{Call}
@@ -23,6 +23,7 @@ use Rattle.seam_law_bounds.proofs.NoPasses.{no_pass_by, passes_none}
 use Rattle.seam_law_bounds.proofs.Ordered.{OrdersAre, orders_lead}
 use Rattle.seam_law_bounds.proofs.QuietWeights.{empty_links, quiet_weighs}
 use Rattle.seam_law_bounds.proofs.Starts.{IsPlain, parts_none}
+use Rattle.seam_law_calls.proofs.Holds.{not_false}
 
 -- nothing
 no_sizes : Sizes
@@ -135,13 +136,9 @@ module _ (f : Frame) (u : World) (between : IsBetweenRounds f u) (none : HoldsNo
       clients = λ e p at ready. client k b node e p at ready;
     }
 
-    allowed : (x : Bool) → not x ≡ false → x ≡ true
-    allowed true h = refl
-    allowed false h = cc
-
     cell_then : (k : ℕ) (c : CellView) → slice_get v.nodes k ≡ Some (Cell c) → (e : ℕ) (r : RealView) → table.get c.reals e ≡ Some r →
         has_ready r.orders ≡ true → may_execute r ≡ true
-    cell_then k c node e r at ready = allowed (may_execute r) ((look_tasks f u between vs v run k c node).ready e r at ready)
+    cell_then k c node e r at ready = not_false (may_execute r) ((look_tasks f u between vs v run k c node).ready e r at ready)
 
     no_call_comes : (a k : ℕ) (c : CallData) (ms : List Msg) → link v.rows a k ≡ Call c ∷ ms → ⊥
     no_call_comes a k c ms at =

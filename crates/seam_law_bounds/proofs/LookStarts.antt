@@ -135,8 +135,8 @@ module _ (f : Frame) (u : World) (between : IsBetweenRounds f u) (none : HoldsNo
       was_seeing None is =
           let then =
           run_keeps f (EachReal e HasNoWitness) (λ w y o q all. each_happens HasNoWitness (λ a q same is. same ∙ is) f e w y o q
-          (λ k n a q z z2 shown at wit wit2 sum is. absurd (let no = sym wit ∙ is in cc)) all) start v vs (frame_start f u between none) run
-          (unseeing_start is) in
+          (λ k n a q z z2 shown at wit wit2 sum is. absurd (let no = sym wit ∙ is in cc)) all) start v vs (frame_start f u between none)
+          (unseeing_start is) run in
           absurd (let z = sym (then.cells k q at) ∙ has in cc)
 
       is_home : k ≡ home

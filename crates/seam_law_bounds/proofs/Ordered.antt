@@ -1,11 +1,11 @@
 -- The orders of base nodes only go: what is true of each order at the start is true of each that is left.
 use Rattle.seam_law_bounds.proofs.Prelude.{◌≡◌, ℕ, Bool, true, false, List, [], ◌∷◌, Option, None, Some, refl, sym, subst, not}
-use Rattle.seam_law_bounds.proofs.Prelude.{AllByRecursion, Stepped, EachNode, Event, Input, Task, From, Call as CallData, Order, Msg}
-use Rattle.seam_law_bounds.proofs.Prelude.{BaseCall, Current, Update, BaseView, PartView, ProxyView, RouteView, part_called, base_order}
+use Rattle.seam_law_bounds.proofs.Prelude.{AllByRecursion, Stepped, EachNode, Input, Task, From, Call as CallData, Order, Msg, BaseCall}
+use Rattle.seam_law_bounds.proofs.Prelude.{Current, Update, BaseView, PartView, ProxyView, RouteView, part_called, base_order}
 use Rattle.seam_law_bounds.proofs.Prelude.{is_base_node_of, order_of_node, stray_order, ready_part, ready_proxy, proxy_task}
 use Rattle.seam_law_bounds.proofs.Prelude.{task_without_orders, base_task, newer_route, current, updated_proxy, update, case_of, base_steps}
-use Rattle.seam_law_bounds.proofs.Prelude.{may_show, NodeView, World, node_steps, node_has_work, Cell, Base, occurs, each_node, leads_keeps}
-use Rattle.seam_law_bounds.proofs.Prelude.{unless_stray, RunsTo}
+use Rattle.seam_law_bounds.proofs.Prelude.{may_show, NodeView, node_steps, Cell, Base, each_node, unless_stray, EachKeeps, RunsKeep}
+use Rattle.seam_law_bounds.proofs.Prelude.{runs_keep}
 use Rattle.std.specs.FinMap as table
 use Rattle.seam_call.specs.declared.order.Order.TheVariants as order
 use Rattle.seam_call.specs.declared.shown.Update.{Update as UpdateData}
@@ -81,12 +81,9 @@ module _ (Ok : Order → Type 0) where
   orders_step (Cell c) i h = tt
   orders_step (Base b) i h = base_ok b i h
 
-  -- every list of events
-  pub orders_lead : (w v : World) (es : List Event) → EachNode (λ k s. OrdersAre s) w.nodes →
-      RunsTo w es v → EachNode (λ k s. OrdersAre s) v.nodes
-  orders_lead w v es h run =
-      leads_keeps node_has_work node_steps (λ x. EachNode (λ k s. OrdersAre s) x.nodes)
-      (λ x a each on.
-      let o = occurs node_has_work x a on in
-      each_node (λ k s. OrdersAre s) node_steps x a o each (orders_step o.node o.input (each a.node o.node o.is_node)))
-      w v es h run
+  pub orders_happen : EachKeeps (λ x. EachNode (λ k s. OrdersAre s) x.nodes)
+  orders_happen w v o each =
+      each_node (λ k s. OrdersAre s) node_steps w v o each (orders_step o.node o.input (each v.node o.node o.is_node))
+
+  pub orders_lead : RunsKeep (λ x. EachNode (λ k s. OrdersAre s) x.nodes)
+  orders_lead = runs_keep (λ x. EachNode (λ k s. OrdersAre s) x.nodes) orders_happen

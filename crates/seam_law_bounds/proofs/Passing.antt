@@ -1,15 +1,15 @@
 -- Each time that a call is passed on it comes to a node of higher rank: an event.
 use Rattle.seam_law_bounds.proofs.Prelude.{◌≡◌, ℕ, ◌+◌, ◌<◌, ◌≤◌, ◌⊎◌, Bool, true, false, ◌||◌, ◌&&◌, cond, is_some, is_none, List, [], ◌∷◌}
 use Rattle.seam_law_bounds.proofs.Prelude.{◌++◌, length, Option, None, Some, refl, sym, ap, ◌∙◌, subst, arith, inl, inr, AllByRecursion}
-use Rattle.seam_law_bounds.proofs.Prelude.{cases_eq, happens, enabled, run, AllEnabled, Occurs, items_to, Input, Task, From, Event, item_at}
-use Rattle.seam_law_bounds.proofs.Prelude.{Call as CallData, Order, RealView, Msg, BaseCall, Hand, Current, GhostSet, GhostDrop, Tick, Reap}
-use Rattle.seam_law_bounds.proofs.Prelude.{Update, NextPlace, RouteView, World, node_steps, node_has_work, Flow, Goes, comes, letter_in}
-use Rattle.seam_law_bounds.proofs.Prelude.{letters_of, more_letter, slot_at, IsSilent, carried_in, TokenPlace, In, On, number_from}
-use Rattle.seam_law_bounds.proofs.Prelude.{of_number, Frame, Has, kept_if, mine, has_of, has_none, entity_flow, MovesTo, real_in, real_of}
-use Rattle.seam_law_bounds.proofs.Prelude.{IsOne, IsFrame, is_visited, cell_order_from, AreCallsOf, is_hand_from, has_hand_from, ComesTo}
-use Rattle.seam_law_bounds.proofs.Prelude.{is_handed_over, is_numbered, brings_call, was_left, passes_on, hands_over, passes, hand_overs}
-use Rattle.seam_law_bounds.proofs.Prelude.{occurs, Rest, whole, tail, More, own, none, change, one_here, first_is, sole_here}
-use Rattle.seam_law_bounds.proofs.Prelude.{event_moves_with, both, goes, room, calm_of, items_all, call_in, Came, road}
+use Rattle.seam_law_bounds.proofs.Prelude.{cases_eq, happens, enabled, run, AllEnabled, Occurs, items_to, Input, From, Event, item_at}
+use Rattle.seam_law_bounds.proofs.Prelude.{Call as CallData, Order, RealView, Msg, Hand, Reap, NextPlace, RouteView, World, node_steps}
+use Rattle.seam_law_bounds.proofs.Prelude.{node_has_work, Flow, Goes, comes, letter_in, letters_of, more_letter, slot_at, IsSilent}
+use Rattle.seam_law_bounds.proofs.Prelude.{carried_in, TokenPlace, In, On, number_from, of_number, Frame, Has, kept_if, mine, has_of}
+use Rattle.seam_law_bounds.proofs.Prelude.{has_none, entity_flow, MovesTo, real_in, real_of, IsOne, IsFrame, is_visited, cell_order_from}
+use Rattle.seam_law_bounds.proofs.Prelude.{AreCallsOf, is_hand_from, has_hand_from, ComesTo, is_handed_over, is_numbered, brings_call}
+use Rattle.seam_law_bounds.proofs.Prelude.{was_left, passes_on, hands_over, passes, hand_overs, occurs, Rest, whole, tail, More, own, none}
+use Rattle.seam_law_bounds.proofs.Prelude.{change, one_here, first_is, sole_here, event_moves_with, both, goes, room, calm_of, call_in}
+use Rattle.seam_law_bounds.proofs.Prelude.{Came, road, items_fit}
 use Rattle.seam_law_bounds.specs.Prelude.{rank_of}
 use Rattle.seam_machine.proofs.Occurring.{node_there}
 use Rattle.seam_call.specs.declared.order.Order.TheVariants as order
@@ -34,7 +34,7 @@ module _ (s n : ℕ) where
   no_calls (p ∷ ps) h = (no_call p.1 h.0, no_calls ps h.1)
 
   others_to : (j : ℕ) (ps : List (ℕ × Msg)) → AllByRecursion (λ p. is_numbered s n p.1 ≡ false) ps → AreOthers s n (items_to j ps)
-  others_to j ps h = items_all (λ m. is_numbered s n m ≡ false) j ps h
+  others_to j ps h = items_fit (λ k m. is_numbered s n m ≡ false) j ps h
 
   -- the input that brings the call brings it to the entity's flow
   brought : (e : ℕ) (i : Input Msg) → brings_call e s n (Some i) ≡ true →
@@ -144,7 +144,7 @@ module _ (f : Frame) (frame : IsFrame f) (e ty : ℕ) (known : ty < length f.def
     kept_then = kept_happens f frame e ty known first batch ours w x o its.kept
 
     abbrev rise : Raises f frame e ty known w next its.ranked
-    rise = raises f frame e ty known w x its.ranked on
+    rise = raises f frame e ty known w x o its.ranked
 
     -- where the real is or was, the rank is at least the least one
     high_by : (k : ℕ) (r : Option RealView) (q : Option NextPlace) → real_in (before.slot k) ≡ r → (before.slot k).cell.slot.next ≡ q →

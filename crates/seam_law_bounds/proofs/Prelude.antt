@@ -13,7 +13,8 @@ pub use Rattle.seam_law_bounds.specs.Prelude.{passes_on, proxy_weight, real_weig
 pub use Rattle.seam_law_bounds.specs.Prelude.{tick_weight, was_left, witnesses_at, world_weight}
 pub use Rattle.seam_law_bounds.specs.Weights.{base_weight, cell_weight}
 pub use Rattle.seam_law_calls.proofs.HeldCounts.{early_counts, taken_counts, turn_counts}
-pub use Rattle.seam_law_calls.proofs.NoLooks.{looks_lead}
+pub use Rattle.seam_law_calls.proofs.Keeping.{EachKeeps, EventsKeep, FramedKeep, RunsKeep, reached_keep, run_keeps, runs_keep}
+pub use Rattle.seam_law_calls.proofs.NoLooks.{looks_happen, looks_lead}
 pub use Rattle.seam_law_calls.proofs.PartSteps.{equal_of, greater_of}
 pub use Rattle.seam_law_calls.proofs.Plain.{drops_silent}
 pub use Rattle.seam_law_calls.proofs.Prelude.{EachNode, Item, More, NoneIsStray, Rest, Slot, WitnessMoves, after_item, after_slot}
@@ -22,10 +23,10 @@ pub use Rattle.seam_law_calls.proofs.Prelude.{copied, executed_ready, ghost_set,
 pub use Rattle.seam_law_calls.proofs.Prelude.{known_in, known_real, letters_of-append, look_task, match_ordering, none, on_route}
 pub use Rattle.seam_law_calls.proofs.Prelude.{order_of_node, proxy_is_ready, ready_call_task, ready_in, reap, sent_weight, settled_by}
 pub use Rattle.seam_law_calls.proofs.Prelude.{slot_stepped, slot_steps, stays, stray_look, stray_order, stray_ready_call, survey_task, tail}
-pub use Rattle.seam_law_calls.proofs.Prelude.{unlisted_by, whole, with_copy, with_item, with_reap, ◌==◌}
+pub use Rattle.seam_law_calls.proofs.Prelude.{unlisted_by, whole, with_copy, with_item, with_reap, ◌==◌, items_fit}
 pub use Rattle.seam_law_calls.proofs.WayMoves.{call_in}
 pub use Rattle.seam_law_calls.proofs.WitnessKept.{ByWitness, all_weaker}
-pub use Rattle.seam_law_calls.proofs.Unknown.{only_ticks, unknown_leads}
+pub use Rattle.seam_law_calls.proofs.Unknown.{only_ticks, unknown_leads, unknown_happens}
 pub use Rattle.seam_law_calls.specs.Prelude.{IsTickOrder, IsTickTo, IsUnknown, called, entity_of}
 pub use Rattle.seam_law_clients.proofs.Prelude.{Acts, AllByRecursion, Any, AreCopiesBetweenRounds, AreFor, AreReapable, AtBase, AtCell}
 pub use Rattle.seam_law_clients.proofs.Prelude.{Base, BaseCall, BaseMoves, BaseView, Batch, Bool, Call, Cell, CellMoves, CellView}
@@ -50,27 +51,28 @@ pub use Rattle.seam_law_clients.proofs.Prelude.{fold-append, found, frame_happen
 pub use Rattle.seam_law_clients.proofs.Prelude.{ghost_messages, ghost_of, ghosts_silent, gone_leads, happens, has_any, has_changed}
 pub use Rattle.seam_law_clients.proofs.Prelude.{has_none, has_of, has_ready, has_witness, haunts_at, having_looked, here_at, holders}
 pub use Rattle.seam_law_clients.proofs.Prelude.{home_of, in_frame, in_view, inl, input_from, inr, is_another, is_far, is_none}
-pub use Rattle.seam_law_clients.proofs.Prelude.{is_of_another, is_some, is_sorted, item_at, items_all, items_to, keys_of, known_at}
-pub use Rattle.seam_law_clients.proofs.Prelude.{known_to, known_to_is, leads_by_one, leads_extend, leads_join, leads_keeps, leads_nowhere}
-pub use Rattle.seam_law_clients.proofs.Prelude.{leaf_at, leaves, leaving, length, length-append, length-map, letter, letter_in}
-pub use Rattle.seam_law_clients.proofs.Prelude.{letters_kept, letters_of, line_if, link, list_any, loaded, look_cell, look_ends_between}
-pub use Rattle.seam_law_clients.proofs.Prelude.{look_framed, look_loaded, look_next, look_numbers, look_serves, look_settles, looked_by}
-pub use Rattle.seam_law_clients.proofs.Prelude.{looks_around, looks_leave, looks_of, looks_with, ltb, map, mapped_silent, may_rise}
-pub use Rattle.seam_law_clients.proofs.Prelude.{may_show, mine, more_letter, most_told, nat_cmp, nat_cmp_total, nat_eq, nat_le, nat_lt}
-pub use Rattle.seam_law_clients.proofs.Prelude.{nat_tests, ne_eqb, new_part, new_proxy, newer_route, next_item, no_mail, node_has_work}
-pub use Rattle.seam_law_clients.proofs.Prelude.{node_laws, node_loaded, node_steps, none_counts, not, not_older, number_from, number_of}
-pub use Rattle.seam_law_clients.proofs.Prelude.{numbered, occurs, of_number, offered_update, one_happens, opened_has_none, option_map}
-pub use Rattle.seam_law_clients.proofs.Prelude.{order_if, order_or, ordered_at, other_of, own_due, packed, part_begins, part_called}
-pub use Rattle.seam_law_clients.proofs.Prelude.{part_moves, placed, projected, properties, properties_of, proxy_begins, proxy_task}
-pub use Rattle.seam_law_clients.proofs.Prelude.{quiet_home, quiet_links, quiet_tasks, range_with_len, readies, ready_entity, ready_next}
-pub use Rattle.seam_law_clients.proofs.Prelude.{ready_order, ready_part, ready_proxy, real_at, real_begins, real_in, real_is_ready, real_of}
-pub use Rattle.seam_law_clients.proofs.Prelude.{reals_stay, reap_ordered_at, reaps_cell, reaps_framed, reaps_loaded, refl, search_real}
-pub use Rattle.seam_law_clients.proofs.Prelude.{seen_as, seen_of, sends_none, sent_by, sent_of, served, set_at, settled_loaded, shown_for}
-pub use Rattle.seam_law_clients.proofs.Prelude.{shown_of, shows_next, slice_get, slice_get-map, slot_after, slot_at, slot_is, slot_of}
-pub use Rattle.seam_law_clients.proofs.Prelude.{slots_kept, sole_here, sound_sends, spared_happens, spared_loaded, stepped, subst, suc, sym}
+pub use Rattle.seam_law_clients.proofs.Prelude.{is_of_another, is_some, is_sorted, item_at, items_to, keys_of, known_at, known_to}
+pub use Rattle.seam_law_clients.proofs.Prelude.{known_to_is, leads_by_one, leads_extend, leads_join, leads_keeps, leads_nowhere, leaf_at}
+pub use Rattle.seam_law_clients.proofs.Prelude.{leaves, leaving, length, length-append, length-map, letter, letter_in, letters_kept}
+pub use Rattle.seam_law_clients.proofs.Prelude.{letters_of, line_if, link, list_any, loaded, look_cell, look_ends_between, look_framed}
+pub use Rattle.seam_law_clients.proofs.Prelude.{look_loaded, look_next, look_numbers, look_serves, look_settles, looked_by, looks_around}
+pub use Rattle.seam_law_clients.proofs.Prelude.{looks_leave, looks_of, looks_with, ltb, map, mapped_silent, may_rise, may_show, mine}
+pub use Rattle.seam_law_clients.proofs.Prelude.{more_letter, most_told, nat_cmp, nat_cmp_total, nat_eq, nat_le, nat_lt, nat_tests, ne_eqb}
+pub use Rattle.seam_law_clients.proofs.Prelude.{new_part, new_proxy, newer_route, next_item, no_mail, node_has_work, node_laws, node_loaded}
+pub use Rattle.seam_law_clients.proofs.Prelude.{node_steps, none_counts, not, not_older, number_from, number_of, numbered, occurs}
+pub use Rattle.seam_law_clients.proofs.Prelude.{of_number, offered_update, one_happens, opened_has_none, option_map, order_if, order_or}
+pub use Rattle.seam_law_clients.proofs.Prelude.{ordered_at, other_of, own_due, packed, part_begins, part_called, part_moves, placed}
+pub use Rattle.seam_law_clients.proofs.Prelude.{projected, properties, properties_of, proxy_begins, proxy_task, quiet_home, quiet_links}
+pub use Rattle.seam_law_clients.proofs.Prelude.{quiet_tasks, range_with_len, readies, ready_entity, ready_next, ready_order, ready_part}
+pub use Rattle.seam_law_clients.proofs.Prelude.{ready_proxy, real_at, real_begins, real_in, real_is_ready, real_of, reals_stay}
+pub use Rattle.seam_law_clients.proofs.Prelude.{reap_ordered_at, reaps_cell, reaps_framed, reaps_loaded, refl, search_real, seen_as}
+pub use Rattle.seam_law_clients.proofs.Prelude.{seen_of, sends_none, sent_by, sent_of, served, set_at, settled_loaded, shown_for, shown_of}
+pub use Rattle.seam_law_clients.proofs.Prelude.{shows_next, slice_get, slice_get-map, slot_after, slot_at, slot_is, slot_of, slots_kept}
+pub use Rattle.seam_law_clients.proofs.Prelude.{sole_here, sound_sends, spared_happens, spared_loaded, stepped, subst, suc, sym}
 pub use Rattle.seam_law_clients.proofs.Prelude.{task_without_orders, tick, tick_in, tick_to, times, total, true, update, update_in}
 pub use Rattle.seam_law_clients.proofs.Prelude.{updated_proxy, view_after_looks, with_nodes, with_part, with_proxy, with_route, without}
 pub use Rattle.seam_law_clients.proofs.Prelude.{witness_looked, witnesses, zero, ℕ, ◌&&◌, ◌++◌, ◌+◌, ◌<◌, ◌||◌, ◌∙◌, ◌∷◌, ◌≡◌, ◌≤◌, ◌⊎◌}
+pub use Rattle.seam_law_clients.proofs.Prelude.{sent_kept}
 pub use Rattle.seam_law_clients.proofs.Round.{called_between, reaped_between, reaped_copies, reaped_parts, reaped_room, reaped_small}
 pub use Rattle.seam_law_clients.proofs.ShownOnce.{cell_at}
 pub use Rattle.seam_law_flow.proofs.Following.{own}

@@ -1,13 +1,15 @@
 -- A quiet world that holds nothing weighs nothing.
-use Rattle.seam_law_bounds.proofs.Prelude.{◌≡◌, ℕ, ◌*◌, Bool, true, false, cond, ◌||◌, List, [], ◌∷◌, length, Option, None, Some, refl, sym}
-use Rattle.seam_law_bounds.proofs.Prelude.{ap, ◌∙◌, arith, nat_lt, find, slice_get, nat_tests, link, total, RealView, Map, has_any}
-use Rattle.seam_law_bounds.proofs.Prelude.{CellView, BaseView, NodeView, World, node_has_work, Cell, Base, slot_at, Frame, has_of, has_none}
-use Rattle.seam_law_bounds.proofs.Prelude.{held_in, real_in, IsBetweenRounds, Sizes, settling, look_weight, real_weight, part_weight}
-use Rattle.seam_law_bounds.proofs.Prelude.{order_weight, node_weight, letter_weight, world_weight, HoldsNothing, quiet_links, quiet_tasks}
-use Rattle.seam_law_bounds.proofs.Prelude.{found, map_total, no_held, rows_none}
+use Rattle.seam_law_bounds.proofs.Prelude.{◌≡◌, ℕ, ◌*◌, Bool, true, false, cond, List, [], ◌∷◌, length, Option, None, Some, refl, sym, ap}
+use Rattle.seam_law_bounds.proofs.Prelude.{◌∙◌, arith, nat_lt, find, slice_get, nat_tests, link, total, RealView, Map, has_any, CellView}
+use Rattle.seam_law_bounds.proofs.Prelude.{BaseView, NodeView, World, node_has_work, Cell, Base, slot_at, Frame, has_of, has_none, held_in}
+use Rattle.seam_law_bounds.proofs.Prelude.{real_in, IsBetweenRounds, Sizes, settling, look_weight, real_weight, part_weight, order_weight}
+use Rattle.seam_law_bounds.proofs.Prelude.{node_weight, letter_weight, world_weight, HoldsNothing, quiet_links, quiet_tasks, found}
+use Rattle.seam_law_bounds.proofs.Prelude.{map_total, no_held, rows_none}
 use Rattle.std.specs.FinMap as table
 use Rattle.seam_law_rounds.proofs.Starting.{none_weighs}
 use Rattle.seam_law_bounds.proofs.Counts.{none_times}
+use Rattle.seam_law_calls.proofs.Holds.{neither}
+use Rattle.seam_law_calls.proofs.Quieting.{none_left}
 
 -- ---- maps
 
@@ -43,14 +45,6 @@ module _ {X : Type 0} (f : X → ℕ) where
           absurd (let y = sym two.1 ∙ no in cc)
 
 -- ---- idle nodes
-
-neither : (a b : Bool) → (a || b) ≡ false → (a ≡ false) × (b ≡ false)
-neither true b h = cc
-neither false b h = (refl, h)
-
-none_left : {A : Type 0} (xs : List A) → has_any xs ≡ false → xs ≡ []
-none_left [] h = refl
-none_left (x ∷ xs) h = cc
 
 pub idle_survey : (c : CellView) → node_has_work (Cell c) ≡ false → c.survey ≡ []
 idle_survey c h = none_left c.survey (neither (has_any c.survey) _ h).0

@@ -1,17 +1,18 @@
 -- No event lowers a rank, and each next place has a higher one.
 use Rattle.seam_law_bounds.proofs.Prelude.{◌≡◌, ℕ, ◌+◌, ◌-◌, ◌<◌, ◌≤◌, ◌⊎◌, Bool, true, false, cond, ◌||◌, nat_le, List, [], ◌∷◌, ◌++◌}
 use Rattle.seam_law_bounds.proofs.Prelude.{length, Option, None, Some, refl, sym, ap, ◌∙◌, subst, arith, inl, inr, option_map, cases_eq}
-use Rattle.seam_law_bounds.proofs.Prelude.{nat_tests, happens, enabled, items_to, Event, RealView, Msg, Hand, NextPlace, World, node_steps}
-use Rattle.seam_law_bounds.proofs.Prelude.{node_has_work, Flow, Goes, comes, carried_in, TokenPlace, In, On, Frame, Has, entity_flow}
-use Rattle.seam_law_bounds.proofs.Prelude.{MovesTo, real_in, real_of, IsSpared, IsFrame, HasOne, RunsTo, is_hand_from, has_hand_from}
-use Rattle.seam_law_bounds.proofs.Prelude.{ComesTo, AreRanked, is_handed_over, Climbs, occurs, leads_keeps, Rest, whole, tail, More, own}
-use Rattle.seam_law_bounds.proofs.Prelude.{none, change, one_here, sole_here, sole_came, FindsRoom, goes, room, one_happens, calm_of}
-use Rattle.seam_law_bounds.proofs.Prelude.{spared_happens, IsRouted, Came, road, grown, place_then, routed_by}
+use Rattle.seam_law_bounds.proofs.Prelude.{nat_tests, happens, items_to, Event, RealView, Msg, Hand, NextPlace, World, node_steps, Flow}
+use Rattle.seam_law_bounds.proofs.Prelude.{Goes, comes, carried_in, TokenPlace, In, On, Frame, Has, entity_flow, MovesTo, real_in, real_of}
+use Rattle.seam_law_bounds.proofs.Prelude.{IsSpared, IsFrame, HasOne, is_hand_from, has_hand_from, ComesTo, AreRanked, is_handed_over}
+use Rattle.seam_law_bounds.proofs.Prelude.{Climbs, Rest, whole, tail, More, own, none, change, one_here, sole_here, sole_came, FindsRoom}
+use Rattle.seam_law_bounds.proofs.Prelude.{goes, room, one_happens, calm_of, spared_happens, IsRouted, Came, road, grown, place_then}
+use Rattle.seam_law_bounds.proofs.Prelude.{routed_by, RunsKeep, runs_keep, Occurs}
 use Rattle.seam_law_bounds.specs.Prelude.{rank_of}
 use Rattle.seam_machine.proofs.SendLemmas.{items_to-append}
 use Rattle.seam_law_rounds.proofs.RoadMoves.{generation_of, generation_in, Roads, plain, arrives, departs}
 use Rattle.seam_law_bounds.specs.Ranks.{rank_by}
 use Rattle.seam_node_steps.specs.Prelude.{Boundaries}
+use Rattle.seam_law_calls.proofs.Holds.{either}
 
 -- ---- lists of letters
 
@@ -38,10 +39,6 @@ pub hand_from : (n : ℕ) (m : Msg) → is_hand_from n m ≡ true → (r : RealV
     (n ≤ r.generation)
 hand_from n (Hand r bs) h = (r, bs, refl, grind (arith, nat_tests, h))
 hand_from n _ h = cc
-
-pub either : (a b : Bool) → (a || b) ≡ true → (a ≡ true) ⊎ (b ≡ true)
-either true b h = inl refl
-either false b h = inr h
 
 -- ---- ranks of slots
 
@@ -302,13 +299,12 @@ module _ (f : Frame) (frame : IsFrame f) (e ty : ℕ) (known : ty < length f.def
     pub raised : after.routed.real.generation
         ≡ h.routed.real.generation + cond {A = ℕ} (is_handed_over h.routed.place after.routed.place) 1 0
 
-  module _ (w : World) (v : Event) (h : Ranked w) (on : enabled node_has_work w v ≡ true) where
+  module _ (w : World) (v : Event) (o : Occurs w v) (h : Ranked w) where
     abbrev next : World
     next = happens node_steps w v
 
     pub raises : Raises w next h
     raises =
-        let o = occurs node_has_work w v on in
         let calm = calm_of f e w v o h.has.fits.frame h.spared in
         let g = goes f frame e ty known w v o h.has calm in
         let space = room f frame e ty known w v o h.has calm in
@@ -341,8 +337,5 @@ module _ (f : Frame) (frame : IsFrame f) (e ty : ℕ) (known : ty < length f.def
       raised = raises.raised;
     }
 
-  ranked_more : (w : World) (v : Event) → Ranked w → enabled node_has_work w v ≡ true → Ranked (happens node_steps w v)
-  ranked_more w v h on = (raises w v h on).after
-
-  pub ranked_leads : (w v : World) (es : List Event) → Ranked w → RunsTo w es v → Ranked v
-  ranked_leads w v es h run = leads_keeps node_has_work node_steps Ranked ranked_more w v es h run
+  pub ranked_leads : RunsKeep Ranked
+  ranked_leads = runs_keep Ranked (λ w v o h. (raises w v o h).after)

@@ -1,6 +1,6 @@
 -- The phase of reaps ends.
 use Rattle.seam_law_bounds.proofs.Prelude.{◌≡◌, ℕ, ◌+◌, ◌*◌, ◌<◌, ◌≤◌, Bool, true, false, eqb, List, [], ◌∷◌, length, Option, None, Some}
-use Rattle.seam_law_bounds.proofs.Prelude.{refl, not, sym, ap, ◌∙◌, subst, arith, inl, is_none, slice_get, AllByRecursion, length-map}
+use Rattle.seam_law_bounds.proofs.Prelude.{refl, sym, ap, ◌∙◌, subst, arith, inl, is_none, slice_get, AllByRecursion, length-map}
 use Rattle.seam_law_bounds.proofs.Prelude.{slice_get-map, slice_get_within, link, Occurs, EachNode, Event, Call as CallData, Order}
 use Rattle.seam_law_bounds.proofs.Prelude.{RealView, has_ready, may_execute, cell_count, base_of, Msg, holders, CellView, BaseView}
 use Rattle.seam_law_bounds.proofs.Prelude.{PartView, RouteView, stray_order, NodeView, World, node_has_work, Cell, Base, order_if}
@@ -25,6 +25,8 @@ use Rattle.seam_law_bounds.proofs.NoPasses.{no_pass_by, passes_none}
 use Rattle.seam_law_bounds.proofs.Ordered.{OrdersAre, orders_lead}
 use Rattle.seam_law_bounds.proofs.QuietWeights.{idle_looks, idle_base, empty_links, quiet_weighs}
 use Rattle.seam_law_bounds.proofs.Starts.{IsPlain, IsSoleReal, bare_start}
+use Rattle.seam_node_steps.specs.Prelude.{noting}
+use Rattle.seam_law_calls.proofs.Holds.{not_false}
 
 -- nothing
 no_sizes : Sizes
@@ -53,7 +55,7 @@ module _ (u : World) where
 
   plain_by : (e : ℕ) (s : NodeView) → holders u e ≡ 1 → IsPlain (IsReap u) s → IsPlain (IsReap u) (reap_ordered_at e s)
   plain_by e (Cell c) one h = h
-  plain_by e (Base b) one h = plain_if (eqb (base_of b.here e) b.here.me) e b one h
+  plain_by e (Base b) one h = plain_if (eqb (base_of b.here e) b.here.me) e (noting e b) one h
 
   plain_all : (es : List ℕ) (s : NodeView) → AllByRecursion (λ e. holders u e ≡ 1) es → IsPlain (IsReap u) s →
       IsPlain (IsReap u) (each reap_ordered_at es s)
@@ -162,13 +164,9 @@ module _ (f : Frame) (u : World) (between : IsBetweenRounds f u) (none : HoldsNo
       base_then : BaseCan b
       base_then = base_can b first_by (λ e p at. inl (part_none e p at))
 
-    allowed : (x : Bool) → not x ≡ false → x ≡ true
-    allowed true h = refl
-    allowed false h = cc
-
     cell_then : (k : ℕ) (c : CellView) → slice_get v.nodes k ≡ Some (Cell c) → (e : ℕ) (r : RealView) → table.get c.reals e ≡ Some r →
         has_ready r.orders ≡ true → may_execute r ≡ true
-    cell_then k c node e r at ready = allowed (may_execute r) ((reaps_tasks f u between es may vs v run k c node).ready e r at ready)
+    cell_then k c node e r at ready = not_false (may_execute r) ((reaps_tasks f u between es may vs v run k c node).ready e r at ready)
 
     pub can_then : (z : Sizes) → f.settings.bases ≤ z.bases → (x : Event) (o : Occurs v x) → NodeCan z o.node o.input
     can_then z enough x o =

@@ -1,6 +1,6 @@
 -- How long a round is, where its nodes can do what they are to do.
-use Rattle.seam_law_bounds.proofs.Prelude.{◌≡◌, ℕ, ◌+◌, ◌*◌, ◌≤◌, ◌⊎◌, Bool, true, false, List, [], ◌∷◌, length, Some, refl, sym, ap, ◌∙◌}
-use Rattle.seam_law_bounds.proofs.Prelude.{subst, arith, inl, inr, not, slice_get, AllByRecursion, slice_get-map, link, EachNode, Event}
+use Rattle.seam_law_bounds.proofs.Prelude.{◌≡◌, ℕ, ◌+◌, ◌*◌, ◌≤◌, ◌⊎◌, true, false, List, [], ◌∷◌, length, Some, refl, sym, ap, ◌∙◌, subst}
+use Rattle.seam_law_bounds.proofs.Prelude.{arith, inl, inr, slice_get, AllByRecursion, slice_get-map, link, EachNode, Event}
 use Rattle.seam_law_bounds.proofs.Prelude.{Call as CallData, Order, Batch, rank_of, RealView, has_ready, may_execute, Msg, holders}
 use Rattle.seam_law_bounds.proofs.Prelude.{CellView, BaseView, PartView, stray_order, NodeView, World, node_has_work, Cell, Base, loaded}
 use Rattle.seam_law_bounds.proofs.Prelude.{slot_at, Frame, IsInFrame, order_about, has_of, has_none, NoneIsStray, RunsTo, framed}
@@ -26,6 +26,7 @@ use Rattle.seam_law_bounds.proofs.Ordered.{OrdersAre, orders_lead}
 use Rattle.seam_law_bounds.proofs.PassSums.{IsIn, passed_in, cells_bound, passes_are_ordered}
 use Rattle.seam_law_bounds.proofs.RoundStart.{blank_at, loaded_weighs, left_few}
 use Rattle.seam_law_bounds.proofs.Starts.{IsPlain, IsSoleReal, parts_none}
+use Rattle.seam_law_calls.proofs.Holds.{not_false}
 
 -- ---- each order is one of the batch's
 
@@ -146,14 +147,10 @@ module _ (f : Frame) (w : World) (b : Batch) (may : MayBeLoaded f w b) (none : H
       pub base_then : BaseCan n
       base_then = base_can n first_free (λ e p at. part_by e p at (search_real e start))
 
-    allowed : (x : Bool) → not x ≡ false → x ≡ true
-    allowed true h = refl
-    allowed false h = cc
-
     pub cell_then : (k : ℕ) (c : CellView) → slice_get v.nodes k ≡ Some (Cell c) → (e : ℕ) (r : RealView) → table.get c.reals e ≡ Some r →
         has_ready r.orders ≡ true → may_execute r ≡ true
     cell_then k c node e r at ready =
-        allowed (may_execute r) ((round_tasks f w b may.begin v es run k c node).ready e r at ready)
+        not_false (may_execute r) ((round_tasks f w b may.begin v es run k c node).ready e r at ready)
 
     -- ---- calls that are passed on
 

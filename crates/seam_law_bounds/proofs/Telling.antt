@@ -1,10 +1,9 @@
 -- What a witness told stays within what it told at the start and what its looks may tell, by how many entities there are to look at.
-use Rattle.seam_law_bounds.proofs.Prelude.{◌≡◌, ℕ, ◌+◌, ◌*◌, ◌≤◌, true, List, [], ◌∷◌, ◌++◌, length, Some, sym, ap, ◌∙◌, arith}
-use Rattle.seam_law_bounds.proofs.Prelude.{mul-le-mul_left, cells_of, happens, enabled, Occurs, Event, Here, base_of, cell_count, RealView}
-use Rattle.seam_law_bounds.proofs.Prelude.{WitnessView, Known, shown_of, CellView, known_to, World, node_steps, node_has_work, Cell}
-use Rattle.seam_law_bounds.proofs.Prelude.{slot_at, Frame, IsInFrame, has_of, has_none, real_in, sent_of, sent_by, EachReal, HasToldAtMost}
-use Rattle.seam_law_bounds.proofs.Prelude.{looks_left, RunsTo, LooksAmong, LooksFit, Always, occurs, leads_keeps, leads_extend}
-use Rattle.seam_law_bounds.proofs.Prelude.{leads_nowhere, frame_happens, ByWitness, each_weaker}
+use Rattle.seam_law_bounds.proofs.Prelude.{◌≡◌, ℕ, ◌+◌, ◌*◌, ◌≤◌, List, length, Some, sym, ap, ◌∙◌, arith, mul-le-mul_left, cells_of}
+use Rattle.seam_law_bounds.proofs.Prelude.{happens, Occurs, Event, Here, base_of, cell_count, RealView, WitnessView, Known, shown_of}
+use Rattle.seam_law_bounds.proofs.Prelude.{CellView, known_to, World, node_steps, Cell, slot_at, Frame, IsInFrame, has_of, has_none}
+use Rattle.seam_law_bounds.proofs.Prelude.{real_in, sent_of, sent_by, EachReal, HasToldAtMost, looks_left, RunsTo, LooksAmong, LooksFit}
+use Rattle.seam_law_bounds.proofs.Prelude.{Always, frame_happens, ByWitness, each_weaker, reached_keep}
 use Rattle.seam_law_calls.proofs.Looking.{looked_at}
 use Rattle.seam_law_calls.proofs.LooksLeft.{looks_left_happens, looks_left_falls}
 use Rattle.seam_law_calls.proofs.Telling.{Looked, each_looked}
@@ -38,14 +37,12 @@ module _ (f : Frame) (most : cells_of f.tree ≤ cell_count) (us ws : List ℕ)
       omega (arith, told, sent, less, split, h)
 
   record Within (w : World) : Type 0 where
-    before : List Event
-    from : RunsTo start before w
     frame : IsInFrame f w
     each : EachReal e (IsWithin (looks_left e w)) w
 
   -- ---- an event
 
-  module _ (w : World) (v : Event) (on : enabled node_has_work w v ≡ true) (o : Occurs w v) (h : Within w) where
+  module _ (w : World) (before : List Event) (from : RunsTo start before w) (v : Event) (o : Occurs w v) (h : Within w) where
     abbrev next : World
     next = happens node_steps w v
 
@@ -60,7 +57,7 @@ module _ (f : Frame) (most : cells_of f.tree ≤ cell_count) (us ws : List ℕ)
     looked : (c : CellView) → o.node ≡ Cell c → (l : Looked e w v o c) → IsWithin left (looked_at c.here (known_to c e) l.real l.witness)
     looked c is l =
         let told =
-        tells_few us ws few w (among w h.before h.from) v.node c (o.is_node ∙ ap Some is) e l.real l.witness
+        tells_few us ws few w (among w before from) v.node c (o.is_node ∙ ap Some is) e l.real l.witness
         (ap (λ n. (has_of e n).cell.slot.real) (sym is) ∙ l.was) l.seen in
         let less =
         looks_left_falls f most e w v o h.frame (base_of c.here e) c.here (known_to c e) (ap (λ s. (has_of e s).base.orders) is)
@@ -70,17 +67,12 @@ module _ (f : Frame) (most : cells_of f.tree ≤ cell_count) (us ws : List ℕ)
 
     within_happens : Within next
     within_happens = record {
-      before = h.before ++ v ∷ [];
-      from = leads_extend node_has_work node_steps start w h.before v h.from on;
       frame = frame_happens f w v o h.frame;
       each = each_looked f e w v o h.frame (IsWithin left) (within_by left) weaker looked;
     }
 
-  within_more : (w : World) (v : Event) → Within w → enabled node_has_work w v ≡ true → Within (happens node_steps w v)
-  within_more w v h on = within_happens w v on (occurs node_has_work w v on) h
-
   within_leads : (v : World) (es : List Event) → Within start → RunsTo start es v → Within v
-  within_leads v es h run = leads_keeps node_has_work node_steps Within within_more start v es h run
+  within_leads = reached_keep start Within within_happens
 
 -- ---- all of it
 
@@ -102,8 +94,6 @@ module _ (f : Frame) (most : cells_of f.tree ≤ cell_count) (us ws : List ℕ)
   tells_at_most =
       each_weaker (IsWithin f most us ws few start among e b (looks_left e v)) (λ r. sent_by r ≤ b) e v at_end
       (within_leads f most us ws few start among e b v es (record {
-        before = [];
-        from = leads_nowhere node_has_work node_steps start;
         frame = frame;
         each = each_weaker (λ r. sent_by r ≤ n) (IsWithin f most us ws few start among e b (looks_left e start)) e start at_start told;
       }) run).each

@@ -20,6 +20,7 @@ use Rattle.seam_law_ghosts.proofs.Rounding.{loaded_copied}
 use Rattle.seam_law_rounds.proofs.Attaching.{sees_loaded}
 use Rattle.seam_law_bounds.proofs.Among.{always_among}
 use Rattle.seam_law_bounds.proofs.LookStarts.{in_cell, round_is_bounded}
+use Rattle.seam_law_calls.proofs.Holds.{or_right, or_left}
 
 -- ---- what each real has, each real of a loaded world has
 
@@ -107,14 +108,6 @@ numbers_many of n each (s ∷ ss) =
     let more = numbers_many of n each ss in
     let sum = length-append (of s) (numbers_in of ss) in
     omega (arith, one, more, sum)
-
-or_left : (a b : Bool) → a ≡ true → (a || b) ≡ true
-or_left true b h = refl
-or_left false b h = cc
-
-or_right : (a b : Bool) → b ≡ true → (a || b) ≡ true
-or_right true b h = refl
-or_right false b h = h
 
 number_at : (of : NodeView → List ℕ) (e : ℕ) (ss : List NodeView) (k : ℕ) (s : NodeView) → slice_get ss k ≡ Some s →
     is_among (of s) e ≡ true → is_among (numbers_in of ss) e ≡ true

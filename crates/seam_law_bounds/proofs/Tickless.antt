@@ -46,7 +46,8 @@ module _ (f : Frame) (w : World) (b : Batch) (may : MayBeLoaded f w b) (none : H
       let empty = empty_start f w b may none in
       let sole = sole_start f w b may none e in
       let t = told_start h e s0 frame empty NoTick plain (λ o is. is) sole in
-      (looks_lead h e t.0 s0 v es frame (looks_start h e s0 frame empty NoTick plain (λ o is. is) sole) t.1 run).looks
+      (looks_lead h e t.0 s0 v es
+      (record { frame = frame; looks = looks_start h e s0 frame empty NoTick plain (λ o is. is) sole; told = t.1 }) run).looks
 
   can : (z : Sizes) → f.settings.bases ≤ z.bases → AllCan z s0
   can z enough v es run x o =

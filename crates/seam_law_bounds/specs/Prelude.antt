@@ -8,4 +8,6 @@ pub use Rattle.seam_law_bounds.specs.Phases.{events_of_round, one_if_cell, one_i
 pub use Rattle.seam_law_bounds.specs.Ranks.{AreRanked, Climbs, ComesTo, has_hand_from, is_hand_from, is_handed_over, rank_of}
 pub use Rattle.seam_law_bounds.specs.Records.{IsBounded}
 pub use Rattle.seam_law_bounds.specs.Weights.{Sizes, letter_weight, look_weight, node_weight, order_weight, part_weight, proxy_weight}
+pub use Rattle.seam_law_bounds.specs.Weights.{left_weight, moving_cell_weight, moving_letter_weight, moving_node_weight}
+pub use Rattle.seam_law_bounds.specs.Weights.{moving_real_weight, moving_weight}
 pub use Rattle.seam_law_bounds.specs.Weights.{real_weight, settle_weight, settling, tick_weight, world_weight}

@@ -1,7 +1,8 @@
 -- What each item of a net weighs: at least the number of events that it can still cause. A call that is passed on keeps its weight.
-use Rattle.std.specs.Prelude.{ℕ, ◌+◌, ◌*◌, length}
+use Rattle.std.specs.Prelude.{ℕ, ◌+◌, ◌-◌, ◌*◌, length}
 use Rattle.std.specs.List.{range_with_len}
-use Rattle.seam_node_steps.specs.Prelude.{total, Order, RealView, Msg, BaseCall, Hand, Current, GhostSet, GhostDrop, Tick, Reap, Update}
+use Rattle.seam_node_steps.specs.Prelude.{total, Order, RealView, Msg, BaseCall, Hand, Tick, Reap, Update}
+use Rattle.seam_node_steps.specs.Prelude.{number_in}
 use Rattle.seam_node_steps.specs.Prelude.{cell_count, CellView, BaseView, PartView, ProxyView, NodeView, World, Cell, Base}
 use Rattle.seam_law_calls.specs.Prelude.{held_in}
 use Rattle.seam_net_runs.specs.Sums.{weight_or, map_total}
@@ -77,3 +78,30 @@ letter_weight z k _ = 1
 -- a world: all its nodes and all messages on their way
 abbrev pub world_weight : Sizes → World → ℕ
 world_weight z w = weight (node_weight z) (letter_weight z) w
+
+-- ---- a round in which boundaries move, of which the last have the number `last`
+
+-- by so many later trees a real may yet have to settle that goes by one of that number
+abbrev pub left_weight : Sizes → (last number : ℕ) → ℕ
+left_weight z last number = (last - number) * settling z
+
+-- a real that goes by a tree of that number: the calls that it holds, and a settling by each later tree
+abbrev pub moving_real_weight : Sizes → (last number : ℕ) → RealView → ℕ
+moving_real_weight z last number r = real_weight z r + left_weight z last number
+
+abbrev pub moving_cell_weight : Sizes → (last : ℕ) → CellView → ℕ
+moving_cell_weight z last c =
+    map_total (moving_real_weight z last c.number) c.reals + (length c.survey * settling z + length c.looks * look_weight z)
+
+abbrev pub moving_node_weight : Sizes → (last : ℕ) → NodeView → ℕ
+moving_node_weight z last (Cell c) = moving_cell_weight z last c
+moving_node_weight z last (Base b) = base_weight z b
+
+-- a real on its way goes by the tree that it brings
+abbrev pub moving_letter_weight : Sizes → (last to : ℕ) → Msg → ℕ
+moving_letter_weight z last k (Hand r bs) = 1 + z.bases + moving_real_weight z last (number_in bs) r
+moving_letter_weight z last k m = letter_weight z k m
+
+-- a world in such a round; where no boundaries move it weighs what it does above
+abbrev pub moving_weight : Sizes → (last : ℕ) → World → ℕ
+moving_weight z last w = weight (moving_node_weight z last) (moving_letter_weight z last) w

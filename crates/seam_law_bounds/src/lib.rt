@@ -27,8 +27,9 @@ pub use growth::a_round_raises_numbers_little;
 pub use measure::{
     a_longest_run_is_quiet, a_round_ends, a_round_without_ticks_ends,
     a_run_is_no_longer_than_its_start_weighs, an_event_lowers_the_weight,
-    an_opened_world_has_what_the_laws_ask, looks_are_about_what_there_is, looks_end,
-    nothing_held_goes_from_record_to_record, reaps_end, what_is_seen_is_held,
+    an_event_of_a_moving_round_lowers_the_weight, an_opened_world_has_what_the_laws_ask,
+    looks_are_about_what_there_is, looks_end, nothing_held_goes_from_record_to_record, reaps_end,
+    what_is_seen_is_held,
 };
 pub use phases::{
     a_round_keeps_the_records, a_round_keeps_what_bounds_it, each_phase_of_a_round_ends,

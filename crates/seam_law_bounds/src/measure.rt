@@ -18,7 +18,9 @@ ghost use Rattle.seam_law_calls.specs.Prelude.{Frame, IsInFrame, IsFrame, is_tic
 ghost use Rattle.seam_law_rounds.specs.Prelude.{IsBetweenRounds, first_frame, AreReapable, MayBeLoaded, HasPartsBetweenRounds};
 ghost use Rattle.seam_law_rounds.specs.Prelude.{HasSmallNumbers};
 ghost use Rattle.seam_law_ghosts.specs.Prelude.{AreCopiesBetweenRounds};
+ghost use Rattle.seam_law_slides.specs.Prelude.{DivideTheSpace, GoesByRound};
 ghost use Rattle.seam_law_bounds.specs.Prelude.{Sizes, world_weight, is_pass, NodeCan, AllCan, all_passes, LooksFit, ClientsKeepRoom};
+ghost use Rattle.seam_law_bounds.specs.Prelude.{moving_weight};
 ghost use Rattle.seam_law_bounds.specs.Prelude.{Always, EachSeenIsHeld, LooksAmong, HoldsNothing, entities, all_witnesses, cell_orders};
 ghost use Rattle.seam_law_bounds.specs.Prelude.{base_orders, tick_orders, events_of_round, events_of_looks};
 ghost use Rattle.seam_net_runs.specs.Weights.{Lowers};
@@ -29,6 +31,21 @@ pub fn an_event_lowers_the_weight()
     ensures { (z : Sizes) (f : Frame) (w : World) (v : Event) (o : Occurs w v) → IsInFrame f w →
         NodeCan z o.node o.input → enabled node_has_work w v ≡ true →
         Lowers node_steps is_pass (world_weight z) w v }
+{}
+
+/// So it does in a round in which boundaries move, where a real weighs a settling more for each later tree by which it may yet have to
+/// settle (`lowers`); and a list of events is no longer than such a world weighs and the calls that it passes on (`run`). Where no
+/// boundaries move it is the same weight (`still`).
+pub fn an_event_of_a_moving_round_lowers_the_weight()
+    ensures lowers { (z : Sizes) (f : Frame) → IsFrame f → DivideTheSpace f → (w : World)
+        (v : Event) (o : Occurs w v) → GoesByRound f w → NodeCan z o.node o.input →
+        enabled node_has_work w v ≡ true →
+        Lowers node_steps is_pass (moving_weight z (length f.later)) w v }
+    ensures run { (z : Sizes) (f : Frame) → IsFrame f → DivideTheSpace f → (w : World) →
+        GoesByRound f w → AllCan z w → (v : World) (es : List Event) → RunsTo w es v →
+        length es + moving_weight z (length f.later) v
+        ≤ moving_weight z (length f.later) w + all_passes w es }
+    ensures still { (z : Sizes) (w : World) → moving_weight z 0 w ≡ world_weight z w }
 {}
 
 /// So a list of events from a world whose nodes always can is no longer than what the world weighs and the calls that it passes on.

@@ -1,12 +1,11 @@
 -- An entity that is nowhere, and that nothing brings, stays so.
 use Rattle.seam_law_calls.proofs.Prelude.{◌≡◌, ℕ, Bool, true, false, cond, nat_lt, List, Option, None, Some, refl, sym, ap, ◌∙◌, subst}
-use Rattle.seam_law_calls.proofs.Prelude.{AllByRecursion, Division, happens, Occurs, Event, Ghost, beat_in, copy_in, ghost_after, GhostCopy}
-use Rattle.seam_law_calls.proofs.Prelude.{RealView, Msg, Hand, GhostSet, World, node_steps, Frame, here_at, IsInFrame, Has, AtCell}
-use Rattle.seam_law_calls.proofs.Prelude.{BaseMoves, Moves, at_a_cell, at_a_base, real_in, IsBlank, CarriesNoEntity, IsAbsent}
-use Rattle.seam_law_calls.proofs.Prelude.{HasFewEntities, RunsTo}
+use Rattle.seam_law_calls.proofs.Prelude.{AllByRecursion, Division, Ghost, beat_in, copy_in, ghost_after, GhostCopy, RealView, Msg, Hand}
+use Rattle.seam_law_calls.proofs.Prelude.{GhostSet, Frame, here_at, Has, AtCell, BaseMoves, Moves, at_a_cell, at_a_base, real_in, IsBlank}
+use Rattle.seam_law_calls.proofs.Prelude.{CarriesNoEntity, IsAbsent, HasFewEntities}
 use Rattle.seam_law_calls.proofs.CellDeeds as deed
 use Rattle.seam_law_calls.proofs.CellDeeds.{CellDeeds, HeardOf, as_before, set_to, dropped, cell_deeds}
-use Rattle.seam_law_calls.proofs.Keeping.{all_happen, run_keeps, units}
+use Rattle.seam_law_calls.proofs.Keeping.{all_happen, run_keeps, units, EventsKeep, FramedKeep}
 use Rattle.seam_law_calls.proofs.BaseDeeds.{base_keeps}
 
 -- a drop makes no copy
@@ -70,16 +69,16 @@ module _ (f : Frame) (e k : ℕ) (s : Has) (i : Option Msg) (t : Has) (sent : Li
   stays_blank (at_a_base high m cell) = base_blank _ cell m
 
 module _ (f : Frame) (e : ℕ) where
-  pub absent_happens : (w : World) (v : Event) → Occurs w v → IsInFrame f w → IsAbsent e w → IsAbsent e (happens node_steps w v)
+  pub absent_happens : EventsKeep f (IsAbsent e)
   absent_happens w v o frame h =
       let all = all_happen f e (λ k s. IsBlank s) (λ a k m. CarriesNoEntity m)
       (λ k s i t sent here come m. stays_blank f e k s i t sent here (λ x is. (come x is).1) m) w v o frame
       (record { slots = h.cells; letters = h.letters }) in
       record { cells = all.slots; letters = all.letters }
 
-  pub absent_leads : (w v : World) (es : List Event) → IsInFrame f w → IsAbsent e w → RunsTo w es v → IsAbsent e v
-  absent_leads w v es frame absent run = run_keeps f (IsAbsent e) absent_happens w v es frame run absent
+  pub absent_leads : FramedKeep f (IsAbsent e)
+  absent_leads = run_keeps f (IsAbsent e) absent_happens
 
 -- so no entity past the bound comes into a world
-pub few_leads : (f : Frame) (w v : World) (es : List Event) → IsInFrame f w → HasFewEntities w → RunsTo w es v → HasFewEntities v
+pub few_leads : (f : Frame) → FramedKeep f HasFewEntities
 few_leads f w v es frame few run = λ e le. absent_leads f e w v es frame (few e le) run

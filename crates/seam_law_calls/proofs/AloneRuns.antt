@@ -1,14 +1,13 @@
 -- Each call once to the base part of an entity without a client: after every list of events.
-use Rattle.seam_law_calls.proofs.Prelude.{◌≡◌, ℕ, true, List, ◌∷◌, ap, happens, enabled, Occurs, Event, Call as CallData, Msg, BaseCall}
-use Rattle.seam_law_calls.proofs.Prelude.{may_show, World, node_steps, node_has_work, comes, Frame, here_at, IsInFrame, entity_flow}
-use Rattle.seam_law_calls.proofs.Prelude.{IsSpared, HasNoProxy, home_of, FindsPart, HasBaseCalls, HasNoClient, RunsTo, occurs, leads_keeps}
-use Rattle.seam_law_calls.proofs.Prelude.{slots_kept}
+use Rattle.seam_law_calls.proofs.Prelude.{◌≡◌, ℕ, true, List, ap, happens, Occurs, Event, Call as CallData, may_show, World, node_steps}
+use Rattle.seam_law_calls.proofs.Prelude.{comes, Frame, here_at, IsInFrame, entity_flow, IsSpared, HasNoProxy, home_of, HasBaseCalls}
+use Rattle.seam_law_calls.proofs.Prelude.{HasNoClient, RunsTo, slots_kept}
 use Rattle.seam_law_calls.proofs.Classify.{event_moves}
 use Rattle.seam_law_calls.proofs.OneReal.{spared_happens}
 use Rattle.seam_law_calls.proofs.PartSteps.{part_moves}
 use Rattle.seam_law_calls.proofs.ClientSteps.{client_after, stays_alone}
-use Rattle.seam_law_calls.proofs.BaseRuns.{unordered, finds, kept_happens}
-use Rattle.seam_law_calls.proofs.Keeping.{run_keeps}
+use Rattle.seam_law_calls.proofs.BaseRuns.{unordered, kept_happens}
+use Rattle.seam_law_calls.proofs.Keeping.{run_keeps, EachKeeps, RunsKeep, runs_keep}
 
 -- an entity without a client gets none
 module _ (f : Frame) (e : ℕ) where
@@ -25,29 +24,22 @@ module _ (f : Frame) (e : ℕ) where
   pub bare_leads : (w v : World) (es : List Event) → IsInFrame f w → IsSpared e w → HasNoClient e w → RunsTo w es v → HasNoClient e v
   bare_leads w v es frame spared none run =
       (run_keeps f (λ x. IsSpared e x × HasNoClient e x)
-      (λ x a o q h. (spared_happens f e x a o q h.0, bare_happens x a o q h.0 h.1)) w v es frame run (spared, none)).1
+      (λ x a o q h. (spared_happens f e x a o q h.0, bare_happens x a o q h.0 h.1)) w v es frame (spared, none) run).1
 
 module _ (f : Frame) (e ty : ℕ) (first : ℕ → ℕ) (batch : ℕ → List CallData) where
   -- nothing is to be shown
   pub no_lines : (w : World) (h : HasBaseCalls f e ty first batch w) → HasNoClient e w → may_show h.part.part.proxy ≡ true
   no_lines w h alone = ap may_show (alone (home_of f e) h.part.part h.part.here)
 
-  pub finds_alone : (w : World) (h : HasBaseCalls f e ty first batch w) → HasNoClient e w → (a k : ℕ) (c : CallData) (ms : List Msg) →
-      (entity_flow e w).mail a k ≡ BaseCall c ∷ ms → FindsPart f e k ((entity_flow e w).slot k).base c
-  finds_alone w h alone a k c ms at = finds f e ty first batch w h a k c ms at (no_lines w h alone)
-
   pub record Alone (w : World) : Type 0 where
     pub calls : HasBaseCalls f e ty first batch w
     pub alone : HasNoClient e w
 
-  alone_more : (w : World) (v : Event) → Alone w → enabled node_has_work w v ≡ true → Alone (happens node_steps w v)
-  alone_more w v h on =
-      let o = occurs node_has_work w v on in
-      record {
-        calls = kept_happens f e ty first batch w v o h.calls (no_lines w h.calls h.alone);
-        alone = bare_happens f e w v o h.calls.part.frame h.calls.spared h.alone;
-      }
+  alone_happens : EachKeeps Alone
+  alone_happens w v o h = record {
+    calls = kept_happens f e ty first batch w v o h.calls (no_lines w h.calls h.alone);
+    alone = bare_happens f e w v o h.calls.part.frame h.calls.spared h.alone;
+  }
 
-  pub alone_leads : (w v : World) (es : List Event) → HasBaseCalls f e ty first batch w → HasNoClient e w → RunsTo w es v → Alone v
-  alone_leads w v es h alone run =
-      leads_keeps node_has_work node_steps Alone alone_more w v es (record { calls = h; alone = alone }) run
+  pub alone_leads : RunsKeep Alone
+  alone_leads = runs_keep Alone alone_happens

@@ -9,8 +9,9 @@ use Rattle.seam_law_calls.proofs.Prelude.{updates_at, shown_at, tells, HasClient
 use Rattle.seam_law_calls.proofs.Prelude.{all_delivered, all_done}
 use Rattle.std.specs.FinMap as table
 use Rattle.seam_law_calls.proofs.ExampleMet.{slots}
-use Rattle.seam_law_calls.proofs.Quieting.{neither, none_left, none_some, got_fails, no_turn_by}
+use Rattle.seam_law_calls.proofs.Quieting.{none_left, none_some, got_fails, no_turn_by}
 use Rattle.seam_law_calls.proofs.PartSeen.{desk_of_part}
+use Rattle.seam_law_calls.proofs.Holds.{neither}
 
 -- neither a call of a part nor an update of its client is ready in a base node without a task
 pub none_is_ready : (b : BaseView) (e : ℕ) (p : PartView) → base_has_work b ≡ false → table.get b.parts e ≡ Some p →

@@ -6,13 +6,12 @@ use Rattle.seam_law_calls.proofs.Prelude.{PartView, ProxyView, with_part, stray_
 use Rattle.seam_law_calls.proofs.Prelude.{base_steps, mine, concerning, orders_of, AtBase, at_base, newer, part_offered, updated, BaseMoves}
 use Rattle.seam_law_calls.proofs.Prelude.{entity_of, unless_stray}
 use Rattle.std.specs.FinMap as table
-use Rattle.seam_node_steps.specs.Prelude.{case_of}
+use Rattle.seam_node_steps.specs.Prelude.{case_of, Bounds}
 use Rattle.seam_call.specs.declared.shown.Update.{Update as UpdateData}
 use Rattle.seam_node_steps.specs.BaseCases
 use Rattle.seam_node_steps.specs.BaseCases.{may_call, is_stray}
 use Rattle.seam_law_calls.specs.BaseMoves as move
 use Rattle.seam_law_calls.proofs.Lists.{mine_own, mine_other}
-use Rattle.seam_node_steps.specs.Prelude.{Bounds}
 
 -- ---- maps at the entity's number
 
@@ -40,14 +39,6 @@ at_same a b r q p o x y z = λ i. record { orders = x i; route = y i; part = z i
 
 some_is : {X : Type 0} (a b : X) → Some a ≡ Some b → a ≡ b
 some_is a b is = cc
-
-pub yes_of : (b : Bool) → not b ≡ false → b ≡ true
-yes_of true is = refl
-yes_of false is = cc
-
-pub no_of : (b : Bool) → not b ≡ true → b ≡ false
-no_of true is = cc
-no_of false is = refl
 
 module _ (e : ℕ) (b : BaseView) where
   abbrev s : AtBase

@@ -15,8 +15,9 @@ use Rattle.seam_node_steps.specs.BaseCases.{may_call}
 use Rattle.seam_law_calls.specs.BaseMoves as move
 use Rattle.seam_law_calls.proofs.Lists.{AllAbout, all_pass, concerned_own, concerned_other, concerning_own, concerning_other, orders_own}
 use Rattle.seam_law_calls.proofs.Lists.{orders_other}
-use Rattle.seam_law_calls.proofs.BaseSteps.{gone_own, gone_other, at_same, yes_of, part_own, part_other}
+use Rattle.seam_law_calls.proofs.BaseSteps.{gone_own, gone_other, at_same, part_own, part_other}
 use Rattle.seam_node_steps.specs.Prelude.{TellsNone}
+use Rattle.seam_law_calls.proofs.Holds.{not_false}
 
 module _ (e : ℕ) (b : BaseView) where
   abbrev s : AtBase
@@ -46,7 +47,7 @@ module _ (e : ℕ) (b : BaseView) where
         Goal (sends_none (BaseCases.part_called d c o))
     called_moves c None at is here has sound = cc
     called_moves c (Some p) at is here has sound =
-        move.offers_own c (orders_of e os) p refl at is here has (yes_of (may_call b.here p c) sound)
+        move.offers_own c (orders_of e os) p refl at is here has (not_false (may_call b.here p c) sound)
         (own_part (part_offered b.here p c) c.entity is) refl
 
     base_by : (c : CallData) (t : Bool) → s.orders ≡ order.Base c ∷ orders_of e os → c.entity ≡ e → is_base_node_of b.here c.entity ≡ t →

@@ -1,14 +1,14 @@
 -- Each call to a cell part once: after an event, and after every list of events.
 use Rattle.seam_law_calls.proofs.Prelude.{◌≡◌, ℕ, ◌+◌, ◌<◌, ◌≤◌, true, not, is_some, List, ◌∷◌, length, Option, None, Some, refl, ap, ◌∙◌}
-use Rattle.seam_law_calls.proofs.Prelude.{arith, slice_get, found, happens, enabled, Occurs, Task, Event, item_at, next_item}
-use Rattle.seam_law_calls.proofs.Prelude.{Call as CallData, rank_of, order_or, order_of, RealView, Msg, Reap, limit, cell_count}
-use Rattle.seam_law_calls.proofs.Prelude.{order_is_ready, may_offer, fits_cell_part, may_call, NodeView, World, node_steps, node_has_work}
-use Rattle.seam_law_calls.proofs.Prelude.{Cell, Base, Flow, comes, letter_in, letters_of, more_letter, slot_at, carried_in, Item, desk_of}
-use Rattle.seam_law_calls.proofs.Prelude.{parcel_of, AreInTurn, Passes, Twice, Frame, here_at, IsInFrame, Has, mine, has_of, has_none}
-use Rattle.seam_law_calls.proofs.Prelude.{entity_flow, real_burden, node_burden, mine_burden, burden, real_in, IsSpared, IsFrame, HasOne}
-use Rattle.seam_law_calls.proofs.Prelude.{is_visited, AllLead, desk_for, real_desk, cell_post, cell_mail, as_sender, IsCallOf, AreCallsOf}
-use Rattle.seam_law_calls.proofs.Prelude.{CellCallsInTurn, FindsTurn, RunsTo, occurs, weight_or, leads_keeps, weight_bounds, narrow_goes}
-use Rattle.seam_law_calls.proofs.Prelude.{first_is, sole_here, turns_go, is_met, never_late, never_held, held_is_due, due_is}
+use Rattle.seam_law_calls.proofs.Prelude.{arith, slice_get, found, happens, Occurs, Task, Event, item_at, next_item, Call as CallData}
+use Rattle.seam_law_calls.proofs.Prelude.{rank_of, order_or, order_of, RealView, Msg, Reap, limit, cell_count, order_is_ready, may_offer}
+use Rattle.seam_law_calls.proofs.Prelude.{fits_cell_part, may_call, NodeView, World, node_steps, Cell, Base, Flow, comes, letter_in}
+use Rattle.seam_law_calls.proofs.Prelude.{letters_of, more_letter, slot_at, carried_in, Item, desk_of, parcel_of, AreInTurn, Passes, Twice}
+use Rattle.seam_law_calls.proofs.Prelude.{Frame, here_at, IsInFrame, Has, mine, has_of, has_none, entity_flow, real_burden, node_burden}
+use Rattle.seam_law_calls.proofs.Prelude.{mine_burden, burden, real_in, IsSpared, IsFrame, HasOne, is_visited, AllLead, desk_for, real_desk}
+use Rattle.seam_law_calls.proofs.Prelude.{cell_post, cell_mail, as_sender, IsCallOf, AreCallsOf, CellCallsInTurn, FindsTurn, weight_or}
+use Rattle.seam_law_calls.proofs.Prelude.{weight_bounds, narrow_goes, first_is, sole_here, turns_go, is_met, never_late, never_held}
+use Rattle.seam_law_calls.proofs.Prelude.{held_is_due, due_is}
 use Rattle.std.specs.FinMap as table
 use Rattle.seam_node_steps.specs.Prelude.{may_execute}
 use Rattle.seam_entity.specs.declared.message.Msg.TheVariants.{Call}
@@ -20,6 +20,7 @@ use Rattle.seam_law_calls.proofs.Leading.{lead_goes}
 use Rattle.seam_law_calls.proofs.Finding.{first_finds}
 use Rattle.seam_law_calls.proofs.DeskLemmas.{from_same}
 use Rattle.seam_law_calls.proofs.CellSeen.{HoldsOwn, calls_seen}
+use Rattle.seam_law_calls.proofs.Keeping.{RunsKeep, runs_keep}
 
 -- a node where the real is or was is a cell
 visited_by : (f : Frame) (e : ℕ) (w : World) (k : ℕ) → IsInFrame f w → (o : Option NodeView) → slice_get w.nodes k ≡ o →
@@ -195,8 +196,5 @@ module _ (f : Frame) (frame : IsFrame f) (e ty : ℕ) (known : ty < length f.def
               omega (arith, less, few);
         }
 
-  kept_more : (w : World) (v : Event) → Kept w → enabled node_has_work w v ≡ true → Kept (happens node_steps w v)
-  kept_more w v h on = kept_happens w v (occurs node_has_work w v on) h
-
-  pub kept_leads : (w v : World) (es : List Event) → Kept w → RunsTo w es v → Kept v
-  kept_leads w v es h run = leads_keeps node_has_work node_steps Kept kept_more w v es h run
+  pub kept_leads : RunsKeep Kept
+  kept_leads = runs_keep Kept kept_happens

@@ -1,14 +1,14 @@
 -- Each call to a base part with a client once, over every list of events in which its witness tells no more than there is room for.
 use Rattle.seam_law_calls.proofs.Prelude.{◌≡◌, ℕ, ◌+◌, ◌≤◌, true, List, [], ◌∷◌, length, refl, sym, ap, subst, arith, happens, run}
-use Rattle.seam_law_calls.proofs.Prelude.{AllEnabled, Event, Call as CallData, RealView, Msg, BaseCall, may_show, World, node_steps}
-use Rattle.seam_law_calls.proofs.Prelude.{node_has_work, Frame, IsInFrame, entity_flow, IsSpared, sent_of, sent_by, FindsPart, HasBaseCalls}
-use Rattle.seam_law_calls.proofs.Prelude.{EachReal, HasToldAtMost, HasClient, HasRoomFor, RunsTo, occurs}
+use Rattle.seam_law_calls.proofs.Prelude.{AllEnabled, Event, Call as CallData, RealView, may_show, World, node_steps, node_has_work, Frame}
+use Rattle.seam_law_calls.proofs.Prelude.{IsSpared, sent_of, sent_by, HasBaseCalls, EachReal, HasToldAtMost, HasClient, HasRoomFor, RunsTo}
+use Rattle.seam_law_calls.proofs.Prelude.{occurs}
 use Rattle.seam_law_calls.proofs.OneReal.{one_leads, spared_happens}
 use Rattle.seam_law_calls.proofs.PartEasing.{base_burden_happens}
 use Rattle.seam_law_calls.proofs.WitnessKept.{each_weaker, each_happens}
-use Rattle.seam_law_calls.proofs.BaseRuns.{finds, kept_happens}
+use Rattle.seam_law_calls.proofs.BaseRuns.{kept_happens}
 use Rattle.seam_law_calls.proofs.ClientRuns.{one_of, part_may_show, client_happens}
-use Rattle.seam_law_calls.proofs.Keeping.{run_keeps}
+use Rattle.seam_law_calls.proofs.Keeping.{run_keeps, FramedKeep}
 
 -- ---- what witnesses told never falls
 
@@ -16,14 +16,14 @@ abbrev AtLeast : ℕ → RealView → Type 0
 AtLeast m r = m ≤ sent_by r
 
 module _ (f : Frame) (e m : ℕ) where
-  told_leads : (w v : World) (es : List Event) → IsInFrame f w → EachReal e (AtLeast m) w → RunsTo w es v → EachReal e (AtLeast m) v
-  told_leads w v es q each run =
+  told_leads : FramedKeep f (EachReal e (AtLeast m))
+  told_leads =
       run_keeps f (EachReal e (AtLeast m)) (λ x a o frame all.
       each_happens (AtLeast m) (λ r q same le. let a = ap sent_of same in omega (arith, a, le)) f e x a o frame
       (λ k n r q y z shown at wit wit' sum le.
       let a = ap sent_of wit in
       let b = ap sent_of wit' in
-      omega (arith, le, a, b, sum)) all) w v es q run each
+      omega (arith, le, a, b, sum)) all)
 
 -- a witness that told at most n in the end told at most n before
 told_before : (f : Frame) (e ty first n : ℕ) (w v : World) (es : List Event) (h : HasClient f e ty first w) → IsSpared e w →
@@ -49,10 +49,6 @@ module _ (f : Frame) (e ty : ℕ) (first : ℕ → ℕ) (batch : ℕ → List Ca
 
   lines : (w : World) (h : Both w) → HasToldAtMost e n w → HasRoomFor e n w → may_show h.calls.part.part.proxy ≡ true
   lines w h most room = part_may_show f e ty update n w h.client most room h.calls.part.part h.calls.part.here
-
-  pub finds_both : (w : World) (h : Both w) → HasToldAtMost e n w → HasRoomFor e n w → (a k : ℕ) (c : CallData) (ms : List Msg) →
-      (entity_flow e w).mail a k ≡ BaseCall c ∷ ms → FindsPart f e k ((entity_flow e w).slot k).base c
-  finds_both w h most room a k c ms at = finds f e ty first batch w h.calls a k c ms at (lines w h most room)
 
   both_run : (w : World) (es : List Event) → Both w → HasRoomFor e n w → AllEnabled node_has_work node_steps w es →
       HasToldAtMost e n (run node_steps w es) → Both (run node_steps w es)

@@ -4,17 +4,15 @@ use Rattle.seam_law_calls.proofs.Prelude.{◌≡◌, ℕ, ◌+◌, ◌<◌, cond
 use Rattle.seam_law_calls.proofs.Prelude.{ap, ◌∙◌, subst, arith, inl, inr, true, Bool, false, option_map, AllByRecursion, nat_cmp}
 use Rattle.seam_law_calls.proofs.Prelude.{match_ordering, Ordering, Less, Equal, Greater, eq-eqb, ne_eqb, nat_tests, append-nil, items_to}
 use Rattle.seam_law_calls.proofs.Prelude.{with_item, after_offer, after_taking, next_item, Order, Shown, RealView, Boundaries, Msg, Hand}
-use Rattle.seam_law_calls.proofs.Prelude.{Update, Here}
-use Rattle.seam_law_calls.proofs.Prelude.{cell_count, PartView, ProxyView, line_if, base_text, offered_update, shows_next, numbered}
-use Rattle.seam_law_calls.proofs.Prelude.{letters_of, IsSilent, carried_in, SendsNone, at_once, more_issued, number_from, Frame, here_at}
-use Rattle.seam_law_calls.proofs.Prelude.{Has, Moves, at_a_cell, at_a_base, real_in, real_of, update_in, told, Missed, sent_of, sent_by}
-use Rattle.seam_law_calls.proofs.Prelude.{WitnessMoves, home_of, with_number, tells, proxy_of, order_in, updates_at, shown_in, lines_in}
-use Rattle.seam_law_calls.proofs.Prelude.{shown_at, letters_of-append, all_append, sees_none}
+use Rattle.seam_law_calls.proofs.Prelude.{Update, Here, cell_count, PartView, ProxyView, line_if, base_text, offered_update, shows_next}
+use Rattle.seam_law_calls.proofs.Prelude.{numbered, letters_of, IsSilent, carried_in, SendsNone, at_once, more_issued, number_from, Frame}
+use Rattle.seam_law_calls.proofs.Prelude.{here_at, Has, Moves, at_a_cell, at_a_base, real_in, real_of, update_in, told, Missed, sent_of}
+use Rattle.seam_law_calls.proofs.Prelude.{sent_by, WitnessMoves, home_of, with_number, tells, proxy_of, order_in, updates_at, shown_in}
+use Rattle.seam_law_calls.proofs.Prelude.{lines_in, shown_at, letters_of-append, all_append, sees_none, items_fit}
 use Rattle.seam_law_flow.specs.Deliveries.{Passes}
 use Rattle.seam_law_flow.specs.Deliveries as pass
 use Rattle.seam_call.specs.declared.order.Order.TheVariants as order
 use Rattle.seam_call.specs.declared.shown.Update.{Update as UpdateData}
-use Rattle.seam_law_calls.proofs.Sparing.{items_all}
 use Rattle.seam_law_calls.specs.WitnessMoves as witness
 use Rattle.seam_law_calls.proofs.PartSteps.{equal_of, part_moves}
 use Rattle.seam_law_calls.proofs.ClientSteps.{CallShown, as_it_was, lined, ClientAfter, keeps, calls, misses_it, is_told, is_shown}
@@ -41,13 +39,13 @@ told_cases (Some m) = by (update_is m (update_in m) refl)
     by (inl a) = inl a
     by (inr p) = inr (p.0, ap Some p.1)
 
-untold : (ps : List (ℕ × Msg)) → IsSilent update_in ps → IsSilent tells ps
+pub untold : (ps : List (ℕ × Msg)) → IsSilent update_in ps → IsSilent tells ps
 untold [] z = tt
 untold (p ∷ ps) z = (ap (option_map with_number) z.0, untold ps z.1)
 
 -- ---- what a look sends
 
-numbered_here : (b e n : ℕ) (ss : List Shown) → letters_of tells (items_to b (numbered b e n ss)) ≡ number_from (n + 1) ss
+pub numbered_here : (b e n : ℕ) (ss : List Shown) → letters_of tells (items_to b (numbered b e n ss)) ≡ number_from (n + 1) ss
 numbered_here b e n [] = refl
 numbered_here b e n (s ∷ ss) = rw (eq-eqb b b refl) (ap (λ l. (n + 1, s) ∷ l) (numbered_here b e (n + 1) ss))
 
@@ -145,7 +143,7 @@ module _ (f : Frame) (e k number : ℕ) (s : Has) (i : Option Msg) (t : Has) (se
         AllByRecursion (λ m. (q : RealView) → real_of m ≡ Some q → Follows us q) (out j)
     hands_of us h j =
         subst (AllByRecursion (λ m. (q : RealView) → real_of m ≡ Some q → Follows us q)) (sym (items j))
-        (items_all (λ m. (q : RealView) → real_of m ≡ Some q → Follows us q) j sent h)
+        (items_fit (λ k m. (q : RealView) → real_of m ≡ Some q → Follows us q) j sent h)
 
     -- ---- a cell
 

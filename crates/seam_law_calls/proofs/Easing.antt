@@ -54,8 +54,8 @@ module _ (f : Frame) (n : World → ℕ) (falls : (w : World) (v : Event) (o : O
   where
     pub falls_lead : (w v : World) (es : List Event) → IsInFrame f w → RunsTo w es v → n v ≤ n w
     falls_lead w v es q run =
-        run_keeps f (λ x. n x ≤ n w) (λ x a o frame few. let less = falls x a o frame in omega (arith, less, few)) w v es q run
-        (omega arith)
+        run_keeps f (λ x. n x ≤ n w) (λ x a o frame few. let less = falls x a o frame in omega (arith, less, few)) w v es q
+        (omega arith) run
 
 -- ---- what is yet to do
 

@@ -1,15 +1,7 @@
 -- Calls that follow: lists of letters joined and parted.
 use Rattle.seam_law_calls.proofs.Prelude.{◌≡◌, Bool, true, false, not, ◌||◌, List, [], ◌∷◌, ◌++◌, refl, subst, Msg, is_call, is_hand}
 use Rattle.seam_law_calls.proofs.Prelude.{has_hand, follow}
-use Rattle.seam_law_calls.proofs.Holds.{both, all_two as two}
-
-pub or_right : (a b : Bool) → b ≡ true → (a || b) ≡ true
-or_right true b h = refl
-or_right false b h = h
-
-pub or_left : (a b : Bool) → a ≡ true → (a || b) ≡ true
-or_left true b h = refl
-or_left false b h = cc
+use Rattle.seam_law_calls.proofs.Holds.{both, all_two as two, or_left, or_right}
 
 or_moved : (a b c : Bool) → (a || (b || c)) ≡ ((a || b) || c)
 or_moved true b c = refl

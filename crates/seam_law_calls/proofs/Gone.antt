@@ -1,21 +1,20 @@
 -- A Reap that finds the real takes it out of the world, and an entity that no one has stays gone.
-use Rattle.seam_law_calls.proofs.Prelude.{◌≡◌, ℕ, ◌+◌, Bool, true, false, not, List, Option, None, Some, refl, sym, ap, ◌∙◌, subst, arith}
+use Rattle.seam_law_calls.proofs.Prelude.{◌≡◌, ℕ, ◌+◌, Bool, true, List, Option, None, Some, refl, sym, ap, ◌∙◌, subst, arith}
 use Rattle.seam_law_calls.proofs.Prelude.{AllByRecursion, Division, happens, Occurs, Event, RealView, Boundaries, Msg, Hand, Reap, limit}
-use Rattle.seam_law_calls.proofs.Prelude.{may_rise}
-use Rattle.seam_law_calls.proofs.Prelude.{is_stray, World, node_steps, Goes, comes, letter_in, letters_of, IsSilent, carried_in, Nobody}
-use Rattle.seam_law_calls.proofs.Prelude.{Handles, still, turns, lands, leaves, relays, Frame, here_at, IsInFrame, Has, AtCell, mine}
-use Rattle.seam_law_calls.proofs.Prelude.{has_of, entity_flow, Acts, surveys, calls, readies, Moves, at_a_cell, at_a_base, MovesTo, Replays}
-use Rattle.seam_law_calls.proofs.Prelude.{real_in, real_of, IsFrame, HasOne, RunsTo, real_at, came, sees_none}
+use Rattle.seam_law_calls.proofs.Prelude.{may_rise, is_stray, World, node_steps, Goes, comes, letter_in, letters_of, IsSilent, carried_in}
+use Rattle.seam_law_calls.proofs.Prelude.{Nobody, Handles, still, turns, lands, leaves, relays, Frame, here_at, IsInFrame, Has, AtCell}
+use Rattle.seam_law_calls.proofs.Prelude.{mine, has_of, entity_flow, Acts, surveys, calls, readies, Moves, at_a_cell, at_a_base, MovesTo}
+use Rattle.seam_law_calls.proofs.Prelude.{Replays, real_in, real_of, IsFrame, HasOne, real_at, came, sees_none}
 use Rattle.seam_law_flow.proofs.Lives.{nobody_still, nobody_ends}
 use Rattle.seam_law_calls.proofs.CellDeeds as deed
 use Rattle.seam_law_calls.proofs.CellDeeds.{CellDeeds, cell_deeds, not_reaped}
 use Rattle.seam_law_calls.proofs.Classify.{event_moves, event_moves_with}
-use Rattle.seam_law_calls.proofs.Holds.{below_is}
+use Rattle.seam_law_calls.proofs.Holds.{below_is, not_both}
 use Rattle.seam_law_calls.proofs.Plain.{drops_silent}
 use Rattle.seam_law_calls.proofs.Handling.{reals_unseen, handled}
 use Rattle.seam_law_calls.proofs.Easing.{reaped_small}
 use Rattle.seam_law_calls.proofs.OneReal.{hands_all, came_hand}
-use Rattle.seam_law_calls.proofs.Keeping.{run_keeps}
+use Rattle.seam_law_calls.proofs.Keeping.{run_keeps, FramedKeep}
 
 -- ---- nobody has it
 
@@ -46,16 +45,10 @@ module _ (f : Frame) (frame : IsFrame f) (e : ℕ) (w : World) (v : Event) (o : 
       (λ r bs h. absurd (none_comes r bs h)) (λ r h is. none_here r h) moves.moves.moves).0
 
 -- after every list of events
-pub gone_leads : (f : Frame) → IsFrame f → (e : ℕ) (w v : World) (es : List Event) → IsInFrame f w →
-    Nobody real_in real_of (entity_flow e w) → RunsTo w es v → Nobody real_in real_of (entity_flow e v)
-gone_leads f frame e w v es q none run =
-    run_keeps f (λ x. Nobody real_in real_of (entity_flow e x)) (gone_happens f frame e) w v es q run none
+pub gone_leads : (f : Frame) → IsFrame f → (e : ℕ) → FramedKeep f (λ x. Nobody real_in real_of (entity_flow e x))
+gone_leads f frame e = run_keeps f (λ x. Nobody real_in real_of (entity_flow e x)) (gone_happens f frame e)
 
 -- ---- a Reap finds the real
-
-not_yes : (b : Bool) → b ≡ true → not b ≡ true → ⊥
-not_yes true h k = cc
-not_yes false h k = cc
 
 module _ (f : Frame) (e k : ℕ) (s : Has) (i : Option Msg) (t : Has) (sent : List (ℕ × Msg)) (r : RealView) (is : i ≡ Some (Reap e))
     (has : real_in s ≡ Some r) (may : may_rise r.beat ≡ true) where
@@ -77,7 +70,7 @@ module _ (f : Frame) (e k : ℕ) (s : Has) (i : Option Msg) (t : Has) (sent : Li
 
   takes : {tree : Division} → CellDeeds (here_at f k) tree e s.cell i t.cell sent → Takes
   takes {tree} (deed.idles a z) =
-      absurd (not_yes (may_rise r.beat) may
+      absurd (not_both (may_rise r.beat) may
       (sym (ap (λ o. is_stray (here_at f k) tree (record { real = o; next = s.cell.slot.next; ghost = s.cell.slot.ghost }) (Reap e))
       has) ∙ not_reaped a.why e is))
   takes (deed.stays u p q changed h own acts at d) = acts_not u p q changed acts

@@ -2,23 +2,17 @@
 use Rattle.seam_law_calls.proofs.Prelude.{◌≡◌, ℕ, Bool, true, false, not, ◌&&◌, ◌||◌, ◌⊎◌, List, [], ◌∷◌, ◌++◌, map, Option, None, Some}
 use Rattle.seam_law_calls.proofs.Prelude.{refl, sym, ap, ◌∙◌, subst, inl, inr, AllByRecursion, cases_eq, items_to, Call as CallData}
 use Rattle.seam_law_calls.proofs.Prelude.{RealView, Boundaries, Msg, Hand, Current, NextPlace, RouteView, Flow, Goes, comes, IsSilent, Has}
-use Rattle.seam_law_calls.proofs.Prelude.{is_visited}
-use Rattle.seam_law_calls.proofs.Prelude.{is_call, is_hand, has_hand, follow, NamesVisited, AllLead, Rest, whole, tail, More, own, none}
-use Rattle.seam_law_calls.proofs.Prelude.{change, came, letters_kept, one_here, one_there}
+use Rattle.seam_law_calls.proofs.Prelude.{is_visited, is_call, is_hand, has_hand, follow, NamesVisited, AllLead, Rest, whole, tail, More}
+use Rattle.seam_law_calls.proofs.Prelude.{own, none, change, came, one_here, one_there, sent_kept, items_fit}
 use Rattle.seam_machine.proofs.SendLemmas.{items_to-append}
 use Rattle.seam_entity.specs.declared.message.Msg.TheVariants.{Call}
-use Rattle.seam_law_calls.proofs.Sparing.{items_all}
-use Rattle.seam_law_calls.proofs.Holds.{both}
-use Rattle.seam_law_calls.proofs.Following.{follow_more, follow_append, has_append, has_later, or_left, or_right}
+use Rattle.seam_law_calls.proofs.Holds.{both, either, or_left, or_right}
+use Rattle.seam_law_calls.proofs.Following.{follow_more, follow_append, has_append, has_later}
 use Rattle.seam_law_calls.proofs.WayMoves.{kept, call_in, route_in, Way, by_next, by_route, Sends, plain, tells, one_call, Leads}
 
 hand_of : (m : Msg) → is_hand m ≡ true → (r : RealView) × (bs : Option Boundaries) × (m ≡ Hand r bs)
 hand_of (Hand r bs) h = (r, bs, refl)
 hand_of _ h = cc
-
-either : (a b : Bool) → (a || b) ≡ true → (a ≡ true) ⊎ (b ≡ true)
-either true b h = inl refl
-either false b h = inr h
 
 no_call_by : (m : Msg) (b : Bool) → is_call m ≡ b → call_in m ≡ None → is_call m ≡ false
 no_call_by m true c h = let z = sym (ap kept c) ∙ h in cc
@@ -81,8 +75,7 @@ module _ {Moves : ℕ → Has → Option Msg → Has → (ℕ → List Msg) → 
 
   currents_next : (a k : ℕ) → AllByRecursion (NamesVisited v) (v.mail a k)
   currents_next =
-      letters_kept (λ a k m. NamesVisited v m) g (λ a k. names_all (w.mail a k) (all.currents a k))
-      (λ j. subst (AllByRecursion (NamesVisited v)) (sym (items j)) (items_all (NamesVisited v) j sent (sent_names lead.sends)))
+      sent_kept (λ a k m. NamesVisited v m) g sent items (λ a k. names_all (w.mail a k) (all.currents a k)) (sent_names lead.sends)
 
   route_here : (r : RouteView) → (w.slot g.k).base.route ≡ Some r ⊎ ((e : ℕ) × (comes g.input ≡ Some (Current e r.cell r.generation))) →
       is_visited (v.slot r.cell) ≡ true
@@ -191,11 +184,11 @@ module _ {Moves : ℕ → Has → Option Msg → Has → (ℕ → List Msg) → 
       follow (is_visited (v.slot y) || has_hand l) (g.out y) ≡ true
   out_follows y l rest (plain a b) =
       none_follow _ (g.out y)
-      (subst (AllByRecursion (λ m. is_call m ≡ false)) (sym (items y)) (items_all (λ m. is_call m ≡ false) y sent (silent_calls sent a)))
+      (subst (AllByRecursion (λ m. is_call m ≡ false)) (sym (items y)) (items_fit (λ k m. is_call m ≡ false) y sent (silent_calls sent a)))
   out_follows y l rest (tells r ks is h) =
       none_follow _ (g.out y)
       (subst (AllByRecursion (λ m. is_call m ≡ false)) (sym (items y ∙ ap (items_to y) is))
-      (items_all (λ m. is_call m ≡ false) y (map (λ b. (b, Current r.entity g.k r.generation)) ks) (told ks)))
+      (items_fit (λ k m. is_call m ≡ false) y (map (λ b. (b, Current r.entity g.k r.generation)) ks) (told ks)))
     where
       told : (ks : List ℕ) → AllByRecursion {X = ℕ × Msg} (λ p. is_call p.1 ≡ false) (map (λ b. (b, Current r.entity g.k r.generation)) ks)
       told [] = tt

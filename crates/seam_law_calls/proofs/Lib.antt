@@ -44,6 +44,7 @@ pub mod AloneRuns
 pub mod WitnessSteps
 pub mod BaseSilent
 pub mod WitnessKept
+pub mod WitnessHeld
 pub mod ClientTold
 pub mod ClientRuns
 pub mod ClientLeads

@@ -1,16 +1,14 @@
 -- A witness tells only in looks: without them, what it told is all.
 use Rattle.seam_law_calls.proofs.Prelude.{◌≡◌, ℕ, ◌≤◌, Bool, true, false, List, Option, None, Some, refl, sym, ap, ◌∙◌, subst, arith, inl}
-use Rattle.seam_law_calls.proofs.Prelude.{inr, AllByRecursion, Division, happens, enabled, Event, Order, RealView, Msg, Tick, SlotStep}
-use Rattle.seam_law_calls.proofs.Prelude.{Here, World, node_steps, node_has_work, comes, IsSilent, Frame, here_at, IsInFrame, Has, AtCell}
-use Rattle.seam_law_calls.proofs.Prelude.{entity_flow, unlisted_if, Does, Acts, surveys, CellMoves, Moves, at_a_cell, at_a_base, sent_of}
-use Rattle.seam_law_calls.proofs.Prelude.{sent_by, is_tick_order, tick_in, HasToldAtMost, HasNoLooks, RunsTo, occurs, leads_keeps}
-use Rattle.seam_law_calls.proofs.Prelude.{slots_kept, letters_kept, came}
+use Rattle.seam_law_calls.proofs.Prelude.{inr, AllByRecursion, Division, Order, RealView, Msg, Tick, SlotStep, Here, World, IsSilent, Frame}
+use Rattle.seam_law_calls.proofs.Prelude.{here_at, IsInFrame, Has, AtCell, unlisted_if, Does, Acts, surveys, CellMoves, Moves, at_a_cell}
+use Rattle.seam_law_calls.proofs.Prelude.{at_a_base, sent_of, sent_by, is_tick_order, tick_in, HasToldAtMost, HasNoLooks}
 use Rattle.seam_law_calls.proofs.CellDeeds as deed
-use Rattle.seam_law_calls.proofs.Classify.{event_moves, frame_happens}
-use Rattle.seam_law_calls.proofs.Sparing.{items_all}
+use Rattle.seam_law_calls.proofs.Classify.{frame_happens}
 use Rattle.seam_law_calls.proofs.WitnessKept.{each_happens}
 use Rattle.seam_law_calls.proofs.BaseDeeds.{base_keeps}
 use Rattle.seam_law_calls.proofs.CellDeeds.{CellDeeds, cell_deeds, cell_says, plain_says}
+use Rattle.seam_law_calls.proofs.Keeping.{EachKeeps, RunsKeep, runs_keep, all_happen}
 
 abbrev pub NoTicks : List Order → Type 0
 NoTicks os = AllByRecursion (λ o. is_tick_order o ≡ false) os
@@ -75,30 +73,20 @@ module _ (f : Frame) (e n : ℕ) where
     pub looks : HasNoLooks e w
     pub told : HasToldAtMost e n w
 
-  looks_more : (w : World) (v : Event) → WithoutLooks w → enabled node_has_work w v ≡ true → WithoutLooks (happens node_steps w v)
-  looks_more w v h on =
-      let o = occurs node_has_work w v on in
-      let g = event_moves f w v o h.frame e in
-      let calm : comes g.input ≡ Some Tick → ⊥ =
-      λ is. let no = (came (λ a k m. tick_in m ≡ None) g Tick is h.looks.letters).1 in cc in
-      let was = (entity_flow e w).slot g.k in
-      let now = (entity_flow e (happens node_steps w v)).slot g.k in
-      let c = calm_moves f e g.k was (comes g.input) now g.moves.sent calm (h.looks.cells g.k) (h.looks.orders g.k) g.moves.moves in
+  pub looks_happen : EachKeeps WithoutLooks
+  looks_happen w v o h =
+      let all = all_happen f e (λ k s. (s.cell.looks ≡ 0) × NoTicks s.base.orders) (λ a k m. tick_in m ≡ None)
+      (λ k s i t sent here come m.
+      let c = calm_moves f e k s i t sent (λ is. let no = (come Tick is).1 in cc) here.0 here.1 m in ((c.cell, c.orders), c.silent))
+      w v o h.frame
+      (record { slots = λ k. (h.looks.cells k, h.looks.orders k); letters = h.looks.letters }) in
       record {
         frame = frame_happens f w v o h.frame;
-        looks = record {
-          cells = slots_kept (λ k s. s.cell.looks ≡ 0) g h.looks.cells c.cell;
-          orders = slots_kept (λ k s. NoTicks s.base.orders) g h.looks.orders c.orders;
-          letters =
-              letters_kept (λ a k m. tick_in m ≡ None) g h.looks.letters
-              (λ j. subst (AllByRecursion (λ m. tick_in m ≡ None)) (sym (g.moves.items j))
-              (items_all (λ m. tick_in m ≡ None) j g.moves.sent c.silent));
-        };
+        looks = record { cells = λ k. (all.slots k).0; orders = λ k. (all.slots k).1; letters = all.letters };
         told =
             each_happens (λ r. sent_by r ≤ n) (λ r q same le. let a = ap sent_of same in omega (arith, a, le)) f e w v o h.frame
             (λ k m r q x y shown at wit wit' sum le. let none = h.looks.cells k in absurd (omega (arith, at, none))) h.told;
       }
 
-  pub looks_lead : (w v : World) (es : List Event) → IsInFrame f w → HasNoLooks e w → HasToldAtMost e n w → RunsTo w es v → WithoutLooks v
-  looks_lead w v es q looks told run =
-      leads_keeps node_has_work node_steps WithoutLooks looks_more w v es (record { frame = q; looks = looks; told = told }) run
+  pub looks_lead : RunsKeep WithoutLooks
+  looks_lead = runs_keep WithoutLooks looks_happen

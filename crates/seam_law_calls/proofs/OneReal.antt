@@ -1,23 +1,23 @@
 -- Exactly one real: each event leaves the one real at a place that is known, and it replays its calls.
 use Rattle.seam_law_calls.proofs.Prelude.{◌≡◌, ℕ, ◌<◌, Bool, true, false, List, [], ◌∷◌, length, ◌⊎◌, Option, None, Some, refl, sym, ap}
-use Rattle.seam_law_calls.proofs.Prelude.{◌∙◌, subst, arith, inl, inr, AllByRecursion, list_all, cases_eq, Division, cells_of, happens}
-use Rattle.seam_law_calls.proofs.Prelude.{enabled, run, AllEnabled, Occurs, items_to, Input, Task, From, Event, RealView, Msg, Hand, Reap}
-use Rattle.seam_law_calls.proofs.Prelude.{limit, cell_numbers, properties, is_cell_if, may_come, World, node_steps, node_has_work, Goes}
-use Rattle.seam_law_calls.proofs.Prelude.{comes, letter_in, letters_of, carried_in, TokenPlace, On, Sole, Handles, still, turns, lands}
-use Rattle.seam_law_calls.proofs.Prelude.{leaves, relays, place_after, token_after, Frame, IsTreeOf, here_at, IsInFrame, Has, concerns}
-use Rattle.seam_law_calls.proofs.Prelude.{kept_if, mine, entity_flow, MovesTo, Replays, RealFits, IsFitReal, IsFitHand, real_burden}
-use Rattle.seam_law_calls.proofs.Prelude.{real_in, real_of, reaped_by, HasNoReaps, IsSpared, AllFits, IsFrame, HasOne, OneFrom, reaps}
-use Rattle.seam_law_calls.proofs.Prelude.{NoReapComes, RunsTo, real_at, of_group-Decides, occurs, leads_keeps, slots_kept, letters_kept}
-use Rattle.seam_law_calls.proofs.Prelude.{came, sole_came, sole_goes, token_turns, haunts_cell}
+use Rattle.seam_law_calls.proofs.Prelude.{◌∙◌, subst, arith, inl, inr, AllByRecursion, list_all, cases_eq, Division, cells_of, happens, run}
+use Rattle.seam_law_calls.proofs.Prelude.{AllEnabled, Occurs, items_to, Input, Task, From, Event, RealView, Msg, Hand, Reap, limit}
+use Rattle.seam_law_calls.proofs.Prelude.{cell_numbers, properties, is_cell_if, may_come, World, node_steps, node_has_work, Goes, comes}
+use Rattle.seam_law_calls.proofs.Prelude.{letter_in, letters_of, carried_in, TokenPlace, On, Sole, Handles, still, turns, lands, leaves}
+use Rattle.seam_law_calls.proofs.Prelude.{relays, place_after, token_after, Frame, IsTreeOf, here_at, IsInFrame, Has, concerns, kept_if}
+use Rattle.seam_law_calls.proofs.Prelude.{mine, entity_flow, MovesTo, Replays, RealFits, IsFitReal, IsFitHand, real_burden, real_in}
+use Rattle.seam_law_calls.proofs.Prelude.{real_of, reaped_by, HasNoReaps, IsSpared, AllFits, IsFrame, HasOne, OneFrom, reaps, NoReapComes}
+use Rattle.seam_law_calls.proofs.Prelude.{RunsTo, real_at, of_group-Decides, occurs, slots_kept, letters_kept, came, sole_came, sole_goes}
+use Rattle.seam_law_calls.proofs.Prelude.{token_turns, haunts_cell, sent_kept}
 use Rattle.std.specs.FinSet as set
 use Rattle.seam_defs.specs.declared.flags.Group.TheVariants as group
-use Rattle.seam_law_calls.proofs.Keeping.{run_keeps}
+use Rattle.seam_law_calls.proofs.Keeping.{run_keeps, EachKeeps, runs_keep, FramedKeep}
 use Rattle.seam_law_calls.proofs.Classify.{frame_happens, event_moves_with}
 use Rattle.seam_law_calls.proofs.Trees.{cells_alike}
 use Rattle.seam_law_calls.proofs.Holds.{all_two, below_is}
 use Rattle.seam_law_calls.proofs.Replaying.{replays_none, replays_on}
 use Rattle.seam_law_calls.proofs.Handling.{FindsRoom, StillFits, Handled, handled}
-use Rattle.seam_law_calls.proofs.Sparing.{items_all, orders_spared, sent_spared}
+use Rattle.seam_law_calls.proofs.Sparing.{orders_spared, sent_spared}
 use Rattle.seam_law_calls.proofs.Easing.{burden_happens, came_small}
 use Rattle.seam_node_steps.specs.Prelude.{Boundaries}
 
@@ -243,25 +243,22 @@ module _ (f : Frame) (e : ℕ) (w : World) (v : Event) (o : Occurs w v) (q : IsI
         slots_kept (λ k s. HasNoReaps s) flows spared.orders
         (orders_spared f e flows.k _ (comes flows.input) _ flows.moves.0.sent (spared.orders flows.k) flows.moves.0.moves);
     letters =
-        letters_kept (λ a k m. reaped_by m ≡ None) flows spared.letters (λ j.
-        subst (AllByRecursion (λ m. reaped_by m ≡ None)) (sym (flows.moves.0.items j))
-        (items_all (λ m. reaped_by m ≡ None) j flows.moves.0.sent
-        (sent_spared f e flows.k _ (comes flows.input) _ flows.moves.0.sent (spared.orders flows.k) flows.moves.0.moves)));
+        sent_kept (λ a k m. reaped_by m ≡ None) flows flows.moves.0.sent flows.moves.0.items spared.letters
+        (sent_spared f e flows.k _ (comes flows.input) _ flows.moves.0.sent (spared.orders flows.k) flows.moves.0.moves);
   }
 
 -- and after every list of events
-pub spared_leads : (f : Frame) (e : ℕ) (w v : World) (es : List Event) → IsInFrame f w → IsSpared e w → RunsTo w es v → IsSpared e v
-spared_leads f e w v es frame spared run = run_keeps f (IsSpared e) (spared_happens f e) w v es frame run spared
+pub spared_leads : (f : Frame) (e : ℕ) → FramedKeep f (IsSpared e)
+spared_leads f e = run_keeps f (IsSpared e) (spared_happens f e)
 
 module _ (f : Frame) (frame : IsFrame f) (e ty : ℕ) (known : ty < length f.defs) where
-  record Spared (start : RealView) (w : World) : Type 0 where
-    one : OneFrom f e ty start w
-    spared : IsSpared e w
+  -- the one real is the first one after further calls, and no one reaps it
+  pub record Spared (start : RealView) (w : World) : Type 0 where
+    pub one : OneFrom f e ty start w
+    pub spared : IsSpared e w
 
-  spared_more : (start : RealView) (w : World) (v : Event) → Spared start w → enabled node_has_work w v ≡ true →
-      Spared start (happens node_steps w v)
-  spared_more start w v h on =
-      let o = occurs node_has_work w v on in
+  pub spared_keeps : (start : RealView) → EachKeeps (Spared start)
+  spared_keeps start w v o h =
       let has = h.one.has in
       let more = one_happens f frame e ty known w v o has (calm_of f e w v o has.fits.frame h.spared) in
       record {
@@ -272,7 +269,7 @@ module _ (f : Frame) (frame : IsFrame f) (e ty : ℕ) (known : ty < length f.def
   -- after every list of events
   pub one_leads : (w v : World) (es : List Event) (h : HasOne f e ty w) → IsSpared e w → RunsTo w es v → OneFrom f e ty h.real v
   one_leads w v es h spared run =
-      (leads_keeps node_has_work node_steps (Spared h.real) (spared_more h.real) w v es
+      (runs_keep (Spared h.real) (spared_keeps h.real) w v es
       (record { one = record { has = h; replays = replays_none f h.real }; spared = spared }) run).one
 
 -- a fact of worlds with the one real, which no one reaps, and which each event keeps
@@ -286,4 +283,4 @@ module _ (f : Frame) (frame : IsFrame f) (e ty : ℕ) (known : ty < length f.def
       (run_keeps f (λ x. HasOne f e ty x × IsSpared e x × I x) (λ x a o q h.
       let calm = calm_of f e x a o q h.1 in
       ((one_happens f frame e ty known x a o h.0 calm).has, spared_happens f e x a o q h.1, keep x a o h.0 h.1 calm h.2)) w v es
-      has.fits.frame run (has, spared, fact)).2
+      has.fits.frame (has, spared, fact) run).2

@@ -1,9 +1,9 @@
 -- Where the base part is: at the entity's base node after each move, unless the entity leaves the world; and calls go there.
-use Rattle.seam_law_calls.proofs.Prelude.{◌≡◌, ℕ, Bool, true, false, cond, eqb, List, [], ◌∷◌, Option, None, Some, refl, sym, ap, ◌∙◌}
-use Rattle.seam_law_calls.proofs.Prelude.{subst, inl, inr, AllByRecursion, cases_eq, eqb-true, items_to, Call as CallData, Order, Msg, Here}
-use Rattle.seam_law_calls.proofs.Prelude.{PartView, World, Goes, comes, IsSilent, Frame, here_at, IsInFrame, AtBase, entity_flow, MovesTo}
-use Rattle.seam_law_calls.proofs.Prelude.{base_call_in, Offered, now, early, late, PartMoves, rests, refuses, offers, sends, serves}
-use Rattle.seam_law_calls.proofs.Prelude.{executes, misses, updates, shows, ends, home_of, IsHomeward, HasPart, slots_kept, letters_kept}
+use Rattle.seam_law_calls.proofs.Prelude.{◌≡◌, ℕ, List, [], ◌∷◌, Option, None, Some, refl, sym, ap, ◌∙◌, subst, inl, inr, AllByRecursion}
+use Rattle.seam_law_calls.proofs.Prelude.{cases_eq, Call as CallData, Order, Msg, Here, PartView, World, Goes, comes, IsSilent, Frame}
+use Rattle.seam_law_calls.proofs.Prelude.{here_at, IsInFrame, AtBase, entity_flow, MovesTo, base_call_in, Offered, now, early, late}
+use Rattle.seam_law_calls.proofs.Prelude.{PartMoves, rests, refuses, offers, sends, serves, executes, misses, updates, shows, ends, home_of}
+use Rattle.seam_law_calls.proofs.Prelude.{IsHomeward, HasPart, slots_kept, sent_kept}
 use Rattle.seam_call.specs.declared.order.Order.TheVariants as order
 use Rattle.seam_law_calls.proofs.PartSteps.{part_moves}
 
@@ -63,17 +63,6 @@ still_lies f e ty k s t (became p q a b c) (at_home x home has type) =
     at_home q home b (c ∙ (ap (λ y. y.ty) one ∙ type))
 still_lies f e ty k s t (became p q a b c) (elsewhere n none) = absurd (let z = sym none ∙ a in cc)
 
--- a fact of each of the sends, by the node to which it goes, is one of what each node gets
-targets_by : (P : ℕ → Msg → Type 0) (j : ℕ) (p : ℕ × Msg) (ps : List (ℕ × Msg)) (b : Bool) → eqb p.0 j ≡ b → P p.0 p.1 →
-    AllByRecursion (P j) (items_to j ps) → AllByRecursion (P j) (cond b (p.1 ∷ items_to j ps) (items_to j ps))
-targets_by P j p ps true is h more = (subst (λ x. P x p.1) (eqb-true p.0 j is) h, more)
-targets_by P j p ps false is h more = more
-
-pub targets_all : (P : ℕ → Msg → Type 0) (j : ℕ) (ps : List (ℕ × Msg)) → AllByRecursion (λ p. P p.0 p.1) ps →
-    AllByRecursion (P j) (items_to j ps)
-targets_all P j [] h = tt
-targets_all P j (p ∷ ps) h = targets_by P j p ps (eqb p.0 j) refl h.0 (targets_all P j ps h.1)
-
 module _ (f : Frame) (e ty : ℕ) {w v : World} (g : Goes (MovesTo f e) (entity_flow e w) (entity_flow e v)) (next : IsInFrame f v)
     (calm : (os : List Order) → ((entity_flow e w).slot g.k).base.orders ≡ order.Reap e ∷ os → ⊥) (has : HasPart f e ty w) where
   moves : PartMoves (here_at f g.k) e ((entity_flow e w).slot g.k).base (comes g.input) ((entity_flow e v).slot g.k).base g.moves.sent
@@ -92,8 +81,7 @@ module _ (f : Frame) (e ty : ℕ) {w v : World} (g : Goes (MovesTo f e) (entity_
 
   homeward : (a k : ℕ) → AllByRecursion (IsHomeward f e k) ((entity_flow e v).mail a k)
   homeward =
-      letters_kept (λ a k m. IsHomeward f e k m) g has.calls (λ j. subst (AllByRecursion (IsHomeward f e j)) (sym (g.moves.items j))
-      (targets_all (IsHomeward f e) j g.moves.sent (sends_homeward f e g.k _ _ _ g.moves.sent moves)))
+      sent_kept (λ a k m. IsHomeward f e k m) g g.moves.sent g.moves.items has.calls (sends_homeward f e g.k _ _ _ g.moves.sent moves)
 
   part_by : Lies f e ty (home_of f e) ((entity_flow e v).slot (home_of f e)).base → HasPart f e ty v
   part_by (at_home p is here type) = record {

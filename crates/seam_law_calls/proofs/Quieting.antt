@@ -1,6 +1,6 @@
 -- In a quiet world nothing waits: no message, no order, and no held call whose turn it is.
-use Rattle.seam_law_calls.proofs.Prelude.{◌≡◌, ℕ, Bool, true, false, cond, not, ◌&&◌, ◌||◌, is_some, List, [], ◌∷◌, find, Option, None}
-use Rattle.seam_law_calls.proofs.Prelude.{Some, refl, sym, ap, ◌∙◌, option_map, list_all, nat_cmp, IsQuiet, OrderView, next_item}
+use Rattle.seam_law_calls.proofs.Prelude.{◌≡◌, ℕ, Bool, true, false, cond, not, ◌&&◌, is_some, List, [], ◌∷◌, find, Option, None, Some}
+use Rattle.seam_law_calls.proofs.Prelude.{refl, sym, ap, ◌∙◌, option_map, list_all, nat_cmp, IsQuiet, OrderView, next_item}
 use Rattle.seam_law_calls.proofs.Prelude.{Call as CallData, Orders, order_or, RealView, number_of, has_any, order_is_ready, has_ready}
 use Rattle.seam_law_calls.proofs.Prelude.{CellView, real_is_ready, cell_has_work, BaseView, base_has_work, NodeView, World, node_has_work}
 use Rattle.seam_law_calls.proofs.Prelude.{Cell, Base, letters_of, Desk, desk_of, parcel_of, IsStill, Frame, IsInFrame, Has, mine, has_of}
@@ -8,11 +8,7 @@ use Rattle.seam_law_calls.proofs.Prelude.{has_none, orders_of, entity_flow, real
 use Rattle.seam_law_calls.proofs.Prelude.{cell_mail, as_sender, CellCallsInTurn, real_at, quiet_links, quiet_tasks, sole_here, all_done}
 use Rattle.std.specs.FinMap as table
 use Rattle.seam_law_calls.proofs.ExampleMet.{slots}
-use Rattle.seam_law_calls.proofs.Holds.{got_passes}
-
-pub neither : (a b : Bool) → (a || b) ≡ false → (a ≡ false) × (b ≡ false)
-neither true b h = cc
-neither false b h = (refl, h)
+use Rattle.seam_law_calls.proofs.Holds.{got_passes, not_true, neither}
 
 pub none_left : {A : Type 0} (xs : List A) → has_any xs ≡ false → xs ≡ []
 none_left [] h = refl
@@ -21,10 +17,6 @@ none_left (x ∷ xs) h = cc
 pub none_some : {A : Type 0} (o : Option A) → is_some o ≡ false → o ≡ None
 none_some None h = refl
 none_some (Some x) h = cc
-
-not_false : (b : Bool) → not b ≡ true → b ≡ false
-not_false true h = cc
-not_false false h = refl
 
 no_map : {A B : Type 0} (g : A → B) (o : Option A) → option_map g o ≡ None → o ≡ None
 no_map g None h = refl
@@ -47,7 +39,7 @@ module _ {X : Type 0} (test : ℕ × X → Bool) where
   pub got_fails : ((a b : ℕ) (x : X) → fails (a, x) ≡ fails (b, x)) → (m : table.FinMap nat_cmp X) (k : ℕ) (x : X) →
       find test (table.entries m) ≡ None → table.get m k ≡ Some x → test (k, x) ≡ false
   got_fails by_value m k x h at =
-      not_false (test (k, x)) (got_passes fails by_value m k x (all_fail (table.entries m) h) at)
+      not_true (test (k, x)) (got_passes fails by_value m k x (all_fail (table.entries m) h) at)
 
 pub no_turn_by : (os : Orders) (s : ℕ) (o : Option (OrderView CallData)) → has_ready os ≡ false → table.get os s ≡ o →
     next_item (order_or o) ≡ None

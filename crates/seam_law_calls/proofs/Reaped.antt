@@ -1,16 +1,16 @@
 -- After a reap: the base part is gone and stays gone, and no call to it is left.
 use Rattle.seam_law_calls.proofs.Prelude.{◌≡◌, ℕ, zero, suc, Bool, true, false, is_some, is_none, cond, eqb, List, [], ◌∷◌, ◌++◌, map}
 use Rattle.seam_law_calls.proofs.Prelude.{filter, Option, None, Some, refl, sym, ap, ◌∙◌, slice_get, nat_cmp_total, unsigned_tied, eq-eqb}
-use Rattle.seam_law_calls.proofs.Prelude.{Task, Event, Call as CallData, Order, Msg, Reap, Here, base_of, order_if, reap_ordered_at}
-use Rattle.seam_law_calls.proofs.Prelude.{with_reap, reaps_loaded, BaseView, RouteView, on_route, base_task, base_steps, NodeView, World}
-use Rattle.seam_law_calls.proofs.Prelude.{Cell, Base, letters_of, more_letter, slot_at, IsSilent, Frame, here_at, IsInFrame, AtBase}
-use Rattle.seam_law_calls.proofs.Prelude.{order_concerns, at_base, has_of, has_none, entity_flow, base_call_in, base_call_of, calls_ordered}
-use Rattle.seam_law_calls.proofs.Prelude.{PartMoves, rests, refuses, offers, sends, serves, executes, misses, updates, shows, ends}
-use Rattle.seam_law_calls.proofs.Prelude.{HasNoBaseCalls, HasNoPart, RunsTo, unless_stray}
+use Rattle.seam_law_calls.proofs.Prelude.{Task, Call as CallData, Order, Msg, Reap, Here, base_of, order_if, reap_ordered_at, with_reap}
+use Rattle.seam_law_calls.proofs.Prelude.{reaps_loaded, BaseView, RouteView, on_route, base_task, base_steps, NodeView, World, Cell, Base}
+use Rattle.seam_law_calls.proofs.Prelude.{letters_of, more_letter, slot_at, IsSilent, Frame, here_at, AtBase, order_concerns, at_base}
+use Rattle.seam_law_calls.proofs.Prelude.{has_of, has_none, base_call_in, base_call_of, calls_ordered, PartMoves, rests, refuses, offers}
+use Rattle.seam_law_calls.proofs.Prelude.{sends, serves, executes, misses, updates, shows, ends, HasNoBaseCalls, HasNoPart, unless_stray}
 use Rattle.std.specs.FinMap as table
 use Rattle.seam_call.specs.declared.order.Order.TheVariants as order
 use Rattle.seam_law_calls.proofs.PartSteps.{part_moves}
-use Rattle.seam_law_calls.proofs.Keeping.{all_lead, units}
+use Rattle.seam_law_calls.proofs.Keeping.{EventsKeep, FramedKeep, all_happen, run_keeps, slots_lead}
+use Rattle.seam_node_steps.specs.Prelude.{noting}
 
 -- ---- the order to reap
 
@@ -63,21 +63,23 @@ module _ (h : Here) (e : ℕ) (s : AtBase) (i : Option Msg) (t : AtBase) (sent :
 module _ (f : Frame) (e : ℕ) where
   -- ---- the part stays gone
 
-  pub part_stays_gone : (w v : World) (es : List Event) → IsInFrame f w → HasNoPart e w → RunsTo w es v → HasNoPart e v
-  part_stays_gone w v es frame gone run =
-      (all_lead f e (λ k s. s.base.part ≡ None) (λ a k m. Unit {0})
-      (λ k s i t sent none come m. (no_part (here_at f k) e _ _ _ _ (part_moves f e k s i t sent m) none, units sent)) w v es frame run
-      (record { slots = gone; letters = λ a k. units ((entity_flow e w).mail a k) })).slots
+  pub part_stays_gone : FramedKeep f (HasNoPart e)
+  part_stays_gone =
+      slots_lead f e (λ k s. s.base.part ≡ None)
+      (λ k s i t sent none m. no_part (here_at f k) e _ _ _ _ (part_moves f e k s i t sent m) none)
 
   -- ---- no call is left
 
-  pub no_call_comes : (w v : World) (es : List Event) → IsInFrame f w → HasNoBaseCalls e w → RunsTo w es v → HasNoBaseCalls e v
-  no_call_comes w v es frame none run =
-      let all = all_lead f e (λ k s. calls_ordered s.base ≡ []) (λ a k m. base_call_in m ≡ None)
+  pub no_call_happens : EventsKeep f (HasNoBaseCalls e)
+  no_call_happens w v o frame none =
+      let all = all_happen f e (λ k s. calls_ordered s.base ≡ []) (λ a k m. base_call_in m ≡ None)
       (λ k s i t sent here come m.
-      let c = no_call (here_at f k) e _ _ _ _ (part_moves f e k s i t sent m) here in (c.orders, c.sends_none)) w v es frame run
+      let c = no_call (here_at f k) e _ _ _ _ (part_moves f e k s i t sent m) here in (c.orders, c.sends_none)) w v o frame
       (record { slots = none.orders; letters = none.letters }) in
       record { orders = all.slots; letters = all.letters }
+
+  pub no_call_comes : FramedKeep f (HasNoBaseCalls e)
+  no_call_comes = run_keeps f (HasNoBaseCalls e) no_call_happens
 
 -- ---- reaps are loaded into a quiet world
 
@@ -110,7 +112,7 @@ ordered_if e x b false = refl
 
 node_ordered : (e x : ℕ) (n : NodeView) → calls_ordered (has_of e (reap_ordered_at x n)).base ≡ calls_ordered (has_of e n).base
 node_ordered e x (Cell c) = refl
-node_ordered e x (Base b) = ordered_if e x b (eqb (base_of b.here x) b.here.me)
+node_ordered e x (Base b) = ordered_if e x (noting x b) (eqb (base_of b.here x) b.here.me)
 
 slot_ordered : (e x : ℕ) (ns : List NodeView) (k : ℕ) →
     calls_ordered (slot_at (has_of e) has_none (slice_get (map (reap_ordered_at x) ns) k)).base

@@ -1,13 +1,11 @@
 -- Each base node keeps a route to the entity, and messages go where they belong, after each event.
-use Rattle.seam_law_calls.proofs.Prelude.{◌≡◌, ℕ, ◌<◌, ◌≤◌, List, length, Option, Some, sym, ap, ◌∙◌, subst, arith, AllByRecursion, happens}
-use Rattle.seam_law_calls.proofs.Prelude.{Occurs, Event, Msg, Reap, cell_count, NextPlace, RouteView, NodeView, World, node_steps}
-use Rattle.seam_law_calls.proofs.Prelude.{Cell, Base, IsNode, comes, letter_in, Frame, IsAt, IsInFrame, Has, AtBase, mine, has_of}
-use Rattle.seam_law_calls.proofs.Prelude.{has_none, entity_flow, Moves, at_a_cell, at_a_base, IsFrame, HasOne, IsBaseNumber}
-use Rattle.seam_law_calls.proofs.Prelude.{IsForNode, HasRoutes, slots_kept, letters_kept}
+use Rattle.seam_law_calls.proofs.Prelude.{◌≡◌, ℕ, ◌<◌, ◌≤◌, List, length, Option, Some, ap, ◌∙◌, arith, happens, Occurs, Event, Msg, Reap}
+use Rattle.seam_law_calls.proofs.Prelude.{cell_count, NextPlace, RouteView, NodeView, World, node_steps, Cell, Base, IsNode, comes}
+use Rattle.seam_law_calls.proofs.Prelude.{letter_in, Frame, IsAt, IsInFrame, Has, AtBase, mine, has_of, has_none, entity_flow, Moves}
+use Rattle.seam_law_calls.proofs.Prelude.{at_a_cell, at_a_base, IsFrame, HasOne, IsBaseNumber, IsForNode, HasRoutes, slots_kept, sent_kept}
 use Rattle.seam_law_calls.proofs.BaseDeeds.{RouteAfter, same_route, newer_of, base_route}
 use Rattle.seam_law_calls.proofs.ExampleMet.{slots}
 use Rattle.seam_law_calls.proofs.OneReal.{goes}
-use Rattle.seam_law_calls.proofs.PartKept.{targets_all}
 use Rattle.seam_law_calls.proofs.RightNodes.{sends_right}
 
 abbrev pub HasRoute : AtBase → Type 0
@@ -63,7 +61,5 @@ module _ (f : Frame) (frame : IsFrame f) (e ty : ℕ) (known : ty < length f.def
             slots_kept (λ k s. IsBaseNumber f k → HasRoute s.base) g h.routes
             (λ is. route_moves f e g.k ((entity_flow e w).slot g.k) (comes g.input) ((entity_flow e (happens node_steps w v)).slot g.k)
             g.moves.0.sent g.moves.0.moves (h.routes g.k is));
-        letters =
-            letters_kept (λ a k m. IsForNode f k m) g h.letters
-            (λ j. subst (AllByRecursion (IsForNode f j)) (sym (g.moves.0.items j)) (targets_all (IsForNode f) j g.moves.0.sent sends));
+        letters = sent_kept (λ a k m. IsForNode f k m) g g.moves.0.sent g.moves.0.items h.letters sends;
       }

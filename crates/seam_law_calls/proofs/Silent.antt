@@ -1,12 +1,10 @@
 -- Where no look is left, or the entity has no witness, its client is told nothing.
 use Rattle.seam_law_calls.proofs.Prelude.{◌≡◌, ℕ, ◌+◌, ◌≤◌, false, is_some, List, Option, None, Some, refl, sym, ap, ◌∙◌, subst, arith}
-use Rattle.seam_law_calls.proofs.Prelude.{AllByRecursion, cells_of, happens, Occurs, Event, RealView, WitnessView, Msg, cell_count, World}
-use Rattle.seam_law_calls.proofs.Prelude.{node_steps, letter_in, slot_at, IsSilent, Frame, here_at, IsInFrame, Has, AtCell, mine}
-use Rattle.seam_law_calls.proofs.Prelude.{concerning, has_of, has_none, Moves, at_a_cell, at_a_base, real_in, update_in, WitnessMoves}
-use Rattle.seam_law_calls.proofs.Prelude.{EachReal, node_looks, mine_looks, looks_left, NoUpdateComes, RunsTo, weight_bounds, all_append}
-use Rattle.seam_law_calls.proofs.Prelude.{letters_kept}
-use Rattle.seam_law_calls.proofs.Classify.{node_moves}
-use Rattle.seam_law_calls.proofs.Sparing.{items_all}
+use Rattle.seam_law_calls.proofs.Prelude.{cells_of, happens, Occurs, Event, RealView, WitnessView, Msg, cell_count, World, node_steps}
+use Rattle.seam_law_calls.proofs.Prelude.{letter_in, slot_at, IsSilent, Frame, here_at, IsInFrame, Has, AtCell, mine, concerning, has_of}
+use Rattle.seam_law_calls.proofs.Prelude.{has_none, Moves, at_a_cell, at_a_base, real_in, update_in, WitnessMoves, EachReal, node_looks}
+use Rattle.seam_law_calls.proofs.Prelude.{mine_looks, looks_left, NoUpdateComes, RunsTo, weight_bounds, all_append, sent_kept}
+use Rattle.seam_law_calls.proofs.Classify.{node_moves, fed_plain}
 use Rattle.seam_law_calls.specs.WitnessMoves as witness
 use Rattle.seam_law_calls.proofs.BaseSilent.{sees_no_update, base_silent}
 use Rattle.seam_law_calls.proofs.WitnessKept.{IsSeen, each_happens}
@@ -14,7 +12,6 @@ use Rattle.seam_law_calls.proofs.WitnessSteps.{witness_moves}
 use Rattle.seam_law_calls.proofs.LooksLeft.{looks_left_happens}
 use Rattle.seam_law_calls.proofs.Telling.{event_fact}
 use Rattle.seam_law_calls.proofs.Keeping.{run_keeps}
-use Rattle.seam_law_calls.proofs.Classify.{fed_plain}
 
 -- the node's real has no witness that is to look
 abbrev NeverLooks : AtCell → Type 0
@@ -46,9 +43,7 @@ module _ (f : Frame) (e : ℕ) (w : World) (v : Event) (o : Occurs w v) (q : IsI
       (concerning e (node_steps o.node o.input).sent) never
       (node_moves f e v.node o.node o.input (q.sound.states v.node o.node o.is_node) (q.nodes v.node o.node o.is_node)
       (fed_plain f w v o q))) in
-      letters_kept (λ a k m. update_in m ≡ None) g none
-      (λ j. subst (AllByRecursion (λ m. update_in m ≡ None)) (sym (g.moves.0.items j))
-      (items_all (λ m. update_in m ≡ None) j g.moves.0.sent g.moves.1))
+      sent_kept (λ a k m. update_in m ≡ None) g g.moves.0.sent g.moves.0.items none g.moves.1
 
 -- ---- no look is left
 
@@ -60,8 +55,8 @@ module _ (f : Frame) (most : cells_of f.tree ≤ cell_count) (e : ℕ) where
       let less = looks_left_happens f most e x a o q in
       let left = h.0 in
       let bound = weight_bounds (node_looks e) (mine_looks e) x a o in
-      (omega (arith, less, left), silent_happens f e x a o q (λ n r y at has seen. omega (arith, at, bound, left)) h.1)) w v es frame run
-      (left, none)).1
+      (omega (arith, less, left), silent_happens f e x a o q (λ n r y at has seen. omega (arith, at, bound, left)) h.1)) w v es frame
+      (left, none) run).1
 
 -- ---- there is no witness
 
@@ -76,4 +71,4 @@ module _ (f : Frame) (e : ℕ) where
             (λ n r y at has seen.
             let is = h.0.cells a.node r (ap (λ z. real_in (slot_at (has_of e) has_none z)) o.is_node ∙ has) in
             absurd (let z = sym (ap is_some seen) ∙ is in cc)) h.1,
-      )) w v es frame run (each, none)).1
+      )) w v es frame (each, none) run).1

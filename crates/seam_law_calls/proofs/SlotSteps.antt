@@ -7,11 +7,11 @@ use Rattle.seam_law_calls.proofs.Prelude.{executed, executed_ready, Slot, NextPl
 use Rattle.seam_law_calls.proofs.Prelude.{is_stray, may_come, stray_survey, stray_ready_call, survey_task, ready_call_task, Known, shown_of}
 use Rattle.seam_law_calls.proofs.Prelude.{look_by, look_task, stray_look, stray_look_by, AtCell, Does, Acts, CellMoves, surveys, calls}
 use Rattle.seam_law_calls.proofs.Prelude.{readies, case_of}
-use Rattle.seam_node_steps.specs.Prelude.{may_execute, shows, unless_stray}
+use Rattle.seam_node_steps.specs.Prelude.{may_execute, shows, unless_stray, Boundaries, at_start}
 use Rattle.seam_entity.specs.declared.message.Msg.TheVariants.{Call}
+use Rattle.seam_law_calls.proofs.Holds.{not_false}
 use Rattle.seam_node_steps.specs.CellCases
 use Rattle.seam_law_calls.specs.CellMoves as move
-use Rattle.seam_node_steps.specs.Prelude.{Boundaries, at_start}
 
 less_of : (a b : ℕ) → nat_cmp a b ≡ Less → a < b
 less_of a b is = grind (arith, nat_tests)
@@ -21,10 +21,6 @@ equal_of a b is = grind (arith, nat_tests)
 
 greater_of : (a b : ℕ) → nat_cmp a b ≡ Greater → b < a
 greater_of a b is = grind (arith, nat_tests)
-
-yes_of : (b : Bool) → not b ≡ false → b ≡ true
-yes_of true is = refl
-yes_of false is = cc
 
 inside : (x y : ℕ) → Some x ≡ Some y → x ≡ y
 inside x y is = cc
@@ -68,14 +64,14 @@ module _ (h : Here) (t : Division) (e : ℕ) (s : AtCell) (key : IsKey e s.slot)
   call_moves : (c : CallData) (o : Option RealView) → c.entity ≡ e → s.slot.real ≡ o → CellCases.stray_call h c o s.slot.next ≡ false →
       Does s (CellCases.call h (at_start t) s.slot c o) v sent → Goal (Some (Call c))
   call_moves c (Some r) is has sound d =
-      offered_moves c r (nat_cmp c.number (order_of r.orders c.sender).next) is has (yes_of (may_call h r c) sound) refl d
+      offered_moves c r (nat_cmp c.number (order_of r.orders c.sender).next) is has (not_false (may_call h r c) sound) refl d
   call_moves c None is has sound d = passed_moves c s.slot.next is has refl sound d
 
   hand_moves : (r : RealView) (bs : Option Boundaries) (o : Option RealView) → r.entity ≡ e → s.slot.real ≡ o →
       CellCases.stray_hand h t r o ≡ false →
       Does s (CellCases.hand_over_comes h s.slot r) v sent → Goal (Some (Hand r bs))
   hand_moves r bs (Some q) is has sound d = cc
-  hand_moves r bs None is has sound d = move.lands r bs refl is has (yes_of (may_come h t r) sound) d
+  hand_moves r bs None is has sound d = move.lands r bs refl is has (not_false (may_come h t r) sound) d
 
   set_moves : (x beat : ℕ) (c : GhostCopy) (o : Option RealView) → x ≡ e → s.slot.real ≡ o →
       Does s (CellCases.ghost_set s.slot beat c o) v sent → Goal (Some (GhostSet x beat c))
@@ -85,7 +81,7 @@ module _ (h : Here) (t : Division) (e : ℕ) (s : AtCell) (key : IsKey e s.slot)
   reap_moves : (x : ℕ) (o : Option RealView) → x ≡ e → s.slot.real ≡ o → CellCases.stray_reap o ≡ false →
       Does s (CellCases.reap s.slot o) v sent → Goal (Some (Reap x))
   reap_moves x (Some r) is has sound d =
-      move.reaped r (ap (λ y. Some (Reap y)) is) has (key r has) (yes_of (may_rise r.beat) sound) d
+      move.reaped r (ap (λ y. Some (Reap y)) is) has (key r has) (not_false (may_rise r.beat) sound) d
   reap_moves x None is has sound d = cc
 
   case_moves : (m : Msg) → about m ≡ Some e → is_stray h t s.slot m ≡ false → Does s (case_of h (at_start t) s.slot m) v sent → Goal

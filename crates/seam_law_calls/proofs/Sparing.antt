@@ -1,22 +1,12 @@
 -- An entity that no one reaps is reaped by none: no move orders it or sends a Reap.
-use Rattle.seam_law_calls.proofs.Prelude.{◌≡◌, ℕ, Bool, true, false, cond, eqb, List, [], ◌∷◌, Option, None, refl, sym, subst}
-use Rattle.seam_law_calls.proofs.Prelude.{AllByRecursion, Division, items_to, Order, Msg, IsSilent, Frame, here_at, Has, AtBase, CellMoves}
-use Rattle.seam_law_calls.proofs.Prelude.{BaseMoves, Moves, at_a_cell, at_a_base, reaped_by, reaped_by_order, HasNoReaps}
+use Rattle.seam_law_calls.proofs.Prelude.{◌≡◌, ℕ, List, Option, None, refl, sym, subst, AllByRecursion, Division, Order, Msg, IsSilent}
+use Rattle.seam_law_calls.proofs.Prelude.{Frame, here_at, Has, AtBase, CellMoves, BaseMoves, Moves, at_a_cell, at_a_base, reaped_by}
+use Rattle.seam_law_calls.proofs.Prelude.{reaped_by_order, HasNoReaps}
 use Rattle.seam_law_calls.proofs.BaseDeeds.{base_keeps}
 use Rattle.seam_law_calls.proofs.CellDeeds.{cell_deeds, cell_says, plain_says}
 
 abbrev NoneReaped : List Order → Type 0
 NoneReaped os = AllByRecursion (λ o. reaped_by_order o ≡ None) os
-
--- a fact of each of the sends is one of what each node gets
-items_by : (P : Msg → Type 0) (j : ℕ) (p : ℕ × Msg) (ps : List (ℕ × Msg)) (b : Bool) → P p.1 → AllByRecursion P (items_to j ps) →
-    AllByRecursion P (cond b (p.1 ∷ items_to j ps) (items_to j ps))
-items_by P j p ps true h more = (h, more)
-items_by P j p ps false h more = more
-
-pub items_all : (P : Msg → Type 0) (j : ℕ) (ps : List (ℕ × Msg)) → AllByRecursion (λ p. P p.1) ps → AllByRecursion P (items_to j ps)
-items_all P j [] h = tt
-items_all P j (p ∷ ps) h = items_by P j p ps (eqb p.0 j) h.0 (items_all P j ps h.1)
 
 module _ (f : Frame) (e k : ℕ) (s : Has) (i : Option Msg) (t : Has) (sent : List (ℕ × Msg)) where
   abbrev Unreaped : Type 0

@@ -30,7 +30,7 @@ module _ (f : Frame) (e ty : ℕ) (first : ℕ → ℕ) (batch : ℕ → List Ca
     (h : HasBaseCalls f e ty first batch w) (routes : HasRoutes f e w) (run : RunsTo w es v) where
   pub alone_without_stray : IsFrame f → ty < length f.defs → HasOne f e ty w → HasNoClient e w → NothingIsStray f e v
   alone_without_stray frame known one alone =
-      let a = alone_leads f e ty first batch w v es h alone run in
+      let a = alone_leads f e ty first batch w v es (record { calls = h; alone = alone }) run in
       nothing_is_stray f e ty first batch 0 0 v a.calls (routes_lead f frame e ty known w v es one h.spared routes run) (no_client a.alone)
 
   pub client_without_stray : (update n : ℕ) → HasClient f e ty update w → HasRoomFor e n w → HasToldAtMost e n v → NothingIsStray f e v

@@ -1,111 +1,25 @@
 -- What a witness told stays within what it told at the start and what its looks may tell.
 use Rattle.seam_law_calls.proofs.Prelude.{◌≡◌, ℕ, ◌+◌, ◌*◌, ◌<◌, ◌≤◌, Bool, true, false, List, [], ◌∷◌, length, map, filter_map, Option}
-use Rattle.seam_law_calls.proofs.Prelude.{None, Some, refl, sym, ap, ◌∙◌, subst, arith, inl, inr, slice_get, AllByRecursion, cases_lt}
-use Rattle.seam_law_calls.proofs.Prelude.{length-map, Division, cells_of, happens, enabled, Occurs, Event, copy_in, GhostCopy, Shown}
-use Rattle.seam_law_calls.proofs.Prelude.{RealView, WitnessView, Boundaries, Msg, Hand, Here, base_numbers, base_of, cell_count, SlotStep}
-use Rattle.seam_law_calls.proofs.Prelude.{slot_after}
-use Rattle.seam_law_calls.proofs.Prelude.{haunts_at, ghost_messages, current_to, Known, seen_as, shown_for, own_due, looks_of, shown_of}
-use Rattle.seam_law_calls.proofs.Prelude.{after_looking, CellView, known_to, NodeView, World, node_steps, node_has_work, Cell, Base, IsNode}
-use Rattle.seam_law_calls.proofs.Prelude.{Goes, comes, letter_in, slot_at, IsSilent, Frame, here_at, IsInFrame, Has, AtCell, mine}
-use Rattle.seam_law_calls.proofs.Prelude.{concerning, has_of, has_none, entity_flow, Does, Acts, surveys, Moves, at_a_cell, at_a_base}
+use Rattle.seam_law_calls.proofs.Prelude.{Some, refl, sym, ap, ◌∙◌, subst, arith, inl, inr, slice_get, AllByRecursion, cases_lt, length-map}
+use Rattle.seam_law_calls.proofs.Prelude.{cells_of, happens, Occurs, Event, copy_in, GhostCopy, Shown, RealView, WitnessView, Msg, Hand}
+use Rattle.seam_law_calls.proofs.Prelude.{Here, base_of, cell_count, Known, seen_as, shown_for, own_due, looks_of, shown_of, after_looking}
+use Rattle.seam_law_calls.proofs.Prelude.{CellView, known_to, NodeView, World, node_steps, Cell, Base, IsNode, Goes, comes, letter_in}
+use Rattle.seam_law_calls.proofs.Prelude.{slot_at, IsSilent, Frame, IsInFrame, Has, mine, concerning, has_of, has_none, entity_flow}
 use Rattle.seam_law_calls.proofs.Prelude.{MovesTo, real_in, real_of, sent_of, sent_by, EachReal, HasToldAtMost, most_entities}
-use Rattle.seam_law_calls.proofs.Prelude.{HasFewEntities, IsFewView, SeesFew, looks_left, most_shown, RunsTo, real_at, occurs, leads_keeps}
-use Rattle.seam_law_calls.proofs.Prelude.{sound_sends, event_goes, all_append, slots_kept, letters_kept, came}
+use Rattle.seam_law_calls.proofs.Prelude.{HasFewEntities, IsFewView, SeesFew, looks_left, most_shown, RunsTo, real_at, sound_sends}
+use Rattle.seam_law_calls.proofs.Prelude.{event_goes, slots_kept, came, sent_kept}
 use Rattle.std.specs.FinMap as table
-use Rattle.std.specs.FinSet as set
-use Rattle.seam_law_calls.proofs.CellDeeds as deed
-use Rattle.seam_law_calls.proofs.CellDeeds.{CellDeeds, cell_deeds}
-use Rattle.seam_law_calls.proofs.Classify.{node_laws, node_moves, frame_happens}
+use Rattle.seam_law_calls.proofs.Classify.{node_laws, node_moves, frame_happens, fed_plain}
 use Rattle.seam_law_calls.proofs.Lists.{letters_are}
-use Rattle.seam_law_calls.proofs.Plain.{SeesNoGhost, ghosts_silent, drops_silent, mapped_silent}
-use Rattle.seam_law_calls.proofs.Sparing.{items_all}
-use Rattle.seam_law_calls.proofs.BaseSilent.{sees_no_real, numbered_unreal, base_silent}
+use Rattle.seam_law_calls.proofs.BaseSilent.{numbered_unreal}
 use Rattle.seam_law_calls.proofs.WitnessKept.{OfReal, none_carried, each_weaker, ByWitness}
 use Rattle.seam_law_calls.proofs.Below.{AllBelow, known_to_below, known_to_few, view_few, few_after_looks, looks_few, mapped_few}
 use Rattle.seam_law_calls.proofs.Absent.{absent_happens}
-use Rattle.seam_law_calls.proofs.Looking.{NotTaken, as_often, gone, ticked, looked_at, LooksAt, Look, still, elsewhere, looks, cell_looks}
+use Rattle.seam_law_calls.proofs.Looking.{NotTaken, as_often, looked_at, LooksAt, Look, still, elsewhere, looks, cell_looks}
 use Rattle.seam_law_calls.proofs.LooksLeft.{looks_left_happens, looks_left_falls}
-use Rattle.seam_law_calls.proofs.Classify.{fed_plain}
 use Rattle.seam_law_calls.specs.Frames.{IsAt}
-
-no_real : SeesNoGhost real_of
-no_real = record { sets = λ e n c. refl; drops = λ e n. refl }
-
--- ---- where the entry is not taken, each real has the witness that it had
-
-module _ (P : RealView → Type 0) (by_witness : ByWitness P) (f : Frame) (e k : ℕ) (s : Has) (i : Option Msg) (t : Has)
-    (sent : List (ℕ × Msg)) (here : (r : RealView) → real_in s ≡ Some r → P r)
-    (comes : (r : RealView) (bs : Option Boundaries) → i ≡ Some (Hand r bs) → P r) where
-  record Holds : Type 0 where
-    slot : (r : RealView) → real_in t ≡ Some r → P r
-    sends : AllByRecursion (λ p. OfReal P p.1) sent
-
-  same : real_in t ≡ real_in s → IsSilent real_of sent → Holds
-  same is z = record { slot = λ r has. here r (sym is ∙ has); sends = none_carried P sent z }
-
-  is_now : (x : SlotStep) (u : AtCell) → Does u x t.cell sent → real_in t ≡ (slot_after x.slot u.slot).real
-  is_now x u d = ap (λ a. a.slot.real) d.state
-
-  silent : (x : SlotStep) (u : AtCell) → Does u x t.cell sent → IsSilent real_of x.sent → IsSilent real_of sent
-  silent x u d z = subst (IsSilent real_of) (sym d.sends) z
-
-  turned : (r q : RealView) → real_in s ≡ Some r → real_in t ≡ Some q → q.witness ≡ r.witness → IsSilent real_of sent → Holds
-  turned r q has is wit z = record {
-    slot = λ x at. let one : q ≡ x = let y = sym is ∙ at in cc in subst P one (by_witness r q wit (here r has));
-    sends = none_carried P sent z;
-  }
-
-  acts_keep : (u : AtCell) (r q : RealView) (changed : Bool) → Acts (here_at f k) e s.cell i r u q changed → q.witness ≡ r.witness
-  acts_keep u r q changed (surveys n a b c) = refl
-  acts_keep u r q changed _ = refl
-
-  -- a look takes the entry
-  takes_it : (n : ℕ) (q : RealView) → i ≡ None → s.cell.looks ≡ n + 1 → t.cell.looks ≡ n → real_in t ≡ Some q → NotTaken s.cell i t.cell → ⊥
-  takes_it n q none at is now (as_often often) = omega (arith, at, is, often)
-  takes_it n q none at is now (gone none_now) = let z = sym none_now ∙ now in cc
-  takes_it n q none at is now (ticked fed) = let z = sym none ∙ fed in cc
-
-  cell_holds : NotTaken s.cell i t.cell → {tree : Division} → CellDeeds (here_at f k) tree e s.cell i t.cell sent → Holds
-  cell_holds not (deed.idles a z) = same a.real (subst (IsSilent real_of) (sym z) tt)
-  cell_holds not {tree} (deed.stays u r q changed has own acts at d) =
-      turned r _ has (is_now _ u d) (acts_keep u r q changed acts)
-      (silent _ u d (ghosts_silent real_of no_real (here_at f k) q k (haunts_at (here_at f k) tree q.state.pos k q.haunts) changed))
-  cell_holds not {tree} (deed.goes u r q changed j has own acts at n d) =
-      let haunts = haunts_at (here_at f k) tree q.state.pos j (set.insert q.haunts k) in
-      record {
-        slot = λ x now. absurd (let z = sym (is_now _ u d) ∙ now in cc);
-        sends =
-            subst (AllByRecursion (λ p. OfReal P p.1)) (sym d.sends)
-            (all_append (λ p. OfReal P p.1) (ghost_messages (here_at f k) q j haunts changed) _
-            (none_carried P _ (ghosts_silent real_of no_real (here_at f k) q j haunts changed)) (
-              (λ x is. let one = is in by_witness r x (ap (λ (o : Option RealView). witness_of o) (sym one) ∙ acts_keep u r q changed acts)
-                  (here r has)),
-              tt,
-            ));
-      }
-    where
-      witness_of : Option RealView → Option WitnessView
-      witness_of None = None
-      witness_of (Some r) = r.witness
-  cell_holds not (deed.holds c r n own has mine may lt d) = turned r _ has (is_now _ s.cell d) refl (silent _ s.cell d tt)
-  cell_holds not (deed.passes c p n own has at d) = same (is_now _ s.cell d) (silent _ s.cell d (refl, tt))
-  cell_holds not (deed.lands r bs n own has may d) = record {
-    slot = λ x now. let one : r ≡ x = let y = sym (is_now _ s.cell d) ∙ now in cc in subst P one (comes r bs n);
-    sends =
-        none_carried P sent
-        (silent _ s.cell d (mapped_silent real_of (current_to (here_at f k) r) (λ b. refl) (base_numbers (here_at f k))));
-  }
-  cell_holds not (deed.reaped r n has own may d) = record {
-    slot = λ x now. absurd (let z = sym (is_now _ s.cell d) ∙ now in cc);
-    sends = none_carried P sent (silent _ s.cell d (drops_silent real_of no_real r));
-  }
-  cell_holds not (deed.looks n r w known h at has own v small d) =
-      absurd (takes_it n _ h at (ap (λ a. a.looks) d.state) (ap (λ a. a.slot.real) d.state) not)
-
-  moves_hold : NotTaken s.cell i t.cell → Moves f e k s i t sent → Holds
-  moves_hold not (at_a_cell tree of low m base) = cell_holds not (cell_deeds m)
-  moves_hold not (at_a_base high m cell) =
-      same (ap (λ c. c.slot.real) cell) (base_silent real_of sees_no_real _ _ e _ i _ sent m)
+use Rattle.seam_law_calls.proofs.Keeping.{RunsKeep, runs_keep}
+use Rattle.seam_law_calls.proofs.WitnessHeld.{moves_hold}
 
 -- ---- an event, with a fact of what the node has, is fed, has then and sends
 
@@ -147,9 +61,7 @@ module _ (f : Frame) (e : ℕ) (w : World) (v : Event) (o : Occurs w v) (frame :
         AllByRecursion (λ p. OfReal P p.1) g.moves.0.sent → EachReal e P after
     each_then slot sends = record {
       cells = slots_kept (λ k s. (r : RealView) → real_in s ≡ Some r → P r) g each.cells slot;
-      hands =
-          letters_kept (λ a k m. OfReal P m) g each.hands
-          (λ j. subst (AllByRecursion (OfReal P)) (sym (g.moves.0.items j)) (items_all (OfReal P) j g.moves.0.sent sends));
+      hands = sent_kept (λ a k m. OfReal P m) g g.moves.0.sent g.moves.0.items each.hands sends;
     }
 
   abbrev IsStill : Has → Option Msg → Has → List (ℕ × Msg) → Type 0
@@ -320,11 +232,8 @@ module _ (f : Frame) (most : cells_of f.tree ≤ cell_count) (e b : ℕ) where
       each = each_looked f e w v o h.frame (IsWithin left) (within_by left) weaker looked;
     }
 
-  within_more : (w : World) (v : Event) → Within w → enabled node_has_work w v ≡ true → Within (happens node_steps w v)
-  within_more w v h on = within_happens w v (occurs node_has_work w v on) h
-
-  within_leads : (w v : World) (es : List Event) → Within w → RunsTo w es v → Within v
-  within_leads w v es h run = leads_keeps node_has_work node_steps Within within_more w v es h run
+  within_leads : RunsKeep Within
+  within_leads = runs_keep Within within_happens
 
 -- ---- all of it
 

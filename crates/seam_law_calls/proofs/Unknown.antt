@@ -1,16 +1,15 @@
 -- Of an entity that is not there, nothing comes but ticks, over every list of events.
 use Rattle.seam_law_calls.proofs.Prelude.{◌≡◌, ℕ, ◌≤◌, is_some, List, [], ◌∷◌, Option, None, Some, refl, sym, ap, ◌∙◌, subst, arith}
-use Rattle.seam_law_calls.proofs.Prelude.{AllByRecursion, Division, cells_of, Event, Order, RealView, Msg, BaseCall, Hand, Update, Here}
-use Rattle.seam_law_calls.proofs.Prelude.{cell_count, proxy_is_ready, World, letters_of, Frame, here_at, Has, AtBase, AtCell, BaseMoves}
-use Rattle.seam_law_calls.proofs.Prelude.{Moves, at_a_cell, at_a_base, real_in, base_call_of, PartMoves, rests, refuses, offers, sends}
-use Rattle.seam_law_calls.proofs.Prelude.{serves, executes, misses, updates, shows, ends, IsTickOrder, IsTickTo, OnlyTicks, IsUnknown}
-use Rattle.seam_law_calls.proofs.Prelude.{IsInFrame, RunsTo}
+use Rattle.seam_law_calls.proofs.Prelude.{AllByRecursion, Division, cells_of, Order, RealView, Msg, BaseCall, Hand, Update, Here}
+use Rattle.seam_law_calls.proofs.Prelude.{cell_count, proxy_is_ready, letters_of, Frame, here_at, Has, AtBase, AtCell, BaseMoves, Moves}
+use Rattle.seam_law_calls.proofs.Prelude.{at_a_cell, at_a_base, real_in, base_call_of, PartMoves, rests, refuses, offers, sends, serves}
+use Rattle.seam_law_calls.proofs.Prelude.{executes, misses, updates, shows, ends, IsTickOrder, IsTickTo, OnlyTicks, IsUnknown}
 use Rattle.seam_call.specs.declared.order.Order.TheVariants as order
 use Rattle.seam_entity.specs.declared.message.Msg.TheVariants.{Call}
 use Rattle.seam_law_calls.proofs.BaseDeeds.{base_keeps}
 use Rattle.seam_law_calls.proofs.CellDeeds as deed
 use Rattle.seam_law_calls.proofs.CellDeeds.{CellDeeds, cell_deeds}
-use Rattle.seam_law_calls.proofs.Keeping.{all_lead, run_keeps}
+use Rattle.seam_law_calls.proofs.Keeping.{EachKeeps, RunsKeep, runs_keep, all_happen}
 use Rattle.seam_law_calls.proofs.Classify.{frame_happens}
 use Rattle.seam_law_calls.proofs.PartSteps.{part_moves}
 
@@ -85,14 +84,12 @@ module _ (f : Frame) (few : cells_of f.tree ≤ cell_count) (e k : ℕ) (s : Has
   stays_silent m = stays_by (part_stays (here_at f k) (part_moves f e k s i t sent m)) m
 
 module _ (f : Frame) (e : ℕ) where
-  pub unknown_leads : (w v : World) (es : List Event) → IsUnknown f e w → RunsTo w es v → IsUnknown f e v
-  unknown_leads w v es h run =
-      let all = all_lead f e (λ k s. OnlyTicks s) (λ a k m. IsTickTo k m)
-      (λ k s i t sent here come m. stays_silent f h.cells e k s i t sent here (λ x is. (come x is).1) m) w v es h.frame run
+  pub unknown_happens : EachKeeps (IsUnknown f e)
+  unknown_happens w v o h =
+      let all = all_happen f e (λ k s. OnlyTicks s) (λ a k m. IsTickTo k m)
+      (λ k s i t sent here come m. stays_silent f h.cells e k s i t sent here (λ x is. (come x is).1) m) w v o h.frame
       (record { slots = h.slots; letters = h.letters }) in
-      record {
-        frame = run_keeps f (λ x. IsInFrame f x) (λ x a o frame was. frame_happens f x a o was) w v es h.frame run h.frame;
-        cells = h.cells;
-        slots = all.slots;
-        letters = all.letters;
-      }
+      record { frame = frame_happens f w v o h.frame; cells = h.cells; slots = all.slots; letters = all.letters }
+
+  pub unknown_leads : RunsKeep (IsUnknown f e)
+  unknown_leads = runs_keep (IsUnknown f e) unknown_happens

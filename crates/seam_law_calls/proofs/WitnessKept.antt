@@ -1,16 +1,14 @@
 -- What is true of each real of an entity by its witness stays true.
 use Rattle.seam_law_calls.proofs.Prelude.{◌≡◌, ℕ, ◌+◌, Bool, is_some, List, [], ◌∷◌, length, Option, Some, refl, sym, ap, ◌∙◌, subst}
 use Rattle.seam_law_calls.proofs.Prelude.{AllByRecursion, happens, Occurs, Event, Shown, RealView, WitnessView, Boundaries, Msg, Hand}
-use Rattle.seam_law_calls.proofs.Prelude.{World}
-use Rattle.seam_law_calls.proofs.Prelude.{node_steps, comes, IsSilent, Frame, here_at, IsInFrame, Has, AtCell, entity_flow, Moves}
-use Rattle.seam_law_calls.proofs.Prelude.{at_a_cell, at_a_base, real_in, real_of, WitnessMoves, EachReal, RunsTo, all_append, slots_kept}
-use Rattle.seam_law_calls.proofs.Prelude.{letters_kept, came}
+use Rattle.seam_law_calls.proofs.Prelude.{World, node_steps, comes, IsSilent, Frame, here_at, IsInFrame, Has, AtCell, entity_flow, Moves}
+use Rattle.seam_law_calls.proofs.Prelude.{at_a_cell, at_a_base, real_in, real_of, WitnessMoves, EachReal, all_append, slots_kept, came}
+use Rattle.seam_law_calls.proofs.Prelude.{sent_kept}
 use Rattle.seam_law_calls.proofs.Classify.{event_moves}
-use Rattle.seam_law_calls.proofs.Sparing.{items_all}
 use Rattle.seam_law_calls.specs.WitnessMoves as witness
 use Rattle.seam_law_calls.proofs.WitnessSteps.{witness_moves}
 use Rattle.seam_law_calls.proofs.BaseSilent.{sees_no_real, numbered_unreal, base_silent}
-use Rattle.seam_law_calls.proofs.Keeping.{run_keeps}
+use Rattle.seam_law_calls.proofs.Keeping.{run_keeps, FramedKeep}
 
 module _ (P : RealView → Type 0) where
   abbrev pub OfReal : Msg → Type 0
@@ -88,9 +86,7 @@ module _ (P : RealView → Type 0) (by_witness : ByWitness P) (f : Frame) (e : �
       (Hand r bs) is each.hands).1 r refl) g.moves.moves in
       record {
         cells = slots_kept (λ k s. (r : RealView) → real_in s ≡ Some r → P r) g each.cells kept.slot;
-        hands =
-            letters_kept (λ a k m. OfReal P m) g each.hands
-            (λ j. subst (AllByRecursion (OfReal P)) (sym (g.moves.items j)) (items_all (OfReal P) j g.moves.sent kept.sends));
+        hands = sent_kept (λ a k m. OfReal P m) g g.moves.sent g.moves.items each.hands kept.sends;
       }
 
 -- ---- an entity with a witness keeps it, and one without gets none
@@ -99,7 +95,7 @@ module _ (f : Frame) (e : ℕ) (b : Bool) where
   abbrev pub IsSeen : RealView → Type 0
   IsSeen r = is_some r.witness ≡ b
 
-  pub seen_leads : (w v : World) (es : List Event) → IsInFrame f w → EachReal e IsSeen w → RunsTo w es v → EachReal e IsSeen v
-  seen_leads w v es frame each run =
+  pub seen_leads : FramedKeep f (EachReal e IsSeen)
+  seen_leads =
       run_keeps f (EachReal e IsSeen) (λ x a o q all. each_happens IsSeen (λ r q same is. ap is_some same ∙ is) f e x a o q
-      (λ k n r q y z shown at wit wit' sum is. ap is_some wit' ∙ (sym (ap is_some wit) ∙ is)) all) w v es frame run each
+      (λ k n r q y z shown at wit wit' sum is. ap is_some wit' ∙ (sym (ap is_some wit) ∙ is)) all)

@@ -4,10 +4,10 @@ use Rattle.seam_law_clients.proofs.Prelude.{sym, ap, ◌∙◌, subst, arith, in
 use Rattle.seam_law_clients.proofs.Prelude.{eq_by_cmp, nat_cmp_total, Seen, Look, Replica, IsView, seen_of, after_showing, after_look}
 use Rattle.seam_law_clients.proofs.Prelude.{after_looks, State, Property, ghost_of, other_of, own_of, projected, type_of, GhostCopy, Shown}
 use Rattle.seam_law_clients.proofs.Prelude.{Own, Set, Enter, Leave, RealView, WitnessView, Known, seen_as, known_of, shown_for, own_due}
-use Rattle.seam_law_clients.proofs.Prelude.{after_looking, looks_of, shown_of, CellView, known_to, is_another, RouteView, World, Cell}
-use Rattle.seam_law_clients.proofs.Prelude.{Frame, here_at, entity_flow, IsBaseNumber, real_at, IsBetweenRounds, AreCopiesBetweenRounds}
-use Rattle.seam_law_clients.proofs.Prelude.{version_in, own_now, FitsWitness, Somewhere, Nowhere, search_real, ClientReplica}
-use Rattle.seam_law_clients.proofs.Prelude.{with_copy_shown, after_shown, after_all_shown, tied_same, known_at, known_to_is}
+use Rattle.seam_law_clients.proofs.Prelude.{after_looking, looks_of, shown_of, CellView, known_to, is_another, World, Cell, Frame, here_at}
+use Rattle.seam_law_clients.proofs.Prelude.{real_at, IsBetweenRounds, AreCopiesBetweenRounds, version_in, own_now, FitsWitness, Somewhere}
+use Rattle.seam_law_clients.proofs.Prelude.{Nowhere, search_real, ClientReplica, with_copy_shown, after_shown, after_all_shown, tied_same}
+use Rattle.seam_law_clients.proofs.Prelude.{known_at, known_to_is}
 use Rattle.std.specs.FinMap as table
 use Rattle.seam_view.specs.declared.Look.TheVariants as look
 use Rattle.seam_defs.specs.declared.flags.Group.TheVariants as group
@@ -127,9 +127,7 @@ told_by known ls shown r v false due = rw due refl
 
 module _ (f : Frame) (w : World) (between : IsBetweenRounds f w) (copies : AreCopiesBetweenRounds f w)
     (ghosts : (ps : List Property) (s : State) → projected ps group.Ghost group.Other (ghost_of ps s).props ≡ (other_of ps s).props)
-    (stays : (r : Replica) (known : List Seen) (looks : List Look) → IsView r → IsView (after_looks known r looks))
-    (e k : ℕ) (r : RealView) (at : real_at e w k ≡ Some r) (v : WitnessView) (c : ClientReplica)
-    (fits : FitsWitness f w r v c) (cell : CellView) (node : slice_get w.nodes k ≡ Some (Cell cell)) where
+    (e k : ℕ) (r : RealView) (v : WitnessView) (cell : CellView) (node : slice_get w.nodes k ≡ Some (Cell cell)) where
   abbrev known : List Known
   known = known_to cell e
 
@@ -178,73 +176,79 @@ module _ (f : Frame) (w : World) (between : IsBetweenRounds f w) (copies : AreCo
   there : (x : ℕ) (s : Seen) → seen_of x (map seen_as known) ≡ Some s → IsThere x s.version
   there x s is = there_of x s (table.find nat_cmp x known) refl (sym (seen_found x known) ∙ is)
 
-  not_above : (x j version : ℕ) (q : RealView) → IsFrom (map seen_as known) v.view x version → real_at x w j ≡ Some q → version ≤ q.public
-  not_above x j version q (was h) here = fits.others_not_ahead x j version q h here
-  not_above x j version q (now s seen is) here =
-      let t = there x s seen in
-      let same = ap (λ (y : RealView). y.public) (same_real f w between x j t.home q t.real here t.here).1 in
-      let public = t.public in
-      omega (arith, same, public, is)
+  -- one that was not shown, and has no real, is not shown by the look
+  pub not_shown : (x : ℕ) → table.get v.view.shown x ≡ None → Nowhere x w → (shown : List Shown) →
+      table.get (after shown).view.shown x ≡ None
+  not_shown x none n shown = by (table.get (after shown).view.shown x) refl
+    where
+      from : (version : ℕ) → IsFrom (map seen_as known) v.view x version → ⊥
+      from version (was h) = let z = sym none ∙ h in cc
+      from version (now s seen is) = let t = there x s seen in let z = sym (n t.home) ∙ t.here in cc
 
-  routed : (x version : ℕ) → IsFrom (map seen_as known) v.view x version → (j : ℕ) → IsBaseNumber f j →
-      (route : RouteView) × (((entity_flow x w).slot j).base.route ≡ Some route)
-  routed x version (was h) j base = fits.others_known x version h j base
-  routed x version (now s seen is) j base =
-      let t = there x s seen in
-      (record { cell = t.home; generation = t.real.generation }, (between.settled x t.home t.real t.here).routes j base.from base.below)
+      by : (o : Option ℕ) → table.get (after shown).view.shown x ≡ o → table.get (after shown).view.shown x ≡ None
+      by None is = is
+      by (Some version) is = absurd (from version (all_from (map seen_as known) v.view ls x version is))
 
-  -- the client after its own line, where that is due, and the lines of the looks
-  abbrev lines : Bool → List Shown
-  lines b = cond b (Own r.version (own_of (type_of f.defs r.ty).properties r.state) ∷ []) [] ++ filter_map (shown_for known) ls
+  module _ (stays : (r : Replica) (known : List Seen) (looks : List Look) → IsView r → IsView (after_looks known r looks))
+      (c : ClientReplica) (fits : FitsWitness f w r v c) where
+    not_above : (x j version : ℕ) (q : RealView) → IsFrom (map seen_as known) v.view x version → real_at x w j ≡ Some q → version ≤ q.public
+    not_above x j version q (was h) here = fits.others_not_ahead x j version q h here
+    not_above x j version q (now s seen is) here =
+        let t = there x s seen in
+        let same = ap (λ (y : RealView). y.public) (same_real f w between x j t.home q t.real here t.here).1 in
+        let public = t.public in
+        omega (arith, same, public, is)
 
-  fits_by : (b : Bool) → own_due v.told r.version ≡ b → (shown : List Shown) → (d : ClientReplica) →
-      d ≡ after_all_shown c (lines b) → FitsWitness f w (with (after shown)) (after shown) d
-  fits_by true due shown d is =
-      let c1 = after_shown c (Own r.version (own_of (type_of f.defs r.ty).properties r.state)) in
-      let more = follows known ls c1 in
-      let kept = same_distances (map seen_as known) v.view ls in
-      record {
-        others = ap (λ (y : ClientReplica). y.others) is ∙ (more.others ∙ ap (λ y. after_looks (map seen_as known) y ls) fits.others);
-        view = stays v.view (map seen_as known) ls fits.view;
-        radius = kept.0 ∙ fits.radius;
-        hysteresis = kept.1 ∙ fits.hysteresis;
-        told = ap (λ (y : ClientReplica). option_map version_in y.own) is
-            ∙ (ap (option_map version_in) more.own ∙ sym (told_by known ls shown r v true due));
-        not_ahead = λ version told.
-            let same : Some r.version ≡ Some version = sym (told_by known ls shown r v true due) ∙ told in
-            let equal : r.version ≡ version = cc in
-            omega (arith, equal);
-        own = λ state has.
-            same_state r.version (own_now f r) state (sym (ap (λ (y : ClientReplica). y.own) is ∙ more.own) ∙ has);
-        others_not_ahead = λ x j version q has here.
-            not_above x j version q (all_from (map seen_as known) v.view ls x version has) here;
-        others_known = λ x version has. routed x version (all_from (map seen_as known) v.view ls x version has);
-      }
-  fits_by false due shown d is =
-      let more = follows known ls c in
-      let kept = same_distances (map seen_as known) v.view ls in
-      record {
-        others = ap (λ (y : ClientReplica). y.others) is ∙ (more.others ∙ ap (λ y. after_looks (map seen_as known) y ls) fits.others);
-        view = stays v.view (map seen_as known) ls fits.view;
-        radius = kept.0 ∙ fits.radius;
-        hysteresis = kept.1 ∙ fits.hysteresis;
-        told = ap (λ (y : ClientReplica). option_map version_in y.own) is
-            ∙ (ap (option_map version_in) more.own ∙ (fits.told ∙ sym (told_by known ls shown r v false due)));
-        not_ahead = λ version told. fits.not_ahead version (sym (told_by known ls shown r v false due) ∙ told);
-        own = λ state has. fits.own state (sym (ap (λ (y : ClientReplica). y.own) is ∙ more.own) ∙ has);
-        others_not_ahead = λ x j version q has here.
-            not_above x j version q (all_from (map seen_as known) v.view ls x version has) here;
-        others_known = λ x version has. routed x version (all_from (map seen_as known) v.view ls x version has);
-      }
+    -- the client after its own line, where that is due, and the lines of the looks
+    abbrev lines : Bool → List Shown
+    lines b = cond b (Own r.version (own_of (type_of f.defs r.ty).properties r.state) ∷ []) [] ++ filter_map (shown_for known) ls
 
-  here_fits : FitsWitness f w (with (after (shown_of (here_at f k) r v known))) (after (shown_of (here_at f k) r v known))
-      (after_all_shown c (shown_of (here_at f k) r v known))
-  here_fits =
-      fits_by (own_due v.told r.version) refl (shown_of (here_at f k) r v known) (after_all_shown c (shown_of (here_at f k) r v known))
-      (ap (after_all_shown c) (own_by (here_at f k) r v known ls (own_due v.told r.version) refl))
+    fits_by : (b : Bool) → own_due v.told r.version ≡ b → (shown : List Shown) → (d : ClientReplica) →
+        d ≡ after_all_shown c (lines b) → FitsWitness f w (with (after shown)) (after shown) d
+    fits_by true due shown d is =
+        let c1 = after_shown c (Own r.version (own_of (type_of f.defs r.ty).properties r.state)) in
+        let more = follows known ls c1 in
+        let kept = same_distances (map seen_as known) v.view ls in
+        record {
+          others = ap (λ (y : ClientReplica). y.others) is ∙ (more.others ∙ ap (λ y. after_looks (map seen_as known) y ls) fits.others);
+          view = stays v.view (map seen_as known) ls fits.view;
+          radius = kept.0 ∙ fits.radius;
+          hysteresis = kept.1 ∙ fits.hysteresis;
+          told = ap (λ (y : ClientReplica). option_map version_in y.own) is
+              ∙ (ap (option_map version_in) more.own ∙ sym (told_by known ls shown r v true due));
+          not_ahead = λ version told.
+              let same : Some r.version ≡ Some version = sym (told_by known ls shown r v true due) ∙ told in
+              let equal : r.version ≡ version = cc in
+              omega (arith, equal);
+          own = λ state has.
+              same_state r.version (own_now f r) state (sym (ap (λ (y : ClientReplica). y.own) is ∙ more.own) ∙ has);
+          others_not_ahead = λ x j version q has here.
+              not_above x j version q (all_from (map seen_as known) v.view ls x version has) here;
+        }
+    fits_by false due shown d is =
+        let more = follows known ls c in
+        let kept = same_distances (map seen_as known) v.view ls in
+        record {
+          others = ap (λ (y : ClientReplica). y.others) is ∙ (more.others ∙ ap (λ y. after_looks (map seen_as known) y ls) fits.others);
+          view = stays v.view (map seen_as known) ls fits.view;
+          radius = kept.0 ∙ fits.radius;
+          hysteresis = kept.1 ∙ fits.hysteresis;
+          told = ap (λ (y : ClientReplica). option_map version_in y.own) is
+              ∙ (ap (option_map version_in) more.own ∙ (fits.told ∙ sym (told_by known ls shown r v false due)));
+          not_ahead = λ version told. fits.not_ahead version (sym (told_by known ls shown r v false due) ∙ told);
+          own = λ state has. fits.own state (sym (ap (λ (y : ClientReplica). y.own) is ∙ more.own) ∙ has);
+          others_not_ahead = λ x j version q has here.
+              not_above x j version q (all_from (map seen_as known) v.view ls x version has) here;
+        }
 
-  pub look_fits : FitsWitness f w (with (after (shown_of cell.here r v known))) (after (shown_of cell.here r v known))
-      (after_all_shown c (shown_of cell.here r v known))
-  look_fits =
-      subst (λ h. FitsWitness f w (with (after (shown_of h r v known))) (after (shown_of h r v known))
-      (after_all_shown c (shown_of h r v known))) (sym (between.nodes.nodes k (Cell cell) node).here) here_fits
+    here_fits : FitsWitness f w (with (after (shown_of (here_at f k) r v known))) (after (shown_of (here_at f k) r v known))
+        (after_all_shown c (shown_of (here_at f k) r v known))
+    here_fits =
+        fits_by (own_due v.told r.version) refl (shown_of (here_at f k) r v known) (after_all_shown c (shown_of (here_at f k) r v known))
+        (ap (after_all_shown c) (own_by (here_at f k) r v known ls (own_due v.told r.version) refl))
+
+    pub look_fits : FitsWitness f w (with (after (shown_of cell.here r v known))) (after (shown_of cell.here r v known))
+        (after_all_shown c (shown_of cell.here r v known))
+    look_fits =
+        subst (λ h. FitsWitness f w (with (after (shown_of h r v known))) (after (shown_of h r v known))
+        (after_all_shown c (shown_of h r v known))) (sym (between.nodes.nodes k (Cell cell) node).here) here_fits

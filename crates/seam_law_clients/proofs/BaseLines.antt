@@ -1,15 +1,15 @@
 -- Base lines: a client is shown the base part where it is attached, and after each call that changes what it is shown.
 use Rattle.seam_law_clients.proofs.Prelude.{◌≡◌, ℕ, zero, suc, ◌+◌, Bool, true, false, List, [], ◌∷◌, ◌++◌, map, length, Option, None, Some}
 use Rattle.seam_law_clients.proofs.Prelude.{refl, sym, ap, ◌∙◌, subst, arith, append_assoc, option_map, range_with_len, nat_cmp, Ordering}
-use Rattle.seam_law_clients.proofs.Prelude.{Less, Equal, Greater, append-nil, fold-append, happens, enabled, Event, State, client_of}
-use Rattle.seam_law_clients.proofs.Prelude.{changes, next_item, after_offer, after_taking, Call as CallData, Order, Shown, Line, ClientText}
-use Rattle.seam_law_clients.proofs.Prelude.{Msg, Here, type_at, properties, Orders, PartView, ProxyView, base_text, with_line, line_if}
-use Rattle.seam_law_clients.proofs.Prelude.{with_deed, with_order, offered_update, shows_next, World, node_steps, node_has_work, comes}
-use Rattle.seam_law_clients.proofs.Prelude.{more_letter, Frame, here_at, IsInFrame, AtBase, entity_flow, IsSpared, Offered, now, early}
-use Rattle.seam_law_clients.proofs.Prelude.{late, PartMoves, rests, refuses, offers, sends, serves, executes, misses, updates, shows, ends}
-use Rattle.seam_law_clients.proofs.Prelude.{RunsTo, base_in, base_lines, number_of_line, line_where, state_with, state_after, lines_after}
-use Rattle.seam_law_clients.proofs.Prelude.{ShowsItsPart, occurs, leads_keeps, slots_kept, Update as UpdateData, executed, with_offer}
-use Rattle.seam_law_clients.proofs.Prelude.{event_moves, frame_happens, spared_happens, part_moves, unordered}
+use Rattle.seam_law_clients.proofs.Prelude.{Less, Equal, Greater, append-nil, fold-append, happens, Event, State, client_of, changes}
+use Rattle.seam_law_clients.proofs.Prelude.{next_item, after_offer, after_taking, Call as CallData, Order, Shown, Line, ClientText, Msg}
+use Rattle.seam_law_clients.proofs.Prelude.{Here, type_at, properties, Orders, PartView, ProxyView, base_text, with_line, line_if}
+use Rattle.seam_law_clients.proofs.Prelude.{with_deed, with_order, offered_update, shows_next, World, node_steps, comes, more_letter, Frame}
+use Rattle.seam_law_clients.proofs.Prelude.{here_at, IsInFrame, AtBase, entity_flow, IsSpared, Offered, now, early, late, PartMoves, rests}
+use Rattle.seam_law_clients.proofs.Prelude.{refuses, offers, sends, serves, executes, misses, updates, shows, ends, RunsTo, base_in}
+use Rattle.seam_law_clients.proofs.Prelude.{base_lines, number_of_line, line_where, state_with, state_after, lines_after, ShowsItsPart}
+use Rattle.seam_law_clients.proofs.Prelude.{slots_kept, Update as UpdateData, executed, with_offer, event_moves, frame_happens}
+use Rattle.seam_law_clients.proofs.Prelude.{spared_happens, part_moves, unordered, EachKeeps, runs_keep}
 use Rattle.std.proofs.Common.{length-append}
 use Rattle.std.proofs.lemmas.List.{map-append}
 use Rattle.seam_call.specs.declared.order.Order.TheVariants as order
@@ -246,9 +246,8 @@ module _ (f : Frame) (e : ℕ) (w : World) where
     parts : (k : ℕ) (p : PartView) (x : ProxyView) → ((entity_flow e w).slot k).base.part ≡ Some p → p.proxy ≡ Some x →
         ShowsItsPart (here_at f k) p x ((entity_flow e v).slot k).base.part
 
-  shown_more : (v : World) (o : Event) → AreShown v → enabled node_has_work v o ≡ true → AreShown (happens node_steps v o)
-  shown_more v o s on =
-      let occur = occurs node_has_work v o on in
+  shown_happens : EachKeeps AreShown
+  shown_happens v o occur s =
       let g = event_moves f v o occur s.frame e in
       let from = (entity_flow e v).slot g.k in
       let to = (entity_flow e (happens node_steps v o)).slot g.k in
@@ -269,7 +268,7 @@ module _ (f : Frame) (e : ℕ) (w : World) where
       (p : PartView) (x : ProxyView) → ((entity_flow e w).slot k).base.part ≡ Some p → p.proxy ≡ Some x →
       ShowsItsPart (here_at f k) p x ((entity_flow e v).slot k).base.part
   shows_its_part v es frame spared run =
-      (leads_keeps node_has_work node_steps AreShown shown_more w v es (record {
+      (runs_keep AreShown shown_happens w v es (record {
         frame = frame;
         spared = spared;
         parts = λ k p x at has. still (here_at f k) p p x x _ at refl refl refl refl has refl refl;

@@ -1,14 +1,13 @@
 -- Where a round's calls end a client fits its witness, also in what it was shown of others.
-use Rattle.seam_law_clients.proofs.Prelude.{◌≡◌, ℕ, ◌+◌, ◌≤◌, ◌⊎◌, Bool, true, false, cond, is_some, List, [], ◌∷◌, Option, None, Some}
-use Rattle.seam_law_clients.proofs.Prelude.{refl, sym, ap, ◌∙◌, subst, arith, inl, inr, AllByRecursion, nat_cmp, eq_by_cmp, nat_cmp_total}
-use Rattle.seam_law_clients.proofs.Prelude.{IsQuiet, Event, TypeDef, changes, type_of, Call, Batch, GhostCopy, Shown, Own, Enter, Set}
-use Rattle.seam_law_clients.proofs.Prelude.{Leave, public_after, RealView, WitnessView, RouteView, loaded, World, node_has_work, Frame}
-use Rattle.seam_law_clients.proofs.Prelude.{IsInFrame, entity_flow, real_in, real_of, HasOne, Account, account_of, after_call, after_calls}
-use Rattle.seam_law_clients.proofs.Prelude.{Replays, IsBaseNumber, home_of, shown_at, HasClient, IsAbsent, RunsTo, real_at, framed}
-use Rattle.seam_law_clients.proofs.Prelude.{MayBegin, IsTrue, present, FitsWitness, FitsWithin, TellsRightly, WasOther, true_between}
-use Rattle.seam_law_clients.proofs.Prelude.{sole_here, one_leads, all_lead, units, route_moves, frame_loaded, settled_loaded, spared_loaded}
-use Rattle.seam_law_clients.proofs.Prelude.{Somewhere, Nowhere, search_real, ClientReplica, after_shown, after_all_shown, Truth, ShowsTruth}
-use Rattle.seam_law_clients.proofs.Prelude.{tied_same, absent_leads}
+use Rattle.seam_law_clients.proofs.Prelude.{◌≡◌, ℕ, ◌+◌, ◌≤◌, ◌⊎◌, Bool, true, false, cond, List, [], ◌∷◌, Option, None, Some, refl, sym}
+use Rattle.seam_law_clients.proofs.Prelude.{ap, ◌∙◌, subst, arith, inl, inr, AllByRecursion, nat_cmp, eq_by_cmp, nat_cmp_total, IsQuiet}
+use Rattle.seam_law_clients.proofs.Prelude.{Event, TypeDef, changes, type_of, Call, Batch, GhostCopy, Shown, Own, Enter, Set, Leave}
+use Rattle.seam_law_clients.proofs.Prelude.{public_after, RealView, WitnessView, loaded, World, node_has_work, Frame, IsInFrame}
+use Rattle.seam_law_clients.proofs.Prelude.{entity_flow, real_in, real_of, HasOne, Account, account_of, after_call, after_calls, Replays}
+use Rattle.seam_law_clients.proofs.Prelude.{home_of, shown_at, HasClient, IsAbsent, RunsTo, real_at, framed, MayBegin, IsTrue, present}
+use Rattle.seam_law_clients.proofs.Prelude.{FitsWitness, FitsWithin, TellsRightly, WasOther, true_between, sole_here, one_leads}
+use Rattle.seam_law_clients.proofs.Prelude.{frame_loaded, settled_loaded, spared_loaded, Somewhere, Nowhere, search_real, ClientReplica}
+use Rattle.seam_law_clients.proofs.Prelude.{after_shown, after_all_shown, Truth, ShowsTruth, tied_same, absent_leads}
 use Rattle.std.specs.FinMap as table
 use Rattle.seam_law_calls.proofs.OneReal.{spared_leads}
 use Rattle.seam_law_clients.proofs.Starts.{shown_rightly, fits_shown}
@@ -72,22 +71,29 @@ public_rises f r q p le =
     let low = on.1 in
     (omega (arith, up, public), omega (arith, low, public, version))
 
--- ---- a base node keeps a route
+-- ---- what it was shown where the world is quiet
 
-pub some_route : (o : Option RouteView) → is_some o ≡ true → (route : RouteView) × (o ≡ Some route)
-some_route None h = cc
-some_route (Some route) h = (route, refl)
+module _ (g : Frame) (start v : World) (e ty first : ℕ) (c : ClientReplica) (h : TellsRightly g e ty first (true_between g e start v) c v)
+    (client : HasClient g e ty first v) (quiet : IsQuiet node_has_work v) where
+  now_fits : FitsWithin g h.one.real h.witness (after_all_shown c (shown_at ((entity_flow e v).slot (home_of g e))))
+  now_fits = fits_shown g e ty first (true_between g e start v) v c h client quiet
 
--- once it has one
-module _ (f : Frame) (x : ℕ) (start : World) where
-  pub routes_stay : (v : World) (es : List Event) → IsInFrame f start → RunsTo start es v → (k : ℕ) →
-      is_some ((entity_flow x start).slot k).base.route ≡ true → is_some ((entity_flow x v).slot k).base.route ≡ true
-  routes_stay v es frame run =
-      (all_lead f x (λ k s. is_some ((entity_flow x start).slot k).base.route ≡ true → is_some s.base.route ≡ true) (λ a k m. Unit {0})
-      (λ k s i t sent here come m. (
-        λ was. ap is_some (route_moves f x k s i t sent m (some_route s.base.route (here was))).1,
-        units sent,
-      )) start v es frame run (record { slots = λ k h. h; letters = λ a k. units ((entity_flow x start).mail a k) })).slots
+  shown_from : (x version : ℕ) → table.get h.witness.view.shown x ≡ Some version → IsFrom (true_between g e start v) c x version
+  shown_from x version is =
+      lines_from (true_between g e start v) (shown_at ((entity_flow e v).slot (home_of g e))) c x version
+      (shown_rightly g e ty first (true_between g e start v) v c h).true_ (ap (λ y. table.get y.shown x) now_fits.others ∙ is)
+
+  -- one that it was not shown, and that has no real as the calls begin, it is not shown
+  pub not_shown : (x : ℕ) → table.get c.others.shown x ≡ None → Nowhere x start → table.get h.witness.view.shown x ≡ None
+  not_shown x none n = by (table.get h.witness.view.shown x) refl
+    where
+      from : (version : ℕ) → IsFrom (true_between g e start v) c x version → ⊥
+      from version (was is) = let z = sym none ∙ is in cc
+      from version (now d o same) = let z = sym (n o.home) ∙ o.at_first in cc
+
+      by : (o : Option ℕ) → table.get h.witness.view.shown x ≡ o → table.get h.witness.view.shown x ≡ None
+      by None is = is
+      by (Some version) is = absurd (from version (shown_from x version is))
 
 -- ---- where the calls end
 
@@ -142,45 +148,25 @@ module _ (f : Frame) (w : World) (b : Batch) (begin : MayBegin f w b)
   module _ (e ty first : ℕ) (c : ClientReplica) (r : RealView) (x0 : WitnessView) (began : FitsWitness g start r x0 c)
       (h : TellsRightly g e ty first (true_between g e start v) c v) (client : HasClient g e ty first v)
       (quiet : IsQuiet node_has_work v) where
-    abbrev t : Truth
-    t = true_between g e start v
-
-    abbrev shown : List Shown
-    shown = shown_at ((entity_flow e v).slot (home_of g e))
-
-    now_fits : FitsWithin g h.one.real h.witness (after_all_shown c shown)
-    now_fits = fits_shown g e ty first t v c h client quiet
-
-    from : (x version : ℕ) → table.get h.witness.view.shown x ≡ Some version → IsFrom t c x version
-    from x version is =
-        lines_from t shown c x version (shown_rightly g e ty first t v c h).true_
-        (ap (λ y. table.get y.shown x) now_fits.others ∙ is)
-
-    not_ahead : (x j version : ℕ) (q : RealView) → IsFrom t c x version → real_at x v j ≡ Some q → version ≤ q.public
+    not_ahead : (x j version : ℕ) (q : RealView) → IsFrom (true_between g e start v) c x version → real_at x v j ≡ Some q →
+        version ≤ q.public
     not_ahead x j version q (was is) here =
         before_round x j version q here
         (λ i p at. began.others_not_ahead x i version p (ap (λ y. table.get y.shown x) (sym began.others) ∙ is) at) (search_real x start)
     not_ahead x j version q (now d is_true same) here =
         let le = in_round x j version q here d is_true in omega (arith, le, same)
 
-    known : (x version : ℕ) → IsFrom t c x version → (k : ℕ) → IsBaseNumber g k →
-        (route : RouteView) × (((entity_flow x v).slot k).base.route ≡ Some route)
-    known x version (was is) k base =
-        let at = began.others_known x version (ap (λ y. table.get y.shown x) (sym began.others) ∙ is) k base in
-        some_route ((entity_flow x v).slot k).base.route (routes_stay g x start v es framed_ run k (ap is_some at.1))
-    known x version (now d o same) k base =
-        let at = (settled_loaded f w b begin x o.home o.first o.at_first).routes k base.from base.below in
-        some_route ((entity_flow x v).slot k).base.route (routes_stay g x start v es framed_ run k (ap is_some at))
-
-    pub fits_then : FitsWitness g v h.one.real h.witness (after_all_shown c shown)
-    fits_then = record {
-      others = now_fits.others;
-      view = now_fits.view;
-      radius = now_fits.radius;
-      hysteresis = now_fits.hysteresis;
-      told = now_fits.told;
-      not_ahead = now_fits.not_ahead;
-      own = now_fits.own;
-      others_not_ahead = λ x j version q is here. not_ahead x j version q (from x version is) here;
-      others_known = λ x version is. known x version (from x version is);
-    }
+    pub fits_then : FitsWitness g v h.one.real h.witness (after_all_shown c (shown_at ((entity_flow e v).slot (home_of g e))))
+    fits_then =
+        let fits = now_fits g start v e ty first c h client quiet in
+        record {
+          others = fits.others;
+          view = fits.view;
+          radius = fits.radius;
+          hysteresis = fits.hysteresis;
+          told = fits.told;
+          not_ahead = fits.not_ahead;
+          own = fits.own;
+          others_not_ahead = λ x j version q is here.
+              not_ahead x j version q (shown_from g start v e ty first c h client quiet x version is) here;
+        }

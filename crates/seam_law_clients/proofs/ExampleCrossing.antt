@@ -213,10 +213,10 @@ fits = record {
   space = refl;
   cells = omega arith;
   creates = (
-    record { new = is_new 1; type = omega arith; inside = refl },
+    record { new = is_new 1; unshown = λ e k r at. absurd (no_real e k r at); type = omega arith; inside = refl },
     (
-      record { new = is_new 2; type = omega arith; inside = refl },
-      (record { new = is_new 3; type = omega arith; inside = refl }, tt),
+      record { new = is_new 2; unshown = λ e k r at. absurd (no_real e k r at); type = omega arith; inside = refl },
+      (record { new = is_new 3; unshown = λ e k r at. absurd (no_real e k r at); type = omega arith; inside = refl }, tt),
     ),
   );
   once = ((refl, (refl, tt)), ((refl, tt), (tt, tt)));

@@ -8,6 +8,7 @@ use Rattle.seam_law_clients.proofs.Prelude.{view_after_looks, all_of, turned}
 use Rattle.seam_view.specs.declared.Look.TheVariants.{Leave, Set, Enter}
 use Rattle.seam_law_clients.proofs.Near.{all_filtered}
 use Rattle.seam_law_clients.proofs.After.{same_distances}
+use Rattle.seam_law_calls.proofs.Holds.{or_right}
 
 number_is : (a b : ℕ) → eqb a b ≡ true → a ≡ b
 number_is a b t = grind (arith, nat_tests)
@@ -103,13 +104,9 @@ not_viewed x (p ∷ es) is = not_viewed_by x p es (eqb x p.0) is (not_viewed x e
 abbrev IsAbout : ℕ → Look → Bool
 IsAbout x l = eqb x (entity_of l)
 
-or_second : (b c : Bool) → c ≡ true → (b || c) ≡ true
-or_second true c h = refl
-or_second false c h = h
-
 any_second : (x : ℕ) (ls ms : List Look) → list_any (IsAbout x) ms ≡ true → list_any (IsAbout x) (ls ++ ms) ≡ true
 any_second x [] ms h = h
-any_second x (l ∷ ls) ms h = or_second (IsAbout x l) _ (any_second x ls ms h)
+any_second x (l ∷ ls) ms h = or_right (IsAbout x l) _ (any_second x ls ms h)
 
 first_by : (b c d : Bool) → (b || c) ≡ true → (c ≡ true → d ≡ true) → (b || d) ≡ true
 first_by true c d h more = refl
@@ -137,7 +134,7 @@ module _ (line : ℕ → Look) (about : (y : ℕ) → entity_of (line y) ≡ y) 
       let entity = sym (number_is x p.0 at) in
       let same : p ≡ (x, n) = λ i. (entity i, value i) in
       absurd (let z = sym passes ∙ ap t same ∙ yes_ in cc)
-  entry_by p es false true at passes is rest = or_second (IsAbout x (line p.0)) _ (rest is)
+  entry_by p es false true at passes is rest = or_right (IsAbout x (line p.0)) _ (rest is)
   entry_by p es false false at passes is rest = rest is
 
   any_entry : (es : List (ℕ × ℕ)) → version_of x es ≡ Some n → list_any (IsAbout x) (made es) ≡ true
@@ -155,7 +152,7 @@ module _ (t : Seen → Bool) (x : ℕ) (s : Seen) (yes_ : t s ≡ true) where
       let same : eqb x y.entity ≡ true = grind (arith, nat_tests, at) in ap (λ b. b || list_any (IsAbout x) (entered ss)) same
   known_by y ss true false at passes is rest =
       let same : y ≡ s = cc in absurd (let z = sym passes ∙ ap t same ∙ yes_ in cc)
-  known_by y ss false true at passes is rest = or_second (IsAbout x (Enter y.entity)) _ (rest is)
+  known_by y ss false true at passes is rest = or_right (IsAbout x (Enter y.entity)) _ (rest is)
   known_by y ss false false at passes is rest = rest is
 
   any_known : (ss : List Seen) → seen_of x ss ≡ Some s → list_any (IsAbout x) (entered ss) ≡ true

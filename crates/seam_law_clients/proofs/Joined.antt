@@ -11,11 +11,14 @@ use Rattle.seam_law_clients.proofs.Prelude.{true_between, leads_nowhere, sole_he
 use Rattle.seam_law_clients.proofs.Prelude.{no_mail, Creation, nowhere, once, creation_of, middle, Somewhere, Nowhere, search_real}
 use Rattle.seam_law_clients.proofs.Prelude.{bare_leads, client_leads, seen_leads, part_at, is_among, part_peopled, bare_peopled, part_if}
 use Rattle.seam_law_clients.proofs.Prelude.{PartFrom, part_there, are_for_loaded, most_told, its_part, few_lines, told, serves_after}
-use Rattle.seam_law_clients.proofs.Prelude.{ClientReplica, after_all_shown, ShowsRightly}
+use Rattle.seam_law_clients.proofs.Prelude.{ClientReplica, after_all_shown, ShowsRightly, IsQuiet}
+use Rattle.std.specs.FinMap as table
 use Rattle.seam_defs.specs.declared.flags.Group.TheVariants as group
+use Rattle.seam_law_rounds.specs.Prelude.{NeverShown}
 use Rattle.seam_law_rounds.proofs.PartTurns.{few_more}
 use Rattle.seam_law_clients.proofs.Starts.{rightly_starts, shown_rightly}
 use Rattle.seam_law_clients.proofs.Along.{rightly_leads}
+use Rattle.seam_law_clients.proofs.Ending.{not_shown}
 
 -- ---- a client that was shown no update
 
@@ -183,38 +186,55 @@ module _ (f : Frame) (w : World) (b : Batch) (may : MayBeLoaded f w b) where
 
     -- ---- where it is quiet
 
-    module _ (ends : (e ty first : ℕ) (c : ClientReplica) (r : RealView) (x : WitnessView) → FitsWitness g start r x c →
-        (h : TellsRightly g e ty first (true_between g e start v) c v) → HasClient g e ty first v →
-        FitsWitness g v h.one.real h.witness (after_all_shown c (shown e))) where
+    -- what is so of each witness that told rightly is so of each that is there
+    module _ (E : ℕ → RealView → WitnessView → Type 0)
+        (ends : (e k first : ℕ) (r : RealView) (x : WitnessView) → real_at e start k ≡ Some r → r.witness ≡ Some x →
+        (h : TellsRightly g e r.ty first (true_between g e start v) (clients e) v) → HasClient g e r.ty first v →
+        E e h.one.real h.witness) where
       module _ (e j : ℕ) (q : RealView) (there : real_at e v j ≡ Some q) (y : WitnessView) (seen : q.witness ≡ Some y) where
-        fits_told : (ty n : ℕ) (r : RealView) (x : WitnessView) → FitsWitness g start r x (clients e) →
-            (h : TellsRightly g e ty n (true_between g e start v) (clients e) v) → HasClient g e ty n v → FitsWitness g v q y (shows e)
-        fits_told ty n r x fits h client =
+        ends_told : (k n : ℕ) (r : RealView) (x : WitnessView) → real_at e start k ≡ Some r → r.witness ≡ Some x →
+            (h : TellsRightly g e r.ty n (true_between g e start v) (clients e) v) → HasClient g e r.ty n v → E e q y
+        ends_told k n r x here has h client =
             let one : q ≡ h.one.real = (sole_here real_in real_of (entity_flow e v) h.one.place h.one.real q j h.one.one there).1 in
             let same : h.witness ≡ y = some_is (sym h.has ∙ (ap (λ (z : RealView). z.witness) (sym one) ∙ seen)) in
-            subst (λ (z : RealView). FitsWitness g v z y (shows e)) (sym one)
-            (subst (λ (z : WitnessView). FitsWitness g v h.one.real z (shows e)) same (ends e ty n (clients e) r x fits h client))
+            subst (λ (z : RealView). E e z y) (sym one)
+            (subst (λ (z : WitnessView). E e h.one.real z) same (ends e k n r x here has h client))
           where
             some_is : {a b : WitnessView} → Some a ≡ Some b → a ≡ b
             some_is h = cc
 
-        fits_by : (k : ℕ) (r : RealView) → real_at e start k ≡ Some r → (o : Option WitnessView) → r.witness ≡ o →
-            IsServed g e r.ty start → FitsWitness g v q y (shows e)
-        fits_by k r here (Some x) has serves =
-            fits_told r.ty (first e k r here x has) r x (fit.each e k r here x has)
+        ends_by : (k : ℕ) (r : RealView) → real_at e start k ≡ Some r → (o : Option WitnessView) → r.witness ≡ o →
+            IsServed g e r.ty start → E e q y
+        ends_by k r here (Some x) has serves =
+            ends_told k (first e k r here x has) r x here has
             (tells_rightly e k r here x has v es run (clients e) (fit.each e k r here x has) (true_ e))
             (client_then e k r here x has v es run)
-        fits_by k r here None has (bare none each) =
+        ends_by k r here None has (bare none each) =
             let still = seen_leads g e false start v es (in_frame f w b may.begin) each run in
             absurd (let z = sym (ap is_some seen) ∙ still.cells j q there in cc)
-        fits_by k r here None has (served n low client each) = absurd (let z = sym (ap is_some has) ∙ each.cells k r here in cc)
+        ends_by k r here None has (served n low client each) = absurd (let z = sym (ap is_some has) ∙ each.cells k r here in cc)
 
-        fits_where : Somewhere e start ⊎ Nowhere e start → FitsWitness g v q y (shows e)
-        fits_where (inl p) = fits_by p.0 p.1 p.2 p.1.witness refl (serves_loaded e p.0 p.1 p.2)
-        fits_where (inr n) =
+        ends_where : Somewhere e start ⊎ Nowhere e start → E e q y
+        ends_where (inl p) = ends_by p.0 p.1 p.2 p.1.witness refl (serves_loaded e p.0 p.1 p.2)
+        ends_where (inr n) =
             let gone = gone_leads g (frame_loaded f w b may.begin) e start v es (in_frame f w b may.begin)
             (record { slots = n; mail = λ a k. ap (letters_of real_of) (no_mail f w b may.begin e a k) }) run in
             absurd (let z = sym (gone.slots j) ∙ there in cc)
 
-      pub clients_fit : ClientsFit g shows v
-      clients_fit = record { each = λ e j q there y seen. fits_where e j q there y seen (search_real e start) }
+      each_ends : (e j : ℕ) (q : RealView) → real_at e v j ≡ Some q → (y : WitnessView) → q.witness ≡ Some y → E e q y
+      each_ends e j q there y seen = ends_where e j q there y seen (search_real e start)
+
+    pub clients_fit : ((e ty first : ℕ) (c : ClientReplica) (r : RealView) (x : WitnessView) → FitsWitness g start r x c →
+        (h : TellsRightly g e ty first (true_between g e start v) c v) → HasClient g e ty first v →
+        FitsWitness g v h.one.real h.witness (after_all_shown c (shown e))) → ClientsFit g shows v
+    clients_fit ends = record {
+      each = each_ends (λ e q y. FitsWitness g v q y (shows e))
+          (λ e k n r x here has h client. ends e r.ty n (clients e) r x (fit.each e k r here x has) h client);
+    }
+
+    -- whom no client was shown, and who has no real, none is shown
+    pub never_shown_called : IsQuiet node_has_work v → (n : ℕ) → NeverShown start n → Nowhere n start → NeverShown v n
+    never_shown_called quiet n never gone =
+        each_ends (λ e q y. table.get y.view.shown n ≡ None) (λ e k m r x here has h client.
+        not_shown g start v e r.ty m (clients e) h client quiet n
+        (ap (λ z. table.get z.shown n) (fit.each e k r here x has).others ∙ never e k r here x has) gone)

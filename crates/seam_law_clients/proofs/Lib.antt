@@ -33,6 +33,7 @@ pub mod Room
 pub mod LastBases
 pub mod BaseInputs
 pub mod Round
+pub mod Unshown
 pub mod Crossing
 pub mod CrossingLooks
 pub mod ExampleCrossing

@@ -1,10 +1,10 @@
 -- What a look tells of others may be shown, and is true.
-use Rattle.seam_law_clients.proofs.Prelude.{◌≡◌, ℕ, ◌+◌, ◌<◌, ◌≤◌, Bool, true, false, not, eqb, leb, ltb, ◌&&◌, ◌||◌, T, List, [], ◌∷◌}
-use Rattle.seam_law_clients.proofs.Prelude.{◌++◌, map, Option, None, Some, refl, sym, ap, ◌∙◌, subst, arith, unwrap_or, option_map}
-use Rattle.seam_law_clients.proofs.Prelude.{AllByRecursion, IsDistinct, filter_map, cons_option, list_any, nat_cmp, keys_of, is_sorted}
-use Rattle.seam_law_clients.proofs.Prelude.{below_all, nat_tests, IsDistinct-head, IsDistinct-tail, Pos, distance, State, GhostCopy, Shown}
-use Rattle.seam_law_clients.proofs.Prelude.{Enter, Set, Leave, Known, seen_as, shown_for, all_append, Seen, Look, Replica, IsView, seen_of}
-use Rattle.seam_law_clients.proofs.Prelude.{entity_of, is_far, leaves, has_changed, in_view, not_older, enters, leaving, changed, entering}
+use Rattle.seam_law_clients.proofs.Prelude.{◌≡◌, ℕ, ◌+◌, ◌<◌, ◌≤◌, Bool, true, false, not, eqb, leb, ltb, ◌&&◌, T, List, [], ◌∷◌, ◌++◌, map}
+use Rattle.seam_law_clients.proofs.Prelude.{Option, None, Some, refl, sym, ap, ◌∙◌, subst, arith, unwrap_or, option_map, AllByRecursion}
+use Rattle.seam_law_clients.proofs.Prelude.{IsDistinct, filter_map, cons_option, list_any, nat_cmp, keys_of, is_sorted, below_all}
+use Rattle.seam_law_clients.proofs.Prelude.{nat_tests, IsDistinct-head, IsDistinct-tail, Pos, distance, State, GhostCopy, Shown, Enter, Set}
+use Rattle.seam_law_clients.proofs.Prelude.{Leave, Known, seen_as, shown_for, all_append, Seen, Look, Replica, IsView, seen_of, entity_of}
+use Rattle.seam_law_clients.proofs.Prelude.{is_far, leaves, has_changed, in_view, not_older, enters, leaving, changed, entering}
 use Rattle.seam_law_clients.proofs.Prelude.{ClientReplica, IsNear, MayShow, MayShowAll, Truth, ShowsTruth, each_found}
 use Rattle.std.specs.Ordering.{is_lt}
 use Rattle.std.specs.FinMap as table
@@ -12,6 +12,7 @@ use Rattle.seam_view.specs.declared.Look.TheVariants as look
 use Rattle.seam_view.specs.ViewLooks.{one_look}
 use Rattle.seam_law_clients.proofs.Near.{as_seen, seen_found, known_found}
 use Rattle.seam_law_clients.proofs.Apart.{MayLook, AreApart, AreApartBy, may_show_looks, all_turn, picked_all, picked_apart, apart_append}
+use Rattle.seam_law_calls.proofs.Holds.{or_right, not_true}
 
 first_of : (a b : Bool) → (a && b) ≡ true → a ≡ true
 first_of true b h = refl
@@ -20,14 +21,6 @@ first_of false b h = cc
 second_of : (a b : Bool) → (a && b) ≡ true → b ≡ true
 second_of true b h = h
 second_of false b h = cc
-
-not_true : (b : Bool) → not b ≡ true → b ≡ false
-not_true true h = cc
-not_true false h = refl
-
-or_second : (b c : Bool) → c ≡ true → (b || c) ≡ true
-or_second true c h = refl
-or_second false c h = h
 
 same_yes : (a : ℕ) → eqb a a ≡ true
 same_yes a = grind (arith, nat_tests)
@@ -52,7 +45,7 @@ not_below (Some m) v n is t = let le = within m n t in let same = some_same m v 
 viewed_more : (q : ℕ × ℕ) (es xs : List (ℕ × ℕ)) → AllByRecursion (λ x. list_any (λ p. eqb x.0 p.0) es ≡ true) xs →
     AllByRecursion (λ x. list_any (λ p. eqb x.0 p.0) (q ∷ es) ≡ true) xs
 viewed_more q es [] h = tt
-viewed_more q es (x ∷ xs) h = (or_second (eqb x.0 q.0) (list_any (λ p. eqb x.0 p.0) es) h.0, viewed_more q es xs h.1)
+viewed_more q es (x ∷ xs) h = (or_right (eqb x.0 q.0) (list_any (λ p. eqb x.0 p.0) es) h.0, viewed_more q es xs h.1)
 
 all_viewed : (es : List (ℕ × ℕ)) → AllByRecursion (λ x. list_any (λ p. eqb x.0 p.0) es ≡ true) es
 all_viewed [] = tt

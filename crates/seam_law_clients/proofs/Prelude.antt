@@ -12,7 +12,7 @@ pub use Rattle.seam_law_calls.proofs.BaseStrays.{none_at_bases}
 pub use Rattle.seam_law_calls.proofs.ClientRuns.{client_happens, never_missed, one_of}
 pub use Rattle.seam_law_calls.proofs.Looking.{LooksAt, NotTaken, as_often, cell_looks, elsewhere, gone, looks, still, ticked}
 pub use Rattle.seam_law_calls.proofs.PartSteps.{part_moves}
-pub use Rattle.seam_law_calls.proofs.Prelude.{Equal, Greater, HasNoLooks, HasNoPart, IsBaseNumber, Known, Less, Offered, Ordering, Stepped}
+pub use Rattle.seam_law_calls.proofs.Prelude.{Equal, Greater, HasNoLooks, HasNoPart, Known, Less, Offered, Ordering, Stepped}
 pub use Rattle.seam_law_calls.proofs.Prelude.{after_looking, after_offer, after_ready, after_taking, base_steps, base_task, cell_has_work}
 pub use Rattle.seam_law_calls.proofs.Prelude.{cell_steps, cell_task, cons_option, delivery_goes, early, first_is, is_none, is_of_another}
 pub use Rattle.seam_law_calls.proofs.Prelude.{is_ready, is_stuck, known_to, late, list_any, look_next, looks_around, looks_of, more_issued}
@@ -20,9 +20,9 @@ pub use Rattle.seam_law_calls.proofs.Prelude.{nat_eq, now, offered_update, own_d
 pub use Rattle.seam_law_calls.proofs.Prelude.{seen_as, sends_none, shown_for, shows_next, stepped, stray_look_by, stray_update}
 pub use Rattle.seam_law_calls.proofs.Prelude.{task_without_orders, tick_in, two_cells, updated, with_deed, with_number, with_part}
 pub use Rattle.seam_law_calls.proofs.Prelude.{witnesses}
-pub use Rattle.seam_law_calls.proofs.Quieting.{got_fails, neither, none_left, none_some}
-pub use Rattle.seam_law_calls.proofs.RoutesKept.{HasRoute, route_moves}
+pub use Rattle.seam_law_calls.proofs.Quieting.{got_fails, none_left, none_some}
 pub use Rattle.seam_law_calls.proofs.Telling.{event_fact, told_few}
+pub use Rattle.seam_law_calls.proofs.Keeping.{EachKeeps, EventsKeep, FramedKeep, RunsKeep, reached_keep, run_keeps, runs_keep, slots_lead}
 pub use Rattle.seam_law_calls.proofs.Unknown.{unknown_leads}
 pub use Rattle.seam_law_calls.proofs.WitnessKept.{OfReal, each_happens, none_carried}
 pub use Rattle.seam_law_calls.specs.Prelude.{IsUnknown, NoneIsStrayAtBases, executes, home_of, order_in, shown_at, shows}
@@ -53,19 +53,19 @@ pub use Rattle.seam_law_ghosts.proofs.Prelude.{empty_world, enabled, entity_flow
 pub use Rattle.seam_law_ghosts.proofs.Prelude.{fits_cell_part, found, frame_happens, frame_is, frame_leads, frame_loaded, framed}
 pub use Rattle.seam_law_ghosts.proofs.Prelude.{get-set_at, ghost_messages, ghost_of, ghosts_silent, gone_leads, happens, has_any, has_none}
 pub use Rattle.seam_law_ghosts.proofs.Prelude.{has_of, has_ready, haunts_at, here_at, holders, idle, in_frame, inl, inr, is_small, is_some}
-pub use Rattle.seam_law_ghosts.proofs.Prelude.{items_all, items_to, leads_keeps, leaf_at, length, length-append, letter, letter_in}
-pub use Rattle.seam_law_ghosts.proofs.Prelude.{letters_kept, letters_of, limit, link, loaded, look_cell, look_framed, look_given}
-pub use Rattle.seam_law_ghosts.proofs.Prelude.{look_loaded, ltb, map, mapped_silent, may_rise, mine, more_letter, nat_cmp, nat_le, nat_lt}
-pub use Rattle.seam_law_ghosts.proofs.Prelude.{nat_tests, ne_eqb, next_item, no_mail, node_has_work, node_loaded, node_steps, none_counts}
-pub use Rattle.seam_law_ghosts.proofs.Prelude.{none_ready, none_there, not, number_from, numbered, occurs, one_happens, one_more_if}
-pub use Rattle.seam_law_ghosts.proofs.Prelude.{opened_has_none, option_map, order_or, order_reaps, ordered_at, present, properties}
-pub use Rattle.seam_law_ghosts.proofs.Prelude.{public_after, quiet_home, quiet_links, quiet_tasks, range_with_len, readies, ready_order}
-pub use Rattle.seam_law_ghosts.proofs.Prelude.{real_at, real_begins, real_in, real_of, reals_stay, reap_ordered_at, reaps_cell}
-pub use Rattle.seam_law_ghosts.proofs.Prelude.{reaps_framed, reaps_given, reaps_loaded, refl, row_leads, search_real, sees_none}
-pub use Rattle.seam_law_ghosts.proofs.Prelude.{settled_loaded, shown_of, slice_get, slice_get-map, slice_get_cases, slot_after, slot_at}
-pub use Rattle.seam_law_ghosts.proofs.Prelude.{slot_is, slot_of, slots, slots_kept, sole_here, spared_happens, spared_loaded, standard}
-pub use Rattle.seam_law_ghosts.proofs.Prelude.{subst, suc, surveys, sym, tick_to, times, total, true, type_at, type_of, units, with_nodes}
-pub use Rattle.seam_law_ghosts.proofs.Prelude.{zero, ℕ, ◌&&◌, ◌++◌, ◌+◌, ◌<◌, ◌||◌, ◌∙◌, ◌∷◌, ◌≡◌, ◌≤◌, ◌⊎◌}
+pub use Rattle.seam_law_ghosts.proofs.Prelude.{items_to, leads_keeps, leaf_at, length, length-append, letter, letter_in, letters_kept}
+pub use Rattle.seam_law_ghosts.proofs.Prelude.{letters_of, limit, link, loaded, look_cell, look_framed, look_given, look_loaded, ltb, map}
+pub use Rattle.seam_law_ghosts.proofs.Prelude.{mapped_silent, may_rise, mine, more_letter, nat_cmp, nat_le, nat_lt, nat_tests, ne_eqb}
+pub use Rattle.seam_law_ghosts.proofs.Prelude.{next_item, no_mail, node_has_work, node_loaded, node_steps, none_counts, none_ready}
+pub use Rattle.seam_law_ghosts.proofs.Prelude.{none_there, not, number_from, numbered, occurs, one_happens, one_more_if, opened_has_none}
+pub use Rattle.seam_law_ghosts.proofs.Prelude.{option_map, order_or, order_reaps, ordered_at, present, properties, public_after, quiet_home}
+pub use Rattle.seam_law_ghosts.proofs.Prelude.{quiet_links, quiet_tasks, range_with_len, readies, ready_order, real_at, real_begins}
+pub use Rattle.seam_law_ghosts.proofs.Prelude.{real_in, real_of, reals_stay, reap_ordered_at, reaps_cell, reaps_framed, reaps_given}
+pub use Rattle.seam_law_ghosts.proofs.Prelude.{reaps_loaded, refl, row_leads, search_real, sees_none, settled_loaded, shown_of, slice_get}
+pub use Rattle.seam_law_ghosts.proofs.Prelude.{slice_get-map, slice_get_cases, slot_after, slot_at, slot_is, slot_of, slots, slots_kept}
+pub use Rattle.seam_law_ghosts.proofs.Prelude.{sole_here, spared_happens, spared_loaded, standard, subst, suc, surveys, sym, tick_to, times}
+pub use Rattle.seam_law_ghosts.proofs.Prelude.{total, true, type_at, type_of, units, with_nodes, zero, ℕ, ◌&&◌, ◌++◌, ◌+◌, ◌<◌, ◌||◌, ◌∙◌}
+pub use Rattle.seam_law_ghosts.proofs.Prelude.{◌∷◌, ◌≡◌, ◌≤◌, ◌⊎◌, sent_kept}
 pub use Rattle.seam_law_ghosts.proofs.Present.{present_first, replay_version, true_more}
 pub use Rattle.seam_law_rounds.proofs.Attaching.{PartFrom, RealFrom, are_for_loaded, part_if, part_there, real_if, real_there}
 pub use Rattle.seam_law_rounds.proofs.BaseCallsEnd.{calls_end_small, calls_end_with_parts}
@@ -113,3 +113,4 @@ pub use Rattle.seam_view.specs.Replica.{IsView, Replica, after_look, after_looks
 pub use Rattle.seam_view.specs.ViewLooks.{changed, entering, enters, has_changed, in_view, is_far, leaves, leaving, not_older}
 pub use Rattle.seam_view.specs.declared.Look.{Look}
 pub use Rattle.seam_view.specs.declared.Seen.{Seen}
+pub use Rattle.seam_law_calls.proofs.Holds.{neither}

@@ -1,24 +1,24 @@
 -- Where entities are reaped, each base part stays as it is, with its client and what that was shown, until it is gone.
 use Rattle.seam_law_clients.proofs.Prelude.{◌≡◌, ℕ, ◌+◌, ◌≤◌, Bool, true, false, cond, eqb, List, [], ◌∷◌, Option, None, Some, refl, sym}
 use Rattle.seam_law_clients.proofs.Prelude.{ap, ◌∙◌, ◌++◌, subst, arith, inl, inr, append_assoc, option_map, slice_get, AllByRecursion}
-use Rattle.seam_law_clients.proofs.Prelude.{cases_eq, eq-eqb, slice_get-map, happens, enabled, IsQuiet, total, Event, OrderView}
-use Rattle.seam_law_clients.proofs.Prelude.{Call as CallData, Order, Shown, is_ready, order_or, RealView, WitnessView, Msg, BaseCall, Here}
-use Rattle.seam_law_clients.proofs.Prelude.{PartView, ProxyView, holders, NodeView, World, node_steps, node_has_work, with_nodes}
-use Rattle.seam_law_clients.proofs.Prelude.{reap_ordered_at, reaps_loaded, comes, slot_at, Frame, here_at, IsInFrame, Has, AtBase, times}
-use Rattle.seam_law_clients.proofs.Prelude.{has_of, has_none, entity_flow, BaseMoves, updated, Moves, at_a_cell, at_a_base, base_call_in}
-use Rattle.seam_law_clients.proofs.Prelude.{update_in, calls_ordered, PartMoves, rests, refuses, offers, sends, serves, executes, misses}
-use Rattle.seam_law_clients.proofs.Prelude.{updates, shows, ends, home_of, HasNoBaseCalls, HasNoPart, RunsTo, real_at, IsBetweenRounds}
-use Rattle.seam_law_clients.proofs.Prelude.{each, AreReapable, AreFor, HasSettledPart, HasPartsBetweenRounds, occurs, quiet_tasks}
-use Rattle.seam_law_clients.proofs.Prelude.{leads_nowhere, leads_extend, leads_keeps, slots_kept, came, Update as UpdateData, event_moves}
-use Rattle.seam_law_clients.proofs.Prelude.{frame_happens, quiet_home, order_reaps, none_ready, idle_orders, reaps_framed, reaps_given}
-use Rattle.seam_law_clients.proofs.Prelude.{part_moves, reaps_part, reaps_tell_none, all_lead, units}
+use Rattle.seam_law_clients.proofs.Prelude.{cases_eq, eq-eqb, slice_get-map, happens, IsQuiet, total, Event, OrderView, Call as CallData}
+use Rattle.seam_law_clients.proofs.Prelude.{Order, Shown, is_ready, order_or, RealView, WitnessView, Msg, BaseCall, Here, PartView}
+use Rattle.seam_law_clients.proofs.Prelude.{ProxyView, holders, NodeView, World, node_steps, node_has_work, with_nodes, reap_ordered_at}
+use Rattle.seam_law_clients.proofs.Prelude.{reaps_loaded, comes, slot_at, Frame, here_at, IsInFrame, Has, AtBase, times, has_of, has_none}
+use Rattle.seam_law_clients.proofs.Prelude.{entity_flow, BaseMoves, updated, Moves, at_a_cell, at_a_base, base_call_in, update_in}
+use Rattle.seam_law_clients.proofs.Prelude.{calls_ordered, PartMoves, rests, refuses, offers, sends, serves, executes, misses, updates}
+use Rattle.seam_law_clients.proofs.Prelude.{shows, ends, home_of, HasNoBaseCalls, HasNoPart, RunsTo, real_at, IsBetweenRounds, each}
+use Rattle.seam_law_clients.proofs.Prelude.{AreReapable, AreFor, HasSettledPart, HasPartsBetweenRounds, quiet_tasks, slots_kept, came}
+use Rattle.seam_law_clients.proofs.Prelude.{Update as UpdateData, event_moves, frame_happens, quiet_home, order_reaps, none_ready}
+use Rattle.seam_law_clients.proofs.Prelude.{idle_orders, reaps_framed, reaps_given, part_moves, reaps_part, reaps_tell_none, reached_keep}
+use Rattle.seam_law_clients.proofs.Prelude.{slots_lead, Occurs}
 use Rattle.std.specs.FinMap as table
 use Rattle.seam_node_steps.specs.Prelude.{Update}
 use Rattle.seam_call.specs.declared.order.Order.TheVariants as order
 use Rattle.seam_law_calls.specs.BaseMoves as move
 use Rattle.seam_law_rounds.proofs.Reaping as reaping
 use Rattle.seam_law_calls.proofs.BaseQuiet.{no_call_left}
-use Rattle.seam_law_calls.proofs.Reaped.{no_call_comes, reaps_without_calls}
+use Rattle.seam_law_calls.proofs.Reaped.{no_call_happens, reaps_without_calls}
 
 -- ---- a part for which nothing waits stays, or ends
 
@@ -158,22 +158,18 @@ module _ (f : Frame) (u : World) (between : IsBetweenRounds f u) (parts : HasPar
 
       record AreLeft (w : World) : Type 0 where
         frame : IsInFrame f w
-        before : List Event
-        from : RunsTo start before w
         none : HasNoBaseCalls e w
         each_part : (k : ℕ) → StaysOrEnds ((entity_flow e u).slot k).base.part ((entity_flow e w).slot k).base.part
 
-      left_more : (w : World) (v : Event) → AreLeft w → enabled node_has_work w v ≡ true → AreLeft (happens node_steps w v)
-      left_more w v h on =
-          let o = occurs node_has_work w v on in
+      left_happens : (w : World) (us : List Event) → RunsTo start us w → (v : Event) → Occurs w v → AreLeft w →
+          AreLeft (happens node_steps w v)
+      left_happens w us from v o h =
           let g = event_moves f w v o h.frame e in
           let s = (entity_flow e w).slot g.k in
           let t = (entity_flow e (happens node_steps w v)).slot g.k in
           record {
             frame = frame_happens f w v o h.frame;
-            before = h.before ++ v ∷ [];
-            from = leads_extend node_has_work node_steps start w h.before v h.from on;
-            none = no_call_comes f e w (happens node_steps w v) (v ∷ []) h.frame h.none (record { each = (on, tt); is_run = refl });
+            none = no_call_happens f e w v o h.frame h.none;
             each_part =
                 slots_kept (λ k s. StaysOrEnds ((entity_flow e u).slot k).base.part s.base.part) g h.each_part
                 (stays_after (here_at f g.k) e s.base (comes g.input) t.base g.moves.sent ((entity_flow e u).slot g.k).base.part
@@ -181,20 +177,15 @@ module _ (f : Frame) (u : World) (between : IsBetweenRounds f u) (parts : HasPar
                 (λ c at. let no = (came (λ a k m. base_call_in m ≡ None) g (BaseCall c) at h.none.letters).1 in cc)
                 (λ m at.
                 let no = (came (λ a k m. update_in m ≡ None) g (Update m) at
-                (reaps_tell_none f u between parts es may h.before w h.from e)).1 in cc)
+                (reaps_tell_none f u between parts es may us w from e)).1 in cc)
                 (part_moves f e g.k s (comes g.input) t g.moves.sent g.moves.moves) (h.each_part g.k));
           }
 
       module _ (vs : List Event) (v : World) (run : RunsTo start vs v) where
         are_left : AreLeft v
         are_left =
-            leads_keeps node_has_work node_steps AreLeft left_more start v vs (record {
-              frame = inside;
-              before = [];
-              from = leads_nowhere node_has_work node_steps start;
-              none = no_calls;
-              each_part = λ k. stays (part_is k);
-            }) run
+            reached_keep start AreLeft left_happens v vs
+            (record { frame = inside; none = no_calls; each_part = λ k. stays (part_is k) }) run
 
         same_by : (k : ℕ) (p : PartView) → ((entity_flow e v).slot k).base.part ≡ Some p →
             StaysOrEnds ((entity_flow e u).slot k).base.part ((entity_flow e v).slot k).base.part →
@@ -242,9 +233,8 @@ module _ (f : Frame) (u : World) (between : IsBetweenRounds f u) (parts : HasPar
 
         pub part_gone : HasNoPart e v
         part_gone k =
-            gone_by k ((all_lead f e (λ k s. WaitsOrGone s.base) (λ a k m. Unit {0})
-            (λ k s i t sent so come m. (moves_so k s i t sent m so, units sent)) start v vs inside run
-            (record { slots = starts_waiting; letters = λ a k. units ((entity_flow e start).mail a k) })).slots k)
+            gone_by k (slots_lead f e (λ k s. WaitsOrGone s.base) (λ k s i t sent so m. moves_so k s i t sent m so) start v vs inside
+            starts_waiting run k)
 
   -- ---- all of them
 

@@ -1,16 +1,16 @@
 -- Reaps keep the record of clients: no witness tells anything, and the entities that are left are what they were.
-use Rattle.seam_law_clients.proofs.Prelude.{◌≡◌, ℕ, ◌≤◌, true, is_some, List, [], ◌∷◌, Option, None, Some, refl, sym, ap, ◌∙◌, subst, arith}
-use Rattle.seam_law_clients.proofs.Prelude.{option_map, slice_get, AllByRecursion, slice_get-map, happens, enabled, Event, RealView}
-use Rattle.seam_law_clients.proofs.Prelude.{WitnessView, NodeView, World, node_steps, node_has_work, with_nodes, reap_ordered_at}
-use Rattle.seam_law_clients.proofs.Prelude.{reaps_loaded, slot_at, letters_of, Frame, IsInFrame, mine, has_of, has_none, entity_flow}
-use Rattle.seam_law_clients.proofs.Prelude.{real_of, sent_by, tick_in, EachReal, HasToldAtMost, HasNoLooks, RunsTo, real_at}
-use Rattle.seam_law_clients.proofs.Prelude.{IsBetweenRounds, each, AreReapable, HadSameReal, FitsWitness, ClientsFit, occurs, quiet_links}
-use Rattle.seam_law_clients.proofs.Prelude.{quiet_tasks, leads_keeps, idle_orders, reaps_framed, reaps_given, reaps_cell, reals_stay}
-use Rattle.seam_law_clients.proofs.Prelude.{NoTicks, each_happens, reaps_without_ticks, idle_looks, reaps_leave, ClientReplica}
+use Rattle.seam_law_clients.proofs.Prelude.{◌≡◌, ℕ, ◌≤◌, List, [], Option, None, Some, refl, sym, ap, ◌∙◌, subst, arith, option_map}
+use Rattle.seam_law_clients.proofs.Prelude.{slice_get, AllByRecursion, slice_get-map, Event, RealView, WitnessView, NodeView, World}
+use Rattle.seam_law_clients.proofs.Prelude.{node_has_work, with_nodes, reap_ordered_at, reaps_loaded, slot_at, letters_of, Frame, IsInFrame}
+use Rattle.seam_law_clients.proofs.Prelude.{mine, has_of, has_none, entity_flow, real_of, sent_by, tick_in, EachReal, HasToldAtMost}
+use Rattle.seam_law_clients.proofs.Prelude.{HasNoLooks, RunsTo, real_at, IsBetweenRounds, each, AreReapable, HadSameReal, FitsWitness}
+use Rattle.seam_law_clients.proofs.Prelude.{ClientsFit, quiet_links, quiet_tasks, idle_orders, reaps_framed, reaps_cell, reals_stay}
+use Rattle.seam_law_clients.proofs.Prelude.{NoTicks, each_happens, reaps_without_ticks, idle_looks, reaps_leave, ClientReplica, EachKeeps}
+use Rattle.seam_law_clients.proofs.Prelude.{runs_keep}
 use Rattle.seam_law_rounds.proofs.Reaping as reaping
-use Rattle.seam_law_calls.proofs.NoLooks.{WithoutLooks, looks_lead}
+use Rattle.seam_law_calls.proofs.NoLooks.{WithoutLooks, looks_happen}
 use Rattle.seam_law_clients.proofs.OneLook.{same_real}
-use Rattle.seam_law_clients.proofs.Ending.{some_route, routes_stay}
+use Rattle.seam_law_rounds.specs.Prelude.{NeverShown}
 
 -- ---- where no one looks a witness stays what it is
 
@@ -19,22 +19,18 @@ module _ (f : Frame) (e n : ℕ) (witness : Option WitnessView) where
     without : WithoutLooks f e n w
     same : EachReal e (λ r. r.witness ≡ witness) w
 
-  untold_more : (w : World) (v : Event) → IsUntold w → enabled node_has_work w v ≡ true → IsUntold (happens node_steps w v)
-  untold_more w v h on =
-      let o = occurs node_has_work w v on in
-      record {
-        without =
-            looks_lead f e n w (happens node_steps w v) (v ∷ []) h.without.frame h.without.looks h.without.told
-            (record { each = (on, tt); is_run = refl });
-        same =
-            each_happens (λ r. r.witness ≡ witness) (λ r q same is. same ∙ is) f e w v o h.without.frame
-            (λ k m r q x y shown at wit now sum is. let none = h.without.looks.cells k in absurd (omega (arith, at, none))) h.same;
-      }
+  untold_happens : EachKeeps IsUntold
+  untold_happens w v o h = record {
+    without = looks_happen f e n w v o h.without;
+    same =
+        each_happens (λ r. r.witness ≡ witness) (λ r q same is. same ∙ is) f e w v o h.without.frame
+        (λ k m r q x y shown at wit now sum is. let none = h.without.looks.cells k in absurd (omega (arith, at, none))) h.same;
+  }
 
   pub untold_leads : (w v : World) (es : List Event) → IsInFrame f w → HasNoLooks e w → HasToldAtMost e n w →
       EachReal e (λ r. r.witness ≡ witness) w → RunsTo w es v → EachReal e (λ r. r.witness ≡ witness) v
   untold_leads w v es frame looks told same run =
-      (leads_keeps node_has_work node_steps IsUntold untold_more w v es (record {
+      (runs_keep IsUntold untold_happens w v es (record {
         without = record { frame = frame; looks = looks; told = told };
         same = same;
       }) run).same
@@ -79,15 +75,6 @@ module _ (f : Frame) (u : World) (between : IsBetweenRounds f u) (es : List ℕ)
       letters = λ a k. subst (AllByRecursion (λ m. tick_in m ≡ None)) (sym (no_mail a k)) tt;
     }
 
-    route_by : (k : ℕ) (o : Option NodeView) → slice_get u.nodes k ≡ o →
-        (slot_at (has_of e) has_none (option_map turn o)).base.route ≡ (slot_at (has_of e) has_none o).base.route
-    route_by k None at = refl
-    route_by k (Some s) at =
-        (reaps_given e f k es s (between.nodes.nodes k s at) (quiet_tasks node_has_work u between.quiet k s at)).route
-
-    route_is : (k : ℕ) → ((entity_flow e start).slot k).base.route ≡ ((entity_flow e u).slot k).base.route
-    route_is k = ap (λ s. s.base.route) (slot_is k) ∙ route_by k (slice_get u.nodes k) refl
-
     -- each real is the one that was there
     module _ (home : ℕ) (r : RealView) (here : real_at e u home ≡ Some r) where
       each_start : (P : RealView → Type 0) → P r → EachReal e P start
@@ -111,10 +98,11 @@ module _ (f : Frame) (u : World) (between : IsBetweenRounds f u) (es : List ℕ)
       let same : q ≡ there.real = there.same ∙ ap (λ x. let now : RealView = record there.real { witness = x } in now) witness in
       there.here ∙ ap Some (sym same)
 
-  module _ (clients : ℕ → ClientReplica) (fit : ClientsFit f clients u) where
-    routed : (x k : ℕ) → is_some ((entity_flow x u).slot k).base.route ≡ true → is_some ((entity_flow x v).slot k).base.route ≡ true
-    routed x k is = routes_stay f x start v vs inside turned k (ap is_some (route_is x k) ∙ is)
+  -- whom no client was shown, none is shown
+  pub never_shown_reaped : (n : ℕ) → NeverShown u n → NeverShown v n
+  never_shown_reaped n never e k q at x has = never e k q (stays e k q at) x has
 
+  module _ (clients : ℕ → ClientReplica) (fit : ClientsFit f clients u) where
     still_fits : (r : RealView) (x : WitnessView) (c : ClientReplica) → FitsWitness f u r x c → FitsWitness f v r x c
     still_fits r x c began = record {
       others = began.others;
@@ -125,9 +113,6 @@ module _ (f : Frame) (u : World) (between : IsBetweenRounds f u) (es : List ℕ)
       not_ahead = began.not_ahead;
       own = began.own;
       others_not_ahead = λ y j version q shown here. began.others_not_ahead y j version q shown (stays y j q here);
-      others_known = λ y version shown k is_base.
-          let route = began.others_known y version shown k is_base in
-          some_route ((entity_flow y v).slot k).base.route (routed y k (ap is_some route.1));
     }
 
     pub clients_fit_reaped : ClientsFit f clients v

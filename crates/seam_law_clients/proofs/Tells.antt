@@ -8,18 +8,17 @@ use Rattle.seam_law_clients.proofs.Prelude.{number_from, slot_at, Frame, here_at
 use Rattle.seam_law_clients.proofs.Prelude.{real_in, real_of, IsSpared, OneFrom, update_in, sent_of, sent_by, home_of, updates_at, shown_at}
 use Rattle.seam_law_clients.proofs.Prelude.{tells, EachReal, HasClient, HasToldAtMost, HasRoomFor, FindsClient, HasOne, Replays, has_none}
 use Rattle.seam_law_clients.proofs.Prelude.{RunsTo, real_at, ComesBetween, occurs, leads_nowhere, leads_by_one, leads_join, slots_kept}
-use Rattle.seam_law_clients.proofs.Prelude.{letters_kept, came, sees_none, first_is, sole_here, delivery_goes, Update as UpdateData}
-use Rattle.seam_law_clients.proofs.Prelude.{items_all, one_happens, calm_of, spared_happens, OfReal, unordered, one_of, finds_client}
-use Rattle.seam_law_clients.proofs.Prelude.{never_missed, client_happens, NotTaken, as_often, LooksAt, still, elsewhere, looks, cell_looks}
-use Rattle.seam_law_clients.proofs.Prelude.{event_fact}
-use Rattle.seam_node_steps.specs.Prelude.{Update}
+use Rattle.seam_law_clients.proofs.Prelude.{came, sees_none, first_is, sole_here, delivery_goes, Update as UpdateData, one_happens, calm_of}
+use Rattle.seam_law_clients.proofs.Prelude.{spared_happens, OfReal, unordered, one_of, finds_client, never_missed, client_happens, NotTaken}
+use Rattle.seam_law_clients.proofs.Prelude.{as_often, LooksAt, still, elsewhere, looks, cell_looks, event_fact, sent_kept}
+use Rattle.seam_node_steps.specs.Prelude.{Update, Boundaries}
 use Rattle.seam_law_calls.proofs.PartEasing.{base_burden_happens}
-use Rattle.seam_law_calls.proofs.ClientTold.{Told, told_by}
+use Rattle.seam_law_calls.proofs.ClientTold.{Told, told_by, untold, numbered_here}
 use Rattle.seam_law_calls.proofs.Looking.{Look}
-use Rattle.seam_law_clients.proofs.Silent.{moves_hold, untold, numbered_here, same_items, issued_is}
+use Rattle.seam_law_clients.proofs.Silent.{same_items, issued_is}
 use Rattle.seam_law_clients.proofs.Reals.{each_of}
-use Rattle.seam_node_steps.specs.Prelude.{Boundaries}
 use Rattle.seam_law_calls.proofs.Classify.{fed_plain}
+use Rattle.seam_law_calls.proofs.WitnessHeld.{moves_hold}
 
 -- what the witness of an entity told, in updates that are numbered from `first` on, so that P is true of it, of the real and of the witness
 pub record Tells (f : Frame) (e ty first : ℕ) (P : List Shown → RealView → WitnessView → Type 0) (w : World) : Type 0 where
@@ -112,9 +111,7 @@ module _ (f : Frame) (e ty first n : ℕ) (P : List Shown → RealView → Witne
     quietly slot sends silent =
         let each : EachReal e HasIt next = record {
           cells = slots_kept (λ k s. (r : RealView) → real_in s ≡ Some r → HasIt r) g each_has.cells slot;
-          hands =
-              letters_kept (λ a k m. OfReal HasIt m) g each_has.hands
-              (λ j. subst (AllByRecursion (OfReal HasIt)) (sym (g.moves.0.items j)) (items_all (OfReal HasIt) j sent sends));
+          hands = sent_kept (λ a k m. OfReal HasIt m) g sent g.moves.0.items each_has.hands sends;
         } in
         record {
           one = one_then.has;
@@ -151,8 +148,8 @@ module _ (f : Frame) (e ty first n : ℕ) (P : List Shown → RealView → Witne
       let s = (entity_flow e w).slot g.k in
       let u = (entity_flow e next).slot g.k in
       let held =
-      moves_hold (Some h.witness) f e g.k s (comes g.input) u g.moves.0.sent (each_has.cells g.k) (comes_with IsNotTaken g) g.moves.1
-      g.moves.0.moves in
+      moves_hold HasIt (λ r q same is. same ∙ is) f e g.k s (comes g.input) u g.moves.0.sent (each_has.cells g.k)
+      (comes_with IsNotTaken g) g.moves.1 g.moves.0.moves in
       quietly IsNotTaken g held.slot held.sends held.silent
 
   -- ---- a look

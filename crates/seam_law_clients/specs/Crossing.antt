@@ -112,6 +112,7 @@ base_16 os third = Base (record {
   orders = os;
   routes = routes third;
   parts = only 2 (with_proxy (here 16) (new_part (here 16) 0));
+  gone = [];
 })
 
 abbrev pub base_17 : RouteView → NodeView
@@ -121,6 +122,7 @@ base_17 third = Base (record {
   orders = [];
   routes = routes third;
   parts = and_third 1 (with_proxy (here 17) (new_part (here 17) 0)) (new_part (here 17) 0);
+  gone = [];
 })
 
 abbrev pub with_cells : NodeView → NodeView → NodeView → NodeView → List Way → World
@@ -212,6 +214,7 @@ showing_16 os next lines = Base (record {
   orders = os;
   routes = routes (route 1 1);
   parts = only 2 (part_at 16 next lines);
+  gone = [];
 })
 
 abbrev pub showing_17 : ℕ → List Line → NodeView
@@ -221,6 +224,7 @@ showing_17 next lines = Base (record {
   orders = [];
   routes = routes (route 1 1);
   parts = and_third 1 (part_at 17 next lines) (new_part (here 17) 0);
+  gone = [];
 })
 
 unfoldable pub look_0 : World

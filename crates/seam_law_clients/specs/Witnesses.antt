@@ -2,8 +2,8 @@
 use Rattle.std.specs.Prelude.{◌≡◌, ℕ, ◌≤◌, Some, option_map}
 use Rattle.std.specs.FinMap as table
 use Rattle.seam_view.specs.Replica.{IsView}
-use Rattle.seam_node_steps.specs.Prelude.{State, own_of, type_of, RealView, WitnessView, RouteView, World}
-use Rattle.seam_law_calls.specs.Prelude.{Frame, entity_flow, IsBaseNumber, real_at}
+use Rattle.seam_node_steps.specs.Prelude.{State, own_of, type_of, RealView, WitnessView, World}
+use Rattle.seam_law_calls.specs.Prelude.{Frame, real_at}
 use Rattle.seam_rule_clients.specs.Clients.{ClientReplica}
 
 -- the version of an own line
@@ -32,9 +32,6 @@ pub record FitsWitness (f : Frame) (w : World) (r : RealView) (v : WitnessView) 
   -- no other was shown at a version above the public version of its real
   pub others_not_ahead : (x j version : ℕ) (q : RealView) → table.get v.view.shown x ≡ Some version →
       real_at x w j ≡ Some q → version ≤ q.public
-  -- and each other that was ever shown has a route at each base node, also after its end; so it is none that a batch creates later
-  pub others_known : (x version : ℕ) → table.get v.view.shown x ≡ Some version → (k : ℕ) → IsBaseNumber f k →
-      (route : RouteView) × (((entity_flow x w).slot k).base.route ≡ Some route)
 
 -- The record of clients between rounds, beside those of reals, of base parts and of copies: the client of each entity e, which shows
 -- `clients e`, fits the witness of its real.

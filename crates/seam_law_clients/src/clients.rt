@@ -10,7 +10,7 @@
 //!
 //! `specs/Crossing` has the worlds of a worked round.
 
-ghost use Rattle.std.specs.Prelude.{◌≡◌, ℕ, ◌==◌, ◌≤◌, List, [], ◌∷◌, ◌++◌, Some, if◌then◌else◌};
+ghost use Rattle.std.specs.Prelude.{◌≡◌, ℕ, ◌==◌, ◌≤◌, List, [], ◌∷◌, ◌++◌, None, Some, if◌then◌else◌};
 ghost use Rattle.std.specs.List.{AllByRecursion, list_any};
 ghost use Rattle.seam_node_steps.specs.Prelude.{IsQuiet, Event, Settings, TypeDef, GhostsReach, standard, Batch, Enter, RealView, Msg};
 ghost use Rattle.seam_node_steps.specs.Prelude.{Update, PartView, ProxyView, empty_world, lines_of_client, World, node_has_work, opened};
@@ -20,7 +20,7 @@ ghost use Rattle.seam_law_calls.specs.Prelude.{Frame, here_at, IsInFrame, entity
 ghost use Rattle.seam_law_calls.specs.Prelude.{home_of, FindsClient, HasNoPart, NoUpdateComes, RunsTo, real_at, real_in, NothingIsStray};
 ghost use Rattle.seam_law_calls.specs.Prelude.{NoneIsStrayAtBases};
 ghost use Rattle.seam_law_rounds.specs.Prelude.{IsBetweenRounds, framed, first_frame, AreReapable, base_calls_of, HasPartsBetweenRounds};
-ghost use Rattle.seam_law_rounds.specs.Prelude.{HasNoCallsToBase, HasSmallNumbers, MayBeLoaded, opening};
+ghost use Rattle.seam_law_rounds.specs.Prelude.{HasNoCallsToBase, HasSmallNumbers, MayBeLoaded, NeverShown, opening};
 ghost use Rattle.seam_law_ghosts.specs.Prelude.{AreCopiesBetweenRounds, ArePlaced, GoesThroughRound};
 ghost use Rattle.seam_law_clients.specs.Prelude.{rows_of, ClientsFit, HaveRoomToLook, clients_loaded, clients_shown, base_lines};
 ghost use Rattle.seam_law_clients.specs.Prelude.{first_lines, ShowsItsPart};
@@ -69,6 +69,19 @@ pub fn clients_go_from_record_to_record()
     crate::looks::clients_fit_after_the_looks();
     crate::shown::clients_of_a_round_are_shown_rightly();
     crate::shown::each_client_is_shown_one_look();
+}
+
+/// Who is not there is not shown. Let no witness have shown an entity to its client up to a round, and let it have no real as the round is
+/// loaded: then none has at the end of the round.
+pub fn who_is_not_there_is_not_shown()
+    ensures { (f : Frame) (w : World) (b : Batch) → MayBeLoaded f w b → AreCopiesBetweenRounds f w →
+        (clients : ℕ → ClientReplica) → ClientsFit f clients w → (v : World) →
+        GoesThroughRound w b v → IsQuiet node_has_work v → (x : ℕ) → NeverShown w x →
+        ((k : ℕ) → real_at x (loaded w b) k ≡ None) → NeverShown v x }
+{
+    seam_law_ghosts::ghosts_of_a_round_are_true();
+    seam_law_ghosts::copies_go_from_record_to_record();
+    seam_defs::laws::others_see_the_ghost();
 }
 
 /// Of its entity's base part a client is shown what its type has for clients. As it is attached, it is shown the part once (`load`: so is a

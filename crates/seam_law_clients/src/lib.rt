@@ -30,6 +30,7 @@ pub use clients::{
     an_update_without_a_client_never_comes, clients_go_from_record_to_record,
     no_input_of_a_base_node_is_stray_in_any_phase,
     nothing_is_stray_at_a_base_node_in_the_last_phases, the_base_part_is_shown_at_each_change,
+    who_is_not_there_is_not_shown,
 };
 pub use looks::{
     a_client_fits_after_a_look, a_look_is_one_look_at_the_table, clients_fit_after_the_looks,

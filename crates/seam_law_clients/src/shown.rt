@@ -85,8 +85,8 @@ pub fn a_client_is_shown_rightly()
 {}
 
 /// Where a round's calls leave the world quiet, a client that fitted its witness at the load and was shown what that told since fits it
-/// again, also in what it was shown of others: nothing at a version above the public one, and each has a route at each base node. So the
-/// record of clients goes on to reaps and looks.
+/// again, also in what it was shown of others: nothing at a version above the public one. So the record of clients goes on to reaps and
+/// looks.
 pub fn a_client_fits_where_calls_end()
     ensures { (f : Frame) (w : World) (b : Batch) → MayBegin f w b → AreCopiesBetweenRounds f w →
         (v : World) (es : List Event) → RunsTo (loaded w b) es v → IsQuiet node_has_work v →

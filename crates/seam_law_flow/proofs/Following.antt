@@ -3,11 +3,23 @@ use Rattle.std.proofs.Common.{◌≡◌, ℕ, Bool, true, false, cond, eqb, ◌&
 use Rattle.std.proofs.Common.{subst, inl, inr}
 use Rattle.std.specs.List.{AllByRecursion}
 use Rattle.std.proofs.lemmas.Bool.{cases_eq, eqb-true, eqb-false}
+use Rattle.seam_machine.specs.Sends.{items_to}
 use Rattle.seam_law_flow.specs.Flows.{Flow, Goes, comes, IsHead, mail_left, mail_added}
 
 pub all_append : {X : Type 0} (P : X → Type 0) (xs ys : List X) → AllByRecursion P xs → AllByRecursion P ys → AllByRecursion P (xs ++ ys)
 all_append P [] ys a b = b
 all_append P (x ∷ xs) ys a b = (a.0, all_append P xs ys a.1 b)
+
+-- a fact of each item that is sent, by the node to which it goes, is one of what each node gets
+module _ {L : Type 0} (P : ℕ → L → Type 0) (j : ℕ) where
+  item_fits : (p : ℕ × L) (ls : List L) (b : Bool) → eqb p.0 j ≡ b → P p.0 p.1 → AllByRecursion (P j) ls →
+      AllByRecursion (P j) (cond b (p.1 ∷ ls) ls)
+  item_fits p ls true is h more = (subst (λ x. P x p.1) (eqb-true p.0 j is) h, more)
+  item_fits p ls false is h more = more
+
+  pub items_fit : (ps : List (ℕ × L)) → AllByRecursion (λ p. P p.0 p.1) ps → AllByRecursion (P j) (items_to j ps)
+  items_fit [] h = tt
+  items_fit (p ∷ ps) h = item_fits p (items_to j ps) (eqb p.0 j) refl h.0 (items_fit ps h.1)
 
 -- what was left of a link: all of it, or all but the letter that node k was fed
 pub data Rest {S L : Type 0} (w : Flow S L) (k : ℕ) (input : Option (ℕ × L)) (x y : ℕ) (l : List L) : Type 0 where
@@ -88,3 +100,10 @@ module _ {S L : Type 0} {Moves : ℕ → S → Option L → S → (ℕ → List 
     pub came : {w v : Flow S L} (g : Goes Moves w v) (l : L) → comes g.input ≡ Some l → ((x y : ℕ) → AllByRecursion (P x y) (w.mail x y)) →
         (a : ℕ) × P a g.k l
     came {w} {v} g l e all = came_by P w g.k g.input g.rest l g.head e all
+
+    -- the same, of the list of what is sent
+    pub sent_kept : {w v : Flow S L} (g : Goes Moves w v) (sent : List (ℕ × L)) → ((j : ℕ) → g.out j ≡ items_to j sent) →
+        ((x y : ℕ) → AllByRecursion (P x y) (w.mail x y)) → AllByRecursion (λ p. P g.k p.0 p.1) sent →
+        (x y : ℕ) → AllByRecursion (P x y) (v.mail x y)
+    sent_kept g sent items h new =
+        letters_kept g h (λ j. subst (AllByRecursion (P g.k j)) (sym (items j)) (items_fit (P g.k) j sent new))

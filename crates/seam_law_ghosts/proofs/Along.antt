@@ -1,13 +1,12 @@
 -- The place of a real stays on its way after each event, and so after every list of events.
-use Rattle.seam_law_ghosts.proofs.Prelude.{◌≡◌, ℕ, ◌<◌, ◌≤◌, true, List, [], ◌∷◌, ◌++◌, length, Option, Some, refl, sym, ap, ◌∙◌, subst}
-use Rattle.seam_law_ghosts.proofs.Prelude.{inl, inr, cases_eq, Pos, Distances, Place, last_of, after, type_of, happens, enabled, Occurs}
-use Rattle.seam_law_ghosts.proofs.Prelude.{Event, Call, RealView, limit, Msg, Hand, Reap, World, node_steps, node_has_work, Flow, Goes}
-use Rattle.seam_law_ghosts.proofs.Prelude.{comes, letter_in, In, On, Sole, Turned, Handles, still, turns, lands, leaves, relays}
-use Rattle.seam_law_ghosts.proofs.Prelude.{place_after, token_after, Frame, HasOneTree, Has, mine, entity_flow, MovesTo, real_burden}
-use Rattle.seam_law_ghosts.proofs.Prelude.{Replays, real_in, real_of, IsOne, IsSpared, AllFits, IsFrame, HasOne, OneFrom, RunsTo}
-use Rattle.seam_law_ghosts.proofs.Prelude.{distances_of, place_of, path_of, home_of, IsDue, IsOnItsWay, waits, IsPlaced, settled, occurs}
-use Rattle.seam_law_ghosts.proofs.Prelude.{leads_keeps, sole_here, sole_came, sole_goes, token_turns, goes, one_happens, calm_of}
-use Rattle.seam_law_ghosts.proofs.Prelude.{spared_happens, replays_none, replays_on}
+use Rattle.seam_law_ghosts.proofs.Prelude.{◌≡◌, ℕ, ◌<◌, ◌≤◌, List, [], ◌∷◌, ◌++◌, length, Option, Some, refl, sym, ap, ◌∙◌, subst, inl, inr}
+use Rattle.seam_law_ghosts.proofs.Prelude.{cases_eq, Pos, Distances, Place, last_of, after, type_of, happens, Occurs, Event, Call, RealView}
+use Rattle.seam_law_ghosts.proofs.Prelude.{limit, Msg, Hand, Reap, World, node_steps, Flow, Goes, comes, letter_in, In, On, Sole, Turned}
+use Rattle.seam_law_ghosts.proofs.Prelude.{Handles, still, turns, lands, leaves, relays, place_after, token_after, Frame, HasOneTree, Has}
+use Rattle.seam_law_ghosts.proofs.Prelude.{mine, entity_flow, MovesTo, real_burden, Replays, real_in, real_of, IsOne, IsSpared, AllFits}
+use Rattle.seam_law_ghosts.proofs.Prelude.{IsFrame, HasOne, OneFrom, RunsTo, distances_of, place_of, path_of, home_of, IsDue, IsOnItsWay}
+use Rattle.seam_law_ghosts.proofs.Prelude.{waits, IsPlaced, settled, sole_here, sole_came, sole_goes, token_turns, goes, one_happens}
+use Rattle.seam_law_ghosts.proofs.Prelude.{calm_of, spared_happens, replays_none, replays_on, EachKeeps, runs_keep}
 use Rattle.seam_law_flow.specs.Tokens as token
 use Rattle.seam_law_ghosts.proofs.Ways.{way_due, way_survey, way_call}
 use Rattle.seam_law_ghosts.proofs.Paths.{is_at_last, path_more, same_further, more_further}
@@ -158,13 +157,11 @@ module _ (f : Frame) (alone : HasOneTree f) (home : ℕ) (start : RealView) wher
       is : IsPlaced f e ty home start w
       spared : IsSpared e w
 
-    placed_more : (w : World) (v : Event) → IsPlacedSpared w → enabled node_has_work w v ≡ true → IsPlacedSpared (happens node_steps w v)
-    placed_more w v x on =
-        let o = occurs node_has_work w v on in
-        record {
-          is = placed_happens w v o x.is (calm_of f e w v o x.is.one.has.fits.frame x.spared);
-          spared = spared_happens f e w v o x.is.one.has.fits.frame x.spared;
-        }
+    placed_spared : EachKeeps IsPlacedSpared
+    placed_spared w v o x = record {
+      is = placed_happens w v o x.is (calm_of f e w v o x.is.one.has.fits.frame x.spared);
+      spared = spared_happens f e w v o x.is.one.has.fits.frame x.spared;
+    }
 
     pub placed_first : (w : World) → AllFits f e ty w → IsOne e w (In home) start → IsDue e w (In home) → IsPlaced f e ty home start w
     placed_first w fits one due = record {
@@ -178,5 +175,4 @@ module _ (f : Frame) (alone : HasOneTree f) (home : ℕ) (start : RealView) wher
     pub placed_leads : (w v : World) (es : List Event) → AllFits f e ty w → IsSpared e w → IsOne e w (In home) start →
         IsDue e w (In home) → RunsTo w es v → IsPlaced f e ty home start v
     placed_leads w v es fits spared one due run =
-        (leads_keeps node_has_work node_steps IsPlacedSpared placed_more w v es
-        (record { is = placed_first w fits one due; spared = spared }) run).is
+        (runs_keep IsPlacedSpared placed_spared w v es (record { is = placed_first w fits one due; spared = spared }) run).is

@@ -1,22 +1,16 @@
 -- What a loaded world has in its lists.
-use Rattle.seam_law_ghosts.proofs.Prelude.{◌≡◌, ℕ, ◌≤◌, Bool, true, false, eqb, is_some, ◌||◌, List, [], ◌∷◌, Option, None, Some, refl, sym}
-use Rattle.seam_law_ghosts.proofs.Prelude.{ap, subst, arith, option_map, slice_get, cells_of, leaf_at, Create, Order, Batch, RealView}
-use Rattle.seam_law_ghosts.proofs.Prelude.{has_any, CellView, NodeView, World, node_has_work, Cell, Base, real_if, created_at, attached}
-use Rattle.seam_law_ghosts.proofs.Prelude.{cell_round, base_round, ordered_at, loaded, slot_at, Frame, has_of, has_none, times, real_in}
-use Rattle.seam_law_ghosts.proofs.Prelude.{framed, made, node_loaded, MayBegin, quiet_tasks, each_keeps, Any, any, in_frame, slot_is}
+use Rattle.seam_law_ghosts.proofs.Prelude.{◌≡◌, ℕ, ◌≤◌, Bool, true, false, eqb, is_some, [], Option, None, Some, refl, sym, ap, subst}
+use Rattle.seam_law_ghosts.proofs.Prelude.{arith, option_map, slice_get, cells_of, leaf_at, Create, Order, Batch, RealView, has_any}
+use Rattle.seam_law_ghosts.proofs.Prelude.{CellView, NodeView, World, node_has_work, Cell, Base, real_if, created_at, attached, cell_round}
+use Rattle.seam_law_ghosts.proofs.Prelude.{base_round, ordered_at, loaded, slot_at, Frame, has_of, has_none, times, real_in, framed, made}
+use Rattle.seam_law_ghosts.proofs.Prelude.{node_loaded, MayBegin, quiet_tasks, each_keeps, Any, any, in_frame, slot_is}
 use Rattle.seam_law_rounds.proofs.Room.{one_if, loaded_surveys}
 use Rattle.seam_law_ghosts.proofs.Listing.{IsListed}
 use Rattle.seam_law_ghosts.proofs.Lasting.{AreListed}
+use Rattle.seam_law_calls.proofs.Holds.{neither}
+use Rattle.seam_law_calls.proofs.Quieting.{none_left}
 
 -- ---- look lists are empty
-
-neither : (a b : Bool) → (a || b) ≡ false → (a ≡ false) × (b ≡ false)
-neither true b h = cc
-neither false b h = (refl, h)
-
-none_left : {A : Type 0} (xs : List A) → has_any xs ≡ false → xs ≡ []
-none_left [] h = refl
-none_left (x ∷ xs) h = cc
 
 idle_looks : (c : CellView) → node_has_work (Cell c) ≡ false → c.looks ≡ []
 idle_looks c h = none_left c.looks (neither _ (has_any c.looks) (neither (has_any c.survey) _ h).1).1

@@ -1,9 +1,8 @@
 -- The beats of books never fall, and so versions of copies do not.
-use Rattle.seam_law_ghosts.proofs.Prelude.{◌≡◌, ℕ, ◌+◌, ◌<◌, ◌≤◌, true, List, length, Option, None, Some, sym, ap, ◌∙◌, subst, inl, inr}
-use Rattle.seam_law_ghosts.proofs.Prelude.{arith, cases_eq, happens, enabled, Event, GhostCopy, RealView, Msg, World, node_steps}
-use Rattle.seam_law_ghosts.proofs.Prelude.{node_has_work, comes, greater_entry, Frame, Has, entity_flow, IsSpared, IsFrame, RunsTo, Entry}
-use Rattle.seam_law_ghosts.proofs.Prelude.{book_entry, GhostMoves, IsTable, IsTrue, occurs, leads_keeps, goes, room, calm_of}
-use Rattle.seam_law_ghosts.proofs.Prelude.{spared_happens}
+use Rattle.seam_law_ghosts.proofs.Prelude.{◌≡◌, ℕ, ◌+◌, ◌<◌, ◌≤◌, List, length, Option, None, Some, sym, ap, ◌∙◌, subst, inl, inr, arith}
+use Rattle.seam_law_ghosts.proofs.Prelude.{cases_eq, happens, GhostCopy, RealView, Msg, World, node_steps, comes, greater_entry, Frame, Has}
+use Rattle.seam_law_ghosts.proofs.Prelude.{entity_flow, IsSpared, IsFrame, Entry, book_entry, GhostMoves, IsTable, IsTrue, goes, room}
+use Rattle.seam_law_ghosts.proofs.Prelude.{calm_of, spared_happens, EachKeeps, RunsKeep, runs_keep}
 use Rattle.seam_law_ghosts.specs.GhostMoves as ghost
 use Rattle.seam_law_ghosts.proofs.Greater.{greater_up}
 use Rattle.seam_law_ghosts.proofs.Steps.{ghost_moves}
@@ -34,9 +33,8 @@ module _ (f : Frame) (frame : IsFrame f) (e ty : ℕ) (known : ty < length f.def
     pub spared : IsSpared e w
     pub books : (k : ℕ) → (book_entry ((entity_flow e origin).slot k)).0 ≤ (book_entry ((entity_flow e w).slot k)).0
 
-  risen_more : (w : World) (v : Event) → HasRisen w → enabled node_has_work w v ≡ true → HasRisen (happens node_steps w v)
-  risen_more w v x on =
-      let o = occurs node_has_work w v on in
+  risen_happens : EachKeeps HasRisen
+  risen_happens w v o x =
       let has = x.is.one.has in
       let calm = calm_of f e w v o has.fits.frame x.spared in
       let g = goes f frame e ty known w v o has calm in
@@ -60,8 +58,8 @@ module _ (f : Frame) (frame : IsFrame f) (e ty : ℕ) (known : ty < length f.def
         ];
       }
 
-  pub risen_leads : (w v : World) (es : List Event) → HasRisen w → RunsTo w es v → HasRisen v
-  risen_leads w v es x run = leads_keeps node_has_work node_steps HasRisen risen_more w v es x run
+  pub risen_leads : RunsKeep HasRisen
+  risen_leads = runs_keep HasRisen risen_happens
 
   -- a copy that is in a cell's book now is no older than the one that was there at the origin
   pub copies_rise : (w : World) → HasRisen w → IsTable e origin start first → (k : ℕ) (c d : GhostCopy) →

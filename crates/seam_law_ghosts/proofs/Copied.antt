@@ -1,13 +1,12 @@
 -- Where entities are reaped, and where witnesses look, a cell gets no copy: each that it has is the one that it had.
-use Rattle.seam_law_ghosts.proofs.Prelude.{◌≡◌, ℕ, ◌+◌, Bool, true, false, ltb, cond, List, [], ◌∷◌, Option, None, Some, refl, sym, ap}
-use Rattle.seam_law_ghosts.proofs.Prelude.{◌∙◌, arith, Division, happens, enabled, LeadsTo, Ghost, copy_in, beat_in, ghost_after, GhostCopy}
-use Rattle.seam_law_ghosts.proofs.Prelude.{RealView, Msg, Hand, GhostSet, SlotStep, slot_after, order_or, may_rise, Event, holders}
-use Rattle.seam_law_ghosts.proofs.Prelude.{NodeView, World, node_steps, node_has_work, reap_ordered_at, ordered_at}
-use Rattle.seam_law_ghosts.proofs.Prelude.{reaps_loaded, look_loaded, Goes, comes, Frame, here_at, Has, AtCell, entity_flow, Does, Acts}
-use Rattle.seam_law_ghosts.proofs.Prelude.{surveys, calls, readies, Moves, MovesTo, at_a_cell, at_a_base, real_in, IsFrame}
-use Rattle.seam_law_ghosts.proofs.Prelude.{IsSettled, IsBetweenRounds, each, AreReapable, book_entry, copy_at, occurs, leads_keeps}
-use Rattle.seam_law_ghosts.proofs.Prelude.{slots_kept, came, event_moves, quiet_home, IsSame, IsCalmTo, IsCalm, none_ready, calm_leads}
-use Rattle.seam_law_ghosts.proofs.Prelude.{reaps_cell, look_cell}
+use Rattle.seam_law_ghosts.proofs.Prelude.{◌≡◌, ℕ, ◌+◌, Bool, true, false, ltb, cond, List, [], Option, None, Some, sym, ap, ◌∙◌, arith}
+use Rattle.seam_law_ghosts.proofs.Prelude.{Division, happens, LeadsTo, Ghost, copy_in, beat_in, ghost_after, GhostCopy, RealView, Msg, Hand}
+use Rattle.seam_law_ghosts.proofs.Prelude.{GhostSet, SlotStep, slot_after, order_or, may_rise, Event, holders, NodeView, World, node_steps}
+use Rattle.seam_law_ghosts.proofs.Prelude.{node_has_work, reap_ordered_at, ordered_at, reaps_loaded, look_loaded, Goes, comes, Frame}
+use Rattle.seam_law_ghosts.proofs.Prelude.{here_at, Has, AtCell, entity_flow, Does, Acts, surveys, calls, readies, Moves, MovesTo}
+use Rattle.seam_law_ghosts.proofs.Prelude.{at_a_cell, at_a_base, real_in, IsFrame, IsSettled, IsBetweenRounds, each, AreReapable}
+use Rattle.seam_law_ghosts.proofs.Prelude.{book_entry, copy_at, slots_kept, came, event_moves, quiet_home, IsSame, IsCalmTo, IsCalm}
+use Rattle.seam_law_ghosts.proofs.Prelude.{none_ready, reaps_cell, look_cell, EachKeeps, runs_keep, calm_keeps}
 use Rattle.std.specs.FinMap as table
 use Rattle.seam_entity.specs.declared.message.Msg.TheVariants.{Call}
 use Rattle.seam_law_calls.proofs.CellDeeds as deed
@@ -79,12 +78,12 @@ module _ (f : Frame) (frame : IsFrame f) (u : World) (between : IsBetweenRounds 
     calm : IsCalm f e home r u told w
     left : (k : ℕ) → Copies (copy_at e u k) (copy_at e w k)
 
-  left_more : (w : World) (v : Event) → HasLeft w → enabled node_has_work w v ≡ true → HasLeft (happens node_steps w v)
-  left_more w v h on =
+  left_happens : EachKeeps HasLeft
+  left_happens w v o h =
       let next : World = happens node_steps w v in
-      let g : Goes (MovesTo f e) (entity_flow e w) (entity_flow e next) = event_moves f w v (occurs node_has_work w v on) h.calm.frame e in
+      let g : Goes (MovesTo f e) (entity_flow e w) (entity_flow e next) = event_moves f w v o h.calm.frame e in
       record {
-        calm = calm_leads f frame u between e home r there told small w next (v ∷ []) h.calm (record { each = (on, tt); is_run = refl });
+        calm = calm_keeps f frame u between e home r there told small w v o h.calm;
         left =
             slots_kept (λ k s. Copies (copy_at e u k) (book_entry s).1) g h.left (λ c is. h.left g.k c
             (keeps_copies f e home r told g.k ((entity_flow e w).slot g.k) (comes g.input) ((entity_flow e next).slot g.k) g.moves.sent
@@ -98,7 +97,7 @@ module _ (f : Frame) (frame : IsFrame f) (u : World) (between : IsBetweenRounds 
   copies_lead : (w v : World) (es : List Event) → IsCalm f e home r u told w → ((k : ℕ) → book_entry ((entity_flow e w).slot k)
       ≡ book_entry ((entity_flow e u).slot k)) → LeadsTo node_has_work node_steps w es v → (k : ℕ) → Copies (copy_at e u k) (copy_at e v k)
   copies_lead w v es calm books run =
-      (leads_keeps node_has_work node_steps HasLeft left_more w v es (record {
+      (runs_keep HasLeft left_happens w v es (record {
         calm = calm;
         left = λ k c is. sym (ap (λ p. p.1) (books k)) ∙ is;
       }) run).left

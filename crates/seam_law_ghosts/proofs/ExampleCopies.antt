@@ -193,6 +193,7 @@ module _ (load : loaded empty_world batch ≡ world_0) (row : IsRow 1 1 world_0 
     creates = (
       record {
         new = opened_is_new builtin standard first_is (omega arith) 1;
+        unshown = λ e k r at. absurd (no_real e k r at);
         type = omega arith;
         inside = refl;
       },

@@ -1,11 +1,10 @@
 -- What comes to the cell where the real is has no newer beat than the book there.
-use Rattle.seam_law_ghosts.proofs.Prelude.{◌≡◌, ℕ, ◌<◌, ◌≤◌, true, List, [], ◌∷◌, length, Option, None, Some, refl, sym, ap, subst, inl}
-use Rattle.seam_law_ghosts.proofs.Prelude.{inr, arith, cases_eq, AllByRecursion, happens, enabled, items_to, Event, GhostCopy, RealView}
-use Rattle.seam_law_ghosts.proofs.Prelude.{Msg, World, node_steps, node_has_work, Goes, comes, OfEntry, AllBring, TokenPlace, In, On, Sole}
-use Rattle.seam_law_ghosts.proofs.Prelude.{still, turns, lands, leaves, relays, place_after, Frame, Has, entity_flow, real_in, real_of}
-use Rattle.seam_law_ghosts.proofs.Prelude.{IsSpared, IsFrame, RunsTo, real_at, Entry, brings, book_entry, IsOfTable, IsTrue, IsHushed}
-use Rattle.seam_law_ghosts.proofs.Prelude.{occurs, leads_keeps, letters_kept, sole_here, sole_came, goes, room, one_happens, calm_of}
-use Rattle.seam_law_ghosts.proofs.Prelude.{spared_happens}
+use Rattle.seam_law_ghosts.proofs.Prelude.{◌≡◌, ℕ, ◌<◌, ◌≤◌, List, [], ◌∷◌, length, Option, None, Some, refl, sym, ap, subst, inl, inr}
+use Rattle.seam_law_ghosts.proofs.Prelude.{arith, cases_eq, AllByRecursion, happens, items_to, GhostCopy, RealView, Msg, World, node_steps}
+use Rattle.seam_law_ghosts.proofs.Prelude.{Goes, comes, OfEntry, AllBring, TokenPlace, In, On, Sole, still, turns, lands, leaves, relays}
+use Rattle.seam_law_ghosts.proofs.Prelude.{place_after, Frame, Has, entity_flow, real_in, real_of, IsSpared, IsFrame, real_at, Entry}
+use Rattle.seam_law_ghosts.proofs.Prelude.{brings, book_entry, IsOfTable, IsTrue, IsHushed, letters_kept, sole_here, sole_came, goes, room}
+use Rattle.seam_law_ghosts.proofs.Prelude.{one_happens, calm_of, spared_happens, EachKeeps, RunsKeep, runs_keep}
 use Rattle.seam_law_ghosts.proofs.Steps.{ghost_moves}
 use Rattle.seam_law_ghosts.proofs.Making.{NoEntry, Does_it, TellsBy, told_of}
 use Rattle.seam_law_ghosts.proofs.Telling.{true_after, place_then}
@@ -107,9 +106,8 @@ module _ (f : Frame) (frame : IsFrame f) (e ty : ℕ) (known : ty < length f.def
     pub spared : IsSpared e w
     pub hushed : IsHushed e w is.one.has.place
 
-  quelled_more : (w : World) (v : Event) → IsQuelled w → enabled node_has_work w v ≡ true → IsQuelled (happens node_steps w v)
-  quelled_more w v x on =
-      let o = occurs node_has_work w v on in
+  pub quelled_happens : EachKeeps IsQuelled
+  quelled_happens w v o x =
       let has = x.is.one.has in
       let calm = calm_of f e w v o has.fits.frame x.spared in
       let g = goes f frame e ty known w v o has calm in
@@ -136,8 +134,8 @@ module _ (f : Frame) (frame : IsFrame f) (e ty : ℕ) (known : ty < length f.def
             has.one x.hushed);
       }
 
-  pub quelled_leads : (w v : World) (es : List Event) → IsQuelled w → RunsTo w es v → IsQuelled v
-  quelled_leads w v es x run = leads_keeps node_has_work node_steps IsQuelled quelled_more w v es x run
+  pub quelled_leads : RunsKeep IsQuelled
+  quelled_leads = runs_keep IsQuelled quelled_happens
 
   -- so it is where the real is found
   pub hushed_where : (v : World) (x : IsQuelled v) (k : ℕ) (r : RealView) → real_at e v k ≡ Some r → IsHushed e v (In k)

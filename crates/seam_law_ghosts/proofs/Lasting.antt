@@ -1,11 +1,10 @@
 -- Over every list of events an entity that has its real is in lists only where that is, and what is on its way fits.
-use Rattle.seam_law_ghosts.proofs.Prelude.{◌≡◌, ℕ, ◌<◌, ◌≤◌, true, List, length, Option, None, Some, refl, sym, ap, subst, arith, slice_get}
-use Rattle.seam_law_ghosts.proofs.Prelude.{AllByRecursion, happens, enabled, Occurs, Task, Event, RealView, limit, NodeView, World}
-use Rattle.seam_law_ghosts.proofs.Prelude.{node_steps, node_has_work, comes, slot_at, Frame, IsInFrame, has_of, has_none, entity_flow}
-use Rattle.seam_law_ghosts.proofs.Prelude.{real_burden, has_burden, node_burden, mine_burden, burden, real_in, real_of, IsSpared, IsFrame}
-use Rattle.seam_law_ghosts.proofs.Prelude.{OneFrom, RunsTo, real_at, occurs, weight_or, leads_keeps, weight_bounds, slots_kept}
-use Rattle.seam_law_ghosts.proofs.Prelude.{letters_kept, sole_here, frame_happens, event_moves, replays_on, goes, one_happens, calm_of}
-use Rattle.seam_law_ghosts.proofs.Prelude.{spared_happens, items_each, public_low}
+use Rattle.seam_law_ghosts.proofs.Prelude.{◌≡◌, ℕ, ◌<◌, ◌≤◌, length, Option, None, Some, refl, sym, ap, subst, arith, slice_get}
+use Rattle.seam_law_ghosts.proofs.Prelude.{AllByRecursion, happens, Occurs, Task, Event, RealView, limit, NodeView, World, node_steps}
+use Rattle.seam_law_ghosts.proofs.Prelude.{comes, slot_at, Frame, has_of, has_none, entity_flow, real_burden, has_burden, node_burden}
+use Rattle.seam_law_ghosts.proofs.Prelude.{mine_burden, burden, real_in, real_of, IsSpared, IsFrame, OneFrom, real_at, weight_or}
+use Rattle.seam_law_ghosts.proofs.Prelude.{weight_bounds, sole_here, replays_on, goes, one_happens, calm_of, spared_happens, public_low}
+use Rattle.seam_law_ghosts.proofs.Prelude.{EachKeeps, RunsKeep, runs_keep, slots_lead, sent_kept, frame_leads, IsInFrame}
 use Rattle.seam_law_ghosts.proofs.Sending.{FitsNode, sends_fit}
 use Rattle.seam_law_ghosts.proofs.Listing.{IsListed, stays_listed}
 
@@ -16,18 +15,11 @@ module _ (f : Frame) (e : ℕ) where
     pub frame : IsInFrame f w
     pub slots : (k : ℕ) → IsListed ((entity_flow e w).slot k).cell
 
-  listed_more : (w : World) (v : Event) → AreListed w → enabled node_has_work w v ≡ true → AreListed (happens node_steps w v)
-  listed_more w v a on =
-      let o = occurs node_has_work w v on in
-      let g = event_moves f w v o a.frame e in
-      record {
-        frame = frame_happens f w v o a.frame;
-        slots = slots_kept (λ k h. IsListed h.cell) g a.slots
-            (stays_listed f e g.k _ (comes g.input) _ g.moves.sent (a.slots g.k) g.moves.moves);
-      }
-
-  pub listed_leads : (w v : World) (es : List Event) → AreListed w → RunsTo w es v → AreListed v
-  listed_leads w v es a run = leads_keeps node_has_work node_steps AreListed listed_more w v es a run
+  pub listed_leads : RunsKeep AreListed
+  listed_leads w v es a run = record {
+    frame = frame_leads f w v es a.frame run;
+    slots = slots_lead f e (λ k h. IsListed h.cell) (stays_listed f e) w v es a.frame a.slots run;
+  }
 
 -- ---- numbers are small
 
@@ -66,9 +58,8 @@ module _ (f : Frame) (frame : IsFrame f) (e ty : ℕ) (known : ty < length f.def
         omega (arith, few, part),
       )
 
-  fair_more : (w : World) (v : Event) → IsFair w → enabled node_has_work w v ≡ true → IsFair (happens node_steps w v)
-  fair_more w v h on =
-      let o = occurs node_has_work w v on in
+  pub fair_happens : EachKeeps IsFair
+  fair_happens w v o h =
       let has = h.one.has in
       let calm = calm_of f e w v o has.fits.frame h.spared in
       let more = one_happens f frame e ty known w v o has calm in
@@ -76,13 +67,12 @@ module _ (f : Frame) (frame : IsFrame f) (e ty : ℕ) (known : ty < length f.def
       record {
         one = record { has = more.has; replays = replays_on f start has.real more.has.real h.one.replays more.replays };
         spared = spared_happens f e w v o has.fits.frame h.spared;
-        letters = letters_kept (λ a k m. FitsNode f k m) g h.letters (λ j.
-            subst (AllByRecursion (FitsNode f j)) (sym (g.moves.0.items j))
-            (items_each (FitsNode f) j g.moves.0.sent
+        letters =
+            sent_kept (λ a k m. FitsNode f k m) g g.moves.0.sent g.moves.0.items h.letters
             (sends_fit f frame.defs e ty g.k known ((entity_flow e w).slot g.k) (comes g.input) ((entity_flow e
             (happens node_steps w v)).slot g.k)
-            g.moves.0.sent (has.fits.reals g.k) (numbers w h g.k) g.moves.0.moves)));
+            g.moves.0.sent (has.fits.reals g.k) (numbers w h g.k) g.moves.0.moves);
       }
 
-  pub fair_leads : (w v : World) (es : List Event) → IsFair w → RunsTo w es v → IsFair v
-  fair_leads w v es h run = leads_keeps node_has_work node_steps IsFair fair_more w v es h run
+  pub fair_leads : RunsKeep IsFair
+  fair_leads = runs_keep IsFair fair_happens

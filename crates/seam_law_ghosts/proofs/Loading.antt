@@ -10,13 +10,25 @@ use Rattle.seam_law_ghosts.proofs.Prelude.{get-set_at, each_keeps, Any, any, get
 use Rattle.seam_law_ghosts.proofs.Prelude.{search_real, none_counts}
 use Rattle.std.specs.FinMap as table
 use Rattle.std.specs.FinSet as set
+use Rattle.std.specs.Prelude.{◌≤◌, is_some}
+use Rattle.seam_node_steps.specs.Prelude.{Ghost, GhostCopy, beat_in, copy_in}
+use Rattle.seam_ghosts.proofs.Forgotten.{get_with_copies}
 use Rattle.seam_law_rounds.specs.Prelude.{IsNew}
+use Rattle.seam_law_ghosts.specs.Entries.{Entry}
 
--- ---- no book changes
+-- ---- no copy changes, and no beat rises
+
+-- the copy is the same, and the beat not above
+pub record KeepsBook (old new : Entry) : Type 0 where
+  pub copy : new.1 ≡ old.1
+  pub beat : new.0 ≤ old.0
+
+same_book : (old new : Entry) → new ≡ old → KeepsBook old new
+same_book old new is = record { copy = ap (λ p. p.1) is; beat = let same = ap (λ p. p.0) is in omega (arith, same) }
 
 module _ (e : ℕ) where
   abbrev HasBook : NodeView → NodeView → Type 0
-  HasBook s t = book_entry (has_of e t) ≡ book_entry (has_of e s)
+  HasBook s t = KeepsBook (book_entry (has_of e s)) (book_entry (has_of e t))
 
   created_book : (t : Division) (s : NodeView) (x : Create) (n : NodeView) → Any x → HasBook s n → HasBook s (created_at t x n)
   created_book t s x (Cell c) u h = by (eqb (leaf_at t x.pos) c.here.me)
@@ -35,11 +47,23 @@ module _ (e : ℕ) where
   ordered_book s o (Base b) u h = h
 
   begun_book : (cells : ℕ) (s : NodeView) → HasBook s (base_round cells s)
-  begun_book cells (Cell c) = refl
-  begun_book cells (Base b) = refl
+  begun_book cells (Cell c) = same_book _ _ refl
+  begun_book cells (Base b) = same_book _ _ refl
+
+  -- a beat without a copy is forgotten
+  kept_by : (s : NodeView) (o : Option (Ghost GhostCopy)) → KeepsBook (book_entry (has_of e s)) (beat_in o, copy_in o) →
+      (c : Option GhostCopy) → copy_in o ≡ c → KeepsBook (book_entry (has_of e s)) (
+        beat_in (cond (is_some c) o None),
+        copy_in (cond
+            (is_some c) o None),
+      )
+  kept_by s o h (Some c) is = h
+  kept_by s o h None is = record { copy = sym is ∙ h.copy; beat = omega arith }
 
   round_book : (t : Division) (s n : NodeView) → HasBook s n → HasBook s (cell_round t n)
-  round_book t s (Cell c) h = h
+  round_book t s (Cell c) h =
+      subst (λ o. KeepsBook (book_entry (has_of e s)) (beat_in o, copy_in o)) (sym (get_with_copies c.ghosts e))
+      (kept_by s (table.get c.ghosts e) h (copy_in (table.get c.ghosts e)) refl)
   round_book t s (Base b) h = h
 
   node_book : (b : Batch) (s : NodeView) → HasBook s (node_loaded b s)
@@ -50,16 +74,18 @@ module _ (e : ℕ) where
       (each_keeps (created_at b.tree) (HasBook s) Any (created_book b.tree s) b.creates (any b.creates) (base_round (cells_of b.tree) s)
       (begun_book (cells_of b.tree) s))))
 
-  book_by : (b : Batch) (o : Option NodeView) →
-      book_entry (slot_at (has_of e) has_none (option_map (node_loaded b) o)) ≡ book_entry (slot_at (has_of e) has_none o)
-  book_by b None = refl
+  book_by : (b : Batch) (o : Option NodeView) → KeepsBook (book_entry (slot_at (has_of e) has_none o))
+      (book_entry (slot_at (has_of e) has_none (option_map (node_loaded b) o)))
+  book_by b None = same_book _ _ refl
   book_by b (Some s) = node_book b s
 
-  pub books_loaded : (w : World) (b : Batch) (k : ℕ) → book_entry ((entity_flow e (loaded w b)).slot k) ≡ book_entry
-      ((entity_flow e w).slot k)
-  books_loaded w b k = ap book_entry (slot_is w b e k) ∙ book_by b (slice_get w.nodes k)
+  pub books_loaded : (w : World) (b : Batch) (k : ℕ) →
+      KeepsBook (book_entry ((entity_flow e w).slot k)) (book_entry ((entity_flow e (loaded w b)).slot k))
+  books_loaded w b k =
+      subst (λ h. KeepsBook (book_entry ((entity_flow e w).slot k)) (book_entry h)) (sym (slot_is w b e k))
+      (book_by b (slice_get w.nodes k))
 
-  -- nor where each node's cell stays what it is
+  -- no book changes where each node's cell stays what it is
   pub books_turned : (turn : NodeView → NodeView) → ((s : NodeView) → (has_of e (turn s)).cell ≡ (has_of e s).cell) → (u : World) (k : ℕ) →
       book_entry ((entity_flow e (with_nodes u turn)).slot k) ≡ book_entry ((entity_flow e u).slot k)
   books_turned turn same u k =
@@ -185,9 +211,9 @@ module _ (f : Frame) (w : World) (b : Batch) (fits : IsFitting f w b) (copies : 
       ∙ ap (copy_if (set.contains r.haunts j)) (shown_same q r same) in
       record {
         away = ap (λ h. set.contains h k) same.haunts ∙ old.away;
-        copies = λ j low. ap (λ p. p.1) (books_loaded e w b j) ∙ (old.copies j low ∙ wants j);
+        copies = λ j low. (books_loaded e w b j).copy ∙ (old.copies j low ∙ wants j);
         beats = λ j low.
-            let now = ap (λ p. p.0) (books_loaded e w b j) in
+            let now = (books_loaded e w b j).beat in
             let few = old.beats j low in
             let beat = same.beat in
             omega (arith, now, few, beat);
@@ -201,12 +227,17 @@ module _ (f : Frame) (w : World) (b : Batch) (fits : IsFitting f w b) (copies : 
   settled_from (made_new new none) =
       let no_haunt : (j : ℕ) → set.contains r.haunts j ≡ false =
       λ j. ap (λ h. set.contains h j) none ∙ set.contains-empty nat_cmp j in
-      let no_book : (j : ℕ) → book_entry ((entity_flow e (loaded w b)).slot j) ≡ (0, None) =
-      λ j. books_loaded e w b j ∙ ap book_entry (new j) in
+      let none_at : (j : ℕ) → book_entry ((entity_flow e w).slot j) ≡ (0, None) = λ j. ap book_entry (new j) in
       record {
         away = no_haunt k;
-        copies = λ j low. ap (λ p. p.1) (no_book j) ∙ sym (ap (λ h. copy_if h (present f r)) (no_haunt j));
-        beats = λ j low. let zero = ap (λ p. p.0) (no_book j) in omega (arith, zero);
+        copies = λ j low.
+            (books_loaded e w b j).copy
+            ∙ (ap (λ p. p.1) (none_at j)
+            ∙ sym (ap (λ h. copy_if h (present f r)) (no_haunt j)));
+        beats = λ j low.
+            let now = (books_loaded e w b j).beat in
+            let zero = ap (λ p. p.0) (none_at j) in
+            omega (arith, now, zero);
       }
 
   pub copies_loaded : AreSettled (framed f b) e k r (loaded w b)

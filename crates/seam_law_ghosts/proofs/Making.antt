@@ -7,7 +7,7 @@ use Rattle.seam_law_ghosts.proofs.Prelude.{ghost_messages, beat_after, copy_if, 
 use Rattle.seam_law_ghosts.proofs.Prelude.{IsSilent, carried_in, SendsNone, Handles, still, turns, lands, leaves, relays, Frame, here_at}
 use Rattle.seam_law_ghosts.proofs.Prelude.{Has, account_of, after_call, real_in, real_of, Entry, brings, book_entry, Executes, nothing}
 use Rattle.seam_law_ghosts.proofs.Prelude.{executes, told_settling, going, left_entry, GhostMoves, shown_at, all_append, sees_none}
-use Rattle.seam_law_ghosts.proofs.Prelude.{sees_after_silent, sees_one_here, sees_one_there, reals_unseen, ghosts_silent, items_all}
+use Rattle.seam_law_ghosts.proofs.Prelude.{sees_after_silent, sees_one_here, sees_one_there, reals_unseen, ghosts_silent, items_fit}
 use Rattle.std.specs.Prelude.{filter_map}
 use Rattle.std.specs.FinSet as set
 use Rattle.seam_defs.specs.declared.flags.Part.TheVariants as part
@@ -163,7 +163,7 @@ module _ (f : Frame) (e k : ℕ) (s : Has) (i : Option Msg) (t : Has) (sent : Li
   sends_none h j = ap (letters_of real_of) (items j) ∙ sees_none real_of j sent h
 
   all_sent : (P : Entry → Type 0) → AllByRecursion (λ p. Brings P p.1) sent → (j : ℕ) → AllBring brings P (out j)
-  all_sent P h j = subst (AllBring brings P) (sym (items j)) (items_all (Brings P) j sent h)
+  all_sent P h j = subst (AllBring brings P) (sym (items j)) (items_fit (λ k. Brings P) j sent h)
 
   makes_none : IsSilent brings sent → (book_entry t ≡ book_entry s) ⊎ ((entry_in brings i ≡ Some (book_entry t)) ⊎ ⊥) →
       Makes NoEntry s i t out

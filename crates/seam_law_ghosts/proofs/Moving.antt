@@ -9,7 +9,7 @@ use Rattle.seam_law_ghosts.proofs.Prelude.{real_of, IsOne, Entry, brings, book_e
 use Rattle.seam_law_ghosts.proofs.Prelude.{executes, told_settling, staying, going, left_entry, IsMissed, GhostMoves, present, wanted}
 use Rattle.seam_law_ghosts.proofs.Prelude.{NewestAreWanted, IsForgotten, newest_stays, newest_rises, not_above_rises, taken_comes}
 use Rattle.seam_law_ghosts.proofs.Prelude.{sees_none, sees_after_silent, sees_one_here, sees_one_there, one_here, one_there, sole_here}
-use Rattle.seam_law_ghosts.proofs.Prelude.{sole_came, sole_goes, reals_unseen, ghosts_silent, items_all, NewestIsWanted, IsAway}
+use Rattle.seam_law_ghosts.proofs.Prelude.{sole_came, sole_goes, reals_unseen, ghosts_silent, NewestIsWanted, IsAway, items_fit}
 use Rattle.std.specs.FinSet as set
 use Rattle.seam_law_flow.specs.Prelude.{Has as HasEntry}
 use Rattle.seam_machine.proofs.SendLemmas.{items_to-append}
@@ -73,7 +73,7 @@ module _ (f : Frame) (e : ℕ) (w v : World) {Moves : ℕ → Has → Option Msg
   silent_out : IsSilent brings sent → (j : ℕ) → AllBring brings NoEntry (g.out j)
   silent_out silent j =
       subst (AllBring brings NoEntry) (sym (items j))
-      (items_all (λ m. OfEntry NoEntry (brings m)) j sent (none_brought NoEntry sent silent))
+      (items_fit (λ k m. OfEntry NoEntry (brings m)) j sent (none_brought NoEntry sent silent))
 
   sends_none : IsSilent brings sent → SendsNone real_of g.out
   sends_none silent j = ap (letters_of real_of) (items j) ∙ sees_none real_of j sent (all_unseen sent silent)

@@ -8,6 +8,7 @@ use Rattle.std.specs.FinSet as set
 use Rattle.seam_haunt.specs.Haunts.{is_close}
 use Rattle.seam_haunt.proofs.Chosen.{contains_haunts_of}
 use Rattle.seam_law_flow.proofs.SendLists.{chosen_at}
+use Rattle.seam_law_calls.proofs.Holds.{or_right}
 
 -- ---- the home is no haunt
 
@@ -43,10 +44,6 @@ target_by true k m p is = cc
 target_by false k None p is = cc
 target_by false k (Some m) p is = let same : (k, m) ≡ p = cc in ap (λ q. q.0) (sym same)
 
-right_true : (a b : Bool) → b ≡ true → (a || b) ≡ true
-right_true true b h = refl
-right_true false b h = h
-
 -- the real q settles in cell j, with these haunts
 module _ (h : Here) (q : RealView) (j : ℕ) (haunts : Cells) (changed : Bool) where
   items : (k : ℕ) → k < cell_count → items_to k (ghost_messages h q j haunts changed) ≡ item_of (ghost_message h q j haunts changed k)
@@ -59,7 +56,7 @@ module _ (h : Here) (q : RealView) (j : ℕ) (haunts : Cells) (changed : Bool) w
       items j low
       ∙ ap (λ b. item_of (told_unless b j (told q.entity (q.beat + 1) (copy_of_real h q) (set.contains haunts j)
       (set.contains q.haunts j) changed)))
-      (right_true (eqb j h.me) (eqb j j) (eq-eqb j j refl))
+      (or_right (eqb j h.me) (eqb j j) (eq-eqb j j refl))
 
   pub gets : (k : ℕ) → k < cell_count → (k ≡ h.me → ⊥) → (k ≡ j → ⊥) → Gets (q.beat + 1) (copy_of_real h q) (set.contains q.haunts k)
       (set.contains haunts k) changed (items_to k (ghost_messages h q j haunts changed))

@@ -1,16 +1,15 @@
 -- No input of a cell is stray: in a round, where entities are reaped, and where witnesses look.
-use Rattle.seam_law_ghosts.proofs.Prelude.{◌≡◌, ℕ, ◌+◌, ◌<◌, ◌≤◌, ◌⊎◌, Bool, true, false, cond, not, nat_lt, is_some, List, [], ◌∷◌, Option}
-use Rattle.seam_law_ghosts.proofs.Prelude.{None, Some, refl, sym, ap, ◌∙◌, subst, arith, inl, inr, slice_get, eq-eqb, nat_tests}
-use Rattle.seam_law_ghosts.proofs.Prelude.{slice_get-map, Division, link, Event, OrderView, next_item, Call as CallData, Batch, Orders}
-use Rattle.seam_law_ghosts.proofs.Prelude.{order_or, RealView, Msg, limit, may_rise, cell_count, order_is_ready, has_ready, ready_order}
-use Rattle.seam_law_ghosts.proofs.Prelude.{may_settle, may_execute, about, is_stray, stray_survey, CellView, slot_of, NodeView, World}
-use Rattle.seam_law_ghosts.proofs.Prelude.{node_has_work, Cell, with_nodes, ordered_at, reap_ordered_at, loaded, reaps_loaded, look_loaded}
-use Rattle.seam_law_ghosts.proofs.Prelude.{slot_at, Frame, here_at, IsInFrame, times, has_of, has_none, entity_flow, has_witness}
-use Rattle.seam_law_ghosts.proofs.Prelude.{real_burden, real_in, RunsTo, real_at, IsBetweenRounds, framed, each, AreReapable, MayBegin}
-use Rattle.seam_law_ghosts.proofs.Prelude.{HasNoStrayTask, quiet_tasks, found, all_two, node_there, in_frame, kept_after, Somewhere}
-use Rattle.seam_law_ghosts.proofs.Prelude.{Nowhere, search_real, frame_leads, IsCalm, none_ready, reaps_framed, look_framed, reaps_cell}
-use Rattle.seam_law_ghosts.proofs.Prelude.{look_cell, low, leads, calm_leads, IsUnknown, unknown_leads, unknown_loaded, unknown_reaps}
-use Rattle.seam_law_ghosts.proofs.Prelude.{unknown_look, nobody}
+use Rattle.seam_law_ghosts.proofs.Prelude.{◌≡◌, ℕ, ◌+◌, ◌<◌, ◌≤◌, ◌⊎◌, Bool, true, false, cond, is_some, List, [], ◌∷◌, Option, None, Some}
+use Rattle.seam_law_ghosts.proofs.Prelude.{refl, sym, ap, ◌∙◌, subst, arith, inl, inr, slice_get, eq-eqb, slice_get-map, Division, link}
+use Rattle.seam_law_ghosts.proofs.Prelude.{Event, OrderView, next_item, Call as CallData, Batch, Orders, order_or, RealView, Msg, limit}
+use Rattle.seam_law_ghosts.proofs.Prelude.{may_rise, cell_count, order_is_ready, has_ready, ready_order, may_settle, may_execute, about}
+use Rattle.seam_law_ghosts.proofs.Prelude.{is_stray, stray_survey, CellView, slot_of, NodeView, World, node_has_work, Cell, with_nodes}
+use Rattle.seam_law_ghosts.proofs.Prelude.{ordered_at, reap_ordered_at, loaded, reaps_loaded, look_loaded, slot_at, Frame, here_at}
+use Rattle.seam_law_ghosts.proofs.Prelude.{IsInFrame, times, has_of, has_none, entity_flow, has_witness, real_burden, real_in, RunsTo}
+use Rattle.seam_law_ghosts.proofs.Prelude.{real_at, IsBetweenRounds, framed, each, AreReapable, MayBegin, HasNoStrayTask, quiet_tasks}
+use Rattle.seam_law_ghosts.proofs.Prelude.{found, all_two, node_there, in_frame, kept_after, Somewhere, Nowhere, search_real, frame_leads}
+use Rattle.seam_law_ghosts.proofs.Prelude.{IsCalm, none_ready, reaps_framed, look_framed, reaps_cell, look_cell, low, leads, calm_leads}
+use Rattle.seam_law_ghosts.proofs.Prelude.{IsUnknown, unknown_leads, unknown_loaded, unknown_reaps, unknown_look, nobody}
 use Rattle.std.specs.FinMap as table
 use Rattle.seam_law_rounds.proofs.Phases.{settled}
 use Rattle.seam_law_rounds.proofs.Reaping as reaping
@@ -20,15 +19,9 @@ use Rattle.seam_law_ghosts.proofs.Lasting.{AreListed, listed_leads, real_bound}
 use Rattle.seam_law_ghosts.proofs.Beginning.{lists_loaded, empty_lists, none_listed}
 use Rattle.seam_law_ghosts.proofs.InRound.{unknown_gets_none, free_by_place, of_cell}
 use Rattle.seam_law_ghosts.proofs.InPhases.{calm_free}
+use Rattle.seam_law_calls.proofs.Holds.{denied, below_is}
 
 -- ---- tasks
-
-not_true : (b : Bool) → b ≡ true → not b ≡ false
-not_true true h = refl
-not_true false h = cc
-
-below_is : (a b : ℕ) → a < b → nat_lt a b ≡ true
-below_is a b lt = grind (arith, nat_tests)
 
 first_times : (e : ℕ) (es : List ℕ) → 1 ≤ times e (e ∷ es)
 first_times e es =
@@ -37,7 +30,7 @@ first_times e es =
 
 settles_by : (o : Option RealView) → is_some o ≡ true → ((r : RealView) → o ≡ Some r → may_settle r ≡ true) → stray_survey o ≡ false
 settles_by None h may = cc
-settles_by (Some r) h may = not_true (may_settle r) (may r refl)
+settles_by (Some r) h may = denied (may_settle r) (may r refl)
 
 looks_by : (o : Option RealView) → has_witness o ≡ true → (r : RealView) × (o ≡ Some r) × (is_some r.witness ≡ true)
 looks_by None h = cc
@@ -60,7 +53,7 @@ module _ (v : World) (k : ℕ) (c : CellView) (node : slice_get v.nodes k ≡ So
         let some = subst (λ l. 1 ≤ times e l) (sym is) (first_times e es) in
         settles_by (table.get c.reals e) ((listed e).survey some) (λ r at.
         settles e r (subst (λ h. 1 ≤ h.cell.survey) (sym (has_is e)) some) (ap real_in (has_is e) ∙ at));
-    ready = λ e r at ready. not_true (may_execute r) (executes e r (ap real_in (has_is e) ∙ at) ready);
+    ready = λ e r at ready. denied (may_execute r) (executes e r (ap real_in (has_is e) ∙ at) ready);
     looks = λ e es is.
         looks_by (table.get c.reals e) ((listed e).looks (subst (λ l. 1 ≤ times e l) (sym is) (first_times e es)));
   }

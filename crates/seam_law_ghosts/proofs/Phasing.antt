@@ -1,20 +1,20 @@
 -- Where entities are reaped, and where witnesses look, copies stay what they are, but for those of an entity whose Reap comes.
-use Rattle.seam_law_ghosts.proofs.Prelude.{◌≡◌, ℕ, ◌<◌, ◌⊎◌, Bool, true, List, [], ◌∷◌, Option, None, Some, refl, sym, ap, ◌∙◌, subst}
-use Rattle.seam_law_ghosts.proofs.Prelude.{arith, inl, inr, Division, happens, enabled, IsQuiet, Event, RealView, WitnessView, Msg, Hand}
-use Rattle.seam_law_ghosts.proofs.Prelude.{GhostSet, GhostDrop, Tick, Reap, Update, is_small, may_rise, cell_count, is_stray, holders}
-use Rattle.seam_law_ghosts.proofs.Prelude.{World, node_steps, node_has_work, Goes, comes, TokenPlace, In, On, Frame, here_at, IsInFrame}
-use Rattle.seam_law_ghosts.proofs.Prelude.{Has, entity_flow, MovesTo, RealFits, real_in, real_of, IsOne, IsFrame, RunsTo, real_at}
-use Rattle.seam_law_ghosts.proofs.Prelude.{IsSettled, IsBetweenRounds, Entry, brings, book_entry, GhostMoves, wanted, copy_at}
-use Rattle.seam_law_ghosts.proofs.Prelude.{NewestAreWanted, IsForgotten, AreSettled, AreCopiesBetweenRounds, occurs, leads_keeps, came}
-use Rattle.seam_law_ghosts.proofs.Prelude.{sole_here, event_moves, one_counts, none_counts, not_both, gone_leads, quiet_home, Somewhere}
-use Rattle.seam_law_ghosts.proofs.Prelude.{Nowhere, search_real, frame_leads, IsSame, IsCalmTo, IsCalm, calm_leads, IsUnknown}
-use Rattle.seam_law_ghosts.proofs.Prelude.{unknown_leads}
+use Rattle.seam_law_ghosts.proofs.Prelude.{◌≡◌, ℕ, ◌<◌, ◌⊎◌, Bool, true, List, [], Option, None, Some, refl, sym, ap, ◌∙◌, subst, arith}
+use Rattle.seam_law_ghosts.proofs.Prelude.{inl, inr, Division, happens, IsQuiet, Event, RealView, WitnessView, Msg, Hand, GhostSet}
+use Rattle.seam_law_ghosts.proofs.Prelude.{GhostDrop, Tick, Reap, Update, is_small, may_rise, cell_count, is_stray, holders, World}
+use Rattle.seam_law_ghosts.proofs.Prelude.{node_steps, node_has_work, Goes, comes, TokenPlace, In, On, Frame, here_at, IsInFrame, Has}
+use Rattle.seam_law_ghosts.proofs.Prelude.{entity_flow, MovesTo, RealFits, real_in, real_of, IsOne, IsFrame, RunsTo, real_at, IsSettled}
+use Rattle.seam_law_ghosts.proofs.Prelude.{IsBetweenRounds, Entry, brings, book_entry, GhostMoves, wanted, copy_at, NewestAreWanted}
+use Rattle.seam_law_ghosts.proofs.Prelude.{IsForgotten, AreSettled, AreCopiesBetweenRounds, came, sole_here, event_moves, one_counts}
+use Rattle.seam_law_ghosts.proofs.Prelude.{none_counts, not_both, quiet_home, Somewhere, Nowhere, search_real, frame_leads, IsSame}
+use Rattle.seam_law_ghosts.proofs.Prelude.{IsCalmTo, IsCalm, IsUnknown, unknown_leads, RunsKeep, runs_keep, calm_keeps, Occurs}
 use Rattle.seam_law_rounds.proofs.Ending.{calm_one, calm_none}
 use Rattle.seam_law_ghosts.proofs.InPhases.{small_to}
 use Rattle.seam_law_ghosts.proofs.Steps.{ghost_moves}
 use Rattle.seam_law_ghosts.proofs.Moving.{After, here, gone, after_move, still_forgotten}
 use Rattle.seam_law_ghosts.proofs.Still.{quiet_mail, nowhere_counts, forgotten_still, none_still, told_still, settled_still}
 use Rattle.seam_law_ghosts.proofs.Rounding.{lost_leads}
+use Rattle.seam_law_calls.proofs.Gone.{gone_happens}
 
 module _ (f : Frame) (frame : IsFrame f) (u : World) (between : IsBetweenRounds f u) (e home : ℕ) (r : RealView)
     (there : real_at e u home ≡ Some r) (is_told : Bool) (small : is_told ≡ true → may_rise r.beat ≡ true) where
@@ -65,18 +65,15 @@ module _ (f : Frame) (frame : IsFrame f) (u : World) (between : IsBetweenRounds 
 
   -- ---- an event
 
-  module _ (w : World) (v : Event) (calm : Calm w) (on : enabled node_has_work w v ≡ true) where
+  module _ (w : World) (v : Event) (o : Occurs w v) (calm : Calm w) where
     abbrev next : World
     next = happens node_steps w v
 
-    once : RunsTo w (v ∷ []) next
-    once = record { each = (on, tt); is_run = refl }
-
     calm_next : Calm next
-    calm_next = calm_leads f frame u between e home r there is_told small w next (v ∷ []) calm once
+    calm_next = calm_keeps f frame u between e home r there is_told small w v o calm
 
     abbrev g : Goes (MovesTo f e) (entity_flow e w) (entity_flow e next)
-    g = event_moves f w v (occurs node_has_work w v on) calm.frame e
+    g = event_moves f w v o calm.frame e
 
     comes_calm : (m : Msg) → comes g.input ≡ Some m → IsCalmTo is_told home r g.k m
     comes_calm m is = (came (λ a k m. IsCalmTo is_told home r k m) g m is calm.mail).1
@@ -117,18 +114,16 @@ module _ (f : Frame) (frame : IsFrame f) (u : World) (between : IsBetweenRounds 
     state_next (inr x) =
         let nobody = calm_none f e home r u settled is_told w calm x.gone in
         inr (record {
-          gone = (gone_leads f frame e w next (v ∷ []) calm.frame nobody once).slots home;
+          gone = (gone_happens f frame e w v o calm.frame nobody).slots home;
           forgotten =
               still_forgotten f e w next g g.moves.sent g.moves.items (nobody.slots g.k)
               (λ q bs is. comes_calm (Hand q bs) is) x.forgotten fresh
               move;
         })
 
-  leaving_more : (w : World) (v : Event) → IsLeaving w → enabled node_has_work w v ≡ true → IsLeaving (happens node_steps w v)
-  leaving_more w v x on = record { calm = calm_next w v x.calm on; state = state_next w v x.calm on x.state }
-
-  pub leaving_leads : (w v : World) (es : List Event) → IsLeaving w → RunsTo w es v → IsLeaving v
-  leaving_leads w v es x run = leads_keeps node_has_work node_steps IsLeaving leaving_more w v es x run
+  pub leaving_leads : RunsKeep IsLeaving
+  leaving_leads =
+      runs_keep IsLeaving (λ w v o x. record { calm = calm_next w v o x.calm; state = state_next w v o x.calm x.state })
 
 -- ---- a phase whose load only gives orders
 

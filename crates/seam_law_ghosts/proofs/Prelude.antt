@@ -4,7 +4,8 @@ pub use Rattle.seam_haunt.specs.Places.{HasGhost, IsPlaceAfter, settled, settled
 pub use Rattle.seam_law_calls.proofs.BaseDeeds.{base_keeps}
 pub use Rattle.seam_law_calls.proofs.Handling.{handled, reals_unseen}
 pub use Rattle.seam_law_calls.proofs.Holds.{all_two, below_is, both, item_passes_too, not_both, picked_passes}
-pub use Rattle.seam_law_calls.proofs.Keeping.{all_lead, units}
+pub use Rattle.seam_law_calls.proofs.Keeping.{all_lead, units, EachKeeps, RunsKeep, FramedKeep, frame_leads, runs_keep, run_keeps}
+pub use Rattle.seam_law_calls.proofs.Keeping.{slots_lead}
 pub use Rattle.seam_law_calls.proofs.OneReal.{calm_of, came_hand, hands_all, may_land, one_happens}
 pub use Rattle.seam_law_calls.proofs.Prelude.{AllFits, Cells, Deed, FindsTurn, HasOneTree, IsRow, Part, Pos, Sole, State, about, after}
 pub use Rattle.seam_law_calls.proofs.Prelude.{beat_after, beat_in, can_do, changes, concerned, copy_of_real, cut_after, drop_if, drops}
@@ -13,8 +14,7 @@ pub use Rattle.seam_law_calls.proofs.Prelude.{looks_after_tick, ltb, may_call, m
 pub use Rattle.seam_law_calls.proofs.Prelude.{one_here, one_there, order_about, order_of, place_after, relays, slot_of, stray_call}
 pub use Rattle.seam_law_calls.proofs.Prelude.{stray_survey, token_after, token_turns, told_unless, type_at}
 pub use Rattle.seam_law_calls.proofs.Replaying.{acts_replays, replays_none, replays_on}
-pub use Rattle.seam_law_calls.proofs.Sparing.{items_all}
-pub use Rattle.seam_law_calls.proofs.Unknown.{unknown_leads}
+pub use Rattle.seam_law_calls.proofs.Unknown.{unknown_happens, unknown_leads}
 pub use Rattle.seam_law_calls.specs.Prelude.{IsTickTo, IsUnknown, has_witness}
 pub use Rattle.seam_law_flow.proofs.NewestLemmas.{newest_rests, newest_rises, newest_stays, not_above_rises, taken_comes}
 pub use Rattle.seam_law_flow.specs.Prelude.{IsHead, Turned, item_of}
@@ -35,7 +35,7 @@ pub use Rattle.seam_law_rounds.proofs.Going.{frame_loaded, its, kept_after, one_
 pub use Rattle.seam_law_rounds.proofs.Loaded.{holds_kept, kept_some, no_items, no_mail, slot_becomes, slot_is}
 pub use Rattle.seam_law_rounds.proofs.Loading.{Any, any, each_keeps, get-each_value, node_there}
 pub use Rattle.seam_law_rounds.proofs.Opened.{opened_between, opened_has_none, opened_is_new}
-pub use Rattle.seam_law_rounds.proofs.Phases.{calm_leads, leads, low}
+pub use Rattle.seam_law_rounds.proofs.Phases.{calm_keeps, calm_leads, leads, low}
 pub use Rattle.seam_law_rounds.proofs.Prelude.{Account, Acts, AllBring, AllByRecursion, AreDefs, AreNumbered, AreReapable, AtBase, AtCell}
 pub use Rattle.seam_law_rounds.proofs.Prelude.{Base, BaseCall, BaseMoves, Batch, Bool, Call, Cell, CellMoves, CellView, Create, Current}
 pub use Rattle.seam_law_rounds.proofs.Prelude.{Division, Does, EachFrom, Event, FindsRoom, Flow, Frame, From, Ghost, GhostCopy, GhostDrop}
@@ -68,10 +68,10 @@ pub use Rattle.seam_law_rounds.proofs.Prelude.{sees_one_there, settled_to, shown
 pub use Rattle.seam_law_rounds.proofs.Prelude.{slot_at, slots, slots_kept, sole_came, sole_goes, sole_here, spared_happens, standard, still}
 pub use Rattle.seam_law_rounds.proofs.Prelude.{subst, suc, surveys, sym, tick_to, times, total, true, turns, type_of, unlisted_if}
 pub use Rattle.seam_law_rounds.proofs.Prelude.{unsigned_tied, weight_bounds, weight_or, with_nodes, with_witness, zero, ℕ, ◌&&◌, ◌++◌, ◌+◌}
-pub use Rattle.seam_law_rounds.proofs.Prelude.{◌-◌, ◌<◌, ◌||◌, ◌∙◌, ◌∷◌, ◌≡◌, ◌≤◌, ◌⊎◌}
+pub use Rattle.seam_law_rounds.proofs.Prelude.{◌-◌, ◌<◌, ◌||◌, ◌∙◌, ◌∷◌, ◌≡◌, ◌≤◌, ◌⊎◌, sent_kept, items_fit}
 pub use Rattle.seam_law_rounds.proofs.Publics.{public_low}
 pub use Rattle.seam_law_rounds.proofs.Ready.{one_at_home, one_holder, quiet_home}
-pub use Rattle.seam_law_rounds.proofs.Shape.{Nowhere, Somewhere, frame_leads, items_each, search_real}
+pub use Rattle.seam_law_rounds.proofs.Shape.{Nowhere, Somewhere, search_real}
 pub use Rattle.seam_law_rounds.proofs.Turns.{are_calls}
 pub use Rattle.seam_law_rounds.proofs.Unknown.{nobody, unknown_loaded, unknown_look, unknown_reaps}
 pub use Rattle.seam_node_steps.specs.Prelude.{Area, Distances, GhostsReach, IsInSpace, Number, Place, Text, Value, batch, copy_if, distance}

@@ -1,6 +1,6 @@
 -- What others may see of the real is true, and stays so.
-use Rattle.seam_law_ghosts.proofs.Prelude.{◌≡◌, ◌+◌, ◌-◌, ◌≤◌, Bool, true, false, not, ◌&&◌, eqb, List, [], ◌∷◌, ◌++◌, length, refl, sym}
-use Rattle.seam_law_ghosts.proofs.Prelude.{ap, ◌∙◌, subst, arith, length-append, Value, Number, Text, Deed, State, TypeDef, ghost_of, after}
+use Rattle.seam_law_ghosts.proofs.Prelude.{◌≡◌, ◌+◌, ◌-◌, ◌≤◌, Bool, true, false, ◌&&◌, eqb, List, [], ◌∷◌, ◌++◌, length, refl, sym, ap}
+use Rattle.seam_law_ghosts.proofs.Prelude.{◌∙◌, subst, arith, length-append, Value, Number, Text, Deed, State, TypeDef, ghost_of, after}
 use Rattle.seam_law_ghosts.proofs.Prelude.{part_of_deed, same_value, same_values, same_state, same_shown, changes, type_of, Call, GhostCopy}
 use Rattle.seam_law_ghosts.proofs.Prelude.{RealView, public_after, Frame, Account, account_of, after_call, after_calls, Replays, shown_at}
 use Rattle.seam_law_ghosts.proofs.Prelude.{IsTrueCopy, both}
@@ -11,6 +11,7 @@ use Rattle.std.specs.Bool.{Decides}
 use Rattle.std.proofs.lemmas.List.{take-append-le, take_all}
 use Rattle.seam_defs.specs.declared.flags.Part.TheVariants as part
 use Rattle.seam_law_ghosts.proofs.Making.{Did, same, one, did_calls}
+use Rattle.seam_law_calls.proofs.Holds.{not_false}
 
 -- ---- states of which others see the same
 
@@ -29,10 +30,6 @@ same_is a b h =
     let place = both (eqb a.pos.x b.pos.x) (eqb a.pos.z b.pos.z) two.0 in
     same_states a b ((Decides-eqb a.pos.x b.pos.x).0 place.0) ((Decides-eqb a.pos.z b.pos.z).0 place.1)
     ((slice_eq-Decides value-Decides a.props b.props (same_values a.props b.props) refl).0 two.1)
-
-not_false : (b : Bool) → not b ≡ false → b ≡ true
-not_false true h = refl
-not_false false h = cc
 
 -- a deed of the cell part that changes nothing that others see
 unseen_is : (t : TypeDef) (s : State) (d : Deed) → part_of_deed t d ≡ part.Cell → changes t s d ≡ false →

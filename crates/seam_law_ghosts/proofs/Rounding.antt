@@ -1,13 +1,13 @@
 -- A loaded world, and a round's calls: each cell is told what the real wants, and has it where the world is quiet again.
-use Rattle.seam_law_ghosts.proofs.Prelude.{◌≡◌, ℕ, ◌<◌, ◌≤◌, ◌⊎◌, true, List, [], ◌∷◌, None, Some, refl, sym, ap, ◌∙◌, subst, arith, inl}
-use Rattle.seam_law_ghosts.proofs.Prelude.{inr, happens, enabled, IsQuiet, Event, Batch, GhostCopy, RealView, Msg, Hand, Tick, cell_count}
-use Rattle.seam_law_ghosts.proofs.Prelude.{holders, World, node_steps, node_has_work, loaded, comes, letters_of, TokenPlace, In, Frame}
-use Rattle.seam_law_ghosts.proofs.Prelude.{entity_flow, real_in, real_of, IsOne, HasOne, RunsTo, real_at, IsSettled, framed, MayBegin}
-use Rattle.seam_law_ghosts.proofs.Prelude.{Entry, brings, IsTrue, IsHushed, present, copy_at, NewestAreWanted, IsForgotten, AreSettled}
-use Rattle.seam_law_ghosts.proofs.Prelude.{AreCopiesBetweenRounds, occurs, leads_keeps, came, sole_here, event_moves, gone_leads, in_frame}
-use Rattle.seam_law_ghosts.proofs.Prelude.{no_mail, holds_kept, one_holder, frame_loaded, settled_loaded, one_loaded, spared_loaded}
-use Rattle.seam_law_ghosts.proofs.Prelude.{one_after, Somewhere, Nowhere, search_real, frame_leads, IsTickTo, IsUnknown, unknown_leads}
-use Rattle.seam_law_ghosts.proofs.Prelude.{unknown_loaded, nobody}
+use Rattle.seam_law_ghosts.proofs.Prelude.{◌≡◌, ℕ, ◌<◌, ◌≤◌, ◌⊎◌, List, [], None, Some, sym, ap, ◌∙◌, subst, arith, inl, inr, happens}
+use Rattle.seam_law_ghosts.proofs.Prelude.{IsQuiet, Event, Batch, GhostCopy, RealView, Msg, Hand, Tick, cell_count, holders, World}
+use Rattle.seam_law_ghosts.proofs.Prelude.{node_steps, node_has_work, loaded, comes, letters_of, TokenPlace, In, Frame, entity_flow}
+use Rattle.seam_law_ghosts.proofs.Prelude.{real_in, real_of, IsOne, HasOne, RunsTo, real_at, IsSettled, framed, MayBegin, Entry, brings}
+use Rattle.seam_law_ghosts.proofs.Prelude.{IsTrue, IsHushed, present, copy_at, NewestAreWanted, IsForgotten, AreSettled}
+use Rattle.seam_law_ghosts.proofs.Prelude.{AreCopiesBetweenRounds, came, sole_here, event_moves, gone_leads, in_frame, no_mail, holds_kept}
+use Rattle.seam_law_ghosts.proofs.Prelude.{one_holder, frame_loaded, settled_loaded, one_loaded, spared_loaded, one_after, Somewhere}
+use Rattle.seam_law_ghosts.proofs.Prelude.{Nowhere, search_real, frame_leads, IsTickTo, IsUnknown, unknown_loaded, nobody, EachKeeps}
+use Rattle.seam_law_ghosts.proofs.Prelude.{runs_keep, unknown_happens}
 use Rattle.seam_law_ghosts.proofs.Steps.{ghost_moves}
 use Rattle.seam_law_ghosts.proofs.Moving.{still_forgotten}
 use Rattle.seam_law_ghosts.proofs.Still.{quiet_mail, nowhere_counts, forgotten_still, none_still, settled_still}
@@ -25,16 +25,15 @@ module _ (f : Frame) (e : ℕ) where
     unknown : IsUnknown f e w
     forgotten : IsForgotten e w
 
-  lost_more : (w : World) (v : Event) → IsLost w → enabled node_has_work w v ≡ true → IsLost (happens node_steps w v)
-  lost_more w v x on =
-      let o = occurs node_has_work w v on in
+  lost_happens : EachKeeps IsLost
+  lost_happens w v o x =
       let next = happens node_steps w v in
       let g = event_moves f w v o x.unknown.frame e in
       let ticks : (m : Msg) → comes g.input ≡ Some m → IsTickTo g.k m =
       λ m is. (came (λ a k m. IsTickTo k m) g m is x.unknown.letters).1 in
       let free = (x.unknown.slots g.k).real in
       record {
-        unknown = unknown_leads f e w next (v ∷ []) x.unknown (record { each = (on, tt); is_run = refl });
+        unknown = unknown_happens f e w v o x.unknown;
         forgotten =
             still_forgotten f e w next g g.moves.sent g.moves.items free (λ r bs is. ticks (Hand r bs) is) x.forgotten
             (λ m y is cell brought none tree stray. tick_brings g.k m y (ticks m is) brought)
@@ -44,7 +43,7 @@ module _ (f : Frame) (e : ℕ) where
 
   pub lost_leads : (w v : World) (es : List Event) → IsUnknown f e w → IsForgotten e w → RunsTo w es v → IsForgotten e v
   lost_leads w v es unknown forgotten run =
-      (leads_keeps node_has_work node_steps IsLost lost_more w v es (record { unknown = unknown; forgotten = forgotten }) run).forgotten
+      (runs_keep IsLost lost_happens w v es (record { unknown = unknown; forgotten = forgotten }) run).forgotten
 
 -- ---- a loaded world
 
@@ -58,7 +57,7 @@ module _ (f : Frame) (w : World) (b : Batch) (begin : MayBegin f w b) (copies : 
 
   none_loaded : (e : ℕ) → holders (loaded w b) e ≡ 0 → (k : ℕ) → k < cell_count → copy_at e (loaded w b) k ≡ None
   none_loaded e zero k low =
-      ap (λ p. p.1) (books_loaded e w b k) ∙ copies.none e (none_before e zero (search_real e w)) k low
+      (books_loaded e w b k).copy ∙ copies.none e (none_before e zero (search_real e w)) k low
 
   pub loaded_copied : AreCopiesBetweenRounds (framed f b) (loaded w b)
   loaded_copied = record { settled = copies_loaded f w b begin.fits copies; none = none_loaded }

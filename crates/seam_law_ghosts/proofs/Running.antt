@@ -1,17 +1,16 @@
 -- Over every list of events the newest entry of each cell is what the real wants.
-use Rattle.seam_law_ghosts.proofs.Prelude.{◌≡◌, ℕ, ◌<◌, ◌≤◌, true, ◌&&◌, List, [], ◌∷◌, length, Option, None, Some, refl, sym, ◌∙◌, subst}
-use Rattle.seam_law_ghosts.proofs.Prelude.{arith, AllByRecursion, Division, happens, enabled, Event, Occurs, GhostCopy, RealView, Msg, Hand}
-use Rattle.seam_law_ghosts.proofs.Prelude.{GhostSet, GhostDrop, Reap, is_small, fits_copy, is_stray, World, node_steps, node_has_work}
-use Rattle.seam_law_ghosts.proofs.Prelude.{limit, Goes, comes, letter_in, AllBring, TokenPlace, In, Frame, here_at, Has, mine, entity_flow}
-use Rattle.seam_law_ghosts.proofs.Prelude.{MovesTo, real_in, real_of, IsOne, IsSpared, IsFrame, HasOne, real_burden, RunsTo, real_at, Entry}
-use Rattle.seam_law_ghosts.proofs.Prelude.{brings, book_entry, IsTable, IsTrue, IsHushed, present, copy_at, NewestAreWanted, AreSettled}
-use Rattle.seam_law_ghosts.proofs.Prelude.{occurs, leads_keeps, sole_here, came, not_both, all_two, goes, room, calm_of, replays_none}
-use Rattle.seam_law_ghosts.proofs.Prelude.{public_low}
+use Rattle.seam_law_ghosts.proofs.Prelude.{◌≡◌, ℕ, ◌<◌, ◌≤◌, true, ◌&&◌, List, [], length, Option, None, Some, sym, ◌∙◌, subst, arith}
+use Rattle.seam_law_ghosts.proofs.Prelude.{AllByRecursion, Division, happens, Event, Occurs, GhostCopy, RealView, Msg, Hand, GhostSet}
+use Rattle.seam_law_ghosts.proofs.Prelude.{GhostDrop, Reap, is_small, fits_copy, is_stray, World, node_steps, limit, Goes, comes, letter_in}
+use Rattle.seam_law_ghosts.proofs.Prelude.{AllBring, TokenPlace, In, Frame, here_at, Has, mine, entity_flow, MovesTo, real_in, real_of}
+use Rattle.seam_law_ghosts.proofs.Prelude.{IsOne, IsSpared, IsFrame, HasOne, real_burden, RunsTo, real_at, Entry, brings, book_entry}
+use Rattle.seam_law_ghosts.proofs.Prelude.{IsTable, IsTrue, IsHushed, present, copy_at, NewestAreWanted, AreSettled, sole_here, came}
+use Rattle.seam_law_ghosts.proofs.Prelude.{not_both, all_two, goes, room, calm_of, replays_none, public_low, RunsKeep, runs_keep}
 use Rattle.seam_law_ghosts.proofs.Sending.{FitsNode}
-use Rattle.seam_law_ghosts.proofs.Lasting.{IsFair, fair_leads}
+use Rattle.seam_law_ghosts.proofs.Lasting.{IsFair, fair_happens}
 use Rattle.seam_law_ghosts.proofs.Steps.{ghost_moves}
 use Rattle.seam_law_ghosts.proofs.Telling.{true_first, first_place}
-use Rattle.seam_law_ghosts.proofs.Hushing.{IsQuelled, quelled_leads, hushed_where}
+use Rattle.seam_law_ghosts.proofs.Hushing.{IsQuelled, quelled_happens, hushed_where}
 use Rattle.seam_law_ghosts.proofs.Books.{risen_leads, copies_rise}
 use Rattle.seam_law_ghosts.proofs.Moving.{After, here, gone, after_move}
 use Rattle.seam_law_ghosts.proofs.Still.{same_one, came_with, told_still, table_still}
@@ -40,15 +39,9 @@ module _ (f : Frame) (frame : IsFrame f) (e ty : ℕ) (known : ty < length f.def
 
   -- ---- an event
 
-  module _ (w : World) (v : Event) (x : IsInformed w) (on : enabled node_has_work w v ≡ true) where
+  module _ (w : World) (v : Event) (o : Occurs w v) (x : IsInformed w) where
     abbrev next : World
     next = happens node_steps w v
-
-    one : RunsTo w (v ∷ []) next
-    one = record { each = (on, tt); is_run = refl }
-
-    abbrev o : Occurs w v
-    o = occurs node_has_work w v on
 
     abbrev has : HasOne f e ty w
     has = x.quelled.is.one.has
@@ -63,7 +56,7 @@ module _ (f : Frame) (frame : IsFrame f) (e ty : ℕ) (known : ty < length f.def
     g = goes f frame e ty known w v o has calm
 
     more : IsQuelled f frame e ty known start first next
-    more = quelled_leads f frame e ty known start first w next (v ∷ []) x.quelled one
+    more = quelled_happens f frame e ty known start first w v o x.quelled
 
     step : After f e w next g g.moves.0.sent g.moves.0.items
     step =
@@ -80,15 +73,15 @@ module _ (f : Frame) (frame : IsFrame f) (e ty : ℕ) (known : ty < length f.def
     told_by (here p q is told) = placed next p more.is.one.has.place q more.is.one.has.real is more.is.one.has.one told
     told_by (gone is real none) = absurd (g.moves.1.1 is)
 
-    informed_more : IsInformed next
-    informed_more = record {
+    informed_happens : IsInformed next
+    informed_happens = record {
       quelled = more;
-      fair = fair_leads f frame e ty known start low w next (v ∷ []) x.fair one;
+      fair = fair_happens f frame e ty known start low w v o x.fair;
       told = told_by step;
     }
 
-  pub informed_leads : (w v : World) (es : List Event) → IsInformed w → RunsTo w es v → IsInformed v
-  informed_leads w v es x run = leads_keeps node_has_work node_steps IsInformed informed_more w v es x run
+  pub informed_leads : RunsKeep IsInformed
+  informed_leads = runs_keep IsInformed informed_happens
 
 -- ---- it begins where nothing is on its way
 

@@ -1,12 +1,12 @@
 -- What is sent fits where it comes: a copy fits the definitions, and each number is small.
-use Rattle.seam_law_ghosts.proofs.Prelude.{◌≡◌, ℕ, zero, suc, ◌+◌, ◌<◌, ◌≤◌, Bool, true, false, ◌||◌, eqb, nat_lt, List, [], ◌∷◌, map}
-use Rattle.seam_law_ghosts.proofs.Prelude.{length, Option, None, Some, refl, sym, subst, arith, AllByRecursion, range_with_len, nat_tests}
-use Rattle.seam_law_ghosts.proofs.Prelude.{Division, Cells, AreDefs, GhostCopy, Shown, RealView, Msg, GhostSet, GhostDrop, BaseCall}
-use Rattle.seam_law_ghosts.proofs.Prelude.{Current, Update, limit, is_small, may_rise, Here, cell_count, cell_numbers, base_of, properties}
-use Rattle.seam_law_ghosts.proofs.Prelude.{fits_copy, copy_of_real, may_settle, may_execute, fits_cell_part, shows, public_after, may_offer}
-use Rattle.seam_law_ghosts.proofs.Prelude.{order_of, haunts_at, told, told_unless, ghost_message, ghost_messages, drop_if, drop_at, drops}
-use Rattle.seam_law_ghosts.proofs.Prelude.{current_to, tick_to, numbered, shown_of, Frame, here_at, Has, AtCell, Acts, surveys, calls}
-use Rattle.seam_law_ghosts.proofs.Prelude.{readies, CellMoves, BaseMoves, Moves, at_a_cell, at_a_base, RealFits, real_in, of_group-Decides}
+use Rattle.seam_law_ghosts.proofs.Prelude.{◌≡◌, ℕ, zero, suc, ◌+◌, ◌<◌, ◌≤◌, Bool, true, false, ◌||◌, eqb, List, [], ◌∷◌, map, length}
+use Rattle.seam_law_ghosts.proofs.Prelude.{Option, None, Some, refl, sym, subst, arith, AllByRecursion, range_with_len, nat_tests, Division}
+use Rattle.seam_law_ghosts.proofs.Prelude.{Cells, AreDefs, GhostCopy, Shown, RealView, Msg, GhostSet, GhostDrop, BaseCall, Current, Update}
+use Rattle.seam_law_ghosts.proofs.Prelude.{limit, is_small, may_rise, Here, cell_count, cell_numbers, base_of, properties, fits_copy}
+use Rattle.seam_law_ghosts.proofs.Prelude.{copy_of_real, may_settle, may_execute, fits_cell_part, shows, public_after, may_offer, order_of}
+use Rattle.seam_law_ghosts.proofs.Prelude.{haunts_at, told, told_unless, ghost_message, ghost_messages, drop_if, drop_at, drops, current_to}
+use Rattle.seam_law_ghosts.proofs.Prelude.{tick_to, numbered, shown_of, Frame, here_at, Has, AtCell, Acts, surveys, calls, readies}
+use Rattle.seam_law_ghosts.proofs.Prelude.{CellMoves, BaseMoves, Moves, at_a_cell, at_a_base, RealFits, real_in, of_group-Decides}
 use Rattle.seam_law_ghosts.proofs.Prelude.{all_append, both, all_two, base_keeps, units}
 use Rattle.std.specs.List.{filter_map}
 use Rattle.std.specs.FinSet as set
@@ -16,6 +16,7 @@ use Rattle.seam_defs.proofs.GroupsOfGroups.{projected_of_group}
 use Rattle.seam_defs.proofs.Running.{shown-within}
 use Rattle.seam_law_calls.specs.CellMoves as move
 use Rattle.seam_law_calls.proofs.RealsKept.{executed_fits, ready_fits}
+use Rattle.seam_law_calls.proofs.Holds.{below_is}
 
 -- what a message to node k brings fits: a copy fits the definitions, a beat and a version are small, and only base nodes are told what
 -- is for them
@@ -32,9 +33,6 @@ small_is n lt = grind (arith, nat_tests)
 
 small_of : (n : ℕ) → is_small n ≡ true → n < limit
 small_of n h = grind (arith, nat_tests, h)
-
-below_is : (a b : ℕ) → a < b → nat_lt a b ≡ true
-below_is a b lt = grind (arith, nat_tests)
 
 -- of what is chosen from a list each is such
 module _ {A B : Type 0} (P : B → Type 0) (g : A → Option B) (each : (a : A) (b : B) → g a ≡ Some b → P b) where

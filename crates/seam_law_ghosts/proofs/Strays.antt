@@ -1,15 +1,14 @@
 -- A message to a cell is never stray, nor a task of one: for an entity that no one reaps, in a round.
-use Rattle.seam_law_ghosts.proofs.Prelude.{◌≡◌, ℕ, ◌<◌, ◌⊎◌, Bool, true, false, not, ◌&&◌, ◌||◌, is_some, List, ◌∷◌, length, Option, None}
-use Rattle.seam_law_ghosts.proofs.Prelude.{Some, refl, ap, ◌∙◌, arith, inl, inr, slice_get, eq-eqb, Division, link, letter, Occurs, From}
-use Rattle.seam_law_ghosts.proofs.Prelude.{Call as CallData, RealView, Msg, Hand, GhostSet, GhostDrop, Tick, Reap}
-use Rattle.seam_law_ghosts.proofs.Prelude.{limit, is_small, cell_count, fits_copy, may_call, NextPlace, about, is_stray, stray_call}
-use Rattle.seam_law_ghosts.proofs.Prelude.{stray_hand, may_come, NodeView, World, letters_of, more_letter, Frame, IsTreeOf, here_at}
-use Rattle.seam_law_ghosts.proofs.Prelude.{IsFrame, Has, concerned, kept_if, mine, entity_flow, RealFits, real_burden, real_in, reaped_by}
-use Rattle.seam_law_ghosts.proofs.Prelude.{FindsTurn, all_two, may_land}
+use Rattle.seam_law_ghosts.proofs.Prelude.{◌≡◌, ℕ, ◌<◌, ◌⊎◌, true, false, ◌&&◌, is_some, List, ◌∷◌, length, Option, None, Some, refl, ap}
+use Rattle.seam_law_ghosts.proofs.Prelude.{◌∙◌, arith, inl, inr, slice_get, eq-eqb, Division, link, letter, Occurs, From, Call as CallData}
+use Rattle.seam_law_ghosts.proofs.Prelude.{RealView, Msg, Hand, GhostSet, GhostDrop, Tick, Reap, limit, is_small, cell_count, fits_copy}
+use Rattle.seam_law_ghosts.proofs.Prelude.{may_call, NextPlace, about, is_stray, stray_call, stray_hand, may_come, NodeView, World}
+use Rattle.seam_law_ghosts.proofs.Prelude.{letters_of, more_letter, Frame, IsTreeOf, here_at, IsFrame, Has, concerned, kept_if, mine}
+use Rattle.seam_law_ghosts.proofs.Prelude.{entity_flow, RealFits, real_burden, real_in, reaped_by, FindsTurn, all_two, may_land}
 use Rattle.seam_entity.specs.declared.message.Msg.TheVariants.{Call}
 use Rattle.seam_law_ghosts.proofs.Sending.{FitsNode}
-use Rattle.seam_node_steps.specs.Prelude.{Boundaries}
-use Rattle.seam_node_steps.specs.Prelude.{Bounds}
+use Rattle.seam_node_steps.specs.Prelude.{Boundaries, Bounds}
+use Rattle.seam_law_calls.proofs.Holds.{denied, either}
 
 -- ---- a message on a link, as its entity sees it
 
@@ -35,26 +34,18 @@ feeds w a k s m ms node at =
 
 -- ---- by kinds
 
-not_true : (b : Bool) → b ≡ true → not b ≡ false
-not_true true h = refl
-not_true false h = cc
-
 module _ (f : Frame) (frame : IsFrame f) (e ty k : ℕ) (known : ty < length f.defs) (low : k < cell_count) (tree : Division)
     (of : IsTreeOf f tree) (s : Has) where
   call_by : (c : CallData) (r : Option RealView) (n : Option NextPlace) → (is_some r ≡ true) ⊎ (is_some n ≡ true) →
       ((q : RealView) → r ≡ Some q → may_call (here_at f k) q c ≡ true) → stray_call (here_at f k) c r n ≡ false
-  call_by c (Some q) n place may = not_true (may_call (here_at f k) q c) (may q refl)
+  call_by c (Some q) n place may = denied (may_call (here_at f k) q c) (may q refl)
   call_by c None (Some n) place may = refl
   call_by c None None (inl h) may = cc
   call_by c None None (inr h) may = cc
 
-  either : (a b : Bool) → (a || b) ≡ true → (a ≡ true) ⊎ (b ≡ true)
-  either true b h = inl refl
-  either false b h = inr h
-
   hand_by : (r : RealView) (o : Option RealView) → o ≡ None → may_come (here_at f k) tree r ≡ true →
       stray_hand (here_at f k) tree r o ≡ false
-  hand_by r None is may = not_true (may_come (here_at f k) tree r) may
+  hand_by r None is may = denied (may_come (here_at f k) tree r) may
   hand_by r (Some q) is may = cc
 
   pub kind_fits : (m : Msg) → FitsNode f k m → reaped_by m ≡ None → ((c : CallData) → m ≡ Call c → FindsTurn f k s c) →
@@ -67,8 +58,8 @@ module _ (f : Frame) (frame : IsFrame f) (e ty k : ℕ) (known : ty < length f.d
       let h = hand r bs refl in
       hand_by r s.cell.slot.real h.0 (may_land f frame e ty k tree of r known h.1 h.2)
   kind_fits (GhostSet x n c) fits spared turn hand =
-      not_true (is_small n && (is_small c.version && fits_copy (here_at f k) c)) (all_two _ _ fits.0 (all_two _ _ fits.1 fits.2))
-  kind_fits (GhostDrop x n) fits spared turn hand = not_true (is_small n) fits
+      denied (is_small n && (is_small c.version && fits_copy (here_at f k) c)) (all_two _ _ fits.0 (all_two _ _ fits.1 fits.2))
+  kind_fits (GhostDrop x n) fits spared turn hand = denied (is_small n) fits
   kind_fits Tick fits spared turn hand = refl
   kind_fits (Bounds b) fits spared turn hand = refl
   kind_fits (Reap x) fits spared turn hand = cc

@@ -1,12 +1,12 @@
 -- Over every list of events the copies that were told are true.
 use Rattle.seam_law_ghosts.proofs.Prelude.{◌≡◌, ℕ, ◌+◌, ◌<◌, ◌≤◌, ◌⊎◌, true, false, ltb, cond, List, [], ◌∷◌, ◌++◌, length, Option, None}
-use Rattle.seam_law_ghosts.proofs.Prelude.{Some, refl, sym, ap, ◌∙◌, subst, inl, inr, arith, cases_eq, nat_tests, happens, enabled, Occurs}
-use Rattle.seam_law_ghosts.proofs.Prelude.{Event, items_to, Call, GhostCopy, RealView, Msg, Reap, World, node_steps, node_has_work, Goes}
-use Rattle.seam_law_ghosts.proofs.Prelude.{comes, letter_in, OfEntry, AllBring, entry_in, Turned, still, turns, lands, leaves, relays}
-use Rattle.seam_law_ghosts.proofs.Prelude.{place_after, token_after, Frame, Has, mine, entity_flow, real_in, real_of, IsSpared, AllFits}
-use Rattle.seam_law_ghosts.proofs.Prelude.{IsFrame, HasOne, OneFrom, account_of, RunsTo, Entry, brings, book_entry, IsTrueCopy, IsOfTable}
-use Rattle.seam_law_ghosts.proofs.Prelude.{IsTable, IsTrue, occurs, leads_keeps, slots_kept, letters_kept, came, sole_here, sole_came}
-use Rattle.seam_law_ghosts.proofs.Prelude.{sole_goes, token_turns, goes, room, one_happens, calm_of, spared_happens}
+use Rattle.seam_law_ghosts.proofs.Prelude.{Some, refl, sym, ap, ◌∙◌, subst, inl, inr, arith, cases_eq, nat_tests, happens, Occurs, Event}
+use Rattle.seam_law_ghosts.proofs.Prelude.{items_to, Call, GhostCopy, RealView, Msg, Reap, World, node_steps, Goes, comes, letter_in}
+use Rattle.seam_law_ghosts.proofs.Prelude.{OfEntry, AllBring, entry_in, Turned, still, turns, lands, leaves, relays, place_after}
+use Rattle.seam_law_ghosts.proofs.Prelude.{token_after, Frame, Has, mine, entity_flow, real_in, real_of, IsSpared, AllFits, IsFrame, HasOne}
+use Rattle.seam_law_ghosts.proofs.Prelude.{OneFrom, account_of, RunsTo, Entry, brings, book_entry, IsTrueCopy, IsOfTable, IsTable, IsTrue}
+use Rattle.seam_law_ghosts.proofs.Prelude.{slots_kept, letters_kept, came, sole_here, sole_came, sole_goes, token_turns, goes, room}
+use Rattle.seam_law_ghosts.proofs.Prelude.{one_happens, calm_of, spared_happens, EachKeeps, runs_keep}
 use Rattle.seam_law_ghosts.proofs.Steps.{ghost_moves}
 use Rattle.seam_law_ghosts.proofs.Making.{Did, same, did_calls, NoEntry, IsFresh, Makes, Tells, silent, fresh, Does_it, TellsBy, Handled}
 use Rattle.seam_law_ghosts.proofs.Making.{told_of}
@@ -237,18 +237,15 @@ module _ (f : Frame) (frame : IsFrame f) (e ty : ℕ) (known : ty < length f.def
     is : IsTrue f e ty start first w
     spared : IsSpared e w
 
-  true_spared : (w : World) (v : Event) → IsTrueSpared w → enabled node_has_work w v ≡ true → IsTrueSpared (happens node_steps w v)
-  true_spared w v x on =
-      let o = occurs node_has_work w v on in
-      record {
-        is = true_happens w v o x.is (calm_of f e w v o x.is.one.has.fits.frame x.spared);
-        spared = spared_happens f e w v o x.is.one.has.fits.frame x.spared;
-      }
+  true_spared : EachKeeps IsTrueSpared
+  true_spared w v o x = record {
+    is = true_happens w v o x.is (calm_of f e w v o x.is.one.has.fits.frame x.spared);
+    spared = spared_happens f e w v o x.is.one.has.fits.frame x.spared;
+  }
 
   pub true_leads : (w v : World) (es : List Event) → IsTrue f e ty start first w → IsSpared e w →
       RunsTo w es v → IsTrue f e ty start first v
-  true_leads w v es x spared run =
-      (leads_keeps node_has_work node_steps IsTrueSpared true_spared w v es (record { is = x; spared = spared }) run).is
+  true_leads w v es x spared run = (runs_keep IsTrueSpared true_spared w v es (record { is = x; spared = spared }) run).is
 
 pub true_first : (f : Frame) (e ty : ℕ) (w : World) (h : HasOne f e ty w) (first : ℕ → GhostCopy) → h.real.public ≤ h.real.version →
     IsTable e w h.real first → IsTrue f e ty h.real first w

@@ -6,13 +6,13 @@ use Rattle.seam_law_rounds.proofs.Prelude.{letters_of, NotAbove, AllBring, Token
 use Rattle.seam_law_rounds.proofs.Prelude.{AreInTurn, Frame, Has, mine, entity_flow, RealFits, real_in, real_of, IsOne, OneFrom, desk_for}
 use Rattle.seam_law_rounds.proofs.Prelude.{real_desk, as_sender, RunsTo, real_at, calls_of, next_from, IsSettled, IsBetweenRounds, framed}
 use Rattle.seam_law_rounds.proofs.Prelude.{as_entry, route_entry, sent_route, MayBegin, quiet_links, sole_here, held_is_due, gone_leads}
-use Rattle.seam_law_rounds.proofs.Prelude.{one_leads}
+use Rattle.seam_law_rounds.proofs.Prelude.{one_leads, frame_leads}
 use Rattle.std.specs.FinMap as table
 use Rattle.seam_law_rounds.proofs.Framing.{in_frame, many_loaded}
-use Rattle.seam_law_rounds.proofs.Loaded.{no_mail}
+use Rattle.seam_law_rounds.proofs.Loaded.{no_mail, keeps_loaded}
 use Rattle.seam_law_rounds.proofs.Ready.{one_at_home}
 use Rattle.seam_law_rounds.proofs.Going.{frame_loaded, settled_loaded, one_loaded, spared_loaded, Keeps, kept_after, all_were_executed}
-use Rattle.seam_law_rounds.proofs.Shape.{Somewhere, Nowhere, search_real, frame_leads, many_leads}
+use Rattle.seam_law_rounds.proofs.Shape.{Somewhere, Nowhere, search_real, keeps_leads, many_leads}
 use Rattle.seam_law_rounds.proofs.Publics.{public_low}
 use Rattle.seam_law_rounds.proofs.RoadMoves.{IsGoodRoute}
 use Rattle.seam_law_rounds.proofs.RoadRuns.{IsRouted, routed_leads, quiet_route}
@@ -157,4 +157,5 @@ module _ (f : Frame) (w : World) (b : Batch) (begin : MayBegin f w b) where
       many = many_leads (loaded w b) v es run ∙ many_loaded f w b begin.between;
       quiet = quiet;
       settled = λ e k q at. settled_by e k q at (search_real e (loaded w b));
+      kept = λ e k q at. keeps_leads e (loaded w b) v es (keeps_loaded w b e) run;
     }

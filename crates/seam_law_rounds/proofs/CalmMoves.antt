@@ -1,12 +1,11 @@
 -- What a move does with a calm entity.
-use Rattle.seam_law_rounds.proofs.Prelude.{◌≡◌, ℕ, zero, suc, ◌+◌, ◌<◌, ◌≤◌, Bool, true, false, not, List, [], ◌∷◌, map, filter_map, Option}
+use Rattle.seam_law_rounds.proofs.Prelude.{◌≡◌, ℕ, zero, suc, ◌+◌, ◌<◌, ◌≤◌, Bool, true, false, List, [], ◌∷◌, map, filter_map, Option}
 use Rattle.seam_law_rounds.proofs.Prelude.{None, Some, refl, sym, ap, ◌∙◌, subst, arith, AllByRecursion, range_with_len, found, Division}
 use Rattle.seam_law_rounds.proofs.Prelude.{total, OrderView, next_item, Call as CallData, Order, Shown, Orders, order_or, RealView}
-use Rattle.seam_law_rounds.proofs.Prelude.{WitnessView, Msg, Hand, Reap, may_rise, cell_count}
-use Rattle.seam_law_rounds.proofs.Prelude.{cell_numbers, base_of, order_is_ready, ready_order, SlotStep, slot_after, is_stray, drop_at}
-use Rattle.seam_law_rounds.proofs.Prelude.{tick_to, RouteView, numbered, shown_of, looks_with, World, cells_of, Frame, here_at}
-use Rattle.seam_law_rounds.proofs.Prelude.{Has, AtCell, AtBase, entity_flow, unlisted_if, Does, Acts, surveys, calls, readies}
-use Rattle.seam_law_rounds.proofs.Prelude.{Moves, at_a_cell, at_a_base, real_in}
+use Rattle.seam_law_rounds.proofs.Prelude.{WitnessView, Msg, Hand, Reap, may_rise, cell_count, cell_numbers, base_of, order_is_ready}
+use Rattle.seam_law_rounds.proofs.Prelude.{ready_order, SlotStep, slot_after, is_stray, drop_at, tick_to, RouteView, numbered, shown_of}
+use Rattle.seam_law_rounds.proofs.Prelude.{looks_with, World, cells_of, Frame, here_at, Has, AtCell, AtBase, entity_flow, unlisted_if, Does}
+use Rattle.seam_law_rounds.proofs.Prelude.{Acts, surveys, calls, readies, Moves, at_a_cell, at_a_base, real_in}
 use Rattle.std.specs.FinMap as table
 use Rattle.std.specs.FinSet as set
 use Rattle.seam_call.specs.declared.order.Order.TheVariants as order
@@ -16,10 +15,7 @@ use Rattle.seam_law_calls.proofs.CellDeeds.{CellDeeds, cell_deeds, not_reaped}
 use Rattle.seam_law_calls.proofs.BaseDeeds as base_deed
 use Rattle.seam_law_calls.proofs.BaseDeeds.{BaseDeeds, RouteAfter, same_route, newer_of, base_deeds, base_route}
 use Rattle.seam_law_rounds.proofs.Calm.{IsSame, IsCalmOrder, IsCalmAt, IsCalmTo, order_reaps, letter_reaps, has_reaps, one_if}
-
-not_yes : (b : Bool) → b ≡ true → not b ≡ true → ⊥
-not_yes true h k = cc
-not_yes false h k = cc
+use Rattle.seam_law_calls.proofs.Holds.{not_both}
 
 -- numbers of cells
 all_below : (a n : ℕ) → a + n ≤ cell_count → AllByRecursion (λ j. j < cell_count) (range_with_len a n)
@@ -105,7 +101,7 @@ module _ (f : Frame) (e home : ℕ) (r : RealView) (was : World) (none : (s : �
     stray_reap : (tree : Division) (x : ℕ) → i ≡ Some (Reap x) → is_stray (here_at f k) tree s.cell.slot (Reap x) ≡ true → ⊥
     stray_reap tree x is stray =
         let q = come.found x is in
-        not_yes (may_rise q.0.beat) q.2
+        not_both (may_rise q.0.beat) q.2
         (sym (ap (λ o. is_stray (here_at f k) tree (record { real = o; next = s.cell.slot.next; ghost = s.cell.slot.ghost })
         (Reap x)) q.1)
         ∙ stray)

@@ -1,14 +1,13 @@
 -- A calm entity stays calm after each event, and its real goes when its Reap comes.
 use Rattle.seam_law_rounds.proofs.Prelude.{◌≡◌, ℕ, ◌+◌, ◌<◌, ◌≤◌, Bool, true, false, cond, eqb, List, [], ◌∷◌, Option, None, Some, refl}
 use Rattle.seam_law_rounds.proofs.Prelude.{sym, ap, ◌∙◌, subst, arith, inl, inr, AllByRecursion, cases_eq, eqb-true, link, letter}
-use Rattle.seam_law_rounds.proofs.Prelude.{input_from, happens, Occurs, Input, Task, From, Event, order_or, RealView, Msg}
-use Rattle.seam_law_rounds.proofs.Prelude.{Tick, Reap, may_rise, cell_count, RouteView, World}
-use Rattle.seam_law_rounds.proofs.Prelude.{node_steps, Flow, Goes, comes, letter_in, letters_of, more_letter, slot_at, Frame, Has, concerns}
-use Rattle.seam_law_rounds.proofs.Prelude.{kept_if, mine, concerning, has_of, has_none, entity_flow, MovesTo, real_in, real_at, weight_or}
-use Rattle.seam_law_rounds.proofs.Prelude.{input_weight, sound_sends, weight_moves, weight_bounds, slots_kept, letters_kept, came}
-use Rattle.seam_law_rounds.proofs.Prelude.{node_laws, node_moves, frame_happens, event_moves_with, sent_is, input_is}
+use Rattle.seam_law_rounds.proofs.Prelude.{input_from, happens, Occurs, Input, Task, From, Event, order_or, RealView, Msg, Tick, Reap}
+use Rattle.seam_law_rounds.proofs.Prelude.{may_rise, cell_count, RouteView, World, node_steps, Flow, Goes, comes, letter_in, letters_of}
+use Rattle.seam_law_rounds.proofs.Prelude.{more_letter, slot_at, Frame, Has, concerns, kept_if, mine, concerning, has_of, has_none}
+use Rattle.seam_law_rounds.proofs.Prelude.{entity_flow, MovesTo, real_in, real_at, weight_or, input_weight, sound_sends, weight_moves}
+use Rattle.seam_law_rounds.proofs.Prelude.{weight_bounds, slots_kept, came, node_laws, node_moves, frame_happens, event_moves_with, sent_is}
+use Rattle.seam_law_rounds.proofs.Prelude.{input_is, sent_kept}
 use Rattle.std.specs.FinMap as table
-use Rattle.seam_law_rounds.proofs.Shape.{items_each}
 use Rattle.seam_law_rounds.proofs.Calm.{IsCalmAt, IsCalmTo, letter_reaps, node_reaps, mine_reaps, reaps_of, one_if, IsCalm}
 use Rattle.seam_law_rounds.proofs.CalmMoves.{sent_reaps, Calmed, stays, ends, Comes, calmed}
 use Rattle.seam_law_calls.proofs.Classify.{fed_plain}
@@ -200,8 +199,6 @@ module _ (f : Frame) (e home : ℕ) (r : RealView) (low : home < cell_count) (no
       frame = frame_happens f w v o c.frame;
       cells = c.cells;
       nodes = slots_kept (λ k h. IsCalmAt e home r was k h) goes c.nodes (at_of what);
-      mail = letters_kept (λ a k m. IsCalmTo told home r k m) goes c.mail (λ j.
-          subst (AllByRecursion (IsCalmTo told home r j)) (sym (goes.moves.0.items j)) (items_each
-          (IsCalmTo told home r) j goes.moves.0.sent (calm_of what)));
+      mail = sent_kept (λ a k m. IsCalmTo told home r k m) goes goes.moves.0.sent goes.moves.0.items c.mail (calm_of what);
       reaps = reaps_by left;
     }

@@ -3,17 +3,17 @@ use Rattle.seam_law_rounds.proofs.Prelude.{◌≡◌, ℕ, ◌+◌, ◌*◌, ◌
 use Rattle.seam_law_rounds.proofs.Prelude.{None, Some, refl, sym, ap, ◌∙◌, subst, arith, inl, inr, slice_get, AllByRecursion, cases_eq}
 use Rattle.seam_law_rounds.proofs.Prelude.{nat_tests, filter-append, IsQuiet, items_to, Event, RealView, Msg, Update, base_of, cell_count}
 use Rattle.seam_law_rounds.proofs.Prelude.{BaseView, PartView, holders, NodeView, World, node_has_work, Cell, Base, with_nodes, order_if}
-use Rattle.seam_law_rounds.proofs.Prelude.{ordered_at, reap_ordered_at, reaps_loaded, look_loaded, limit, may_rise, may_show}
-use Rattle.seam_law_rounds.proofs.Prelude.{letters_of, Frame, here_at, IsAt, IsInFrame, mine, times, order_concerns, orders_of}
-use Rattle.seam_law_rounds.proofs.Prelude.{has_of, entity_flow, real_of, sent_by, base_burden, home_of, FindsClient, is_tick_order}
-use Rattle.seam_law_rounds.proofs.Prelude.{HasToldAtMost, most_entities, IsBlank, SeesFew, HasFewEntities, looks_left, most_shown}
-use Rattle.seam_law_rounds.proofs.Prelude.{update_in, NoUpdateComes, RunsTo, real_at, real_in, numbers_of, IsBetweenRounds, each}
-use Rattle.seam_law_rounds.proofs.Prelude.{AreReapable, HasSettledPart, HasPartsBetweenRounds, AreFor, lines_of, HasSmallNumbers, IsServed}
-use Rattle.seam_law_rounds.proofs.Prelude.{bare, served, quiet_links, quiet_tasks, all_append, counted_none, none_counts, may_execute}
-use Rattle.seam_law_rounds.proofs.Prelude.{part_may_show, version_room, base_burden_leads, NoTicks, tells_none, few_leads}
+use Rattle.seam_law_rounds.proofs.Prelude.{ordered_at, reap_ordered_at, reaps_loaded, look_loaded, limit, may_rise, may_show, letters_of}
+use Rattle.seam_law_rounds.proofs.Prelude.{Frame, here_at, IsAt, IsInFrame, mine, times, order_concerns, orders_of, has_of, entity_flow}
+use Rattle.seam_law_rounds.proofs.Prelude.{real_of, sent_by, base_burden, home_of, FindsClient, is_tick_order, HasToldAtMost, most_entities}
+use Rattle.seam_law_rounds.proofs.Prelude.{IsBlank, SeesFew, HasFewEntities, looks_left, most_shown, update_in, NoUpdateComes, RunsTo}
+use Rattle.seam_law_rounds.proofs.Prelude.{real_at, real_in, numbers_of, IsBetweenRounds, each, AreReapable, HasSettledPart}
+use Rattle.seam_law_rounds.proofs.Prelude.{HasPartsBetweenRounds, AreFor, lines_of, HasSmallNumbers, IsServed, bare, served, quiet_links}
+use Rattle.seam_law_rounds.proofs.Prelude.{quiet_tasks, all_append, counted_none, none_counts, may_execute, part_may_show, version_room}
+use Rattle.seam_law_rounds.proofs.Prelude.{base_burden_leads, NoTicks, tells_none, few_leads, frame_leads}
 use Rattle.seam_call.specs.declared.order.Order.TheVariants as order
 use Rattle.seam_call.specs.declared.shown.Update.{Update as UpdateData}
-use Rattle.seam_law_rounds.proofs.Shape.{Somewhere, Nowhere, search_real, frame_leads}
+use Rattle.seam_law_rounds.proofs.Shape.{Somewhere, Nowhere, search_real}
 use Rattle.seam_law_rounds.proofs.Calm.{IsSame, IsCalm}
 use Rattle.seam_law_rounds.proofs.Starting.{Given, idle_orders}
 use Rattle.seam_law_rounds.proofs.Giving.{reaps_framed, look_framed, reaps_given, look_given, reaps_cell, look_cell}
@@ -30,6 +30,7 @@ use Rattle.seam_law_rounds.proofs.PartLoads.{part_at, parts_ordered}
 use Rattle.seam_law_rounds.proofs.Still.{still_settled}
 use Rattle.seam_law_rounds.proofs.Serving.{HasItStill, starts, HasNumbers, serves_then, ends}
 use Rattle.seam_law_rounds.proofs.Idling.{still_then, few_lines, few_part}
+use Rattle.seam_node_steps.specs.Prelude.{noting}
 
 same_type : (r q : RealView) → IsSame r q → r.ty ≡ q.ty
 same_type r q is = ap (λ (x : RealView). x.ty) is.1
@@ -57,7 +58,7 @@ reap_if e q n false = refl
 
 reap_part : (e q : ℕ) (s : NodeView) → part_at e (reap_ordered_at q s) ≡ part_at e s
 reap_part e q (Cell c) = refl
-reap_part e q (Base n) = reap_if e q n (eqb (base_of n.here q) n.here.me)
+reap_part e q (Base n) = reap_if e q (noting q n) (eqb (base_of n.here q) n.here.me)
 
 pub reaps_part : (e : ℕ) (es : List ℕ) (s : NodeView) → part_at e (each reap_ordered_at es s) ≡ part_at e s
 reaps_part e [] s = refl
@@ -77,7 +78,7 @@ reap_not_tick e q n false h = h
 
 reap_orders : (e q : ℕ) (s : NodeView) → NoTicks (has_of e s).base.orders → NoTicks (has_of e (reap_ordered_at q s)).base.orders
 reap_orders e q (Cell c) h = h
-reap_orders e q (Base n) h = reap_not_tick e q n (eqb (base_of n.here q) n.here.me) h
+reap_orders e q (Base n) h = reap_not_tick e q (noting q n) (eqb (base_of n.here q) n.here.me) h
 
 -- reaps are no ticks
 pub reaps_without_ticks : (e : ℕ) (es : List ℕ) (s : NodeView) → NoTicks (has_of e s).base.orders →

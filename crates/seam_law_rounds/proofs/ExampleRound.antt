@@ -8,6 +8,7 @@ use Rattle.seam_law_rounds.proofs.Prelude.{FitsParts, HasPartsBetweenRounds, Has
 use Rattle.std.specs.List.{IsDistinct}
 use Rattle.std.specs.FinMap as table
 use Rattle.seam_node_steps.proofs.Views as views
+use Rattle.seam_law_rounds.specs.Between.{NeverShown}
 use Rattle.seam_law_rounds.proofs.Loaded.{slot_is}
 use Rattle.seam_law_rounds.proofs.CallsEnd.{calls_end_between}
 use Rattle.seam_law_rounds.proofs.Looking.{look_ends_between}
@@ -110,6 +111,9 @@ for_part e p at = record {
       };
 }
 
+none_shown : (x : ℕ) → NeverShown empty_world x
+none_shown x e k r at = absurd (no_real e k r at)
+
 fits : IsFitting opening empty_world batch_1
 unfolding IsDistinct
 fits = record {
@@ -117,8 +121,8 @@ fits = record {
   space = refl;
   cells = omega arith;
   creates = (
-    record { new = is_new 1; type = omega arith; inside = refl },
-    (record { new = is_new 2; type = omega arith; inside = refl }, tt),
+    record { new = is_new 1; unshown = none_shown 1; type = omega arith; inside = refl },
+    (record { new = is_new 2; unshown = none_shown 2; type = omega arith; inside = refl }, tt),
   );
   once = ((refl, tt), (tt, tt));
   clients = (holder_is, tt);

@@ -13,6 +13,7 @@ use Rattle.seam_node_steps.specs.Prelude.{EachNode, TellsNone}
 use Rattle.seam_law_calls.specs.Frames.{IsCellAt, Knows}
 use Rattle.seam_law_rounds.proofs.Prelude.{◌≤◌, ◌∷◌, [], AllByRecursion, all_append}
 use Rattle.seam_law_rounds.proofs.Loading.{each_keeps, Any, any, loaded_is, node_there, set_keeps, get-each_value}
+use Rattle.seam_node_steps.proofs.Gone.{left_without}
 
 abbrev IsUnder : ℕ → RealView → Type 0
 IsUnder e r = r.entity ≡ e
@@ -56,7 +57,11 @@ module _ (T : Order → Type 0) where
     begins : (s : NodeView) → IsNode s → Knows f.defs f.settings k s → Ordered s → While (base_round (cells_of b.tree) s)
     begins (Cell c) is at all = record { is = is; low = at.0; here = at.1 }
     begins (Base n) is at all = record {
-      is = record { bases = is.bases; cells = tree.cells_to; routes = is.routes };
+      is = record {
+        bases = is.bases;
+        cells = tree.cells_to;
+        routes = λ e r there. is.routes e r (left_without e n.gone n.routes r there);
+      };
       high = at.0;
       here = at.1;
       cells = refl;

@@ -12,6 +12,8 @@ use Rattle.seam_law_rounds.proofs.Framing.{frame_turns}
 use Rattle.seam_node_steps.specs.Prelude.{TellsNone}
 use Rattle.seam_law_rounds.proofs.Calm.{IsCalmOrder, order_reaps}
 use Rattle.seam_law_rounds.proofs.Starting.{Given, idle_orders}
+use Rattle.seam_law_rounds.specs.Between.{KeepsRoute, KeepsRoutes}
+use Rattle.seam_node_steps.specs.Prelude.{noting}
 
 -- ---- a world stays in its frame
 
@@ -30,7 +32,11 @@ order_goes f k false b o none h = h
 
 reap_goes : (f : Frame) (k q : ℕ) (s : NodeView) → IsNode s × IsAt f k s → IsNode (reap_ordered_at q s) × IsAt f k (reap_ordered_at q s)
 reap_goes f k q (Cell c) h = h
-reap_goes f k q (Base b) h = order_goes f k (eqb (base_of b.here q) b.here.me) b (order.Reap q) refl h
+reap_goes f k q (Base b) h =
+    order_goes f k (eqb (base_of b.here q) b.here.me) (noting q b) (order.Reap q) refl (
+      record { bases = h.0.bases; cells = h.0.cells; routes = h.0.routes },
+      record { high = h.1.high; here = h.1.here; cells = h.1.cells; orders = h.1.orders },
+    )
 
 tick_goes : (f : Frame) (k : ℕ) (o : ℕ × Order) → TellsNone o.1 → (s : NodeView) → IsNode s × IsAt f k s → IsNode (ordered_at o s)
     × IsAt f k (ordered_at o s)
@@ -156,9 +162,11 @@ module _ (e : ℕ) where
     reaps_by [] n s b at g = as_many n _ s (Base b) (none_more n (eqb k base)) g
     reaps_by (q ∷ es) n s b at g =
         let d = eqb (base_of b.here q) b.here.me in
-        let now = reap_by n s b q d (λ is. its at q is) g in
-        let at_next = at_more d b (order.Reap q) refl at in
-        as_many _ _ s _ (times_more n (eqb k base) q es) (reaps_by es _ s (order_if d b (order.Reap q)) at_next now)
+        let now = reap_by n s (noting q b) q d (λ is. its at q is)
+        (record { cell = g.cell; route = g.route; orders = g.orders; reaps = g.reaps }) in
+        let at_next = at_more d (noting q b) (order.Reap q) refl
+        (record { high = at.high; here = at.here; cells = at.cells; orders = at.orders }) in
+        as_many _ _ s _ (times_more n (eqb k base) q es) (reaps_by es _ s (order_if d (noting q b) (order.Reap q)) at_next now)
       where
         turned : (x y : ℕ) → eqb x y ≡ eqb y x
         turned x y = elim (cases_eq x y) [
@@ -228,3 +236,40 @@ pub reals_stay : (e : ℕ) (turn : NodeView → NodeView) → ((s : NodeView) �
 reals_stay e turn same u k =
     ap (λ o. real_in (slot_at (has_of e) has_none o)) (slice_get-map turn u.nodes k)
     ∙ ap (λ c. c.slot.real) (cell_by e turn same (slice_get u.nodes k))
+
+-- ---- routes that are kept
+
+module _ (e : ℕ) where
+  keeps_order : (d : Bool) (b : BaseView) (o : Order) → KeepsRoute e (Base b) → KeepsRoute e (Base (order_if d b o))
+  keeps_order true b o h = h
+  keeps_order false b o h = h
+
+  keeps_reap : (q : ℕ) (s : NodeView) → (q ≡ e → ⊥) → KeepsRoute e s → KeepsRoute e (reap_ordered_at q s)
+  keeps_reap q (Cell c) other h = h
+  keeps_reap q (Base b) other h =
+      keeps_order (eqb (base_of b.here q) b.here.me) (noting q b) (order.Reap q)
+      (all_append (λ x. x ≡ e → ⊥) b.gone (q ∷ []) h (other, tt))
+
+  keeps_tick : (o : ℕ × Order) (s : NodeView) → KeepsRoute e s → KeepsRoute e (ordered_at o s)
+  keeps_tick o (Cell c) h = h
+  keeps_tick o (Base b) h = keeps_order (eqb o.0 b.here.me) b o.1 h
+
+  keeps_turned : (turn : NodeView → NodeView) → ((s : NodeView) → KeepsRoute e s → KeepsRoute e (turn s)) → (u : World) → KeepsRoutes e u →
+      KeepsRoutes e (with_nodes u turn)
+  keeps_turned turn keeps u kept k t at = by (slice_get u.nodes k) refl (sym (slice_get-map turn u.nodes k) ∙ at)
+    where
+      by : (o : Option NodeView) → slice_get u.nodes k ≡ o → option_map turn o ≡ Some t → KeepsRoute e t
+      by None there is = absurd (let z = is in cc)
+      by (Some s) there is =
+          let same : turn s ≡ t = let z = is in cc in
+          subst (KeepsRoute e) same (keeps s (kept k s there))
+
+  -- reaps of others leave them, and so does a look
+  pub keeps_reaps : (es : List ℕ) → AllByRecursion (λ x. x ≡ e → ⊥) es → (u : World) → KeepsRoutes e u →
+      KeepsRoutes e (with_nodes u (each reap_ordered_at es))
+  keeps_reaps es others =
+      keeps_turned (each reap_ordered_at es)
+      (λ s h. each_keeps reap_ordered_at (KeepsRoute e) (λ x. x ≡ e → ⊥) (λ q n other h. keeps_reap q n other h) es others s h)
+
+  pub keeps_look : (o : ℕ × Order) (u : World) → KeepsRoutes e u → KeepsRoutes e (with_nodes u (ordered_at o))
+  keeps_look o = keeps_turned (ordered_at o) (keeps_tick o)

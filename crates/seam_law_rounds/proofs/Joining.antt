@@ -113,7 +113,7 @@ module _ (e : ℕ) where
     real_after (Cell c) =
         let j = cell_joins xs c in
         ap (λ n. real_in_node (each ordered_at os (cell_round t n))) j.is
-        ∙ (cell_ordered os (record j.cell { tree = t; number = 0; nexts = table.empty; reals = _; survey = _ })
+        ∙ (cell_ordered os (record j.cell { tree = t; number = 0; nexts = table.empty; ghosts = _; reals = _; survey = _ })
         ∙ (get-each_value real_begins j.cell.reals e ∙ ap (option_map real_begins) j.real))
     real_after (Base n) =
         let j = base_joins xs n in

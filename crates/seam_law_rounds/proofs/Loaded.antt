@@ -9,7 +9,9 @@ use Rattle.seam_law_rounds.proofs.Prelude.{HasNoReaps, real_at, next_from, numbe
 use Rattle.seam_law_rounds.proofs.Prelude.{leaf_is_cell, quiet_links, quiet_tasks, counted_none, none_counts, slots}
 use Rattle.std.specs.FinMap as table
 use Rattle.seam_law_rounds.proofs.Loading.{loaded_is}
-use Rattle.seam_law_rounds.proofs.Staying.{Kept, Becomes, node_becomes}
+use Rattle.seam_law_rounds.proofs.Staying.{Kept, Becomes, IsRouted, node_becomes, node_keeps, routed}
+use Rattle.seam_node_steps.proofs.Gone.{others_without}
+use Rattle.seam_law_rounds.specs.Between.{KeepsRoute, KeepsRoutes}
 use Rattle.seam_law_rounds.proofs.Making.{AreOthers, Creation, nowhere, once, creation_of, middle, Made, until, node_made, node_after}
 use Rattle.seam_law_rounds.proofs.Making.{made_fits}
 use Rattle.seam_law_rounds.proofs.Ready.{one_holder, quiet_home}
@@ -48,12 +50,28 @@ module _ (w : World) (b : Batch) (e : ℕ) where
 
   -- an entity that is not created
   module _ (spares : AllByRecursion (λ o. reaped_by_order o.1 ≡ None) b.orders) (others : AreOthers e b.creates) where
-    slot_by : (o : Option NodeView) → Becomes e (slot_at (has_of e) has_none o) (slot_at (has_of e) has_none (option_map (node_loaded b) o))
-    slot_by None = record { real = refl; next = refl; route = refl; spared = λ h. h }
+    abbrev SlotKeeps : Option NodeView → Type 0
+    SlotKeeps None = Unit {0}
+    SlotKeeps (Some s) = IsRouted e s
+
+    slot_by : (o : Option NodeView) → Becomes e (SlotKeeps o) (slot_at (has_of e) has_none o)
+        (slot_at (has_of e) has_none (option_map (node_loaded b) o))
+    slot_by None = record { real = refl; next = refl; route = λ keeps. refl; spared = λ h. h }
     slot_by (Some s) = node_becomes e b others spares s
 
-    pub slot_becomes : (k : ℕ) → Becomes e ((entity_flow e w).slot k) ((entity_flow e (loaded w b)).slot k)
-    slot_becomes k = subst (Becomes e ((entity_flow e w).slot k)) (sym (slot_is k)) (slot_by (slice_get w.nodes k))
+    pub slot_becomes : (k : ℕ) → Becomes e (SlotKeeps (slice_get w.nodes k)) ((entity_flow e w).slot k)
+        ((entity_flow e (loaded w b)).slot k)
+    slot_becomes k =
+        subst (Becomes e (SlotKeeps (slice_get w.nodes k)) ((entity_flow e w).slot k)) (sym (slot_is k)) (slot_by (slice_get w.nodes k))
+
+    -- where no base node is to forget the route
+    keeps_by : KeepsRoutes e w → (k : ℕ) (o : Option NodeView) → slice_get w.nodes k ≡ o → SlotKeeps o
+    keeps_by kept k None at = tt
+    keeps_by kept k (Some (Cell c)) at = tt
+    keeps_by kept k (Some (Base n)) at = others_without e n.gone n.routes (kept k (Base n) at)
+
+    pub slot_routed : KeepsRoutes e w → (k : ℕ) → Becomes e (Unit {0}) ((entity_flow e w).slot k) ((entity_flow e (loaded w b)).slot k)
+    slot_routed kept k = routed e (keeps_by kept k (slice_get w.nodes k) refl) (slot_becomes k)
 
     -- its reals were there
     pub real_was : (k : ℕ) (r : RealView) → real_at e (loaded w b) k ≡ Some r →
@@ -65,6 +83,17 @@ module _ (w : World) (b : Batch) (e : ℕ) where
         let q = kept_from o p was r here in
         let x = kept_some o p was q.0 q.1 in
         (q.0, x.0, q.1, (let z = sym x.1 ∙ here in cc))
+
+-- a loaded world forgets no route
+pub keeps_loaded : (w : World) (b : Batch) (e : ℕ) → KeepsRoutes e (loaded w b)
+keeps_loaded w b e k t at =
+    by (slice_get w.nodes k) (sym (ap (λ v. slice_get v.nodes k) (loaded_is w b) ∙ slice_get-map (node_loaded b) w.nodes k) ∙ at)
+  where
+    by : (o : Option NodeView) → option_map (node_loaded b) o ≡ Some t → KeepsRoute e t
+    by None is = absurd (let z = is in cc)
+    by (Some s) is =
+        let same : node_loaded b s ≡ t = let z = is in cc in
+        subst (KeepsRoute e) same (node_keeps e b s)
 
 module _ (f : Frame) (w : World) (b : Batch) (begin : MayBegin f w b) (e : ℕ) where
   abbrev before : Flow Has Msg
@@ -82,7 +111,7 @@ module _ (f : Frame) (w : World) (b : Batch) (begin : MayBegin f w b) (e : ℕ) 
 
   -- the real r of cell `home`, of which node k had g k before the orders were given
   record Origin (home : ℕ) (r : RealView) (g : ℕ → Has) : Type 0 where
-    becomes : (k : ℕ) → Becomes e (g k) (after.slot k)
+    becomes : (k : ℕ) → Becomes e (Unit {0}) (g k) (after.slot k)
     here : real_in (g home) ≡ Some r
     others : (j : ℕ) → (j ≡ home → ⊥) → real_in (g j) ≡ None
     type : r.ty < length f.defs
@@ -128,7 +157,7 @@ module _ (f : Frame) (w : World) (b : Batch) (begin : MayBegin f w b) (e : ℕ) 
               haunts = q.haunts;
             };
         public = o.public;
-        routes = λ k high low. (o.becomes k).route ∙ o.routes k high low;
+        routes = λ k high low. (o.becomes k).route tt ∙ o.routes k high low;
         none_held = o.none_held;
         from_one = o.from_one;
       };
@@ -156,7 +185,7 @@ module _ (f : Frame) (w : World) (b : Batch) (begin : MayBegin f w b) (e : ℕ) 
       let q = begin.between.settled e home r here in
       let more = begin.fits.cells in
       record {
-        becomes = slot_becomes w b e begin.fits.spares others;
+        becomes = slot_routed w b e begin.fits.spares others (begin.between.kept e home r here);
         here = here;
         others = q.others;
         type = q.type;
@@ -210,8 +239,9 @@ module _ (f : Frame) (w : World) (b : Batch) (begin : MayBegin f w b) (first : L
       (begin.between.nodes.sound.states k s at) (begin.between.nodes.nodes k s at)
       (sym (ap (slot_at (has_of x.entity) has_none) at) ∙ may.new k)
 
-  after_by : (k : ℕ) (o : Option NodeView) → Becomes x.entity (had k o) (slot_at (has_of x.entity) has_none (option_map (node_loaded b) o))
-  after_by k None = record { real = refl; next = refl; route = refl; spared = λ h. h }
+  after_by : (k : ℕ) (o : Option NodeView) → Becomes x.entity (Unit {0}) (had k o)
+      (slot_at (has_of x.entity) has_none (option_map (node_loaded b) o))
+  after_by k None = record { real = refl; next = refl; route = λ keeps. refl; spared = λ h. h }
   after_by k (Some s) = node_after f b begin.fits.tree x k first later is others more begin.fits.spares s
 
   leaf_low : leaf < cells_of b.tree
@@ -256,7 +286,7 @@ module _ (f : Frame) (w : World) (b : Batch) (begin : MayBegin f w b) (first : L
   was_made : Origin f w b begin x.entity leaf made (λ k. had k (slice_get w.nodes k))
   was_made = record {
     becomes = λ k.
-        subst (Becomes x.entity (had k (slice_get w.nodes k))) (sym (slot_is w b x.entity k)) (after_by k (slice_get w.nodes k));
+        subst (Becomes x.entity (Unit {0}) (had k (slice_get w.nodes k))) (sym (slot_is w b x.entity k)) (after_by k (slice_get w.nodes k));
     here = here_by (slice_get w.nodes leaf) refl;
     others = λ j n. other_by j (slice_get w.nodes j) refl n;
     type = may.type;

@@ -7,7 +7,7 @@ use Rattle.seam_call.specs.declared.order.Order.TheVariants as order
 use Rattle.seam_law_rounds.proofs.Ready.{quiet_home}
 use Rattle.seam_law_rounds.proofs.Calm.{one_if, IsCalm}
 use Rattle.seam_law_rounds.proofs.Starting.{Given, starts_calm}
-use Rattle.seam_law_rounds.proofs.Giving.{look_framed, some_base, look_given, look_cell, reals_stay}
+use Rattle.seam_law_rounds.proofs.Giving.{look_framed, some_base, look_given, look_cell, reals_stay, keeps_look}
 use Rattle.seam_law_rounds.proofs.Ending.{calls_none}
 use Rattle.seam_law_rounds.proofs.Phases.{calm_leads, stays_alive, between_again}
 
@@ -58,4 +58,4 @@ module _ (f : Frame) (u : World) (between : IsBetweenRounds f u) where
     pub look_ends_between : IsQuiet node_has_work v → IsBetweenRounds f v
     look_ends_between quiet =
         between_again f u between (look_loaded u) (look_framed f u between.nodes tick refl) (length-map u.nodes (ordered_at tick)) nobody
-        (λ e. false) calm (λ e k r here. small r) v vs run quiet
+        (λ e. false) calm (λ e k r here. small r) v vs run quiet (λ e k q at kept. keeps_look e tick u kept)

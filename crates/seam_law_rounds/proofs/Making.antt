@@ -15,7 +15,7 @@ use Rattle.seam_defs.proofs.Numbers.{type_of-is}
 use Rattle.seam_defs.proofs.Starts.{start_of_group}
 use Rattle.seam_node_steps.specs.Prelude.{TellsNone}
 use Rattle.seam_law_rounds.proofs.Framing.{While, while_created}
-use Rattle.seam_law_rounds.proofs.Staying.{Stays, same, stays_as, Becomes, base_stays, creates_stay, becomes_after}
+use Rattle.seam_law_rounds.proofs.Staying.{Stays, same, stays_as, Becomes, IsRouted, base_stays, creates_stay, becomes_after}
 
 -- ---- where a batch creates an entity
 
@@ -89,8 +89,8 @@ module _ (f : Frame) (b : Batch) (tree : IsTree b.tree) (x : Create) (k : ℕ) w
   orders_by n true none = subst (AllByRecursion (λ o. reaped_by_order o ≡ None)) (sym none) tt
   orders_by n false none = subst (AllByRecursion (λ o. reaped_by_order o ≡ None)) (sym none) tt
 
-  made_by : (s : NodeView) → While TellsNone f b tree k s → Stays same has_none (has_of e s) → Made f b x k
-      (has_of e (created_at b.tree x s))
+  made_by : {keeps : Type 0} (s : NodeView) → While TellsNone f b tree k s → Stays same keeps has_none (has_of e s) →
+      Made f b x k (has_of e (created_at b.tree x s))
   made_by (Cell c) at h = record {
     real =
         cell_by c (eqb leaf c.here.me) at.here h.real
@@ -122,16 +122,16 @@ module _ (f : Frame) (b : Batch) (tree : IsTree b.tree) (x : Create) (k : ℕ) w
     pub node_made : (s : NodeView) → IsNode s → IsAt f k s → has_of e s ≡ has_none → Made f b x k (has_of e (until s))
     node_made s node at none =
         made_by (each (created_at b.tree) before (base_round (cells_of b.tree) s)) (while_created f b tree k before s node at)
-        (creates_stay e b.tree before first has_none (base_round (cells_of b.tree) s)
-        (subst (λ g. Stays same g (has_of e (base_round (cells_of b.tree) s))) none (base_stays e (cells_of b.tree) s)))
+        (creates_stay e b.tree before first (IsRouted e s) has_none (base_round (cells_of b.tree) s)
+        (subst (λ g. Stays same (IsRouted e s) g (has_of e (base_round (cells_of b.tree) s))) none (base_stays e (cells_of b.tree) s)))
 
-    pub node_after : (s : NodeView) → Becomes e (has_of e (until s)) (has_of e (node_loaded b s))
+    pub node_after : (s : NodeView) → Becomes e (Unit {0}) (has_of e (until s)) (has_of e (node_loaded b s))
     node_after s =
         let split = ap (λ l. each (created_at b.tree) l (base_round (cells_of b.tree) s)) is
         ∙ each_splits (created_at b.tree) before (x ∷ later) (base_round (cells_of b.tree) s) in
-        becomes_after e b spares (has_of e (until s)) (each (created_at b.tree) b.creates (base_round (cells_of b.tree) s))
-        (subst (λ n. Stays same (has_of e (until s)) (has_of e n)) (sym split)
-        (creates_stay e b.tree later last (has_of e (until s)) (until s) (stays_as (has_of e (until s)))))
+        becomes_after e b spares (Unit {0}) (has_of e (until s)) (each (created_at b.tree) b.creates (base_round (cells_of b.tree) s))
+        (subst (λ n. Stays same (Unit {0}) (has_of e (until s)) (has_of e n)) (sym split)
+        (creates_stay e b.tree later last (Unit {0}) (has_of e (until s)) (until s) (stays_as (has_of e (until s)))))
 
 -- ---- the real that is made
 

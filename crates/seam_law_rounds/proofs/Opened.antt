@@ -12,6 +12,7 @@ use Rattle.std.specs.FinMap as table
 use Rattle.std.proofs.lemmas.List.FromFn.{length-map-range_with_len}
 use Rattle.seam_machine.proofs.Quiet.{quiet_from}
 use Rattle.seam_node_steps.specs.Prelude.{BringsNone}
+use Rattle.seam_law_rounds.specs.Between.{KeepsRoute}
 
 -- what is true of each that is made for a range of numbers, and of what comes after
 each_range : {N : Type 0} (P : ℕ → N → Type 0) (make : ℕ → N) (a n : ℕ) (ys : List N) →
@@ -63,6 +64,7 @@ module _ (defs : List TypeDef) (settings : Settings) (frame : IsFrame (first_fra
     peers : node_peers s ≡ many
     idle : node_has_work s ≡ false
     new : (e : ℕ) → has_of e s ≡ has_none
+    kept : (e : ℕ) → KeepsRoute e s
 
   cell_open : (k : ℕ) → k < cell_count → IsOpen k (empty_cell defs settings k)
   cell_open k low = record {
@@ -77,6 +79,7 @@ module _ (defs : List TypeDef) (settings : Settings) (frame : IsFrame (first_fra
     peers = refl;
     idle = ap (λ es. is_some (option_map number_of (find real_is_ready es)) || false) entries_empty;
     new = λ e. no_slots _ _ _ (table.get-empty nat_cmp e) (table.get-empty nat_cmp e) (table.get-empty nat_cmp e);
+    kept = λ e. tt;
   }
 
   base_open : (k : ℕ) → cell_count ≤ k → IsOpen k (empty_base defs settings k)
@@ -87,6 +90,7 @@ module _ (defs : List TypeDef) (settings : Settings) (frame : IsFrame (first_fra
     idle =
         ap (λ es. is_some (find part_is_ready es) || is_some (find client_is_ready es)) entries_empty;
     new = λ e. no_routes _ _ (table.get-empty nat_cmp e) (table.get-empty nat_cmp e);
+    kept = λ e. tt;
   }
 
   each_node : (k : ℕ) (s : NodeView) → slice_get w.nodes k ≡ Some s → IsOpen k s
@@ -135,4 +139,5 @@ module _ (defs : List TypeDef) (settings : Settings) (frame : IsFrame (first_fra
     many = many_is;
     quiet = quiet_from node_has_work w (no_link many many) (λ k s at. (each_node k s at).idle);
     settled = λ e k r at. absurd (let z = sym (opened_has_none e k) ∙ at in cc);
+    kept = λ e k r at j s there. (each_node j s there).kept e;
   }

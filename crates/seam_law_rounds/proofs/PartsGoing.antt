@@ -96,7 +96,8 @@ module _ (f : Frame) (w : World) (b : Batch) (may : MayBeLoaded f w b) (e k : â„
         record { room = omega (arith, few, more); most = told }
 
     calls_by : IsServed g e r.ty (loaded w b) â†’ HasBaseCalls g e r.ty first (base_calls_of b e) v
-    calls_by (bare none unseen) = (alone_leads g e r.ty first (base_calls_of b e) (loaded w b) v es loaded_calls none run).calls
+    calls_by (bare none unseen) =
+        (alone_leads g e r.ty first (base_calls_of b e) (loaded w b) v es (record { calls = loaded_calls; alone = none }) run).calls
     calls_by (served update low client seen) =
         (both_leads g e r.ty first (base_calls_of b e) update most (loaded w b) v es
         (record { calls = loaded_calls; client = client }) numbers.room run told).calls

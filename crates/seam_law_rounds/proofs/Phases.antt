@@ -1,18 +1,19 @@
 -- What the phase of reaps and the phase of looks keep.
-use Rattle.seam_law_rounds.proofs.Prelude.{◌≡◌, ℕ, ◌<◌, ◌⊎◌, Bool, true, false, cond, eqb, ◌||◌, List, [], ◌∷◌, length}
-use Rattle.seam_law_rounds.proofs.Prelude.{Option, None, Some, refl, sym, ap, ◌∙◌, arith, inl, inr, eqb-true, input_from, happens, enabled}
-use Rattle.seam_law_rounds.proofs.Prelude.{run, AllEnabled, IsQuiet, Occurs, total, Input, Task, From, Event, RealView, Msg, Reap, may_rise}
-use Rattle.seam_law_rounds.proofs.Prelude.{cell_count, RouteView, holders, World, node_steps, node_has_work, letter_in, letters_of, In}
-use Rattle.seam_law_rounds.proofs.Prelude.{Nobody, Frame, IsInFrame, concerns, kept_if, mine, entity_flow, real_in, real_of}
-use Rattle.seam_law_rounds.proofs.Prelude.{reaps, IsFrame, RunsTo, real_at, IsSettled, IsBetweenRounds, reap_comes, occurs, quiet_links}
-use Rattle.seam_law_rounds.proofs.Prelude.{quiet_tasks, leads_keeps, one_counts, none_counts, gone_leads}
+use Rattle.seam_law_rounds.proofs.Prelude.{◌≡◌, ℕ, ◌<◌, ◌⊎◌, Bool, true, false, cond, eqb, ◌||◌, List, [], ◌∷◌, length, Option, None, Some}
+use Rattle.seam_law_rounds.proofs.Prelude.{refl, sym, ap, ◌∙◌, arith, inl, inr, eqb-true, input_from, happens, run, AllEnabled, IsQuiet}
+use Rattle.seam_law_rounds.proofs.Prelude.{Occurs, total, Input, Task, From, Event, RealView, Msg, Reap, may_rise, cell_count, RouteView}
+use Rattle.seam_law_rounds.proofs.Prelude.{holders, World, node_steps, node_has_work, letter_in, letters_of, In, Nobody, Frame, IsInFrame}
+use Rattle.seam_law_rounds.proofs.Prelude.{concerns, kept_if, mine, entity_flow, real_in, real_of, reaps, IsFrame, RunsTo, real_at}
+use Rattle.seam_law_rounds.proofs.Prelude.{IsSettled, IsBetweenRounds, reap_comes, occurs, quiet_links, quiet_tasks, one_counts}
+use Rattle.seam_law_rounds.proofs.Prelude.{none_counts, gone_leads, EachKeeps, RunsKeep, runs_keep, frame_leads}
 use Rattle.seam_law_rounds.proofs.Room.{rows_none}
 use Rattle.seam_law_rounds.proofs.Ready.{route_leads}
-use Rattle.seam_law_rounds.proofs.Shape.{Somewhere, Nowhere, search_real, frame_leads, many_leads}
+use Rattle.seam_law_rounds.proofs.Shape.{Somewhere, Nowhere, search_real, keeps_leads, many_leads}
 use Rattle.seam_law_rounds.proofs.Calm.{order_reaps, node_reaps, mine_reaps, reaps_of, one_if, IsCalm}
 use Rattle.seam_law_rounds.proofs.CalmRuns.{Left, alive, dead, told_by, left, calm_happens}
 use Rattle.seam_law_rounds.proofs.Starting.{none_weighs, idle_orders}
 use Rattle.seam_law_rounds.proofs.Ending.{calm_one, calm_none, still_settled}
+use Rattle.seam_law_rounds.specs.Between.{KeepsRoutes}
 
 -- ---- which input is a Reap
 
@@ -53,11 +54,11 @@ module _ (f : Frame) (frame : IsFrame f) (u : World) (between : IsBetweenRounds 
   abbrev Calm : World → Type 0
   Calm w = IsCalm f e home r u told w
 
-  calm_more : (w : World) (v : Event) → Calm w → enabled node_has_work w v ≡ true → Calm (happens node_steps w v)
-  calm_more w v c on = calm_happens f e home r low settled.none_held u leads told small w v (occurs node_has_work w v on) c
+  pub calm_keeps : EachKeeps Calm
+  calm_keeps = calm_happens f e home r low settled.none_held u leads told small
 
-  pub calm_leads : (w v : World) (es : List Event) → Calm w → RunsTo w es v → Calm v
-  calm_leads w v es c run = leads_keeps node_has_work node_steps Calm calm_more w v es c run
+  pub calm_leads : RunsKeep Calm
+  calm_leads = runs_keep Calm calm_keeps
 
   abbrev at_home : World → Option RealView
   at_home w = real_at e w home
@@ -98,7 +99,7 @@ module _ (f : Frame) (frame : IsFrame f) (u : World) (between : IsBetweenRounds 
   counted_until [] w c is on = alive_counts w c is
   counted_until (v ∷ es) w c is on =
       let o = occurs node_has_work w v on.0 in
-      let next = calm_happens f e home r low settled.none_held u leads told small w v o c in
+      let next = calm_keeps w v o c in
       counted_by es w v o c next is on.1 (λ more. counted_until es (happens node_steps w v) next more on.1)
       (left f e home r low settled.none_held u leads told small w v o c)
 
@@ -113,17 +114,15 @@ module _ (f : Frame) (frame : IsFrame f) (u : World) (between : IsBetweenRounds 
   alive_by w v o never a (dead fed gone) =
       absurd (let z = sym (told_by f e home r low settled.none_held u leads told small w v o a.calm e fed) ∙ never in cc)
 
-  alive_more : told ≡ false → (w : World) (v : Event) → Alive w → enabled node_has_work w v ≡ true → Alive (happens node_steps w v)
-  alive_more never w v a on =
-      let o = occurs node_has_work w v on in
-      record {
-        calm = calm_more w v a.calm on;
-        is = alive_by w v o never a (left f e home r low settled.none_held u leads told small w v o a.calm);
-      }
+  alive_keeps : told ≡ false → EachKeeps Alive
+  alive_keeps never w v o a = record {
+    calm = calm_keeps w v o a.calm;
+    is = alive_by w v o never a (left f e home r low settled.none_held u leads told small w v o a.calm);
+  }
 
   pub stays_alive : told ≡ false → (w v : World) (es : List Event) → Calm w → one_if (at_home w) ≡ 1 → RunsTo w es v → holders v e ≡ 1
   stays_alive never w v es c is run =
-      let a = leads_keeps node_has_work node_steps Alive (alive_more never) w v es (record { calm = c; is = is }) run in
+      let a = runs_keep Alive (alive_keeps never) w v es (record { calm = c; is = is }) run in
       alive_counts v a.calm a.is
 
   -- where nothing waits, one that was told is gone
@@ -151,7 +150,8 @@ module _ (f : Frame) (u : World) (between : IsBetweenRounds f u) (w : World) (fr
     (none : (e : ℕ) → Nobody real_in real_of (entity_flow e u) → Nobody real_in real_of (entity_flow e w)) (told : (e : ℕ) → Bool)
     (calm : (e home : ℕ) (r : RealView) → real_at e u home ≡ Some r → IsCalm f e home r u (told e) w)
     (small : (e k : ℕ) (r : RealView) → real_at e u k ≡ Some r → told e ≡ true → may_rise r.beat ≡ true) (v : World) (es : List Event)
-    (run : RunsTo w es v) (quiet : IsQuiet node_has_work v) where
+    (run : RunsTo w es v) (quiet : IsQuiet node_has_work v)
+    (keeps : (e k : ℕ) (q : RealView) → real_at e v k ≡ Some q → KeepsRoutes e u → KeepsRoutes e w) where
   nobody : (e : ℕ) → Nowhere e u → Nobody real_in real_of (entity_flow e u)
   nobody e n = record {
     slots = n;
@@ -167,6 +167,12 @@ module _ (f : Frame) (u : World) (between : IsBetweenRounds f u) (w : World) (fr
       let gone = gone_leads f between.frame e w v es frame (none e (nobody e n)) run in
       absurd (let z = sym (gone.slots k) ∙ at in cc)
 
+  kept_by : (e k : ℕ) (q : RealView) → real_at e v k ≡ Some q → Somewhere e u ⊎ Nowhere e u → KeepsRoutes e u
+  kept_by e k q at (inl p) = between.kept e p.0 p.1 p.2
+  kept_by e k q at (inr n) =
+      let gone = gone_leads f between.frame e w v es frame (none e (nobody e n)) run in
+      absurd (let z = sym (gone.slots k) ∙ at in cc)
+
   pub between_again : IsBetweenRounds f v
   between_again = record {
     frame = between.frame;
@@ -174,4 +180,5 @@ module _ (f : Frame) (u : World) (between : IsBetweenRounds f u) (w : World) (fr
     many = many_leads w v es run ∙ (many ∙ between.many);
     quiet = quiet;
     settled = λ e k q at. settled_by e k q at (search_real e u);
+    kept = λ e k q at. keeps_leads e w v es (keeps e k q at (kept_by e k q at (search_real e u))) run;
   }

@@ -19,6 +19,7 @@ pub use Rattle.seam_law_calls.proofs.Gone.{gone_leads}
 pub use Rattle.seam_law_calls.proofs.Handling.{FindsRoom, not_stray}
 pub use Rattle.seam_law_calls.proofs.Leading.{none_follow}
 pub use Rattle.seam_law_calls.proofs.NoLooks.{NoTicks}
+pub use Rattle.seam_law_calls.proofs.Keeping.{EachKeeps, EventsKeep, FramedKeep, RunsKeep, frame_leads, run_keeps, runs_keep}
 pub use Rattle.seam_law_calls.proofs.OneReal.{goes, one_keeps, one_leads, room, spared_happens}
 pub use Rattle.seam_law_calls.proofs.Plain.{SeesNoGhost, ghosts_silent, mapped_silent, numbered_silent}
 pub use Rattle.seam_law_calls.proofs.Prelude.{Account, Acts, All, All-replicate, AllByRecursion, AllEnabled, AllLead, AreCallsOf, AreDefs}
@@ -44,10 +45,10 @@ pub use Rattle.seam_law_calls.proofs.Prelude.{fits_base_part, fits_cell_part, fo
 pub use Rattle.seam_law_calls.proofs.Prelude.{has_none, has_of, haunts_at, held_in, held_is_due, held_of, here_at, holders, home_of, idle}
 pub use Rattle.seam_law_calls.proofs.Prelude.{inl, input_weight, inr, is_small, is_some, is_sorted, is_stray, is_tick_order, item_at}
 pub use Rattle.seam_law_calls.proofs.Prelude.{items_to, kept_if, lands, leads_keeps, leaf_at, leaf_is_cell, leaves, length, length-append}
-pub use Rattle.seam_law_calls.proofs.Prelude.{length-map, letter_in, letters_kept, letters_of, limit, line_if, lines_in, link, list_all}
-pub use Rattle.seam_law_calls.proofs.Prelude.{looks_left, looks_with, map, may_execute, may_rise, may_show, mine, mine_base_burden}
-pub use Rattle.seam_law_calls.proofs.Prelude.{mine_burden, mine_looks, misses, more_letter, most_entities, most_shown, nat_cmp}
-pub use Rattle.seam_law_calls.proofs.Prelude.{nat_cmp_total, nat_lt, nat_tests, ne_eqb, next_item, node_base_burden, node_burden}
+pub use Rattle.seam_law_calls.proofs.Prelude.{length-map, letter_in, letters_kept, sent_kept, items_fit, letters_of, limit, line_if}
+pub use Rattle.seam_law_calls.proofs.Prelude.{lines_in, link, list_all, looks_left, looks_with, map, may_execute, may_rise, may_show, mine}
+pub use Rattle.seam_law_calls.proofs.Prelude.{mine_base_burden, mine_burden, mine_looks, misses, more_letter, most_entities, most_shown}
+pub use Rattle.seam_law_calls.proofs.Prelude.{nat_cmp, nat_cmp_total, nat_lt, nat_tests, ne_eqb, next_item, node_base_burden, node_burden}
 pub use Rattle.seam_law_calls.proofs.Prelude.{node_has_work, node_looks, node_peers, node_steps, not, number_from, number_of, numbered}
 pub use Rattle.seam_law_calls.proofs.Prelude.{numbered_from, occurs, offers, one_more_if, option_map, order_burden, order_concerns}
 pub use Rattle.seam_law_calls.proofs.Prelude.{order_if, order_is_ready, order_looks, order_or, order_passes, orders_of, parcel_of}

@@ -9,9 +9,10 @@ use Rattle.seam_law_rounds.proofs.Loading.{nodes_after}
 use Rattle.seam_law_rounds.proofs.Ready.{quiet_home}
 use Rattle.seam_law_rounds.proofs.Calm.{one_if, IsCalm}
 use Rattle.seam_law_rounds.proofs.Starting.{Given, times_at_most_one, starts_calm}
-use Rattle.seam_law_rounds.proofs.Giving.{reaps_framed, some_base, reaps_given, reaps_cell, reals_stay}
+use Rattle.seam_law_rounds.proofs.Giving.{reaps_framed, some_base, reaps_given, reaps_cell, reals_stay, keeps_reaps}
 use Rattle.seam_law_rounds.proofs.Ending.{calls_none}
 use Rattle.seam_law_rounds.proofs.Phases.{calm_leads, counted_until, stays_alive, told_is_gone, between_again}
+use Rattle.seam_law_rounds.specs.Between.{KeepsRoutes}
 
 abbrev pub is_told : ℕ → List ℕ → Bool
 is_told e es = nat_lt 0 (times e es)
@@ -120,7 +121,21 @@ module _ (f : Frame) (u : World) (between : IsBetweenRounds f u) (es : List ℕ)
       pub all_reaped : AllByRecursion (λ e. holders v e ≡ 0) es
       all_reaped = ended_by [] es refl may.there
 
+      -- one that is there was not reaped
+      others_by : (e k : ℕ) (q : RealView) → real_at e v k ≡ Some q → (xs : List ℕ) → AllByRecursion (λ x. holders v x ≡ 0) xs →
+          AllByRecursion (λ x. x ≡ e → ⊥) xs
+      others_by e k q at [] none = tt
+      others_by e k q at (x ∷ xs) none = (
+        λ is. let z = sym ((counted_none v x none.0).slots k) ∙ (subst (λ y. real_at y v k ≡ Some q) (sym is) at) in cc,
+        others_by e k q at xs none.1,
+      )
+
+      keeps : (e k : ℕ) (q : RealView) → real_at e v k ≡ Some q → KeepsRoutes e u → KeepsRoutes e (reaps_loaded u es)
+      keeps e k q at kept =
+          subst (KeepsRoutes e) (sym loaded_is) (keeps_reaps e es (others_by e k q at es all_reaped) u kept)
+
       pub reaps_end_between : IsBetweenRounds f v
       reaps_end_between =
           between_again f u between (reaps_loaded u es) frame_loaded
           (ap (λ w. length w.nodes) loaded_is ∙ length-map u.nodes turn) nobody (λ e. is_told e es) calm small v vs run quiet
+          keeps

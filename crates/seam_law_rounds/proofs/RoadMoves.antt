@@ -1,18 +1,18 @@
 -- What each move does with the generation of the real, and with the routes to it.
-use Rattle.seam_law_rounds.proofs.Prelude.{◌≡◌, ℕ, ◌+◌, ◌<◌, ◌≤◌, Bool, true, false, cond, not, ◌&&◌, nat_lt, is_some, List, [], ◌∷◌, ◌++◌}
+use Rattle.seam_law_rounds.proofs.Prelude.{◌≡◌, ℕ, ◌+◌, ◌<◌, ◌≤◌, Bool, true, false, cond, ◌&&◌, nat_lt, is_some, List, [], ◌∷◌, ◌++◌}
 use Rattle.seam_law_rounds.proofs.Prelude.{Option, None, Some, refl, sym, ap, ◌∙◌, subst, arith, option_map, nat_tests, Division, RealView}
 use Rattle.seam_law_rounds.proofs.Prelude.{Msg, Hand, Current, Reap, limit, is_small, cell_count, base_of, SlotStep, slot_after, haunts_at}
-use Rattle.seam_law_rounds.proofs.Prelude.{ghost_messages, settled_to, currents, shown_of, looks_with, RouteView, stray_current}
-use Rattle.seam_law_rounds.proofs.Prelude.{IsSilent, entry_in, greater_entry, Frame, IsTreeOf, here_at, Has, AtCell, Does, Acts}
-use Rattle.seam_law_rounds.proofs.Prelude.{surveys, calls, readies, BaseMoves, Moves, at_a_cell, at_a_base, real_in}
-use Rattle.seam_law_rounds.proofs.Prelude.{as_entry, route_entry, sent_route, SeesNoGhost, ghosts_silent, numbered_silent, FindsRoom}
-use Rattle.seam_law_rounds.proofs.Prelude.{not_stray}
+use Rattle.seam_law_rounds.proofs.Prelude.{ghost_messages, settled_to, currents, shown_of, looks_with, RouteView, stray_current, IsSilent}
+use Rattle.seam_law_rounds.proofs.Prelude.{entry_in, greater_entry, Frame, IsTreeOf, here_at, Has, AtCell, Does, Acts, surveys, calls}
+use Rattle.seam_law_rounds.proofs.Prelude.{readies, BaseMoves, Moves, at_a_cell, at_a_base, real_in, as_entry, route_entry, sent_route}
+use Rattle.seam_law_rounds.proofs.Prelude.{SeesNoGhost, ghosts_silent, numbered_silent, FindsRoom, not_stray}
 use Rattle.std.specs.FinSet as set
 use Rattle.seam_law_calls.proofs.CellDeeds as deed
 use Rattle.seam_law_calls.proofs.CellDeeds.{CellDeeds, cell_deeds, not_handed}
 use Rattle.seam_law_calls.proofs.BaseDeeds.{RouteAfter, same_route, newer_of, base_route}
 use Rattle.seam_law_calls.proofs.BaseSilent.{base_silent}
 use Rattle.seam_node_steps.specs.Prelude.{Boundaries}
+use Rattle.seam_law_calls.proofs.Holds.{not_both}
 
 -- eyes that see hand-overs and routes
 abbrev pub road_of : Msg → Option Msg
@@ -28,10 +28,6 @@ generation_of r = r.generation
 
 abbrev pub generation_in : Has → Option ℕ
 generation_in h = option_map generation_of (real_in h)
-
-not_both : (b : Bool) → b ≡ true → not b ≡ true → ⊥
-not_both true h k = cc
-not_both false h k = cc
 
 module _ (f : Frame) (e k : ℕ) (s : Has) (i : Option Msg) (t : Has) (sent : List (ℕ × Msg)) where
   -- the real stays or is nowhere here; it comes; or it goes

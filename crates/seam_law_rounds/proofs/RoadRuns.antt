@@ -4,14 +4,13 @@ use Rattle.seam_law_rounds.proofs.Prelude.{Some, refl, sym, ap, ◌∙◌, subst
 use Rattle.seam_law_rounds.proofs.Prelude.{cases_eq, eq-eqb, ne_eqb, happens, items_to, Event, RealView, Msg, Hand, Current, Reap, limit}
 use Rattle.seam_law_rounds.proofs.Prelude.{cell_count, base_numbers, current_to, currents, RouteView, World, node_steps, Flow, Goes, comes}
 use Rattle.seam_law_rounds.proofs.Prelude.{letters_of, NotAbove, OfEntry, AllBring, entry_in, greater_entry, Newest, IsSilent, carried_in}
-use Rattle.seam_law_rounds.proofs.Prelude.{TokenPlace, In, On, SendsNone, SendsOne, Handles, still, turns, lands, leaves, Frame, here_at}
-use Rattle.seam_law_rounds.proofs.Prelude.{Has as Had, entity_flow, real_burden, real_in, real_of, IsOne, IsSpared, IsFrame, HasOne}
-use Rattle.seam_law_rounds.proofs.Prelude.{MovesTo, RunsTo, real_at, as_entry, route_entry, sent_route, NewestRouteIsRight, all_append}
-use Rattle.seam_law_rounds.proofs.Prelude.{letters_kept, came, sees_none, sees_after_silent, sees_one_here, sees_one_there, sole_here}
-use Rattle.seam_law_rounds.proofs.Prelude.{sole_came, sole_goes, mapped_silent, goes, room, one_keeps, FindsRoom}
+use Rattle.seam_law_rounds.proofs.Prelude.{TokenPlace, In, On, SendsNone, SendsOne, still, turns, lands, leaves, Frame, here_at, Has as Had}
+use Rattle.seam_law_rounds.proofs.Prelude.{entity_flow, real_burden, real_in, real_of, IsOne, IsSpared, IsFrame, HasOne, MovesTo, RunsTo}
+use Rattle.seam_law_rounds.proofs.Prelude.{real_at, as_entry, route_entry, sent_route, NewestRouteIsRight, all_append, came, sees_none}
+use Rattle.seam_law_rounds.proofs.Prelude.{sees_after_silent, sees_one_here, sees_one_there, sole_here, sole_came, sole_goes, mapped_silent}
+use Rattle.seam_law_rounds.proofs.Prelude.{goes, room, one_keeps, FindsRoom, sent_kept, items_fit}
 use Rattle.seam_law_flow.specs.Prelude.{Has}
 use Rattle.seam_law_flow.proofs.NewestLemmas.{newest_stays, newest_rises, newest_rests}
-use Rattle.seam_law_calls.proofs.Sparing.{items_all}
 use Rattle.seam_law_rounds.proofs.RoadMoves.{road_of, generation_of, IsGoodRoute, Roads, plain, arrives, departs, roads, Reroutes, reroutes}
 use Rattle.seam_node_steps.specs.Prelude.{Boundaries}
 
@@ -139,8 +138,8 @@ module _ (f : Frame) (e : ℕ) where
           AllBring sent_route (NotAbove key c) (g.out b)
       no_out ps none is key c =
           bring_none (NotAbove key c) (g.out b)
-          (subst (AllByRecursion (λ m. sent_route m ≡ None)) (sym (g.moves.0.items b ∙ ap (items_to b) is)) (items_all
-          (λ m. sent_route m ≡ None) b ps none))
+          (subst (AllByRecursion (λ m. sent_route m ≡ None)) (sym (g.moves.0.items b ∙ ap (items_to b) is)) (items_fit
+          (λ k m. sent_route m ≡ None) b ps none))
 
       stays_new : (key c : ℕ) → Newest route_entry sent_route before b key c → (ps : List (ℕ × Msg)) →
           AllByRecursion (λ p. sent_route p.1 ≡ None) ps → sent ≡ ps → Newest route_entry sent_route after b key c
@@ -153,14 +152,10 @@ module _ (f : Frame) (e : ℕ) where
 
     good_then : AllByRecursion (λ p. IsGoodRoute p.1) sent → (a k : ℕ) → AllByRecursion IsGoodRoute (after.mail a k)
     good_then all =
-        letters_kept (λ a k m. IsGoodRoute m) g h.good (λ j.
-        subst (AllByRecursion IsGoodRoute) (sym (g.moves.0.items j)) (items_all IsGoodRoute j sent all))
+        sent_kept (λ a k m. IsGoodRoute m) g sent g.moves.0.items h.good all
 
     sends_none : IsSilent road_of sent → SendsNone real_of g.out
     sends_none silent j = ap (letters_of real_of) (g.moves.0.items j) ∙ sees_none real_of j sent (no_reals sent silent)
-
-    abbrev Handles_it : Type 0
-    Handles_it = Handles real_in real_of Any (before.slot g.k) (comes g.input) (after.slot g.k) g.out
 
     -- what is routed then, the generation of the real, and where it is
     abbrev pub Grows : ℕ → TokenPlace → Type 0

@@ -1,18 +1,27 @@
--- Every list of events keeps the frame and the number of nodes; and an entity's real is somewhere, or nowhere.
-use Rattle.seam_law_rounds.proofs.Prelude.{◌≡◌, ℕ, zero, suc, ◌⊎◌, List, [], ◌∷◌, length, Option, None, Some, refl, ◌∙◌, inl, inr, Bool}
-use Rattle.seam_law_rounds.proofs.Prelude.{true, false, cond, eqb, subst, slice_get, Event, items_to, RealView, Msg, NodeView, World}
-use Rattle.seam_law_rounds.proofs.Prelude.{node_steps, node_has_work, slot_at, Frame, IsInFrame, has_of, has_none, real_in, RunsTo, real_at}
-use Rattle.seam_law_rounds.proofs.Prelude.{occurs, leads_keeps, AllByRecursion, eqb-true, frame_happens}
+-- Every list of events keeps the number of nodes, and what base nodes forget; and an entity's real is somewhere, or nowhere.
+use Rattle.seam_law_rounds.proofs.Prelude.{◌≡◌, ℕ, zero, suc, ◌⊎◌, List, [], ◌∷◌, length, Option, None, Some, refl, sym, ◌∙◌, inl, inr}
+use Rattle.seam_law_rounds.proofs.Prelude.{subst, slice_get, Event, Msg, RealView, NodeView, World, node_steps, slot_at, has_of, has_none}
+use Rattle.seam_law_rounds.proofs.Prelude.{real_in, RunsTo, real_at, AllByRecursion, RunsKeep, runs_keep}
 use Rattle.seam_machine.proofs.Occurring.{length-happens}
-
-pub frame_leads : (f : Frame) (w v : World) (es : List Event) → IsInFrame f w → RunsTo w es v → IsInFrame f v
-frame_leads f w v es q run =
-    leads_keeps node_has_work node_steps (IsInFrame f) (λ x a s h. frame_happens f x a (occurs node_has_work x a h) s) w v es q run
+use Rattle.seam_net_runs.proofs.Keeping.{each_node}
+use Rattle.seam_node_steps.specs.Prelude.{Input, Cell, Base}
+use Rattle.seam_node_steps.proofs.ValidBases.{base_frame}
+use Rattle.seam_law_rounds.specs.Between.{KeepsRoute, KeepsRoutes}
 
 pub many_leads : (w v : World) (es : List Event) → RunsTo w es v → length v.nodes ≡ length w.nodes
 many_leads w v es run =
-    leads_keeps node_has_work node_steps (λ x. length x.nodes ≡ length w.nodes)
-    (λ x a same h. length-happens node_steps x a (occurs node_has_work x a h) ∙ same) w v es refl run
+    runs_keep (λ x. length x.nodes ≡ length w.nodes) (λ x a o same. length-happens node_steps x a o ∙ same) w v es refl run
+
+-- no step makes a base node forget more routes
+module _ (e : ℕ) where
+  keeps_steps : (s : NodeView) (i : Input Msg) → KeepsRoute e s → KeepsRoute e (node_steps s i).state
+  keeps_steps (Cell c) i h = tt
+  keeps_steps (Base b) i h = subst (AllByRecursion (λ x. x ≡ e → ⊥)) (sym (base_frame b i).gone) h
+
+  pub keeps_leads : RunsKeep (KeepsRoutes e)
+  keeps_leads =
+      runs_keep (KeepsRoutes e)
+      (λ x a o h. each_node (λ k s. KeepsRoute e s) node_steps x a o h (keeps_steps o.node o.input (h a.node o.node o.is_node)))
 
 -- ---- where the real is
 
@@ -43,15 +52,3 @@ module _ (e : ℕ) where
 
   pub search_real : (w : World) → Somewhere e w ⊎ Nowhere e w
   search_real w = search_in w.nodes
-
--- ---- what is sent, by the node to which it goes
-
-module _ (P : ℕ → Msg → Type 0) where
-  item_by : (j : ℕ) (p : ℕ × Msg) (ms : List Msg) (b : Bool) → eqb p.0 j ≡ b → P p.0 p.1 → AllByRecursion (P j) ms →
-      AllByRecursion (P j) (cond b (p.1 ∷ ms) ms)
-  item_by j p ms true is h more = (subst (λ x. P x p.1) (eqb-true p.0 j is) h, more)
-  item_by j p ms false is h more = more
-
-  pub items_each : (j : ℕ) (ps : List (ℕ × Msg)) → AllByRecursion (λ p. P p.0 p.1) ps → AllByRecursion (P j) (items_to j ps)
-  items_each j [] h = tt
-  items_each j (p ∷ ps) h = item_by j p (items_to j ps) (eqb p.0 j) refl h.0 (items_each j ps h.1)

@@ -7,6 +7,8 @@ use Rattle.seam_law_rounds.proofs.Prelude.{part_if, with_route, created_at, with
 use Rattle.seam_law_rounds.proofs.Prelude.{ordered_at, Has, has_of, orders_of, order_concerns, real_in, reaped_by_order, HasNoReaps, each}
 use Rattle.seam_law_rounds.proofs.Prelude.{made, node_loaded, all_append, get-set_at}
 use Rattle.std.specs.FinMap as table
+use Rattle.seam_node_steps.specs.Prelude.{RouteView, routes_without}
+use Rattle.seam_law_rounds.specs.Between.{KeepsRoute}
 use Rattle.seam_law_rounds.proofs.Loading.{each_keeps, Any, any, get-each_value}
 
 -- the real is the same but for its witness, and what the turn makes of it
@@ -29,21 +31,26 @@ kept_begins : (o p : Option RealView) → Kept same o p → Kept real_begins o (
 kept_begins None p k = ap (option_map real_begins) k
 kept_begins (Some r) p k = (k.0, ap (option_map real_begins) k.1)
 
--- the route and the orders are the same
-pub record Stays (turn : RealView → RealView) (g h : Has) : Type 0 where
+-- the orders are the same, and the route where it is kept
+pub record Stays (turn : RealView → RealView) (keeps : Type 0) (g h : Has) : Type 0 where
   pub real : Kept turn (real_in g) (real_in h)
-  pub route : h.base.route ≡ g.base.route
+  pub route : keeps → h.base.route ≡ g.base.route
   pub orders : h.base.orders ≡ g.base.orders
 
-pub stays_as : (g : Has) → Stays same g g
-stays_as g = record { real = kept_all (real_in g); route = refl; orders = refl }
+pub stays_as : (g : Has) → Stays same (Unit {0}) g g
+stays_as g = record { real = kept_all (real_in g); route = λ keeps. refl; orders = refl }
 
 module _ (e : ℕ) where
+  -- as the round begins, the node's route to the entity is what it was
+  abbrev pub IsRouted : NodeView → Type 0
+  IsRouted (Cell c) = Unit {0}
+  IsRouted (Base b) = table.get (routes_without b.gone b.routes) e ≡ table.get b.routes e
+
   -- ---- the base nodes begin the round
 
-  pub base_stays : (n : ℕ) (s : NodeView) → Stays same (has_of e s) (has_of e (base_round n s))
-  base_stays n (Cell c) = record { real = kept_all (table.get c.reals e); route = refl; orders = refl }
-  base_stays n (Base b) = record { real = refl; route = refl; orders = refl }
+  pub base_stays : (n : ℕ) (s : NodeView) → Stays same (IsRouted s) (has_of e s) (has_of e (base_round n s))
+  base_stays n (Cell c) = record { real = kept_all (table.get c.reals e); route = λ keeps. refl; orders = refl }
+  base_stays n (Base b) = record { real = refl; route = λ keeps. keeps; orders = refl }
 
   -- ---- another entity is created
 
@@ -62,26 +69,28 @@ module _ (e : ℕ) where
     part_other true n = (refl, refl)
     part_other false n = (refl, refl)
 
-    created_stays : (g : Has) (s : NodeView) → Stays same g (has_of e s) → Stays same g (has_of e (created_at t x s))
-    created_stays g (Cell c) h = cell_made g c (eqb (leaf_at t x.pos) c.here.me) h
+    created_stays : (keeps : Type 0) (g : Has) (s : NodeView) → Stays same keeps g (has_of e s) →
+        Stays same keeps g (has_of e (created_at t x s))
+    created_stays keeps g (Cell c) h = cell_made g c (eqb (leaf_at t x.pos) c.here.me) h
       where
-        cell_made : (g : Has) (c : CellView) (b : Bool) → Stays same g (has_of e (Cell c)) → Stays same g (has_of e (Cell (real_if b c x)))
+        cell_made : (g : Has) (c : CellView) (b : Bool) → Stays same keeps g (has_of e (Cell c)) →
+            Stays same keeps g (has_of e (Cell (real_if b c x)))
         cell_made g c b h = record {
           real = subst (Kept same (real_in g)) (sym (real_other b c)) h.real;
           route = h.route;
           orders = h.orders;
         }
-    created_stays g (Base n) h = base_made (eqb (base_of n.here x.entity) n.here.me)
+    created_stays keeps g (Base n) h = base_made (eqb (base_of n.here x.entity) n.here.me)
       where
-        base_made : (b : Bool) → Stays same g (has_of e (Base (part_if b (with_route n x.entity (leaf_at t x.pos)) x)))
+        base_made : (b : Bool) → Stays same keeps g (has_of e (Base (part_if b (with_route n x.entity (leaf_at t x.pos)) x)))
         base_made b =
             let two = part_other b (with_route n x.entity (leaf_at t x.pos)) in
             record {
               real = h.real;
-              route =
+              route = λ kept.
                   two.0
                   ∙ other_set n.routes x.entity (Some (record { cell = leaf_at t x.pos; generation = 0 })) other
-                  ∙ h.route;
+                  ∙ h.route kept;
               orders = two.1 ∙ h.orders;
             }
 
@@ -94,14 +103,15 @@ module _ (e : ℕ) where
       subst (λ j. Kept same o (option_map (with_witness h) (table.get m j))) at (kept_witness h o (table.get m e) k)
   joined_by h m q o false is k = k
 
-  joined_stays : (g : Has) (q : ℕ) (s : NodeView) → Stays same g (has_of e s) → Stays same g (has_of e (attached q s))
-  joined_stays g q (Cell c) h = record {
+  joined_stays : (keeps : Type 0) (g : Has) (q : ℕ) (s : NodeView) → Stays same keeps g (has_of e s) →
+      Stays same keeps g (has_of e (attached q s))
+  joined_stays keeps g q (Cell c) h = record {
     real = subst (Kept same (real_in g)) (sym (get-set_at c.reals q e (option_map (with_witness c.here) (table.get c.reals q))))
         (joined_by c.here c.reals q (real_in g) (eq_by_cmp nat_cmp e q) refl h.real);
     route = h.route;
     orders = h.orders;
   }
-  joined_stays g q (Base n) h = record { real = h.real; route = h.route; orders = h.orders }
+  joined_stays keeps g q (Base n) h = record { real = h.real; route = h.route; orders = h.orders }
 
   -- ---- the cells begin the round
 
@@ -109,9 +119,9 @@ module _ (e : ℕ) where
   no_real None k = refl
   no_real (Some r) k = absurd (let z = k.1 in cc)
 
-  round_stays : (g : Has) (t : Division) (s : NodeView) → Stays same g (has_of e s) →
-      Stays real_begins g (has_of e (cell_round t s)) × ((has_of e (cell_round t s)).cell.slot.next ≡ None)
-  round_stays g t (Cell c) h = (
+  round_stays : (keeps : Type 0) (g : Has) (t : Division) (s : NodeView) → Stays same keeps g (has_of e s) →
+      Stays real_begins keeps g (has_of e (cell_round t s)) × ((has_of e (cell_round t s)).cell.slot.next ≡ None)
+  round_stays keeps g t (Cell c) h = (
     record {
       real = subst (Kept real_begins (real_in g)) (sym (get-each_value real_begins c.reals e))
           (kept_begins (real_in g) (table.get c.reals e) h.real);
@@ -120,15 +130,15 @@ module _ (e : ℕ) where
     },
     table.get-empty nat_cmp e,
   )
-  round_stays g t (Base n) h = (record { real = no_real (real_in g) h.real; route = h.route; orders = h.orders }, refl)
+  round_stays keeps g t (Base n) h = (record { real = no_real (real_in g) h.real; route = h.route; orders = h.orders }, refl)
 
   -- ---- the orders
 
   -- what the load leaves of the entity at a node
-  pub record Becomes (g h : Has) : Type 0 where
+  pub record Becomes (keeps : Type 0) (g h : Has) : Type 0 where
     pub real : Kept real_begins (real_in g) (real_in h)
     pub next : h.cell.slot.next ≡ None
-    pub route : h.base.route ≡ g.base.route
+    pub route : keeps → h.base.route ≡ g.base.route
     pub spared : HasNoReaps g → HasNoReaps h
 
   abbrev Spares : Order → Type 0
@@ -144,11 +154,12 @@ module _ (e : ℕ) where
       subst (AllByRecursion Spares) (sym (filter-append (order_concerns e) os (o ∷ [])))
       (all_append Spares (orders_of e os) (orders_of e (o ∷ [])) all (kept_by o [] (order_concerns e o) h tt))
 
-  order_becomes : (g : Has) (o : ℕ × Order) (s : NodeView) → Spares o.1 → Becomes g (has_of e s) → Becomes g (has_of e (ordered_at o s))
-  order_becomes g o (Cell c) spares h = h
-  order_becomes g o (Base n) spares h = base_ordered (eqb o.0 n.here.me)
+  order_becomes : (keeps : Type 0) (g : Has) (o : ℕ × Order) (s : NodeView) → Spares o.1 → Becomes keeps g (has_of e s) →
+      Becomes keeps g (has_of e (ordered_at o s))
+  order_becomes keeps g o (Cell c) spares h = h
+  order_becomes keeps g o (Base n) spares h = base_ordered (eqb o.0 n.here.me)
     where
-      base_ordered : (b : Bool) → Becomes g (has_of e (Base (order_if b n o.1)))
+      base_ordered : (b : Bool) → Becomes keeps g (has_of e (Base (order_if b n o.1)))
       base_ordered true = record {
         real = h.real;
         next = h.next;
@@ -159,8 +170,8 @@ module _ (e : ℕ) where
 
   -- ---- all of it
 
-  becomes_of : (g h : Has) → Stays real_begins g h → h.cell.slot.next ≡ None → Becomes g h
-  becomes_of g h s next = record {
+  becomes_of : (keeps : Type 0) (g h : Has) → Stays real_begins keeps g h → h.cell.slot.next ≡ None → Becomes keeps g h
+  becomes_of keeps g h s next = record {
     real = s.real;
     next = next;
     route = s.route;
@@ -168,35 +179,40 @@ module _ (e : ℕ) where
   }
 
   -- where the entities that are created are others, it stays while they are
-  pub creates_stay : (t : Division) (xs : List Create) → AllByRecursion (λ x. x.entity ≡ e → ⊥) xs → (g : Has) (s : NodeView) →
-      Stays same g (has_of e s) → Stays same g (has_of e (each (created_at t) xs s))
-  creates_stay t xs others g s h =
-      each_keeps (created_at t) (λ n. Stays same g (has_of e n)) (λ x. x.entity ≡ e → ⊥) (λ x n other h. created_stays t x other g n h) xs
-      others s h
+  pub creates_stay : (t : Division) (xs : List Create) → AllByRecursion (λ x. x.entity ≡ e → ⊥) xs → (keeps : Type 0) (g : Has)
+      (s : NodeView) → Stays same keeps g (has_of e s) → Stays same keeps g (has_of e (each (created_at t) xs s))
+  creates_stay t xs others keeps g s h =
+      each_keeps (created_at t) (λ n. Stays same keeps g (has_of e n)) (λ x. x.entity ≡ e → ⊥)
+      (λ x n other h. created_stays t x other keeps g n h) xs others s h
 
   -- and so it does while clients are attached and cells begin the round
-  pub begun_stays : (b : Batch) (g : Has) (s : NodeView) → Stays same g (has_of e s) →
-      Stays real_begins g (has_of e (cell_round b.tree (each attached b.clients s)))
+  pub begun_stays : (b : Batch) (keeps : Type 0) (g : Has) (s : NodeView) → Stays same keeps g (has_of e s) →
+      Stays real_begins keeps g (has_of e (cell_round b.tree (each attached b.clients s)))
       × ((has_of e (cell_round b.tree (each attached b.clients s))).cell.slot.next ≡ None)
-  begun_stays b g s h =
-      round_stays g b.tree (each attached b.clients s)
-      (each_keeps attached (λ n. Stays same g (has_of e n)) Any (λ q n u h. joined_stays g q n h) b.clients (any b.clients) s h)
+  begun_stays b keeps g s h =
+      round_stays keeps g b.tree (each attached b.clients s)
+      (each_keeps attached (λ n. Stays same keeps g (has_of e n)) Any (λ q n u h. joined_stays keeps g q n h) b.clients (any b.clients) s h)
 
-  pub becomes_after : (b : Batch) → AllByRecursion (λ o. Spares o.1) b.orders → (g : Has) (s : NodeView) → Stays same g (has_of e s) →
-      Becomes g (has_of e (each ordered_at b.orders (cell_round b.tree (each attached b.clients s))))
-  becomes_after b spares g s h =
+  pub becomes_after : (b : Batch) → AllByRecursion (λ o. Spares o.1) b.orders → (keeps : Type 0) (g : Has) (s : NodeView) →
+      Stays same keeps g (has_of e s) →
+      Becomes keeps g (has_of e (each ordered_at b.orders (cell_round b.tree (each attached b.clients s))))
+  becomes_after b spares keeps g s h =
       let begun = cell_round b.tree (each attached b.clients s) in
-      let two = begun_stays b g s h in
-      each_keeps ordered_at (λ n. Becomes g (has_of e n)) (λ o. Spares o.1) (λ o n h k. order_becomes g o n h k) b.orders spares
-      begun (becomes_of g (has_of e begun) two.0 two.1)
+      let two = begun_stays b keeps g s h in
+      each_keeps ordered_at (λ n. Becomes keeps g (has_of e n)) (λ o. Spares o.1) (λ o n h k. order_becomes keeps g o n h k) b.orders
+      spares begun (becomes_of keeps g (has_of e begun) two.0 two.1)
 
   -- all of it
   pub node_becomes : (b : Batch) → AllByRecursion (λ x. x.entity ≡ e → ⊥) b.creates → AllByRecursion (λ o. Spares o.1) b.orders →
-      (s : NodeView) → Becomes (has_of e s) (has_of e (node_loaded b s))
+      (s : NodeView) → Becomes (IsRouted s) (has_of e s) (has_of e (node_loaded b s))
   node_becomes b others spares s =
       let begun = base_round (cells_of b.tree) s in
-      becomes_after b spares (has_of e s) (each (created_at b.tree) b.creates begun)
-      (creates_stay b.tree b.creates others (has_of e s) begun (base_stays (cells_of b.tree) s))
+      becomes_after b spares (IsRouted s) (has_of e s) (each (created_at b.tree) b.creates begun)
+      (creates_stay b.tree b.creates others (IsRouted s) (has_of e s) begun (base_stays (cells_of b.tree) s))
+
+  -- and where the route is kept
+  pub routed : {keeps : Type 0} {g h : Has} → keeps → Becomes keeps g h → Becomes (Unit {0}) g h
+  routed kept b = record { real = b.real; next = b.next; route = λ any. b.route kept; spared = b.spared }
 
   -- ---- the orders before the batch's are given
 
@@ -233,3 +249,43 @@ module _ (e : ℕ) where
       round_orders b.tree os (made b s)
       (each_keeps attached (HasOrders os) Any (λ q n u h. joined_orders q os n h) b.clients (any b.clients)
       (each (created_at b.tree) b.creates begun) first)
+
+  -- ---- no node that is loaded forgets a route
+
+  kept_created : (t : Division) (x : Create) (s : NodeView) → Any x → KeepsRoute e s → KeepsRoute e (created_at t x s)
+  kept_created t x (Cell c) u h = tt
+  kept_created t x (Base n) u h = by (eqb (base_of n.here x.entity) n.here.me)
+    where
+      by : (b : Bool) → KeepsRoute e (Base (part_if b (with_route n x.entity (leaf_at t x.pos)) x))
+      by true = h
+      by false = h
+
+  kept_attached : (q : ℕ) (s : NodeView) → Any q → KeepsRoute e s → KeepsRoute e (attached q s)
+  kept_attached q (Cell c) u h = tt
+  kept_attached q (Base n) u h = h
+
+  kept_begun : (n : ℕ) (s : NodeView) → KeepsRoute e (base_round n s)
+  kept_begun n (Cell c) = tt
+  kept_begun n (Base b) = tt
+
+  kept_round : (t : Division) (s : NodeView) → KeepsRoute e s → KeepsRoute e (cell_round t s)
+  kept_round t (Cell c) h = tt
+  kept_round t (Base n) h = h
+
+  kept_ordered : (o : ℕ × Order) (s : NodeView) → Any o → KeepsRoute e s → KeepsRoute e (ordered_at o s)
+  kept_ordered o (Cell c) u h = tt
+  kept_ordered o (Base n) u h = by (eqb o.0 n.here.me)
+    where
+      by : (b : Bool) → KeepsRoute e (Base (order_if b n o.1))
+      by true = h
+      by false = h
+
+  pub node_keeps : (b : Batch) (s : NodeView) → KeepsRoute e (node_loaded b s)
+  node_keeps b s =
+      let begun = base_round (cells_of b.tree) s in
+      let created = each (created_at b.tree) b.creates begun in
+      each_keeps ordered_at (KeepsRoute e) Any kept_ordered b.orders (any b.orders) (cell_round b.tree (made b s))
+      (kept_round b.tree (made b s)
+      (each_keeps attached (KeepsRoute e) Any kept_attached b.clients (any b.clients) created
+      (each_keeps (created_at b.tree) (KeepsRoute e) Any (kept_created b.tree) b.creates (any b.creates) begun
+      (kept_begun (cells_of b.tree) s))))

@@ -1,20 +1,20 @@
 -- A base part that no one calls and no one reaps stays as it is, but for its client.
-use Rattle.seam_law_rounds.proofs.Prelude.{◌≡◌, ℕ, true, List, [], ◌∷◌, Option, None, Some, refl, sym, ap, ◌∙◌, subst, arith, inl, inr}
-use Rattle.seam_law_rounds.proofs.Prelude.{option_map, slice_get, AllByRecursion, cases_eq, slice_get-map, happens, enabled, total, Event}
+use Rattle.seam_law_rounds.proofs.Prelude.{◌≡◌, ℕ, List, [], ◌∷◌, Option, None, Some, refl, sym, ap, ◌∙◌, subst, arith, inl, inr}
+use Rattle.seam_law_rounds.proofs.Prelude.{option_map, slice_get, AllByRecursion, cases_eq, slice_get-map, happens, total, Event}
 use Rattle.seam_law_rounds.proofs.Prelude.{Call as CallData, Order, order_or, Msg, BaseCall, Here, PartView, ProxyView, NodeView, World}
 use Rattle.seam_law_rounds.proofs.Prelude.{node_steps, node_has_work, with_nodes, comes, slot_at, letters_of, Frame, here_at, IsInFrame}
 use Rattle.seam_law_rounds.proofs.Prelude.{Has, AtBase, mine, has_of, has_none, entity_flow, reaped_by, reaped_by_order, HasNoReaps}
 use Rattle.seam_law_rounds.proofs.Prelude.{IsSpared, base_call_in, base_call_of, calls_ordered, PartMoves, rests, refuses, offers, sends}
 use Rattle.seam_law_rounds.proofs.Prelude.{serves, executes, misses, updates, shows, ends, home_of, HasNoBaseCalls, RunsTo, IsBetweenRounds}
-use Rattle.seam_law_rounds.proofs.Prelude.{HasSettledPart, occurs, quiet_links, leads_keeps, slots_kept, came, event_moves, frame_happens}
-use Rattle.seam_law_rounds.proofs.Prelude.{spared_happens, unordered}
+use Rattle.seam_law_rounds.proofs.Prelude.{HasSettledPart, quiet_links, slots_kept, came, event_moves, frame_happens, spared_happens}
+use Rattle.seam_law_rounds.proofs.Prelude.{unordered, EachKeeps, RunsKeep, runs_keep}
 use Rattle.std.specs.FinMap as table
 use Rattle.seam_call.specs.declared.order.Order.TheVariants as order
 use Rattle.seam_law_rounds.proofs.Calm.{order_reaps, IsCalmOrder}
 use Rattle.seam_law_rounds.proofs.CalmMoves.{none_ready}
 use Rattle.seam_law_rounds.proofs.Starting.{Given}
 use Rattle.seam_law_calls.proofs.PartSteps.{part_moves}
-use Rattle.seam_law_calls.proofs.Reaped.{no_call_comes}
+use Rattle.seam_law_calls.proofs.Reaped.{no_call_happens}
 use Rattle.seam_law_rounds.proofs.PartLoads.{SamePart, same_part, part_at}
 use Rattle.seam_law_rounds.proofs.PartsLoaded.{same_none, same_some}
 
@@ -71,16 +71,15 @@ module _ (f : Frame) (e : ℕ) (had : ℕ → Option PartView) (idle : (k : ℕ)
     pub none : HasNoBaseCalls e w
     pub parts : (k : ℕ) → SamePart (had k) ((entity_flow e w).slot k).base.part
 
-  still_more : (w : World) (v : Event) → IsStill w → enabled node_has_work w v ≡ true → IsStill (happens node_steps w v)
-  still_more w v h on =
-      let o = occurs node_has_work w v on in
+  still_happens : EachKeeps IsStill
+  still_happens w v o h =
       let g = event_moves f w v o h.frame e in
       let s = (entity_flow e w).slot g.k in
       let t = (entity_flow e (happens node_steps w v)).slot g.k in
       record {
         frame = frame_happens f w v o h.frame;
         spared = spared_happens f e w v o h.frame h.spared;
-        none = no_call_comes f e w (happens node_steps w v) (v ∷ []) h.frame h.none (record { each = (on, tt); is_run = refl });
+        none = no_call_happens f e w v o h.frame h.none;
         parts =
             slots_kept (λ k s. SamePart (had k) s.base.part) g h.parts
             (still_after (here_at f g.k) e s.base (comes g.input) t.base g.moves.sent (had g.k) (idle g.k) (h.none.orders g.k)
@@ -89,8 +88,8 @@ module _ (f : Frame) (e : ℕ) (had : ℕ → Option PartView) (idle : (k : ℕ)
             (part_moves f e g.k s (comes g.input) t g.moves.sent g.moves.moves));
       }
 
-  pub still_leads : (w v : World) (es : List Event) → IsStill w → RunsTo w es v → IsStill v
-  still_leads w v es h run = leads_keeps node_has_work node_steps IsStill still_more w v es h run
+  pub still_leads : RunsKeep IsStill
+  still_leads = runs_keep IsStill still_happens
 
 -- ---- a load that gives the entity no call and no reap
 

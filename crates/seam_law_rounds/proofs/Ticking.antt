@@ -10,8 +10,10 @@ use Rattle.seam_law_rounds.proofs.Prelude.{real_in, sent_by, EachReal, HasToldAt
 use Rattle.seam_law_rounds.proofs.Prelude.{HasFewEntities, SeesFew, order_looks, node_looks, mine_looks, looks_left, most_shown, RunsTo}
 use Rattle.seam_law_rounds.proofs.Prelude.{IsBetweenRounds, each, made, node_loaded, HasPartsBetweenRounds, FitsParts, MayBegin}
 use Rattle.seam_law_rounds.proofs.Prelude.{quiet_links, quiet_tasks, NoTicks, each_weaker}
+use Rattle.std.specs.FinMap as table
 use Rattle.seam_call.specs.declared.order.Order.TheVariants as order
-use Rattle.seam_law_calls.proofs.Quieting.{neither, none_left}
+use Rattle.seam_ghosts.proofs.Forgotten.{get_with_copies}
+use Rattle.seam_law_calls.proofs.Quieting.{none_left}
 use Rattle.seam_law_rounds.proofs.Loading.{each_keeps, Any, any, loaded_is, node_there}
 use Rattle.seam_law_rounds.proofs.Loaded.{no_mail, slot_is}
 use Rattle.seam_law_rounds.proofs.Making.{AreOthers}
@@ -21,6 +23,7 @@ use Rattle.seam_law_calls.proofs.Telling.{tells_at_most, sees_few_then}
 use Rattle.seam_law_rounds.proofs.Joining.{is_among, peopled, real_in_node, real_joined, real_peopled}
 use Rattle.seam_law_rounds.proofs.Attaching.{real_from}
 use Rattle.seam_law_rounds.proofs.Serving.{HasItStill, each_real, told_at_start}
+use Rattle.seam_law_calls.proofs.Holds.{neither}
 
 -- what a witness tells in a phase of a round is at most this
 abbrev pub most_told : ℕ
@@ -30,13 +33,17 @@ most_told = 2 ^ 57
 abbrev pub TellsFew : ℕ → RealView → World → Type 0
 TellsFew e r v = HasToldAtMost e (sent_by r + most_told) v
 
--- ---- a load leaves ghosts and look lists as they are
+-- ---- a load leaves copies and look lists as they are
 
 -- what of a cell no load changes
-abbrev aside : ℕ → NodeView → Option (Ghost GhostCopy) × ℕ
-aside e n = ((has_of e n).cell.slot.ghost, (has_of e n).cell.looks)
+abbrev aside : ℕ → NodeView → Option GhostCopy × ℕ
+aside e n = (copy_in (has_of e n).cell.slot.ghost, (has_of e n).cell.looks)
 
-module _ (e : ℕ) (g : Option (Ghost GhostCopy) × ℕ) where
+copy_kept : (o : Option (Ghost GhostCopy)) (c : Option GhostCopy) → copy_in o ≡ c → copy_in (cond (is_some c) o None) ≡ copy_in o
+copy_kept o (Some c) is = refl
+copy_kept o None is = sym is
+
+module _ (e : ℕ) (g : Option GhostCopy × ℕ) where
   abbrev IsAside : NodeView → Type 0
   IsAside n = aside e n ≡ g
 
@@ -61,7 +68,12 @@ module _ (e : ℕ) (g : Option (Ghost GhostCopy) × ℕ) where
   joined_aside q (Base n) u h = h
 
   round_aside : (t : Division) (s : NodeView) → IsAside s → IsAside (cell_round t s)
-  round_aside t (Cell c) h = h
+  round_aside t (Cell c) h =
+      let o = table.get c.ghosts e in
+      ap (λ c. (c, times e looks)) (ap copy_in (get_with_copies c.ghosts e) ∙ copy_kept o (copy_in o) refl) ∙ h
+    where
+      looks : List ℕ
+      looks = c.looks
   round_aside t (Base n) h = h
 
   ordered_aside : (o : ℕ × Order) (s : NodeView) → Any o → IsAside s → IsAside (ordered_at o s)
@@ -179,7 +191,7 @@ module _ (f : Frame) (w : World) (b : Batch) (begin : MayBegin f w b) (had : Has
         let was = subst (λ o. IsBlank (slot_at (has_of e) has_none o)) at (had.entities e le k) in
         record {
           real = real_by (real_in (has_of e (node_loaded b s))) refl was.real;
-          copy = ap (λ p. copy_in p.0) (loaded_aside e (aside e s) b s refl) ∙ was.copy;
+          copy = ap (λ p. p.0) (loaded_aside e (aside e s) b s refl) ∙ was.copy;
         }
       where
         real_by : (o : Option RealView) → real_in (has_of e (node_loaded b s)) ≡ o → real_in_node e s ≡ None → o ≡ None

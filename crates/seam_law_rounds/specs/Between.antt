@@ -1,9 +1,10 @@
 -- The record between rounds: what a quiet world keeps from the end of a round to the load of the next; and a batch that fits it.
-use Rattle.std.specs.Prelude.{◌≡◌, ℕ, ◌+◌, ◌^◌, ◌<◌, ◌≤◌, true, eqb, List, [], map, length, Option, None, Some}
+use Rattle.std.specs.Prelude.{◌≡◌, ℕ, ◌+◌, ◌^◌, ◌<◌, ◌≤◌, true, eqb, List, [], map, length, slice_get, Option, None, Some}
 use Rattle.std.specs.List.{AllByRecursion, IsDistinct}
 use Rattle.std.specs.FinMap as table
 use Rattle.seam_node_steps.specs.Prelude.{cells_of, IsTree, IsQuiet, items_to, Call as CallData, Create, Order, Batch, order_or, RealView}
 use Rattle.seam_node_steps.specs.Prelude.{limit, is_inside, cell_count, fits_cell_part, holders, TellsNone, World, node_has_work, loaded}
+use Rattle.seam_node_steps.specs.Prelude.{WitnessView, NodeView, Cell, Base}
 use Rattle.seam_law_flow.specs.Prelude.{letters_of, number_from}
 use Rattle.seam_law_calls.specs.Prelude.{Frame, here_at, IsInFrame, has_none, order_about, orders_of, entity_flow, RealFits}
 use Rattle.seam_law_calls.specs.Prelude.{reaped_by_order, IsFrame, from_sender, cell_order_from, real_at}
@@ -33,6 +34,14 @@ pub record IsSettled (f : Frame) (e home : ℕ) (r : RealView) (w : World) : Typ
   -- each sender's next number is at least one
   pub from_one : (s : ℕ) → 1 ≤ next_from s r
 
+-- the entity is none whose route the node forgets as the next round begins
+abbrev pub KeepsRoute : ℕ → NodeView → Type 0
+KeepsRoute e (Cell c) = Unit {0}
+KeepsRoute e (Base b) = AllByRecursion (λ x. x ≡ e → ⊥) b.gone
+
+abbrev pub KeepsRoutes : ℕ → World → Type 0
+KeepsRoutes e w = (k : ℕ) (s : NodeView) → slice_get w.nodes k ≡ Some s → KeepsRoute e s
+
 -- the record between rounds, by the definitions, the settings and the tree of the round that ended
 pub record IsBetweenRounds (f : Frame) (w : World) : Type 0 where
   -- the definitions and the trees are such
@@ -45,6 +54,8 @@ pub record IsBetweenRounds (f : Frame) (w : World) : Type 0 where
   pub quiet : IsQuiet node_has_work w
   -- each real is the only one of its entity, fits, and is where the routes go
   pub settled : (e k : ℕ) (r : RealView) → real_at e w k ≡ Some r → IsSettled f e k r w
+  -- and these routes are kept as the next round begins
+  pub kept : (e k : ℕ) (r : RealView) → real_at e w k ≡ Some r → KeepsRoutes e w
 
 -- ---- entities that a batch creates
 
@@ -52,9 +63,15 @@ pub record IsBetweenRounds (f : Frame) (w : World) : Type 0 where
 abbrev pub IsNew : World → ℕ → Type 0
 IsNew w e = (k : ℕ) → (entity_flow e w).slot k ≡ has_none
 
--- the entity may be made: it is new, of a type of the definitions, and in the space
+-- no witness has ever shown the entity to its client
+abbrev pub NeverShown : World → ℕ → Type 0
+NeverShown w x = (e k : ℕ) (r : RealView) → real_at e w k ≡ Some r → (v : WitnessView) → r.witness ≡ Some v →
+    table.get v.view.shown x ≡ None
+
+-- the entity may be made: it is new, no client was ever shown one of its number, its type is one of the definitions, and it is in the space
 pub record MayBeMade (f : Frame) (w : World) (x : Create) : Type 0 where
   pub new : IsNew w x.entity
+  pub unshown : NeverShown w x.entity
   pub type : x.ty < length f.defs
   pub inside : is_inside f.settings.size x.pos ≡ true
 

@@ -44,8 +44,8 @@ pub use Rattle.seam_law_book.proofs.Prelude.{same_sender, same_shown, same_value
 pub use Rattle.seam_law_book.proofs.Prelude.{slice_get, slot_at, slot_is, sole_here, spared_loaded, subst, suc, sym, tree_of, true, type_of}
 pub use Rattle.seam_law_book.proofs.Prelude.{was_dead, with_done, with_entry, with_round_ended, zero, ℕ, ◌&&◌, ◌++◌, ◌+◌, ◌-◌, ◌<◌, ◌==◌}
 pub use Rattle.seam_law_book.proofs.Prelude.{◌||◌, ◌∙◌, ◌∷◌, ◌≡◌, ◌≤◌, ◌⊎◌}
-pub use Rattle.seam_law_book.proofs.Present.{alive, any_begun, any_split, created_begun, created_split, live_is_present, neither}
-pub use Rattle.seam_law_book.proofs.Present.{undestroyed, undestroyed_apart, unjoined}
+pub use Rattle.seam_law_book.proofs.Present.{alive, any_begun, any_split, created_begun, created_split, live_is_present, undestroyed}
+pub use Rattle.seam_law_book.proofs.Present.{undestroyed_apart, unjoined}
 pub use Rattle.seam_law_book.proofs.Untouched.{IsFromSender, known_is_sender, one_cell_tree}
 pub use Rattle.seam_law_bounds.proofs.Prelude.{AreAmong, AreAtMost, AreReapable, ClientText, Flow, HasNoLooks, HasOne, HasToldAtMost}
 pub use Rattle.seam_law_bounds.proofs.Prelude.{IsServed, Item, Look, Mail, Property, Settings, Shown, Sole, bare, base_text, calm_leads}
@@ -75,3 +75,4 @@ pub use Rattle.seam_rule_rounds.specs.Prelude.{ClientLine, IsOther, IsOwn, IsRou
 pub use Rattle.seam_rule_rounds.specs.Prelude.{base_line, base_shown, base_texts, base_versions, changes_past, created, home_line}
 pub use Rattle.seam_rule_rounds.specs.Prelude.{in_first_cell, is_base, is_new_client, is_tick, lines_to, other_at, replica_of, shown_by}
 pub use Rattle.seam_rule_rounds.specs.Prelude.{shown_by_lines, shown_for, texts_to, told_in, truth_of, with_line}
+pub use Rattle.seam_law_calls.proofs.Holds.{neither}

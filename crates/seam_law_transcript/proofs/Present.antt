@@ -5,6 +5,7 @@ use Rattle.seam_law_transcript.proofs.Prelude.{none-some, length-map, filter_map
 use Rattle.seam_law_transcript.proofs.Prelude.{as_begun, IsPresent, entity_of, made_among, live_is_created}
 use Rattle.std.proofs.lemmas.List.Folds.{list_any-append}
 use Rattle.seam_law_bounds.specs.Prelude.{is_among}
+use Rattle.seam_law_calls.proofs.Holds.{or_left, or_right}
 
 -- the numbers of those that were created
 abbrev pub names : Book → List ℕ
@@ -18,14 +19,6 @@ names_many b =
     let is = ap length (filter_map-append created b.past b.current) in
     let both = length-append (creates_of b.past) (creates_of b.current) in
     omega (arith, all, past, now, is, both)
-
-or_left : (a b : Bool) → a ≡ true → (a || b) ≡ true
-or_left true b h = refl
-or_left false b h = absurd (let z = h in cc)
-
-or_right : (a b : Bool) → b ≡ true → (a || b) ≡ true
-or_right true b h = refl
-or_right false b h = h
 
 among : (e : ℕ) (made : Create) (cs : List Create) → made_among cs e ≡ Some made → is_among (map entity_of cs) e ≡ true
 among e made [] is = absurd (none-some made is)

@@ -5,6 +5,7 @@ use Rattle.seam_law_transcript.proofs.Prelude.{filter_map, option_or, eqb-true, 
 use Rattle.seam_law_transcript.proofs.Prelude.{creates_of, created_as, live_as, destroys, joins, was_dead, is_shown, as_begun, IsPresent}
 use Rattle.seam_law_transcript.proofs.Prelude.{GetsClient, IsNewEntity, IsUntouched, HasFitRound, made_among, joined, any_split, any_begun}
 use Rattle.seam_law_transcript.proofs.Prelude.{created_split, created_begun, unjoined, alive, live_is_created, both, is_among}
+use Rattle.seam_law_calls.proofs.Holds.{not_true}
 
 module _ (b : Book) (e : ℕ) (c : Create) (made : created_as b e ≡ Some c) (shown : IsTrue (is_shown b e)) where
   first_two : (is_some (created_as b e) && list_any (joins e) (entries b)) ≡ true
@@ -12,10 +13,6 @@ module _ (b : Book) (e : ℕ) (c : Create) (made : created_as b e ≡ Some c) (s
 
   pub was_joined : list_any (joins e) (entries b) ≡ true
   was_joined = (both (is_some (created_as b e)) (list_any (joins e) (entries b)) first_two).1
-
-  not_true : (x : Bool) → not x ≡ true → x ≡ false
-  not_true true is = absurd (let z = is in cc)
-  not_true false is = refl
 
   not_dead : list_any (destroys e) b.past ≡ false
   not_dead =

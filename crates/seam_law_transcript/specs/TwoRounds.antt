@@ -5,7 +5,8 @@ use Rattle.std.specs.FinMap as table
 use Rattle.std.specs.FinSet as set
 use Rattle.seam_node_steps.specs.Prelude.{Event, Number, State, Ghost, Call as CallData, Create, GhostCopy, Line, Shown, Own, Enter, Leave}
 use Rattle.seam_node_steps.specs.Prelude.{Order, created, RealView, WitnessView, Msg, GhostSet, GhostDrop, Tick, Reap, Update, Map}
-use Rattle.seam_node_steps.specs.Prelude.{PartView, NodeView, World, Cell, Base, new_part, at, no, one, here, cell, copy_at, ghost, hit}
+use Rattle.seam_node_steps.specs.Prelude.{PartView, RouteView, NodeView, World, Cell, Base, new_part, at, no, one, here, cell, copy_at}
+use Rattle.seam_node_steps.specs.Prelude.{ghost, hit}
 use Rattle.seam_node_steps.specs.Prelude.{call, real, Way, world, task, mail, two_cells, order as in_order, made_at, witness, blind, both}
 use Rattle.seam_node_steps.specs.Prelude.{other_at, base_line, line}
 use Rattle.seam_call.specs.declared.order.Order.TheVariants as order
@@ -125,23 +126,33 @@ abbrev pub part_at : ℕ → ℕ → List Line → ℕ → PartView
 part_at k next lines last =
     record (new_part (here k) 0) { proxy = Some (record { updates = in_order next []; lines = lines; last = last }) }
 
+-- base node k, told that these were reaped
+abbrev pub base_with : ℕ → List Order → Map RouteView → Map PartView → List ℕ → NodeView
+base_with k os routes parts gone =
+    Base (record { here = here k; cells = 2; orders = os; routes = routes; parts = parts; gone = gone })
+
+abbrev pub both_routes : Map RouteView
+both_routes = both (record { cell = 0; generation = 0 }) (record { cell = 1; generation = 0 })
+
 abbrev pub base_16 : List Order → Map PartView → NodeView
-base_16 os parts = Base (record {
-  here = here 16;
-  cells = 2;
-  orders = os;
-  routes = both (record { cell = 0; generation = 0 }) (record { cell = 1; generation = 0 });
-  parts = parts;
-})
+base_16 os parts = base_with 16 os both_routes parts []
 
 abbrev pub base_17 : PartView → NodeView
-base_17 p = Base (record {
-  here = here 17;
-  cells = 2;
-  orders = [];
-  routes = both (record { cell = 0; generation = 0 }) (record { cell = 1; generation = 0 });
-  parts = one p;
-})
+base_17 p = base_with 17 [] both_routes (one p) []
+
+-- once entity 2 was reaped
+abbrev pub reaped_16 : List Order → Map PartView → NodeView
+reaped_16 os parts = base_with 16 os both_routes parts (2 ∷ [])
+
+abbrev pub reaped_17 : PartView → NodeView
+reaped_17 p = base_with 17 [] both_routes (one p) (2 ∷ [])
+
+-- and in the round after that
+abbrev pub later_16 : List Order → NodeView
+later_16 os = base_with 16 os (one (record { cell = 0; generation = 0 })) no []
+
+abbrev pub later_17 : PartView → NodeView
+later_17 p = base_with 17 [] (one (record { cell = 0; generation = 0 })) (one p) []
 
 abbrev pub with_cells : NodeView → NodeView → NodeView → NodeView → List Way → World
 with_cells c0 c1 b16 b17 ways = world two_cells (c0 ∷ c1 ∷ []) b16 b17 ways
@@ -284,23 +295,23 @@ later_calls = (task 0, call_11) ∷ (task 1, call_12) ∷ (mail 17 0, call_13) �
 
 unfoldable pub reap_0 : World
 reap_0 = with_cells (cell_0 (hit_twice two_hits seeing_2) (only 2 heard_2) [] [])
-    (cell_1 (only 2 (settled_2 seeing_1)) (one (heard_1 2)) [] []) (base_16 (order.Reap 2 ∷ []) shown_2) (base_17 shown_1) []
+    (cell_1 (only 2 (settled_2 seeing_1)) (one (heard_1 2)) [] []) (reaped_16 (order.Reap 2 ∷ []) shown_2) (reaped_17 shown_1) []
 
 -- the base part goes, and the client with it
 unfoldable pub reap_1 : World
 reap_1 = with_cells (cell_0 (hit_twice two_hits seeing_2) (only 2 heard_2) [] [])
-    (cell_1 (only 2 (settled_2 seeing_1)) (one (heard_1 2)) [] []) (base_16 [] no) (base_17 shown_1)
+    (cell_1 (only 2 (settled_2 seeing_1)) (one (heard_1 2)) [] []) (reaped_16 [] no) (reaped_17 shown_1)
     ((16, 1, Reap 2 ∷ []) ∷ [])
 
 -- then the real, and then the ghost
 unfoldable pub reap_2 : World
 reap_2 = with_cells (cell_0 (hit_twice two_hits seeing_2) (only 2 heard_2) [] [])
-    (cell_1 no (both (heard_1 2) gone_2) [] []) (base_16 [] no) (base_17 shown_1)
+    (cell_1 no (both (heard_1 2) gone_2) [] []) (reaped_16 [] no) (reaped_17 shown_1)
     ((1, 0, GhostDrop 2 2 ∷ []) ∷ [])
 
 unfoldable pub reap_3 : World
 reap_3 = with_cells (cell_0 (hit_twice two_hits seeing_2) (only 2 gone_2) [] [])
-    (cell_1 no (both (heard_1 2) gone_2) [] []) (base_16 [] no) (base_17 shown_1) []
+    (cell_1 no (both (heard_1 2) gone_2) [] []) (reaped_16 [] no) (reaped_17 shown_1) []
 
 abbrev pub reaps : List (Event × World)
 reaps = (task 16, reap_1) ∷ (mail 1 16, reap_2) ∷ (mail 0 1, reap_3) ∷ []
@@ -311,33 +322,33 @@ abbrev pub empty_cell : NodeView
 empty_cell = cell_1 no (both (heard_1 2) gone_2) [] []
 
 unfoldable pub look_0 : World
-look_0 = with_cells (cell_0 (hit_twice two_hits seeing_2) (only 2 gone_2) [] []) empty_cell (base_16 (order.Tick ∷ []) no)
-    (base_17 shown_1) []
+look_0 = with_cells (cell_0 (hit_twice two_hits seeing_2) (only 2 gone_2) [] []) empty_cell (reaped_16 (order.Tick ∷ []) no)
+    (reaped_17 shown_1) []
 
 unfoldable pub look_1 : World
-look_1 = with_cells (cell_0 (hit_twice two_hits seeing_2) (only 2 gone_2) [] []) empty_cell (base_16 [] no)
-    (base_17 shown_1) ((16, 0, Tick ∷ []) ∷ (16, 1, Tick ∷ []) ∷ [])
+look_1 = with_cells (cell_0 (hit_twice two_hits seeing_2) (only 2 gone_2) [] []) empty_cell (reaped_16 [] no)
+    (reaped_17 shown_1) ((16, 0, Tick ∷ []) ∷ (16, 1, Tick ∷ []) ∷ [])
 
 unfoldable pub look_2 : World
-look_2 = with_cells (cell_0 (hit_twice two_hits seeing_2) (only 2 gone_2) [] (1 ∷ [])) empty_cell (base_16 [] no)
-    (base_17 shown_1) ((16, 1, Tick ∷ []) ∷ [])
+look_2 = with_cells (cell_0 (hit_twice two_hits seeing_2) (only 2 gone_2) [] (1 ∷ [])) empty_cell (reaped_16 [] no)
+    (reaped_17 shown_1) ((16, 1, Tick ∷ []) ∷ [])
 
 unfoldable pub look_3 : World
-look_3 = with_cells (cell_0 (hit_twice two_hits seeing_2) (only 2 gone_2) [] (1 ∷ [])) empty_cell (base_16 [] no)
-    (base_17 shown_1) []
+look_3 = with_cells (cell_0 (hit_twice two_hits seeing_2) (only 2 gone_2) [] (1 ∷ [])) empty_cell (reaped_16 [] no)
+    (reaped_17 shown_1) []
 
 unfoldable pub look_4 : World
-look_4 = with_cells (cell_0 (hit_twice two_hits (alone 2 4)) (only 2 gone_2) [] []) empty_cell (base_16 [] no)
-    (base_17 shown_1) ((0, 17, update 1 3 (own_1 2) ∷ update 1 4 leave_2 ∷ []) ∷ [])
+look_4 = with_cells (cell_0 (hit_twice two_hits (alone 2 4)) (only 2 gone_2) [] []) empty_cell (reaped_16 [] no)
+    (reaped_17 shown_1) ((0, 17, update 1 3 (own_1 2) ∷ update 1 4 leave_2 ∷ []) ∷ [])
 
 unfoldable pub look_5 : World
-look_5 = with_cells (cell_0 (hit_twice two_hits (alone 2 4)) (only 2 gone_2) [] []) empty_cell (base_16 [] no)
-    (base_17 (part_at 17 4 (base_line ∷ line 2 (own_1 1) ∷ line 3 enter_2 ∷ line 4 (own_1 2) ∷ []) 4))
+look_5 = with_cells (cell_0 (hit_twice two_hits (alone 2 4)) (only 2 gone_2) [] []) empty_cell (reaped_16 [] no)
+    (reaped_17 (part_at 17 4 (base_line ∷ line 2 (own_1 1) ∷ line 3 enter_2 ∷ line 4 (own_1 2) ∷ []) 4))
     ((0, 17, update 1 4 leave_2 ∷ []) ∷ [])
 
 unfoldable pub look_6 : World
-look_6 = with_cells (cell_0 (hit_twice two_hits (alone 2 4)) (only 2 gone_2) [] []) empty_cell (base_16 [] no)
-    (base_17 (part_at 17 5 last_lines_1 5)) []
+look_6 = with_cells (cell_0 (hit_twice two_hits (alone 2 4)) (only 2 gone_2) [] []) empty_cell (reaped_16 [] no)
+    (reaped_17 (part_at 17 5 last_lines_1 5)) []
 
 abbrev pub looks : List (Event × World)
 looks = (task 16, look_1) ∷ (mail 0 16, look_2) ∷ (mail 1 16, look_3) ∷ (task 0, look_4) ∷ (mail 17 0, look_5) ∷ (mail 17 0, look_6) ∷ []
@@ -347,59 +358,63 @@ looks = (task 16, look_1) ∷ (mail 0 16, look_2) ∷ (mail 1 16, look_3) ∷ (t
 abbrev pub quiet_1 : PartView
 quiet_1 = part_at 17 5 [] 5
 
+-- its beat of entity 2 is forgotten
+abbrev pub emptied_cell : NodeView
+emptied_cell = cell_1 no (one (heard_1 2)) [] []
+
 unfoldable pub next_0 : World
-next_0 = with_cells (cell_0 (hit_twice [] (alone 2 4)) (only 2 gone_2) (1 ∷ []) []) empty_cell (base_16 (hits 3 ∷ []) no)
-    (base_17 quiet_1) []
+next_0 = with_cells (cell_0 (hit_twice [] (alone 2 4)) no (1 ∷ []) []) emptied_cell (later_16 (hits 3 ∷ []))
+    (later_17 quiet_1) []
 
 unfoldable pub next_1 : World
-next_1 = with_cells (cell_0 (hit_twice [] (alone 2 4)) (only 2 gone_2) [] []) empty_cell (base_16 (hits 3 ∷ []) no)
-    (base_17 quiet_1) []
+next_1 = with_cells (cell_0 (hit_twice [] (alone 2 4)) no [] []) emptied_cell (later_16 (hits 3 ∷ []))
+    (later_17 quiet_1) []
 
 -- the third hit
 unfoldable pub next_2 : World
-next_2 = with_cells (cell_0 (hit_twice [] (alone 2 4)) (only 2 gone_2) [] []) empty_cell (base_16 [] no)
-    (base_17 quiet_1) ((16, 0, Call (the_hit 3) ∷ []) ∷ [])
+next_2 = with_cells (cell_0 (hit_twice [] (alone 2 4)) no [] []) emptied_cell (later_16 [])
+    (later_17 quiet_1) ((16, 0, Call (the_hit 3) ∷ []) ∷ [])
 
 abbrev pub hit_thrice : WitnessView → RealView
 hit_thrice w = struck 3 (the_hit 3 ∷ []) w
 
 unfoldable pub next_3 : World
-next_3 = with_cells (cell_0 (hit_thrice (alone 2 4)) (only 2 gone_2) [] []) empty_cell (base_16 [] no)
-    (base_17 quiet_1) ((0, 1, set_1 3 ∷ []) ∷ [])
+next_3 = with_cells (cell_0 (hit_thrice (alone 2 4)) no [] []) emptied_cell (later_16 [])
+    (later_17 quiet_1) ((0, 1, set_1 3 ∷ []) ∷ [])
 
 abbrev pub last_cell : NodeView
-last_cell = cell_1 no (both (heard_1 3) gone_2) [] []
+last_cell = cell_1 no (one (heard_1 3)) [] []
 
 unfoldable pub next_4 : World
-next_4 = with_cells (cell_0 (hit_thrice (alone 2 4)) (only 2 gone_2) [] []) last_cell (base_16 [] no) (base_17 quiet_1) []
+next_4 = with_cells (cell_0 (hit_thrice (alone 2 4)) no [] []) last_cell (later_16 []) (later_17 quiet_1) []
 
 abbrev pub next_calls : List (Event × World)
 next_calls = (task 0, next_1) ∷ (task 16, next_2) ∷ (mail 0 16, next_3) ∷ (mail 1 0, next_4) ∷ []
 
 -- nobody dies, and the witness looks
 unfoldable pub next_look_0 : World
-next_look_0 = with_cells (cell_0 (hit_thrice (alone 2 4)) (only 2 gone_2) [] []) last_cell (base_16 (order.Tick ∷ []) no)
-    (base_17 quiet_1) []
+next_look_0 = with_cells (cell_0 (hit_thrice (alone 2 4)) no [] []) last_cell (later_16 (order.Tick ∷ []))
+    (later_17 quiet_1) []
 
 unfoldable pub next_look_1 : World
-next_look_1 = with_cells (cell_0 (hit_thrice (alone 2 4)) (only 2 gone_2) [] []) last_cell (base_16 [] no)
-    (base_17 quiet_1) ((16, 0, Tick ∷ []) ∷ (16, 1, Tick ∷ []) ∷ [])
+next_look_1 = with_cells (cell_0 (hit_thrice (alone 2 4)) no [] []) last_cell (later_16 [])
+    (later_17 quiet_1) ((16, 0, Tick ∷ []) ∷ (16, 1, Tick ∷ []) ∷ [])
 
 unfoldable pub next_look_2 : World
-next_look_2 = with_cells (cell_0 (hit_thrice (alone 2 4)) (only 2 gone_2) [] (1 ∷ [])) last_cell (base_16 [] no)
-    (base_17 quiet_1) ((16, 1, Tick ∷ []) ∷ [])
+next_look_2 = with_cells (cell_0 (hit_thrice (alone 2 4)) no [] (1 ∷ [])) last_cell (later_16 [])
+    (later_17 quiet_1) ((16, 1, Tick ∷ []) ∷ [])
 
 unfoldable pub next_look_3 : World
-next_look_3 = with_cells (cell_0 (hit_thrice (alone 2 4)) (only 2 gone_2) [] (1 ∷ [])) last_cell (base_16 [] no)
-    (base_17 quiet_1) []
+next_look_3 = with_cells (cell_0 (hit_thrice (alone 2 4)) no [] (1 ∷ [])) last_cell (later_16 [])
+    (later_17 quiet_1) []
 
 unfoldable pub next_look_4 : World
-next_look_4 = with_cells (cell_0 (hit_thrice (alone 3 5)) (only 2 gone_2) [] []) last_cell (base_16 [] no)
-    (base_17 quiet_1) ((0, 17, update 1 5 (own_1 3) ∷ []) ∷ [])
+next_look_4 = with_cells (cell_0 (hit_thrice (alone 3 5)) no [] []) last_cell (later_16 [])
+    (later_17 quiet_1) ((0, 17, update 1 5 (own_1 3) ∷ []) ∷ [])
 
 unfoldable pub next_look_5 : World
-next_look_5 = with_cells (cell_0 (hit_thrice (alone 3 5)) (only 2 gone_2) [] []) last_cell (base_16 [] no)
-    (base_17 (part_at 17 6 (line 6 (own_1 3) ∷ []) 6)) []
+next_look_5 = with_cells (cell_0 (hit_thrice (alone 3 5)) no [] []) last_cell (later_16 [])
+    (later_17 (part_at 17 6 (line 6 (own_1 3) ∷ []) 6)) []
 
 abbrev pub next_looks : List (Event × World)
 next_looks = (task 16, next_look_1) ∷ (mail 0 16, next_look_2) ∷ (mail 1 16, next_look_3) ∷ (task 0, next_look_4) ∷

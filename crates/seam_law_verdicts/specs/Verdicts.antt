@@ -1,5 +1,5 @@
 -- What is said of a text beside an input: that it is a transcript of the input's lines, or where and in what it first fails.
-use Rattle.std.specs.Prelude.{◌≡◌, ◌≢◌, ◌⊎◌, ⊤, ℕ, ◌+◌, false, List, [], ◌∷◌, ◌++◌, Some}
+use Rattle.std.specs.Prelude.{◌≡◌, ◌≢◌, ◌⊎◌, ⊤, ℕ, ◌+◌, false, List, [], ◌∷◌, ◌++◌, Some, codes}
 use Rattle.std.specs.List.{count_by}
 use Rattle.seam_io.specs.Lines.{is_feed}
 use Rattle.seam_rule_rounds.specs.Prelude.{Line, Header, AwaitHeader, RefusesHeader, refusal, RoundData, round_text, Standing, Piece}
@@ -67,10 +67,16 @@ number_of point.Bounds = 8
 abbrev pub ShowsRound : Header → Standing → List ℕ → RoundData → Type 0
 ShowsRound h s text r = IsFormed h.defs s.book r × BeginsWith (round_text h.defs r) text
 
--- where a round is due: no round in form is shown, or one is, and this is the first point of a legal round that it breaks
+-- the text begins as the line of a refusal does
+abbrev pub BeginsAsRefusal : List ℕ → Type 0
+BeginsAsRefusal text = BeginsWith (codes "line ") text
+
+-- where a round is due: a refusal comes before it that is not due; no round in form is shown; or one is, and this is the first point of a
+-- legal round that it breaks
 abbrev pub FailsRound : Header → Standing → List ℕ → (number : ℕ) → Type 0
 FailsRound h s text number =
-    ((number ≡ 1) × ((r : RoundData) → ¬ (ShowsRound h s text r)))
+    ((number ≡ 0) × BeginsAsRefusal text)
+    ⊎ ((number ≡ 1) × ¬ (BeginsAsRefusal text) × ((r : RoundData) → ¬ (ShowsRound h s text r)))
     ⊎ ((r : RoundData) × (p : Point) × ShowsRound h s text r × IsFirstBroken (Holds h s r (after_round s r)) points (Some p)
     × (number ≡ number_of p))
 

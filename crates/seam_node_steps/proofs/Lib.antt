@@ -1,4 +1,5 @@
 pub mod Slots
+pub mod Gone
 pub mod Stray
 pub mod Targets
 pub mod Keys

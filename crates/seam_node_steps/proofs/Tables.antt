@@ -1,5 +1,6 @@
 -- For callers: how maps and sets of a few entries compute. std's do not unfold; these rules say what they are.
-use Rattle.std.proofs.Common.{◌≡◌, ℕ, Bool, true, false, cond, eqb, List, [], ◌∷◌, None, Some, length, refl, sym, ◌∙◌, arith}
+use Rattle.std.proofs.Common.{◌≡◌, ℕ, Bool, true, false, cond, eqb, List, [], ◌∷◌, Option, None, Some, length}
+use Rattle.std.proofs.Common.{refl, sym, ap, ◌∙◌, arith, is_some}
 use Rattle.std.specs.Ordering.{nat_cmp, eq_by_cmp}
 use Rattle.std.specs.Cmp.{nat_cmp_total}
 use Rattle.std.specs.Str.{is_utf8}
@@ -7,6 +8,8 @@ use Rattle.std.proofs.lemmas.Str.{is_utf8-from_IsUtf8, IsUtf8-nil}
 use Rattle.std.specs.FinMap as table
 use Rattle.std.proofs.lemmas.Bool.Decides.{nat_tests}
 use Rattle.std.specs.FinSet as set
+use Rattle.seam_ghosts.proofs.Forgotten.{get_with_copies}
+use Rattle.seam_node_steps.specs.Prelude.{Map, Ghost, copy_in, with_copies}
 
 no_length : {A : Type 0} (es : List A) → length es ≡ 0 → es ≡ []
 no_length [] e = refl
@@ -71,6 +74,51 @@ module _ {X : Type 0} (m : table.FinMap nat_cmp X) (x y : X) where
   pub third_before_second : table.insert (table.insert m 2 x) 3 y ≡ table.insert (table.insert m 3 y) 2 x
   third_before_second = insert_other m 2 3 x y refl
 
+-- ---- the ghosts that have a copy
+
+abbrev copy_or_none : {P : Type 0} (o : Option (Ghost P)) → Option (Ghost P)
+copy_or_none o = cond (is_some (copy_in o)) o None
+
+module _ {P : Type 0} where
+  pub copies_empty : with_copies (table.empty {K = ℕ} {X = Ghost P} {R = nat_cmp}) ≡ table.empty
+  copies_empty = table.same_map nat_cmp_total table.nat_cmp-IsAntisymmetric _ _
+      (λ q. get_with_copies table.empty q ∙ (ap copy_or_none (table.get-empty nat_cmp q) ∙ sym (table.get-empty nat_cmp q)))
+
+  -- one with a copy stays
+  pub copies_stay : (m : Map (Ghost P)) (k beat : ℕ) (c : P) →
+      with_copies (table.insert m k (record { beat = beat; copy = Some c }))
+      ≡ table.insert (with_copies m) k (record { beat = beat; copy = Some c })
+  copies_stay m k beat c = table.same_map nat_cmp_total table.nat_cmp-IsAntisymmetric _ _ (λ q.
+      get_with_copies (table.insert m k g) q
+      ∙ (ap copy_or_none (table.get-insert nat_cmp_total m k g q)
+      ∙ (by q (eq_by_cmp nat_cmp q k)
+      ∙ (ap (cond (eq_by_cmp nat_cmp q k) (Some g)) (sym (get_with_copies m q))
+      ∙ sym (table.get-insert nat_cmp_total (with_copies m) k g q)))))
+    where
+      g : Ghost P
+      g = record { beat = beat; copy = Some c }
+
+      by : (q : ℕ) (b : Bool) → copy_or_none (cond b (Some g) (table.get m q)) ≡ cond b (Some g) (copy_or_none (table.get m q))
+      by q true = refl
+      by q false = refl
+
+  -- one without a copy goes
+  pub beats_go : (m : Map (Ghost P)) (k beat : ℕ) → with_copies (table.insert m k (record { beat = beat; copy = None }))
+      ≡ table.remove (with_copies m) k
+  beats_go m k beat = table.same_map nat_cmp_total table.nat_cmp-IsAntisymmetric _ _ (λ q.
+      get_with_copies (table.insert m k g) q
+      ∙ (ap copy_or_none (table.get-insert nat_cmp_total m k g q)
+      ∙ (by q (eq_by_cmp nat_cmp q k)
+      ∙ (ap (cond (eq_by_cmp nat_cmp q k) None) (sym (get_with_copies m q))
+      ∙ sym (table.get-remove nat_cmp_total (with_copies m) k q)))))
+    where
+      g : Ghost P
+      g = record { beat = beat; copy = None }
+
+      by : (q : ℕ) (b : Bool) → copy_or_none (cond b (Some g) (table.get m q)) ≡ cond b None (copy_or_none (table.get m q))
+      by q true = refl
+      by q false = refl
+
 -- an empty text is one
 pub is_utf8-nil : is_utf8 [] ≡ true
 is_utf8-nil = is_utf8-from_IsUtf8 [] IsUtf8-nil
@@ -91,5 +139,8 @@ pub ruleset computing = (
   remove_other,
   remove_inserted,
   remove_empty,
+  copies_empty,
+  copies_stay,
+  beats_go,
   is_utf8-nil,
 )

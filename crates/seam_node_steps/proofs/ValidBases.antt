@@ -18,6 +18,7 @@ pub record SameRoutes (b c : BaseView) : Type 0 where
   pub here : c.here ≡ b.here
   pub cells : c.cells ≡ b.cells
   pub routes : c.routes ≡ b.routes
+  pub gone : c.gone ≡ b.gone
 
 valid_of : (b c : BaseView) → SameRoutes b c → IsBase b → IsBase c
 valid_of b c s is = record {
@@ -27,7 +28,7 @@ valid_of b c s is = record {
 }
 
 same : (b : BaseView) → SameRoutes b b
-same b = record { here = refl; cells = refl; routes = refl }
+same b = record { here = refl; cells = refl; routes = refl; gone = refl }
 
 unless_same : (d : Bool) (b : BaseView) (t : Stepped BaseView Msg) → SameRoutes b t.state →
     SameRoutes b (BaseCases.unless_stray d b t).state
@@ -67,27 +68,28 @@ current_valid b e new (Some r) false h is = newer_valid _ b e new (cell_is_small
 
 call_same : (b : BaseView) (k : CallData) (o : Option PartView) → SameRoutes b (BaseCases.part_called b k o)
 call_same b k None = same b
-call_same b k (Some p) = record { here = refl; cells = refl; routes = refl }
+call_same b k (Some p) = record { here = refl; cells = refl; routes = refl; gone = refl }
 
 base_same : (d : Bool) (b : BaseView) (os : List Order) (k : CallData) →
     SameRoutes b (BaseCases.base_order d (record b { orders = os }) k).state
-base_same true b os k = let s =
-    call_same (record b { orders = os }) k (table.get b.parts k.entity) in record { here = s.here; cells = s.cells; routes = s.routes }
-base_same false b os k = record { here = refl; cells = refl; routes = refl }
+base_same true b os k =
+    let s = call_same (record b { orders = os }) k (table.get b.parts k.entity) in
+    record { here = s.here; cells = s.cells; routes = s.routes; gone = s.gone }
+base_same false b os k = record { here = refl; cells = refl; routes = refl; gone = refl }
 
 order_same : (b : BaseView) (os : List Order) (o : Order) → SameRoutes b (BaseCases.order_of_node (record b { orders = os }) o).state
-order_same b os (order.Cell k) = record { here = refl; cells = refl; routes = refl }
+order_same b os (order.Cell k) = record { here = refl; cells = refl; routes = refl; gone = refl }
 order_same b os (order.Base k) = base_same (BaseCases.is_base_node_of b.here k.entity) b os k
-order_same b os order.Tick = record { here = refl; cells = refl; routes = refl }
-order_same b os (order.Bounds x) = record { here = refl; cells = refl; routes = refl }
-order_same b os (order.Reap e) = record { here = refl; cells = refl; routes = refl }
+order_same b os order.Tick = record { here = refl; cells = refl; routes = refl; gone = refl }
+order_same b os (order.Bounds x) = record { here = refl; cells = refl; routes = refl; gone = refl }
+order_same b os (order.Reap e) = record { here = refl; cells = refl; routes = refl; gone = refl }
 
 proxy_same : (b : BaseView) (o : Option (ℕ × PartView)) → SameRoutes b (BaseCases.proxy_task b o).state
 proxy_same b None = same b
-proxy_same b (Some p) = unless_same _ b _ (record { here = refl; cells = refl; routes = refl })
+proxy_same b (Some p) = unless_same _ b _ (record { here = refl; cells = refl; routes = refl; gone = refl })
 
 without_same : (b : BaseView) (o : Option (ℕ × PartView)) → SameRoutes b (BaseCases.task_without_orders b o).state
-without_same b (Some p) = unless_same _ b _ (record { here = refl; cells = refl; routes = refl })
+without_same b (Some p) = unless_same _ b _ (record { here = refl; cells = refl; routes = refl; gone = refl })
 without_same b None = proxy_same b (BaseCases.ready_proxy b)
 
 task_same : (b : BaseView) (os : List Order) → SameRoutes b (BaseCases.base_task b os).state
@@ -96,7 +98,7 @@ task_same b [] = without_same b (BaseCases.ready_part b)
 
 updated_same : (b : BaseView) (u : UpdateData) (p : PartView) (o : Option ProxyView) → SameRoutes b (BaseCases.updated_proxy b u p o)
 updated_same b u p None = same b
-updated_same b u p (Some x) = record { here = refl; cells = refl; routes = refl }
+updated_same b u p (Some x) = record { here = refl; cells = refl; routes = refl; gone = refl }
 
 update_same : (b : BaseView) (u : UpdateData) (o : Option PartView) → SameRoutes b (BaseCases.update b u o)
 update_same b u None = same b
@@ -115,32 +117,33 @@ base_stays_valid b (From a _) is = is
 
 -- ---- what the node knows
 
--- the base node knows the same, and as many cells
+-- the base node knows the same, as many cells, and who was reaped
 pub record SameFrame (b c : BaseView) : Type 0 where
   pub here : c.here ≡ b.here
   pub cells : c.cells ≡ b.cells
+  pub gone : c.gone ≡ b.gone
 
 of_routes : (b c : BaseView) → SameRoutes b c → SameFrame b c
-of_routes b c s = record { here = s.here; cells = s.cells }
+of_routes b c s = record { here = s.here; cells = s.cells; gone = s.gone }
 
 newer_frame : (d : Bool) (b : BaseView) (e : ℕ) (r : RouteView) → SameFrame b (BaseCases.newer_route d b e r)
-newer_frame true b e r = record { here = refl; cells = refl }
-newer_frame false b e r = record { here = refl; cells = refl }
+newer_frame true b e r = record { here = refl; cells = refl; gone = refl }
+newer_frame false b e r = record { here = refl; cells = refl; gone = refl }
 
 current_frame : (b : BaseView) (e : ℕ) (new : RouteView) (o : Option RouteView) → SameFrame b (BaseCases.current b e new o)
-current_frame b e new None = record { here = refl; cells = refl }
+current_frame b e new None = record { here = refl; cells = refl; gone = refl }
 current_frame b e new (Some r) = newer_frame _ b e new
 
 unless_frame : (d : Bool) (b : BaseView) (c : BaseView) → SameFrame b c →
     SameFrame b (BaseCases.unless_stray d b (BaseCases.sends_none c)).state
-unless_frame true b c s = record { here = refl; cells = refl }
+unless_frame true b c s = record { here = refl; cells = refl; gone = refl }
 unless_frame false b c s = s
 
--- a base node's step keeps what the node knows, and the number of cells
+-- a base node's step keeps what the node knows, the number of cells and who was reaped
 pub base_frame : (b : BaseView) (i : Input Msg) → SameFrame b (BaseCases.base_steps b i).state
 base_frame b Task = of_routes b _ (task_same b b.orders)
 base_frame b (From a (BaseCall k)) = of_routes b _ (heard_same b _ _ (call_same b k (table.get b.parts k.entity)))
 base_frame b (From a (Current e j g)) =
     unless_frame _ b _ (current_frame b e (record { cell = j; generation = g }) (table.get b.routes e))
 base_frame b (From a (Update u)) = of_routes b _ (heard_same b _ _ (update_same b u (table.get b.parts u.entity)))
-base_frame b (From a _) = record { here = refl; cells = refl }
+base_frame b (From a _) = record { here = refl; cells = refl; gone = refl }

@@ -34,14 +34,15 @@ pub record PartView : Type 0 where
   pub done : List Call
   pub proxy : Option ProxyView
 
--- a base node: the number of cells of the tree, what it is told to do, for each entity the route to its real, and the base
--- parts of the entities whose base node this is
+-- a base node: the number of cells of the tree, what it is told to do, for each entity the route to its real, the base parts of the
+-- entities whose base node this is, and who was reaped since the round began: their routes go as the next round begins
 pub record BaseView : Type 0 where
   pub here : Here
   pub cells : ℕ
   pub orders : List Order
   pub routes : Map RouteView
   pub parts : Map PartView
+  pub gone : List ℕ
 
 abbrev pub with_part : BaseView → ℕ → PartView → BaseView
 with_part b e p = record b { parts = table.insert b.parts e p }

@@ -79,6 +79,7 @@ base_16 os to = Base (record {
   orders = os;
   routes = one (record { cell = to.0; generation = to.1 });
   parts = table.empty;
+  gone = [];
 })
 
 abbrev pub base_17 : List Order → (ℕ × ℕ) → NodeView
@@ -88,6 +89,7 @@ base_17 os to = Base (record {
   orders = os;
   routes = one (record { cell = to.0; generation = to.1 });
   parts = one (new_part (here 17) 0);
+  gone = [];
 })
 
 abbrev pub with_cells : NodeView → NodeView → NodeView → NodeView → List Way → World

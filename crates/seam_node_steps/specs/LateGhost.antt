@@ -83,18 +83,29 @@ away r = Cell (cell three_cells 1 (one r) no (one (ghost 2 None)) [] [])
 abbrev pub heard : ℕ → Ghost GhostCopy → NodeView
 heard k g = Cell (cell three_cells k no no (one g) [] [])
 
-abbrev pub base_16 : List Order → (ℕ × ℕ) → NodeView
-base_16 os to = Base (record {
-  here = here 16;
+-- a base node with these entities reaped
+abbrev pub base_with : ℕ → List Order → (ℕ × ℕ) → Map PartView → List ℕ → NodeView
+base_with k os to parts gone = Base (record {
+  here = here k;
   cells = 3;
   orders = os;
   routes = one (record { cell = to.0; generation = to.1 });
-  parts = no;
+  parts = parts;
+  gone = gone;
 })
 
+abbrev pub base_16 : List Order → (ℕ × ℕ) → NodeView
+base_16 os to = base_with 16 os to no []
+
 abbrev pub base_17 : List Order → (ℕ × ℕ) → Map PartView → NodeView
-base_17 os to parts = Base (record
-    { here = here 17; cells = 3; orders = os; routes = one (record { cell = to.0; generation = to.1 }); parts = parts })
+base_17 os to parts = base_with 17 os to parts []
+
+-- the base nodes once entity 1 was reaped
+abbrev pub after_16 : NodeView
+after_16 = base_with 16 [] (1, 1) no (1 ∷ [])
+
+abbrev pub after_17 : List Order → Map PartView → NodeView
+after_17 os parts = base_with 17 os (1, 1) parts (1 ∷ [])
 
 abbrev pub new_parts : Map PartView
 new_parts = one (new_part (here 17) 0)
@@ -182,21 +193,21 @@ steps = (task 0, world_1) ∷ (task 16, world_2) ∷ (task 16, world_3) ∷ (mai
 -- ---- a reap, with its load
 
 unfoldable pub reap_0 : World
-reap_0 = with_cells (left (ghost 3 (Some (copy_at 2 5100 4000)))) (away moved_on) (heard 2 (ghost 3 None)) (base_16 [] (1, 1))
-    (base_17 (order.Reap 1 ∷ []) (1, 1) new_parts) []
+reap_0 = with_cells (left (ghost 3 (Some (copy_at 2 5100 4000)))) (away moved_on) (heard 2 (ghost 3 None)) after_16
+    (after_17 (order.Reap 1 ∷ []) new_parts) []
 
 -- the base part goes, and the route's cell is told
 unfoldable pub reap_1 : World
-reap_1 = with_cells (left (ghost 3 (Some (copy_at 2 5100 4000)))) (away moved_on) (heard 2 (ghost 3 None)) (base_16 [] (1, 1))
-    (base_17 [] (1, 1) no) ((17, 1, Reap 1 ∷ []) ∷ [])
+reap_1 = with_cells (left (ghost 3 (Some (copy_at 2 5100 4000)))) (away moved_on) (heard 2 (ghost 3 None)) after_16
+    (after_17 [] no) ((17, 1, Reap 1 ∷ []) ∷ [])
 
 -- the real goes, and its haunt is told
 unfoldable pub reap_2 : World
-reap_2 = with_cells (left (ghost 3 (Some (copy_at 2 5100 4000)))) (heard 1 (ghost 4 None)) (heard 2 (ghost 3 None)) (base_16 [] (1, 1))
-    (base_17 [] (1, 1) no) ((1, 0, GhostDrop 1 4 ∷ []) ∷ [])
+reap_2 = with_cells (left (ghost 3 (Some (copy_at 2 5100 4000)))) (heard 1 (ghost 4 None)) (heard 2 (ghost 3 None)) after_16
+    (after_17 [] no) ((1, 0, GhostDrop 1 4 ∷ []) ∷ [])
 
 unfoldable pub reap_3 : World
-reap_3 = with_cells (left (ghost 4 None)) (heard 1 (ghost 4 None)) (heard 2 (ghost 3 None)) (base_16 [] (1, 1)) (base_17 [] (1, 1) no) []
+reap_3 = with_cells (left (ghost 4 None)) (heard 1 (ghost 4 None)) (heard 2 (ghost 3 None)) after_16 (after_17 [] no) []
 
 abbrev pub until_reaped : List (Event × World)
 until_reaped = (task 17, reap_1) ∷ []

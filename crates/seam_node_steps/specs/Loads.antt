@@ -10,14 +10,15 @@ use Rattle.seam_call.specs.declared.create.Create.{Create}
 use Rattle.seam_call.specs.declared.order.Order.{Order}
 use Rattle.seam_call.specs.declared.order.Order.TheVariants as order
 use Rattle.seam_call.specs.declared.order.Batch.{Batch}
+use Rattle.seam_ghosts.specs.Book.{with_copies}
 use Rattle.seam_entity.specs.Orders.{new_order}
 use Rattle.seam_entity.specs.Reals.{RealView}
-use Rattle.seam_node_steps.specs.Maps.{set_at, each_value, has_any}
+use Rattle.seam_node_steps.specs.Maps.{Map, set_at, each_value, has_any}
 use Rattle.seam_entity.specs.Here.{Here, cell_count, cell_numbers, base_numbers, peers_of, base_of, properties}
 use Rattle.seam_entity.specs.Executing.{created, real_begins}
 pub use Rattle.seam_entity.specs.WitnessLooks.{with_witness}
 use Rattle.seam_node_steps.specs.Cells.{CellView}
-use Rattle.seam_node_steps.specs.Bases.{BaseView, PartView, ProxyView, shown_to_client}
+use Rattle.seam_node_steps.specs.Bases.{BaseView, PartView, ProxyView, RouteView, shown_to_client}
 use Rattle.seam_node_steps.specs.Nodes.{NodeView, World}
 use Rattle.seam_node_steps.specs.Nodes.NodeView.{Cell, Base}
 
@@ -48,7 +49,7 @@ empty_cell defs settings k = Cell
 
 abbrev pub empty_base : List TypeDef → Settings → ℕ → NodeView
 empty_base defs settings k = Base
-    (record { here = here_of defs settings k; cells = 1; orders = []; routes = table.empty; parts = table.empty })
+    (record { here = here_of defs settings k; cells = 1; orders = []; routes = table.empty; parts = table.empty; gone = [] })
 
 -- sixteen cells and the base nodes, without entities, with empty links and the tree of one cell
 abbrev pub opened : List TypeDef → Settings → World
@@ -105,12 +106,14 @@ attached e (Base b) = Base (record b { parts = set_at b.parts e (option_map (wit
 
 -- ---- load, point 3: the round begins
 
--- a cell takes the tree, whose number is 0, forgets its next places, empties its reals' lists of done calls, and is to settle all its reals
+-- a cell takes the tree, whose number is 0, forgets its next places and the beats of entities that it has no copy of, empties its reals'
+-- lists of done calls, and is to settle all its reals
 abbrev pub cell_begins : Division → CellView → CellView
 cell_begins t c = record c {
   tree = t;
   number = 0;
   nexts = table.empty;
+  ghosts = with_copies c.ghosts;
   reals = each_value real_begins c.reals;
   survey = table.keys c.reals;
 }
@@ -121,9 +124,19 @@ proxy_begins x = record x { lines = [] }
 abbrev pub part_begins : PartView → PartView
 part_begins p = record p { done = []; proxy = option_map proxy_begins p.proxy }
 
--- a base node takes the number of cells, and empties its lists of done calls and of lines shown
+-- routes without those of these entities
+abbrev pub routes_without : List ℕ → Map RouteView → Map RouteView
+routes_without es routes = fold table.remove routes es
+
+-- a base node takes the number of cells, forgets the routes of those who were reaped, and empties its lists of done calls and of lines
+-- shown
 abbrev pub base_begins : ℕ → BaseView → BaseView
-base_begins cells b = record b { cells = cells; parts = each_value part_begins b.parts }
+base_begins cells b = record b {
+  cells = cells;
+  routes = routes_without b.gone b.routes;
+  parts = each_value part_begins b.parts;
+  gone = [];
+}
 
 abbrev pub base_round : ℕ → NodeView → NodeView
 base_round cells (Cell c) = Cell c
@@ -161,14 +174,22 @@ loaded w b =
     let joined : World = fold (λ u e. with_nodes u (attached e)) made b.clients in
     with_orders (with_nodes joined (cell_round b.tree)) b.orders
 
+-- a base node is told that the entity is reaped
+abbrev pub noting : ℕ → BaseView → BaseView
+noting e b = record b { gone = b.gone ++ e ∷ [] }
+
+abbrev pub noted : ℕ → NodeView → NodeView
+noted e (Cell c) = Cell c
+noted e (Base b) = Base (noting e b)
+
 abbrev pub reap_ordered_at : ℕ → NodeView → NodeView
 reap_ordered_at e (Cell c) = Cell c
-reap_ordered_at e (Base b) = Base (order_if (base_of b.here e == b.here.me) b (order.Reap e))
+reap_ordered_at e (Base b) = Base (order_if (base_of b.here e == b.here.me) (noting e b) (order.Reap e))
 
 abbrev pub with_reap : World → ℕ → World
 with_reap w e = with_nodes w (reap_ordered_at e)
 
--- a reap of each entity, in the given order, is appended to the list of the entity's base node
+-- each base node is told of each entity that is reaped, and in the given order its reap is appended to the list of its base node
 abbrev pub reaps_loaded : World → List ℕ → World
 reaps_loaded w es = fold with_reap w es
 

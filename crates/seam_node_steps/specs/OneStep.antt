@@ -126,11 +126,12 @@ base_of k os to parts = record {
   orders = os;
   routes = one (record { cell = to.0; generation = to.1 });
   parts = parts;
+  gone = [];
 }
 
 -- base node k of an opened world
 abbrev pub empty_node : ℕ → BaseView
-empty_node k = record { here = here k; cells = 1; orders = []; routes = table.empty; parts = table.empty }
+empty_node k = record { here = here k; cells = 1; orders = []; routes = table.empty; parts = table.empty; gone = [] }
 
 -- entity 1's base node with this part of it, and with these orders
 abbrev pub base_ordered : List Order → PartView → BaseView

@@ -54,7 +54,8 @@ pub use Rattle.seam_machine.specs.declared.machines.Input.{Input}
 pub use Rattle.seam_machine.specs.declared.machines.Input.TheVariants.{From, Task}
 pub use Rattle.seam_order.specs.Held.{OrderView, item_at, with_item}
 pub use Rattle.seam_order.specs.Offers.{after_item, after_offer, after_taking, next_item}
-pub use Rattle.seam_ghosts.specs.Book.{BookView, after_message, beat_in, beat_of, copied, copy_in, ghost_after, with_copy, with_ghost}
+pub use Rattle.seam_ghosts.specs.Book.{BookView, after_message, beat_in, beat_of, copied, copy_in, ghost_after, with_copies, with_copy}
+pub use Rattle.seam_ghosts.specs.Book.{with_ghost}
 pub use Rattle.seam_ghosts.specs.declared.Ghost.{Ghost}
 pub use Rattle.seam_entity.specs.ReadyCalls.{all_held, has_ready, is_ready, may_offer, order_is_ready, order_passes, ready_call}
 pub use Rattle.seam_entity.specs.ReadyCalls.{ready_order}
@@ -100,7 +101,8 @@ pub use Rattle.seam_node_steps.specs.Knowing.{known_at, known_by, or_else, unles
 pub use Rattle.seam_node_steps.specs.LateGhost.{batch, move_1, move_2, three_cells}
 pub use Rattle.seam_node_steps.specs.Loads.{attached, base_round, cell_begins, cell_round, created_at, empty_base, empty_cell, here_of}
 pub use Rattle.seam_node_steps.specs.Loads.{loaded, look_loaded, new_part, new_proxy, one_cell, opened, order_if, ordered_at, part_begins}
-pub use Rattle.seam_node_steps.specs.Loads.{part_if, proxy_begins, real_if, reap_ordered_at, reaps_loaded, with_nodes, with_orders}
+pub use Rattle.seam_node_steps.specs.Loads.{noted, noting, part_if, proxy_begins, real_if, reap_ordered_at, reaps_loaded, routes_without}
+pub use Rattle.seam_node_steps.specs.Loads.{with_nodes, with_orders}
 pub use Rattle.seam_node_steps.specs.Loads.{with_proxy, with_reap, with_route, with_witness}
 pub use Rattle.seam_node_steps.specs.Maps.{Map, each_value, has_any, number_of, set_at, with_entity, with_value}
 pub use Rattle.seam_node_steps.specs.Nodes.{NodeView, World, node_has_work, node_peers, node_steps}

@@ -143,6 +143,7 @@ base_16 os = Base (record {
   orders = os;
   routes = both (record { cell = 0; generation = 0 }) (record { cell = 0; generation = 0 });
   parts = table.insert table.empty 2 (new_part (here 16) 0);
+  gone = [];
 })
 
 abbrev pub base_17 : PartView → NodeView
@@ -152,6 +153,7 @@ base_17 p = Base (record {
   orders = [];
   routes = both (record { cell = 0; generation = 0 }) (record { cell = 0; generation = 0 });
   parts = one p;
+  gone = [];
 })
 
 abbrev pub with_cell : WitnessView → RealView → List ℕ → List ℕ → List Order → PartView → List Way → World

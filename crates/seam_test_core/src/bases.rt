@@ -90,7 +90,7 @@ fn attach(base: &mut Base, alloc: Global) -> Result<(), AllocError> {
 // whose base part is at the other base node, to cell 0.
 fn load(base: &mut Base, alloc: Global) -> Result<(), AllocError> {
     add(base, alloc)?;
-    base.start_round(2);
+    base.start_round(alloc, 2);
     attach(base, alloc)
 }
 

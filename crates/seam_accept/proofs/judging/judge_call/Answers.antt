@@ -11,23 +11,23 @@ use Rattle.seam_accept.proofs.judging.judge_call.Goals as goal
 pub returns-in_err-deed-clause-refused : goal.returns-in_err-deed-clause-refused
 returns-in_err-deed-clause-refused c =
     let p = err_from_is_err_and c.from_residual.result c.from_residual.ensures.1 in
-    rw (p.1, p.2) (λ b was clients.
+    rw (p.1, p.2) (λ b dead was clients.
     let h = c.args.header.now in
     let who = c.in-Some-sender_named.sender in
-    let at = c.in-Some-live_entity.ensures.live b was in
+    let at = c.in-Some-live_entity.ensures.live b dead was in
     let t : c.type_at-t.result.now ≡ type_of h.defs at.refines.made.ty =
     c.type_at-t.ensures.value ∙ ap (type_of h.defs) at.refines.ty in
     no_deed_first h b c.args.words.now.sender_name.now c.args.words.now.entity.now who c.in-Some.entity at.refines.made
-    (record { number = c.in-Some.ensures; sender = c.in-Some-sender_named.ensures b c.args.entities.now.entries was clients })
+    (record { number = c.in-Some.ensures; sender = c.in-Some-sender_named.ensures b c.args.entities.now.entries dead was clients })
     at.lives c.args.words.now.deed c.in_err-deed.field-0.0
     (subst (λ (x : TypeDef). NoDeed h who c.in-Some.entity c.args.words.now.deed x c.in_err-deed.field-0.0) t c.in_err-deed.ensures.none))
 
 pub returns-clause-judged : goal.returns-clause-judged
-returns-clause-judged c = λ b was clients.
+returns-clause-judged c = λ b dead was clients.
     let h = c.args.header.now in
     let who = c.in-Some-sender_named.sender in
-    let names = c.in-Some-sender_named.ensures b c.args.entities.now.entries was clients in
-    let at = c.in-Some-live_entity.ensures.live b was in
+    let names = c.in-Some-sender_named.ensures b c.args.entities.now.entries dead was clients in
+    let at = c.in-Some-live_entity.ensures.live b dead was in
     let t : c.type_at-t.result.now ≡ type_of h.defs at.refines.made.ty =
     c.type_at-t.ensures.value ∙ ap (type_of h.defs) at.refines.ty in
     let accepts =
@@ -37,7 +37,7 @@ returns-clause-judged c = λ b was clients.
     (c.part_of-part.ensures ∙ ap (λ (x : TypeDef). part_of_deed x c.in_ok-deed.deed) t)
     (c.in_ok-number.ensures
     ∙ ap (λ (n : ℕ). n + 1)
-    (at.refines.last at.marked c.part_of-part.result who (is_sender h b c.args.words.now.sender_name.now who names)))
+    (at.refines.last c.part_of-part.result who (is_sender h b c.args.words.now.sender_name.now who names)))
     c.args.words.now.deed (subst (λ (x : TypeDef). Asks h c.args.words.now.deed x c.in_ok-deed.deed) t c.in_ok-deed.ensures.deed)
     (subst (λ (x : TypeDef). MayAsk who c.in-Some.entity x c.in_ok-deed.deed) t c.in_ok-deed.ensures.may) in
     (accepts, accepted_is_next h b c.args.words.now _ accepts)

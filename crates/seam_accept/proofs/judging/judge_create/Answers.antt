@@ -1,5 +1,4 @@
 use Rattle.std.proofs.Common.{◌∙◌, sym, arith, inl, inr}
-use Rattle.seam_accept.proofs.NamedEntities.{entity_unknown}
 use Rattle.seam_accept.proofs.CreateLemmas.{none_of_false, no_type_first, outside_first, full_first, create_accepted}
 use Rattle.seam_accept.proofs.judging.judge_create.Goals as goal
 use Rattle.seam_accept.proofs.judging.judge_create.Goals.{then-size-x-via-then-size-x, then-size-x-via-else-size-x+then-size-z}
@@ -12,8 +11,7 @@ returns-in_default-type_named-clause-refused c = λ b was.
       number = c.in-Some.ensures;
       spelled_x = c.in-Some-whole_number.ensures;
       spelled_z = c.in-Some-whole_number-2.ensures;
-      new = (entity_unknown b c.args.entities.now.entries c.in-Some.entity was
-          (none_of_false _ (sym c.contains_key.ensures ∙ c.if-contains_key.false))).uncreated;
+      new = none_of_false _ (sym (c.is_used.ensures b was) ∙ c.if-is_used.false);
     })
     c.in_default-type_named.ensures
 
@@ -25,8 +23,7 @@ returns-then-size-x-clause-refused c = λ b was.
       number = c.in-Some.ensures;
       spelled_x = c.in-Some-whole_number.ensures;
       spelled_z = c.in-Some-whole_number-2.ensures;
-      new = (entity_unknown b c.args.entities.now.entries c.in-Some.entity was
-          (none_of_false _ (sym c.contains_key.ensures ∙ c.if-contains_key.false))).uncreated;
+      new = none_of_false _ (sym (c.is_used.ensures b was) ∙ c.if-is_used.false);
     })
     c.in-Some-type_named.ty c.in-Some-type_named.ensures
     (elim c.then-size-x.branch [
@@ -43,11 +40,10 @@ returns-then-len-ge-MOST_ENTITIES-clause-refused c = λ b was.
       number = c.in-Some.ensures;
       spelled_x = c.in-Some-whole_number.ensures;
       spelled_z = c.in-Some-whole_number-2.ensures;
-      new = (entity_unknown b c.args.entities.now.entries c.in-Some.entity was
-          (none_of_false _ (sym c.contains_key.ensures ∙ c.if-contains_key.false))).uncreated;
+      new = none_of_false _ (sym (c.is_used.ensures b was) ∙ c.if-is_used.false);
     })
     c.in-Some-type_named.ty c.in-Some-type_named.ensures (omega (arith, c.if-size-x.false)) (omega (arith, c.if-size-z.false))
-    (omega (arith, count, c.len.ensures.len, c.if-len-ge-MOST_ENTITIES.true))
+    (omega (arith, count, c.len.ensures.len, c.len-2.ensures.len, c.if-len-ge-MOST_ENTITIES.true))
 
 pub returns-clause-judged : goal.returns-clause-judged
 returns-clause-judged c = λ b was.
@@ -58,11 +54,9 @@ returns-clause-judged c = λ b was.
             number = c.in-Some.ensures;
             spelled_x = c.in-Some-whole_number.ensures;
             spelled_z = c.in-Some-whole_number-2.ensures;
-            new = (entity_unknown b c.args.entities.now.entries c.in-Some.entity was
-                (none_of_false _ (sym c.contains_key.ensures ∙ c.if-contains_key.false))).uncreated;
+            new = none_of_false _ (sym (c.is_used.ensures b was) ∙ c.if-is_used.false);
           })
           c.in-Some-type_named.ty c.in-Some-type_named.ensures (omega (arith, c.if-size-x.false)) (omega (arith, c.if-size-z.false))
-          (omega (arith, count, c.len.ensures.len, c.if-len-ge-MOST_ENTITIES.false)),
-      (entity_unknown b c.args.entities.now.entries c.in-Some.entity was
-          (none_of_false _ (sym c.contains_key.ensures ∙ c.if-contains_key.false))).uncreated,
+          (omega (arith, count, c.len.ensures.len, c.len-2.ensures.len, c.if-len-ge-MOST_ENTITIES.false)),
+      none_of_false _ (sym (c.is_used.ensures b was) ∙ c.if-is_used.false),
     )

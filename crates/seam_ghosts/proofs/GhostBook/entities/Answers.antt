@@ -6,5 +6,6 @@ use Rattle.seam_ghosts.proofs.GhostBook.entities.Goals as goal
 
 pub returns : goal.returns
 returns g c =
-    let same = ap keys_of (sym (copies_joined c.self.inside.beats c.self.inside.copies c.self.invariant) ∙ ap copies c.self.view_is) in
+    let same =
+    sym (copies_joined c.self.inside.copies.items c.self.inside.dropped.items) ∙ ap (λ w. keys_of (copies w)) c.self.view_is in
     subst (λ ns. IfOk c.numbers.result (λ v. v.items ≡ ns)) same c.numbers.ensures

@@ -16,11 +16,12 @@ returns c =
     let began =
     ap length c.as_slice-began.ensures.value ∙ sym (length-map c.in_ok-former.former.items (λ x. x.now))
     ∙ ap length c.in_ok-former.ensures in
-    cell_decided c.args.header.now c.args.create (distances c.args.header.now.settings) c.is_cell_after.result c.tree_in-tree.result
-    (tree_of (standing_of c.args.before.now).book) c.place_before-was.result (place_before (standing_of c.args.before.now) c.args.create)
+    cell_decided c.args.header.now c.args.create (distances c.args.header.now.settings) c.is_cell_after.result c.args.begun.tree.now
+    (tree_of (standing_of c.args.begun.before.now).book) c.place_before-was.result
+    (place_before (standing_of c.args.begun.before.now) c.args.create)
     c.place_of-held.result ((standing_of c.args.after.now).places c.args.create.entity) calls
     ((standing_of c.args.after.now).orders part.Cell c.args.create.entity) (length c.deref.result.now) count
-    (length ((standing_of c.args.before.now).orders part.Cell c.args.create.entity)) c.tree_in-tree.ensures
+    (length ((standing_of c.args.begun.before.now).orders part.Cell c.args.create.entity)) c.requires.tree
     c.place_before-was.ensures.value c.place_of-held.ensures calls_are long began
     (c.is_cell_after.ensures (position_at c.args.header.now c.args.create calls count)
     (map (position_at c.args.header.now c.args.create calls)

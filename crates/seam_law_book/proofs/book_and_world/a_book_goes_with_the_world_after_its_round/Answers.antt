@@ -38,11 +38,13 @@ returns-clause-round c h b t clients w play v round ended =
       last = clients_looked then round.reaped;
       records = c.looks_obey_the_laws.ensures.records g then round.reaped reaped round.look_events v round.looks ended.quiet;
     }) ended.quiet
+    (λ x. c.who_is_not_there_is_not_shown.ensures f w B loads play.keeps.copies clients play.keeps.shown v round ended.quiet x)
 
 pub returns-clause-balanced : goal.returns-clause-balanced
 returns-clause-balanced c h b t u w goes may = record {
   cells = let low = goes.cells in let same = may.cells in omega (arith, low, same);
   known = goes.known;
+  unshown = goes.unshown;
   live = λ e made lives.
       let held = goes.live e made lives in
       record {

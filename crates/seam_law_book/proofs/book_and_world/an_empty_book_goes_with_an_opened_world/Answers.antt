@@ -9,6 +9,7 @@ returns c h legal defs =
     record {
       cells = omega arith;
       known = λ e none k. new e k;
+      unshown = λ e none x k r at. absurd (none-some r (sym (ap real_in (new x k)) ∙ at));
       live = λ e made lives. absurd (none-some made lives);
       reals = λ e k r at. absurd (none-some r (sym (ap real_in (new e k)) ∙ at));
       parts = λ e k p at. absurd (none-some p (sym (ap (λ a. a.base.part) (new e k)) ∙ at));

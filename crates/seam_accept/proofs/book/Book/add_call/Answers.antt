@@ -10,7 +10,7 @@ returns-clause-kept c = λ h b was is.
     let here = subst (Refines h b) (sym c.self.view_is) was in
     let node : c.node_of-node.result ≡ node_of h c.args.call.sender =
     c.node_of-node.ensures h (ap (λ (x : Header). x.settings.bases) (sym here.header)) in
-    call_kept h b _ _ c.args.call here is c.in_ok-keep_last.ensures.kept refl
+    call_kept h b _ _ c.args.call here is c.in_ok-keep_last.ensures.kept refl refl
     (record {
       header = refl;
       tree = refl;

@@ -11,7 +11,7 @@ returns-clause-kept c = λ h b was clientless.
     let here = subst (Refines h b) (sym c.self.view_is) was in
     let put = c.in_ok-insert.ensures in
     let added = put.added ∙ ap not (here.clients.each c.args.entity ∙ clientless.clientless) in
-    client_kept h b _ _ c.args.entity here clientless refl
+    client_kept h b _ _ c.args.entity here clientless refl refl
     (record { here = put.updates.1; others = λ other ne. put.updates.2 other (apart_in_set c.args.entity other ne) })
     (put.len ∙ ap (λ (x : Bool). btree_set_len c.self.inside.clients + (if x then 1 else 0)) added)
     (record {

@@ -39,7 +39,7 @@ returns-in_err-entity-in-Client-clause-refused c =
     let p = err_from_is_err_and c.from_residual-in_err-entity-in-Client.result c.from_residual-in_err-entity-in-Client.ensures.1 in
     rw (p.1, p.2) (λ h b was.
     let is = subst (Refines h b) (sym c.self-in-Client.view_is) was in
-    refused_as h _ b _ _ _ refl c.in-Client.is (c.in_err-entity-in-Client.ensures.refused h b is.entities is.clients))
+    refused_as h _ b _ _ _ refl c.in-Client.is (c.in_err-entity-in-Client.ensures.refused h b _ is.entities is.clients))
 
 pub returns-in_err-make_cut-in-Cut-clause-refused : goal.returns-in_err-make_cut-in-Cut-clause-refused
 returns-in_err-make_cut-in-Cut-clause-refused c =
@@ -60,7 +60,7 @@ returns-in_err-entity-in-Destroy-clause-refused c =
     let p = err_from_is_err_and c.from_residual-in_err-entity-in-Destroy.result c.from_residual-in_err-entity-in-Destroy.ensures.1 in
     rw (p.1, p.2) (λ h b was.
     let is = subst (Refines h b) (sym c.self-in-Destroy.view_is) was in
-    refused_as h _ b _ _ _ refl c.in-Destroy.is (c.in_err-entity-in-Destroy.ensures.refused h b is.entities))
+    refused_as h _ b _ _ _ refl c.in-Destroy.is (c.in_err-entity-in-Destroy.ensures.refused h b _ is.entities))
 
 pub returns-in_ok-add_create-in-Create-clause-accepted : goal.returns-in_ok-add_create-in-Create-clause-accepted
 returns-in_ok-add_create-in-Create-clause-accepted c = λ h b was.
@@ -71,13 +71,13 @@ returns-in_ok-add_create-in-Create-clause-accepted c = λ h b was.
 pub returns-in_ok-add_call-in-Call-clause-accepted : goal.returns-in_ok-add_call-in-Call-clause-accepted
 returns-in_ok-add_call-in-Call-clause-accepted c = λ h b was.
     let is = subst (Refines h b) (sym c.self-in-Call.view_is) was in
-    let j = judged_as h _ b _ _ _ is.header c.in-Call.is (c.in_ok-place-in-Call.ensures.judged b is.entities is.clients) in
+    let j = judged_as h _ b _ _ _ is.header c.in-Call.is (c.in_ok-place-in-Call.ensures.judged b _ is.entities is.clients) in
     (_, j.0, c.in_ok-add_call-in-Call.ensures.kept h b was j.1)
 
 pub returns-in_ok-add_client-in-Client-clause-accepted : goal.returns-in_ok-add_client-in-Client-clause-accepted
 returns-in_ok-add_client-in-Client-clause-accepted c = λ h b was.
     let is = subst (Refines h b) (sym c.self-in-Client.view_is) was in
-    let j = judged_as h _ b _ _ _ refl c.in-Client.is (c.in_ok-entity-in-Client.ensures.judged h b is.entities is.clients) in
+    let j = judged_as h _ b _ _ _ refl c.in-Client.is (c.in_ok-entity-in-Client.ensures.judged h b _ is.entities is.clients) in
     (_, j.0, c.in_ok-add_client-in-Client.ensures.kept h b was j.1)
 
 pub returns-in_ok-add_tick-in-Tick-clause-accepted : goal.returns-in_ok-add_tick-in-Tick-clause-accepted
@@ -106,5 +106,5 @@ returns-in-Balance-clause-accepted c = λ h b was.
 pub returns-in_ok-add_death-in-Destroy-clause-accepted : goal.returns-in_ok-add_death-in-Destroy-clause-accepted
 returns-in_ok-add_death-in-Destroy-clause-accepted c = λ h b was.
     let is = subst (Refines h b) (sym c.self-in-Destroy.view_is) was in
-    let j = judged_as h _ b _ _ _ refl c.in-Destroy.is (c.in_ok-entity-in-Destroy.ensures.judged h b is.entities) in
+    let j = judged_as h _ b _ _ _ refl c.in-Destroy.is (c.in_ok-entity-in-Destroy.ensures.judged h b _ is.entities) in
     (_, j.0, c.in_ok-add_death-in-Destroy.ensures.kept h b was j.1)

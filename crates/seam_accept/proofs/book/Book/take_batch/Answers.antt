@@ -5,7 +5,7 @@ use Rattle.seam_accept.proofs.book.Book.take_batch.Goals as goal
 
 pub returns-clause-ended : goal.returns-clause-ended
 returns-clause-ended c = λ h b was.
-    round_kept h b _ _ (subst (Refines h b) (sym c.self.view_is) was) refl refl refl refl (record {
+    round_kept h b _ _ (subst (Refines h b) (sym c.self.view_is) was) refl refl refl refl refl (record {
       count = refl;
       creates = ap (λ v. v.items) c.replace-creates.ensures.after ∙ c.new.ensures.items;
       joined_ = ap (λ v. v.items) c.replace-clients.ensures.after ∙ c.new-2.ensures.items;

@@ -8,7 +8,7 @@ invariant_of-result c = record {
   base = record {
     bases = c.requires.bases;
     cells = omega arith;
-    routes = subst RoutesAreCells (sym (ap (λ w. w.items) c.new-2.ensures)) no_routes;
+    routes = subst RoutesAreCells (sym (ap (λ w. w.items) c.new-3.ensures)) no_routes;
   };
   most = c.requires.most;
 }

@@ -9,7 +9,7 @@ invariant_of-self-2 c =
     let old = c.self.inside in
     let new = c.begin_round.new in (
       round_whole old.known c.in_ok-bounds.bounds old.reals new.reals old.remotes
-          (record { nexts = c.new.result; copies = old.remotes.copies })
+          (record { nexts = c.new.result; copies = c.forget_dropped.new.self })
           old.lists
           (record { survey = new.survey; looks = old.lists.looks }) c.self.invariant.0 c.begin_round.ensures.kept
           (subst IsTree (sym (ap (λ b. b.tree) c.in_ok-bounds.ensures)) c.size.ensures.tree)

@@ -4,4 +4,4 @@ use Rattle.seam_entity.proofs.OrderLemmas.{ordered_none}
 use Rattle.seam_entity.proofs.orders.Orders.new.Goals as goal
 
 pub invariant_of-result : goal.invariant_of-result
-invariant_of-result c = subst AreOrdered (sym c.new.ensures.items) ordered_none
+invariant_of-result c = (subst AreOrdered (sym c.new.ensures.items) ordered_none, tt)

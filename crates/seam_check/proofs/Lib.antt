@@ -1,0 +1,5 @@
+mod HeadSteps
+mod Judgments
+mod Lines
+mod Progress
+mod Rounds

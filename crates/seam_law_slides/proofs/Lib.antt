@@ -1,0 +1,10 @@
+pub mod Facts
+pub mod Sends
+pub mod Rounds
+pub mod Taking
+pub mod Awaiting
+pub mod Resting
+pub mod Places
+pub mod Loads
+pub mod Whole
+pub mod Example

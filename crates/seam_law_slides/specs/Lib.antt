@@ -1,0 +1,6 @@
+pub mod Rounds
+pub mod Awaited
+pub mod Resting
+pub mod Sliding
+pub mod SlideExample
+pub mod Prelude
